@@ -2,12 +2,15 @@
 use Rattle.std.proofs.Common.{ℕ, zero, suc, List, [], ◌∷◌, ◌++◌, length, Option, Some, None, true, false, refl}
 use Rattle.lex.specs.declared.token.Scalar.{Scalar}
 use Rattle.syntax.specs.Tree as tree
-use Rattle.syntax.specs.Tree.{Program, Stmt, Expr, Simple, Start, Declarator}
-use Rattle.syntax.specs.Names.{Local}
-use Rattle.syntax.specs.Actions.{Action, pure, locals, put_locals, tick, ◌>>=◌, ◌>>◌}
-use Rattle.syntax.specs.Meaning.{End, Next, Breaks, Continues, Returns, Cancels, CancelsOuter, InLocal, expr, stmt, after_body, holds, stepped, simple, first_value, declare, start_with, result_of, calls}
+use Rattle.syntax.specs.declared.numbers.Value.{Value}
+use Rattle.syntax.specs.declared.numbers.Trap.TheVariants.{Frames}
+use Rattle.syntax.specs.Tree.{Program, Stmt, Expr, Exprs, Simple, Start, Declarator}
+use Rattle.syntax.specs.Names.{Local, definition_of}
+use Rattle.syntax.specs.Actions.{Action, pure, locals, put_locals, tick, or_astray, ◌>>=◌, ◌>>◌}
+use Rattle.syntax.specs.Meaning.{End, Next, Breaks, Continues, Returns, Cancels, CancelsOuter, InLocal, entered, expr, exprs, stmt, after_body, holds, stepped, simple, first_value, declare, start_with, result_of, calls}
 use Rattle.syntax.proofs.Kept.{each_expr_holds, each_simple_holds, each_stmt_holds}
-use Rattle.meaning.specs.inner.Going.{Follow, Ends, ticks_left, cut, call_left, when_next, scope_begun, loop_begun, test_of, behind_of, turns_begun, either_begun, for_begun}
+use Rattle.meaning.specs.inner.Going.{Follow, Ends, ticks_left, cut, call_left, when_next, scope_begun, loop_begun, test_of, behind_of, turns_begun, either_begun, for_begun, frame_begun, call_begun}
+use Rattle.meaning.specs.inner.Calls.{begun}
 use Rattle.meaning.specs.Frames.{IsFramed}
 use Rattle.meaning.proofs.Framed.{on_framed, framed_kept}
 
@@ -62,12 +65,20 @@ call_left_framed of ls end = then_framed (put_framed ls) (then_framed (result_fr
 pub scope_framed : (run : Action End) → IsFramed (scope_begun run)
 scope_framed run = on_framed locals_framed (λ outer. pure_framed _)
 
+or_astray_framed : {A : Type 0} (o : Option A) → IsFramed (or_astray o)
+or_astray_framed (Some a) = pure_framed a
+or_astray_framed None = framed_kept.astray_holds
+
 pub loop_framed : (turn : Action (Option End)) → IsFramed (loop_begun turn)
 loop_framed turn = on_framed ticks_framed (λ n. pure_framed _)
 
 module _ (p : Program) (k : ℕ) where
   pub expr_framed : (e : Expr) → IsFramed (expr p (calls p k) e)
   expr_framed = each_expr_holds p (λ A run. IsFramed run) framed_kept k
+
+  exprs_framed : (es : Exprs) → IsFramed (exprs p (calls p k) es)
+  exprs_framed Exprs.[] = pure_framed []
+  exprs_framed (Exprs.◌∷◌ e es) = on_framed (expr_framed e) (λ v. on_framed (exprs_framed es) (λ vs. pure_framed _))
 
   simple_framed : (i : Simple) → IsFramed (simple p (calls p k) i)
   simple_framed = each_simple_holds p (λ A run. IsFramed run) framed_kept k
@@ -116,6 +127,18 @@ module _ (p : Program) (k : ℕ) where
   pub turns_framed : (st : Stmt) (n : ℕ) → IsFramed (turns_begun p (calls p k) st n)
   turns_framed st zero = record { alike = λ f s. refl }
   turns_framed st (suc n) = then_framed tick_framed (on_framed (test_framed st) (λ goes. pure_framed _))
+
+-- a call
+module _ (p : Program) where
+  enters_framed : (x : List ℕ) (vs : List Value) → IsFramed (begun p x vs)
+  enters_framed x vs = on_framed (or_astray_framed (definition_of p x)) (λ f. on_framed (or_astray_framed (entered f.0.parameters vs)) (λ mine. pure_framed _))
+
+  frame_framed : (k : ℕ) (x : List ℕ) (vs : List Value) → IsFramed (frame_begun p k x vs)
+  frame_framed zero x vs = framed_kept.trap_holds Frames
+  frame_framed (suc k) x vs = on_framed (enters_framed x vs) (λ b. on_framed locals_framed (λ outer. then_framed (put_framed b.mine) (pure_framed _)))
+
+  pub call_framed : (k : ℕ) (x : List ℕ) (es : Exprs) → IsFramed (call_begun p k x es)
+  call_framed k x es = then_framed tick_framed (on_framed (exprs_framed p k es) (λ vs. then_framed tick_framed (frame_framed k x vs)))
 
 pub whole_framed : {run : Action End} → IsFramed run → IsFramed (run >>= (λ end. pure (Ends end)))
 whole_framed h = on_framed h (λ end. pure_framed (Ends end))

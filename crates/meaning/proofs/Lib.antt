@@ -6,6 +6,7 @@ pub mod Entering
 pub mod Files
 pub mod Lookup
 pub mod Outcomes
+pub mod Calling
 pub mod Parts
 pub mod Placing
 pub mod Printed

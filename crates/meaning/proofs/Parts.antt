@@ -12,9 +12,13 @@ use Rattle.syntax.specs.declared.tree.Expr as E
 use Rattle.syntax.specs.declared.tree.Declaration as D
 use Rattle.syntax.specs.declared.tree.Declarator as R
 use Rattle.syntax.specs.declared.tree.ForHead as H
+use Rattle.syntax.specs.declared.tree.Simple.{Simple}
 use Rattle.syntax.specs.declared.tree.Stmt as S
+use Rattle.syntax.specs.declared.tree.Stmt.TheOpen.{Stmt-F}
+use Rattle.syntax.specs.declared.tree.Stmt.TheFolds.{fold-roll-Stmt}
+use Rattle.syntax.specs.declared.tree.Stmt.TheVariants as SV
 use Rattle.syntax.specs.Tree as Tree
-use Rattle.syntax.specs.Views.{name_of, expr_of, exprs_of, simple_of, declarator_of, start_of, stmt_of, stmts_of}
+use Rattle.syntax.specs.Views.{name_of, expr_of, exprs_of, simple_of, declarator_of, start_of, stmt_of, stmt_step, stmts_of}
 use Rattle.syntax.proofs.Seen.{expr_of_call, expr_of_element, expr_of_parenthesized, expr_of_cast, expr_of_unary, expr_of_binary, expr_of_logical, expr_of_conditional, expr_of_in_transaction, stmt_of_declare, stmt_of_block, stmt_of_print, stmt_of_if, stmt_of_if_else, stmt_of_while, stmt_of_do_while, stmt_of_for, stmt_of_return, stmt_of_transaction}
 use Rattle.meaning.specs.inner.Does.{if_of}
 
@@ -52,6 +56,9 @@ module _ {A : Type 0} where
 
   pub declare_is : (s : S.Stmt A) (d : D.Declaration A) (ds : List (R.Declarator A)) → s ≡ S.Declare d → ds ≡ d.declarators → stmt_of s ≡ Tree.Declare (record { of = d.of; declarators = map declarator_of ds })
   declare_is s d ds is a = ap stmt_of is ∙ stmt_of_declare d ∙ ap (λ y. Tree.Declare (record { of = d.of; declarators = map declarator_of y })) (sym a)
+
+  pub do_is : (s : S.Stmt A) (i : Simple A) → s ≡ S.Do i → stmt_of s ≡ Tree.Do (simple_of i)
+  do_is s i is = ap stmt_of (is ∙ sym (SV.rolls-Do i)) ∙ fold-roll-Stmt A Tree.Stmt stmt_step (Stmt-F.Do i)
 
   pub block_is : (s : S.Stmt A) (ss ss' : List (S.Stmt A)) → s ≡ S.Block ss → ss' ≡ ss → stmt_of s ≡ Tree.Block (stmts_of ss')
   block_is s ss ss' is a = ap stmt_of is ∙ stmt_of_block ss ∙ ap (λ y. Tree.Block (stmts_of y)) (sym a)

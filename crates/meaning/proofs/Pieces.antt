@@ -2,7 +2,7 @@
 use Rattle.std.proofs.Common.{◌≡◌, ℕ, ◌-◌, ◌<◌, ◌≤◌, List, [], ◌∷◌, length, drop, take, get_or, refl, sym, ap, ◌∙◌, subst, option_map, arith}
 use Rattle.std.proofs.lemmas.List.{take_all}
 use Rattle.syntax.specs.declared.tree.Stmt.{Stmt as OwnStmt}
-use Rattle.syntax.specs.Tree.{Program, Stmt}
+use Rattle.syntax.specs.Tree.{Exprs, Program, Stmt}
 use Rattle.syntax.specs.Views.{expr_of, start_of, stmt_of, stmts_of}
 use Rattle.syntax.specs.Actions.{State, pure, go_on, tick}
 use Rattle.syntax.specs.Meaning.{Caller, End, Next, stmt, stmts, scoped, on_next, after_body, after_turn, loop}
@@ -20,10 +20,11 @@ use Rattle.meaning.specs.declared.program.Source.{Source}
 use Rattle.meaning.specs.inner.Machine.{program_in, items_in}
 use Rattle.meaning.specs.inner.Does.{called, does_stmts}
 use Rattle.meaning.specs.Frames.{IsFramed}
-use Rattle.meaning.specs.inner.Going.{Ends, Nests, apart_begun, follows, cut, call_left, scope_begun, loop_begun, turn_of, behind_of, turned, IsStep}
+use Rattle.meaning.specs.inner.Going.{Ends, Nests, apart_begun, follows, cut, call_alone, call_begun, call_left, scope_begun, loop_begun, turn_of, behind_of, turned, IsStep}
 use Rattle.meaning.specs.inner.Left.{begun, begun_by, does_by, does_task, loop_in, opened, parted, resumed, stmt_in, step_of, turns_in}
+use Rattle.meaning.proofs.Calling.{call_is}
 use Rattle.meaning.proofs.Framed.{on_framed}
-use Rattle.meaning.proofs.FramedSteps.{after_body_framed, behind_framed, call_left_framed, cut_framed, either_framed, for_framed, loop_framed, pure_framed, scope_framed, stmt_framed, then_framed, tick_framed, turns_framed, when_next_framed, whole_framed}
+use Rattle.meaning.proofs.FramedSteps.{after_body_framed, behind_framed, call_framed, call_left_framed, cut_framed, either_framed, for_framed, loop_framed, pure_framed, scope_framed, stmt_framed, then_framed, tick_framed, turns_framed, when_next_framed, whole_framed}
 use Rattle.meaning.proofs.Going.{apart_is, either_is, for_is, on_both, same_end, turned_is, turns_is}
 
 -- the first of statements, and then the others
@@ -106,4 +107,13 @@ module _ {A : Type 0} (source : Source A) where
           ap (λ k. resumed source k e s) is ∙ ap (λ d. resumed source (left.Next t) d s) next ∙ ap (λ run. run s) does
           ∙ subst (λ k. stmt (program_in source) (called source frames) k s ≡ go_on (opened source frames k q s) follows) (sym parts) (parted_is q s);
       framed = then_framed tick_framed (parted_framed st q);
+    }
+
+    -- one that is nothing but a call
+    pub call_step : (l : Left A) (t : Task A) (st : Stmt) (x : List ℕ) (es : Exprs) (e : End) → l ≡ left.Next t → e ≡ Next → does_task source t ≡ stmt (program_in source) (called source frames) st → stmt (program_in source) (called source frames) st ≡ call_alone (program_in source) (called source frames) x es → IsStep (resumed source l) e (call_begun (program_in source) frames x es)
+    call_step l t st x es e is next does calls = record {
+      does = λ s.
+          ap (λ k. resumed source k e s) is ∙ ap (λ d. resumed source (left.Next t) d s) next ∙ ap (λ run. run s) (does ∙ calls)
+          ∙ call_is (program_in source) frames x es s;
+      framed = call_framed (program_in source) frames x es;
     }

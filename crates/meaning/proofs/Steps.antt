@@ -98,7 +98,7 @@ pub branch_gives : (run other : Action Value) (tested zero : Bool) (s : State) (
 branch_gives run other tested zero s r e d = ap (λ z. (if z then run else other) s) e ∙ d
 
 -- a call, once it has begun
-abbrev call_rest : Program → Caller → Begins → Action Value
+abbrev pub call_rest : Program → Caller → Begins → Action Value
 call_rest p call b = do
   outer ← locals
   put_locals b.mine
@@ -117,7 +117,7 @@ defined_then : (p : Program) (call : Caller) (o : Option (Function × Stmts)) (v
 defined_then p call (Some f) vs s = bound_then p call f (entered f.0.parameters vs) s
 defined_then p call None vs s = refl
 
-invoke_begun : (p : Program) (call : Caller) (x : List ℕ) (vs : List Value) (s : State) → invoke p call x vs s ≡ go_on (begun p x vs s) (call_rest p call)
+pub invoke_begun : (p : Program) (call : Caller) (x : List ℕ) (vs : List Value) (s : State) → invoke p call x vs s ≡ go_on (begun p x vs s) (call_rest p call)
 invoke_begun p call x vs s = defined_then p call (definition_of p x) vs s
 
 module _ (p : Program) (n k : ℕ) (x : List ℕ) (vs : List Value) (s0 s1 : State) (b : Begins) (mine outer : List Local) (more : n ≡ suc k) (d : begun p x vs s0 ≡ Gives b s1) (bound : mine ≡ b.mine) (kept : outer ≡ s1.locals) where

@@ -3,7 +3,9 @@
 ghost use Rattle.std.specs.Prelude.{◌≡◌, map, option_map, IfSome};
 ghost use Rattle.syntax.specs.Actions as act;
 ghost use Rattle.syntax.specs.Meaning as meaning;
-ghost use Rattle.syntax.specs.Views.{expr_of, start_of, stmt_of, stmts_of};
+ghost use Rattle.syntax.specs.declared.numbers.Trap.TheVariants.{Frames};
+ghost use Rattle.syntax.specs.Tree.{Program};
+ghost use Rattle.syntax.specs.Views.{expr_of, exprs_of, start_of, stmt_of, stmts_of};
 ghost use Rattle.meaning.specs.inner.Going as going;
 ghost use Rattle.meaning.specs.inner.Going.{call_left};
 ghost use Rattle.meaning.specs.inner.Left as lefts;
@@ -11,7 +13,7 @@ ghost use Rattle.meaning.specs.inner.Left.{MeansStepped, follow_of};
 ghost use Rattle.meaning.specs.inner.Machine.{Means, MeansEnd, MeansTurn, end_of, local_in, program_in, state_in};
 ghost use Rattle.meaning.specs.inner.Does.{called, does_turn};
 
-use crate::calls::result_of;
+use crate::calls::{Begun, begin as begin_body, result_of, values};
 use crate::expr::eval;
 use crate::loops::{Loop, holds, left_by_body, started, stepped, tested};
 use crate::machine::{End, Halted, Local, Machine, tick};
@@ -22,8 +24,9 @@ use crate::word::is_zero;
 use containers::Boxed;
 use lex::token::Scalar;
 use std::alloc::Allocator;
-use syntax::numbers::Halt;
-use syntax::tree::{Expr, Start, Stmt};
+use std::mem;
+use syntax::numbers::{Halt, Trap, Value};
+use syntax::tree::{Expr, Name, Simple, Start, Stmt};
 
 /// How a statement is to be done.
 #[derive(Clone, Copy)]
@@ -187,6 +190,75 @@ pub(crate) fn open<'p, A: Allocator + Copy>(
         Parts::Either(c, a, b) => begin_either(source, frames, c, a, b, m),
         Parts::Repeats(which) => begin_loop(source, frames, which, s, m),
     }
+}
+
+/// The call that an expression is, perhaps in parentheses: its function's name and its arguments.
+fn call_in<'p, A: Allocator + Copy>(e: &'p Expr<A>) -> Option<(&'p Name<A>, &'p [Expr<A>])>
+    ensures { IfSome result (λ c. (p : Program) (call : meaning.Caller) → meaning.expr p call (expr_of e.now) ≡ going.call_of p call c.0.now.text (exprs_of c.1.now)) }
+{
+    match e {
+        Expr::Call(f, args, _) => Some((f, args.as_slice())),
+        Expr::Parenthesized(e, _) => call_in(e.get()),
+        _ => None,
+    }
+}
+
+/// The call that is all of a statement.
+pub(crate) fn call_alone<'p, A: Allocator + Copy>(
+    s: &'p Stmt<A>,
+) -> Option<(&'p Name<A>, &'p [Expr<A>])>
+    ensures { IfSome result (λ c. (p : Program) (call : meaning.Caller) → meaning.stmt p call (stmt_of s.now) ≡ going.call_alone p call c.0.now.text (exprs_of c.1.now)) }
+{
+    match s {
+        Stmt::Do(i) => match i {
+            Simple::Evaluate(e) => call_in(e),
+            _ => None,
+        },
+        _ => None,
+    }
+}
+
+/// There is no frame for a call: the trap takes a tick.
+fn trap_frames<'p, A: Allocator>(m: &mut Machine<'p, '_, A>) -> Result<Stepped<'p, A>, Halted>
+    ensures { (source : Source A) → MeansStepped source result (act.trap {A = going.Follow} Frames (state_in m.old)) m.new }
+{
+    tick(m)?;
+    m.why = Some(Halt::Trapped(Trap::Frames));
+    Err(Halted {})
+}
+
+/// A function is entered: its body, behind which the caller's names come back.
+fn begin_frame<'p, A: Allocator + Copy>(
+    source: &Source<'p, A>,
+    frames: u64,
+    f: &str,
+    values: &[Value],
+    m: &mut Machine<'p, '_, A>,
+) -> Result<Stepped<'p, A>, Halted>
+    ensures { MeansStepped source.now result (going.frame_begun (program_in source.now) frames f.now values.now (state_in m.old)) m.new }
+{
+    if frames == 0 {
+        return trap_frames(m);
+    }
+    let Begun { of, body, mine } = begin_body(source, f, values, m)?;
+    let outer = mem::replace(&mut m.locals, mine);
+    Ok(Stepped::Nests(Left::Call(of, outer), Task::Apart(frames - 1, body)))
+}
+
+/// The first step of a statement that is nothing but a call.
+pub(crate) fn open_call<'p, A: Allocator + Copy>(
+    source: &Source<'p, A>,
+    frames: u64,
+    f: &Name<A>,
+    args: &'p [Expr<A>],
+    m: &mut Machine<'p, '_, A>,
+) -> Result<Stepped<'p, A>, Halted>
+    ensures { MeansStepped source.now result (going.call_begun (program_in source.now) frames f.now.text (exprs_of args.now) (state_in m.old)) m.new }
+{
+    tick(m)?;
+    let values = values(source, frames, args, m)?;
+    tick(m)?; // the call's
+    begin_frame(source, frames, f.text.as_str(), values.as_slice(), m)
 }
 
 /// Whether a turn's body is done, by the test before it.

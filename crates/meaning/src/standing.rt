@@ -6,17 +6,17 @@ ghost use Rattle.syntax.specs.Behaviours.{Memory};
 ghost use Rattle.syntax.specs.Threads.{first_state, worker_run};
 ghost use Rattle.meaning.specs.Outcomes.{memories_in};
 ghost use Rattle.syntax.specs.Meaning as meaning;
-ghost use Rattle.syntax.specs.Views.{stmt_of};
+ghost use Rattle.syntax.specs.Views.{exprs_of, stmt_of};
 ghost use Rattle.meaning.specs.declared.left.Left.TheVariants as lefts;
 ghost use Rattle.meaning.specs.declared.left.Task.TheVariants as tasks;
 ghost use Rattle.meaning.specs.declared.left.Way.TheVariants as ways;
-ghost use Rattle.meaning.specs.inner.Going.{Follow, IsStep, follows};
+ghost use Rattle.meaning.specs.inner.Going.{Follow, IsStep, call_begun, follows};
 ghost use Rattle.meaning.specs.inner.Left.{follow_of, left_gone_on, opened, resumed, step_of};
 ghost use Rattle.meaning.specs.inner.Machine.{Happened, end_of, halt_of, program_in, state_in};
 ghost use Rattle.meaning.specs.inner.Standing.{IsGone, IsStop, bare, rest};
 
 use crate::calls::{Begun, begin};
-use crate::left::{Left, Parts, Stepped, Task, Way, open, parts_of, step};
+use crate::left::{Left, Parts, Stepped, Task, Way, call_alone, open, open_call, parts_of, step};
 use crate::machine::{Context, End, Local, Machine};
 use crate::program::Source;
 use crate::threads::start;
@@ -24,7 +24,7 @@ use crate::transactions::{copy_locals, copy_memory};
 use lex::token::Scalar;
 use std::alloc::{AllocError, Allocator};
 use syntax::numbers::{Halt, Value};
-use syntax::tree::Stmt;
+use syntax::tree::{Expr, Name, Stmt};
 
 /// Where a thread stands outside transactions: its ticks, its locals, and the memories that are still to be found.
 #[derive(Drop)]
@@ -175,6 +175,23 @@ fn go_open<'p, A: Allocator + Copy>(
     }
 }
 
+/// The first step of a statement that is nothing but a call, from a point.
+fn go_call<'p, A: Allocator + Copy>(
+    source: &Source<'p, A>,
+    frames: u64,
+    f: &Name<A>,
+    args: &'p [Expr<A>],
+    at: &Point<'p, A>,
+) -> Result<Gone<'p, A>, AllocError>
+    ensures { IfOk result (λ g. IsGone source.now g (call_begun (program_in source.now) frames f.now.text (exprs_of args.now) (bare at.now))) }
+{
+    let mut m = machine(source.alloc, at)?;
+    match open_call(source, frames, f, args, &mut m) {
+        Ok(next) => went(source.alloc, next, m),
+        Err(_) => stopped(m),
+    }
+}
+
 /// Puts what comes next behind what is left, and gives the end with which that goes on.
 fn put<'p, A: Allocator + Copy>(
     left: &mut Vec<Left<'p, A>, A>,
@@ -232,7 +249,8 @@ fn wanting<'p, A: Allocator + Copy>(
     }
 }
 
-/// A step of a thread: a statement that wants a memory as a whole is done by its parts, if it has such.
+/// A step of a thread: a statement that wants a memory as a whole is done by its parts, or by the body that it calls, if it
+/// has such.
 fn try_step<'p, A: Allocator + Copy>(
     source: &Source<'p, A>,
     left: &Left<'p, A>,
@@ -248,10 +266,14 @@ fn try_step<'p, A: Allocator + Copy>(
     let Some((frames, s)) = wanting(left, end, *why) else {
         return Ok(gone);
     };
-    match parts_of(s) {
-        Some(parts) => {
-            let opened = go_open(source, frames, s, &parts, at)?;
-            Ok(opened)
+    if let Some(parts) = parts_of(s) {
+        let opened = go_open(source, frames, s, &parts, at)?;
+        return Ok(opened);
+    }
+    match call_alone(s) {
+        Some((f, args)) => {
+            let entered = go_call(source, frames, f, args, at)?;
+            Ok(entered)
         }
         None => Ok(gone),
     }

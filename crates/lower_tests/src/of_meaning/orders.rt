@@ -35,9 +35,35 @@ void worker(int self) {
     do { __transaction_atomic { x = x + 1; } if (k == 1) continue; k--; } while (k > 0);
     printf(\"%d\", k);
 }";
+// calls as statements, two deep, one in parentheses: loops, a return between transactions, names that the callers have too
+const CALLS: &str = "int x;
+void say(int k) { printf(\"%d \", k); }
+int twice(int by) {
+    int k = 0;
+    for (int i = 0; i < 2; i++) { int k; __transaction_atomic { k = x; x = x + by; } say(k); }
+    if (by == 3) return by;
+    __transaction_atomic { k = x; x = x + 1; }
+    say(k);
+    return k;
+}
+void deep(int self) { int by = self + 2; twice(by); (twice(by + 1)); printf(\"d%d \", by); }
+void worker(int self) {
+    int k = 7;
+    deep(self);
+    __transaction_atomic { k = k + x; }
+    printf(\"%d\", k);
+}";
+// the first thread comes to 64 frames, and the second one to a frame more
+const FRAMES: &str = "int x;
+void down(int n) { __transaction_atomic { x = x + 1; } if (n) down(n - 1); __transaction_atomic { x = x + 100; } }
+void worker(int self) { down(62 + self); }";
 // as many turns as there are transactions
 const TURNS: &str =
     "int x; void worker(int self) { for (int i = 0; i < 5000; i++) { __transaction_atomic { x++; } } }";
+// the same in a function that is called
+const CALLED_TURNS: &str = "int x;
+void all(int n) { for (int i = 0; i < n; i++) { __transaction_atomic { x++; } } }
+void worker(int self) { all(5000); }";
 
 /// A text, the threads, the order, the ticks of each; the first cell, and what each of two threads prints and how it ends.
 type Row = (
@@ -61,7 +87,7 @@ const SPENT: ThreadEnd = ThreadEnd::Spent;
 const DIVIDES: ThreadEnd = ThreadEnd::Trapped(Trap::ZeroDivisor);
 
 fn rows() -> &'static [Row] {
-    static ROWS: [Row; 13] = [
+    static ROWS: [Row; 15] = [
         (ADDS, 2, &[0, 1], 100, 2, "", ENDED, "", ENDED),
         (ADDS, 2, &[0], 100, 1, "", ENDED, "", WANTS),
         (ADDS, 2, &[], 100, 0, "", WANTS, "", WANTS),
@@ -86,6 +112,28 @@ fn rows() -> &'static [Row] {
             WANTS,
             "2 2 4 -1",
             ENDED,
+        ),
+        (
+            CALLS,
+            2,
+            &[0, 1, 0, 1, 0, 1, 0, 1, 0, 1, 0, 1],
+            300,
+            26,
+            "0 5 10 15 22 d2 33",
+            ENDED,
+            "2 7 11 18 25 d3 33",
+            ENDED,
+        ),
+        (
+            CALLS,
+            2,
+            &[1, 1, 1, 0, 0, 0, 0, 0, 0, 1, 1],
+            300,
+            26,
+            "10 12 14 15 18 d2 28",
+            ENDED,
+            "0 3 6 21 25 d3 ",
+            WANTS,
         ),
         // an entry of a thread that has ended does nothing
         (ADDS, 2, &[0, 0, 0], 100, 1, "", ENDED, "", WANTS),
@@ -176,27 +224,59 @@ fn threads_run_in_an_order(rt: HostRuntime) {
     assert_eq!(rt; first_other(rt.alloc(), rows()), None);
 }
 
-// What 10,000 turns of two threads leave in the first cell.
-fn many_turns(alloc: Global, accepted: &Accepted) -> Option<u64> {
+// What so many turns of two threads come to.
+fn come_to(alloc: Global, accepted: &Accepted, turns: u32) -> Option<SourceOutcome> {
     let mut order = Vec::new(alloc);
-    for i in 0..10000u32 {
+    for i in 0..turns {
         if order.push(i % 2).is_err() {
             return None;
         }
     }
     match run_order(alloc, accepted, 2, order.as_slice(), 100000) {
-        Ok(outcome) => outcome.memory.as_slice().first().copied(),
+        Ok(outcome) => Some(outcome),
         Err(_) => None,
     }
 }
 
+// Whether so many turns of two threads of a text leave this in its cell, and how the threads end.
+fn end_so(
+    alloc: Global,
+    text: &str,
+    turns: u32,
+    cell: u64,
+    first: ThreadEnd,
+    second: ThreadEnd,
+) -> bool {
+    let Some(accepted) = accepted_of(alloc, text) else {
+        return false;
+    };
+    let Some(outcome) = come_to(alloc, &accepted, turns) else {
+        return false;
+    };
+    let reports = match outcome.threads.as_slice() {
+        [one, two] => one.end == first && two.end == second,
+        _ => false,
+    };
+    reports && is_cell(outcome.memory.as_slice(), cell)
+}
+
 #[test]
 fn ten_thousand_turns_are_made(rt: HostRuntime) {
-    let left = match accepted_of(rt.alloc(), TURNS) {
-        Some(accepted) => many_turns(rt.alloc(), &accepted),
-        None => None,
-    };
-    assert_that(&rt, left == Some(10000));
+    assert_that(&rt, end_so(rt.alloc(), TURNS, 10000, 10000, ENDED, ENDED));
+}
+
+#[test]
+fn ten_thousand_turns_are_made_in_a_call(rt: HostRuntime) {
+    assert_that(
+        &rt,
+        end_so(rt.alloc(), CALLED_TURNS, 10000, 10000, ENDED, ENDED),
+    );
+}
+
+#[test]
+fn the_sixty_fifth_frame_traps(rt: HostRuntime) {
+    let end = ThreadEnd::Trapped(Trap::Frames);
+    assert_that(&rt, end_so(rt.alloc(), FRAMES, 300, 6426, ENDED, end));
 }
 
 /// Threads, an order, and its fault's number.

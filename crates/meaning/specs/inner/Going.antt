@@ -1,13 +1,16 @@
 -- What a thread has still to do, wherever it stands, and the steps in which it goes on: the first step of a statement that is
--- made of others and of each turn of a loop, what is left behind it, and what all that is left does.
+-- made of others, of a call and of each turn of a loop, what is left behind it, and what all that is left does.
 use Rattle.std.specs.Prelude.{◌≡◌, ℕ, zero, suc, List, [], ◌∷◌, take, length, Option, Some, None, Bool, true, false, if◌then◌else◌}
 use Rattle.syntax.specs.declared.numbers.Halt.TheVariants.{Spent}
+use Rattle.syntax.specs.declared.numbers.Value.{Value}
+use Rattle.syntax.specs.declared.numbers.Trap.TheVariants.{Frames}
 use Rattle.syntax.specs.Numbers.{is_zero}
-use Rattle.syntax.specs.Tree.{Scalar, Program, Expr, Stmt, Stmts, Start, While, DoWhile, For}
+use Rattle.syntax.specs.Tree.{Scalar, Program, Expr, Exprs, Stmt, Stmts, Start, While, DoWhile, For}
 use Rattle.syntax.specs.Names as Names
-use Rattle.syntax.specs.Actions.{State, Gives, Action, pure, stop, tick, locals, put_locals, go_on, ◌>>=◌, ◌>>◌}
-use Rattle.syntax.specs.Meaning.{Caller, End, Next, expr, stmt, stmts, scoped, on_next, after_body, after_turn, turns, holds, stepped, start_with, result_of}
+use Rattle.syntax.specs.Actions.{State, Gives, Action, pure, stop, tick, trap, locals, put_locals, go_on, ◌>>=◌, ◌>>◌}
+use Rattle.syntax.specs.Meaning.{Caller, End, Next, expr, exprs, stmt, stmts, scoped, on_next, after_body, after_turn, turns, holds, stepped, start_with, result_of, calls}
 use Rattle.meaning.specs.Frames.{IsFramed}
+use Rattle.meaning.specs.inner.Calls.{Begins, begun}
 use Rattle.meaning.specs.inner.Does.{do_turn, for_turn, tested, while_turn}
 
 -- how a thread goes on after a step: with this end, with this run, or with a run and then, by its end, with another
@@ -108,6 +111,29 @@ module _ (p : Program) (call : Caller) where
     start_with p call start
     n ← ticks_left
     pure (Nests (cut (length outer)) (turns n turn))
+
+-- what a call does, and a statement that is nothing but a call
+abbrev pub call_of : Program → Caller → List ℕ → Exprs → Action Value
+call_of p call x es = do vs ← exprs p call es; tick; call x vs
+
+abbrev pub call_alone : Program → Caller → List ℕ → Exprs → Action End
+call_alone p call x es = do tick; call_of p call x es; pure Next
+
+-- a body with its own names, behind which the caller's come back
+abbrev pub frame_at : Program → ℕ → Begins → Action Follow
+frame_at p k b = do
+  outer ← locals
+  put_locals b.mine
+  pure (Nests (call_left b.of outer) (stmts p (calls p k) b.body))
+
+-- a function is entered, where so many frames may come to live
+abbrev pub frame_begun : Program → ℕ → List ℕ → List Value → Action Follow
+frame_begun p zero x vs = trap Frames
+frame_begun p (suc k) x vs = begun p x vs >>= frame_at p k
+
+-- the first step of a statement that is nothing but a call: its arguments, the call's tick, and then the function
+abbrev pub call_begun : Program → ℕ → List ℕ → Exprs → Action Follow
+call_begun p k x es = do tick; vs ← exprs p (calls p k) es; tick; frame_begun p k x vs
 
 -- what is left, the innermost piece at the list's end: each goes on by the end that the ones behind it come to
 abbrev pub gone_on : List (End → Action End) → End → Action End
