@@ -7,7 +7,7 @@
 #[derive(Clone, Copy)]
 pub enum Instr {
     /// `const rD #K`
-    Constant(u16, u32),
+    Constant(u16, u64),
 
     /// `move rD rA`
     Move(u16, u16),

@@ -19,5 +19,5 @@ pub struct Lists<A: Allocator> {
     pub writable: u16,
 
     /// The constants that lie ready, in registers one after another.
-    pub constants: Vec<u32, A>,
+    pub constants: Vec<u64, A>,
 }

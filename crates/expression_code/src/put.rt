@@ -83,7 +83,7 @@ pub(crate) fn above(free: usize, r: u16) -> usize
 pub(crate) fn put_constant<A: Allocator>(
     lists: &mut Lists<A>,
     code: &mut Vec<Instr, A>,
-    value: u32,
+    value: u64,
     of: Scalar,
     from: u32,
     into: usize,

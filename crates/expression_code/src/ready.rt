@@ -18,7 +18,7 @@ use syntax::tree::Expr;
 /// A word that lies ready: its value, which no instruction gives.
 pub(crate) fn ready<A: Allocator>(
     lists: &Lists<A>,
-    word: u32,
+    word: u64,
     of: Scalar,
     from: u32,
 ) -> Option<Held>
@@ -42,11 +42,11 @@ pub(crate) fn ready<A: Allocator>(
 }
 
 /// The word of a constant.
-pub(crate) fn constant_word(of: Scalar, value: u64) -> u32
+pub(crate) fn constant_word(of: Scalar, value: u64) -> u64
     ensures { result ≡ word_of of (pos value) }
 {
     match of {
-        Scalar::Int | Scalar::Unsigned => (value % 4_294_967_296) as u32,
+        Scalar::Int | Scalar::Unsigned => value % 4_294_967_296,
     }
 }
 
@@ -64,7 +64,7 @@ pub(crate) fn constant_ready<A: Allocator>(lists: &Lists<A>, e: &Expr<A>, from: 
 pub fn set_all<A: Allocator>(
     code: &mut Vec<Instr, A>,
     first: u16,
-    words: &[u32],
+    words: &[u64],
 ) -> Result<(), AllocError>
     requires { first + length words.now ≤ 65535 }
     ensures { OnOk result (code.new.items ≡ code.old.items ++ programs.all_set first words.now) }

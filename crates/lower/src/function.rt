@@ -133,7 +133,7 @@ fn lower_ready<'p, A: Allocator + Copy>(
     body: &'p [Stmt<A>],
     from: u32,
     writable: u16,
-    constants: Vec<u32, A>,
+    constants: Vec<u64, A>,
 ) -> Result<u32, Failure>
     requires parameters { length f.now.parameters ≤ 65535 }
     requires room { writable + length constants.items ≤ 65535 }
@@ -162,7 +162,7 @@ fn in_loops_behind<A: Allocator>(
     code: &[Instr],
     others: usize,
     from: u32,
-) -> Result<Vec<u32, A>, AllocError>
+) -> Result<Vec<u64, A>, AllocError>
     requires { others ≤ length code.now }
     ensures { IfOk result (λ v. v.items ≡ loops.in_loops from (drop others code.now)) }
 {
@@ -171,7 +171,7 @@ fn in_loops_behind<A: Allocator>(
 
 /// Whether a body that needs so many registers is made once more with these constants ready: there are some, and a
 /// function may have so many registers.
-fn is_better(registers: u32, constants: &[u32]) -> bool
+fn is_better(registers: u32, constants: &[u64]) -> bool
     ensures { result ≡ (not (length constants.now == 0) && nat_le (registers + length constants.now) 65535) }
 {
     !constants.is_empty() && registers as usize + constants.len() <= 65_535

@@ -17,7 +17,7 @@ const MOST_READY: usize = 16;
 struct Looped<A: Allocator> {
     lowest: u32,
     operands: Option<(u16, u16)>,
-    constants: Vec<u32, A>,
+    constants: Vec<u64, A>,
 }
 
 /// The registers that an operator of two takes.
@@ -84,7 +84,7 @@ fn is_operand(operands: Option<(u16, u16)>, r: u16) -> bool
     }
 }
 
-fn has_word(words: &[u32], word: u32) -> bool
+fn has_word(words: &[u64], word: u64) -> bool
     ensures { result ≡ loops.has_word words.now word }
 {
     'each: for one in words {
@@ -100,7 +100,7 @@ fn add_constant<A: Allocator>(
     looped: &mut Looped<A>,
     at: u32,
     register: u16,
-    word: u32,
+    word: u64,
 ) -> Result<(), AllocError>
     ensures { OnOk result (looped_in looped.new ≡ loops.one_more at register word (looped_in looped.old)) }
 {
@@ -146,7 +146,7 @@ pub(crate) fn in_loops<A: Allocator>(
     alloc: A,
     code: &[Instr],
     from: u32,
-) -> Result<Vec<u32, A>, AllocError>
+) -> Result<Vec<u64, A>, AllocError>
     ensures { IfOk result (λ v. v.items ≡ loops.in_loops from code.now) }
 {
     let mut left = code.len();

@@ -42,7 +42,7 @@ fn push_level<A: Allocator>(
     level: u32,
 ) -> Result<(), AllocError> {
     to.push(Instr::Begin(levels.cancelled_to(level)))?;
-    to.push(Instr::Constant(1, level))?;
+    to.push(Instr::Constant(1, u64::from(level)))?;
     to.push(Instr::Write(1, 0))?;
     Ok(())
 }

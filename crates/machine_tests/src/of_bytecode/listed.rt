@@ -108,7 +108,7 @@ fn a_transaction_is_listed(rt: HostRuntime) {
 }
 
 /// Instructions that compute.
-pub const COMPUTES: [Instr; 16] = [
+pub const COMPUTES: [Instr; 18] = [
     Instr::Constant(1, 4294967295),
     Instr::Move(1, 0),
     Instr::AddSigned(1, 0, 1),
@@ -124,6 +124,8 @@ pub const COMPUTES: [Instr; 16] = [
     Instr::NegateSigned(1, 0),
     Instr::NegateUnsigned(1, 0),
     Instr::Complement(1, 0),
+    Instr::Constant(1, 4294967296),
+    Instr::Constant(1, 18446744073709551614),
     Instr::ReturnValue(1),
 ];
 
@@ -143,7 +145,9 @@ const COMPUTES_LISTED: &str = "function worker registers 2
 12 neg.s r1 r0
 13 neg.u r1 r0
 14 not r1 r0
-15 ret r1
+15 const r1 #4294967296
+16 const r1 #18446744073709551614
+17 ret r1
 ";
 
 /// Instructions on bits, and comparisons.
@@ -233,7 +237,7 @@ text 1 \"\\\\\\n\"
 
 fn instructions() -> &'static [Row] {
     static ROWS: [Row; 3] = [
-        (&[WORKER], &COMPUTES, &[], COMPUTES_LISTED, (1, 16, 0, 1)),
+        (&[WORKER], &COMPUTES, &[], COMPUTES_LISTED, (1, 18, 0, 1)),
         (&[WORKER], &BITS, &[], BITS_LISTED, (1, 14, 0, 1)),
         (
             &[WORKER, ("f", 19, 1, 1)],

@@ -48,7 +48,7 @@ fn of<A: Allocator + Copy>(alloc: A, instructions: &[Instr]) -> Option<(Doing, u
 }
 
 // Two words, an operator of registers 2 and 3, which hold them, into register 1, and the word that it gives or why it traps.
-type Computed = (u32, u32, Instr, Result<u64, Trap>);
+type Computed = (u64, u64, Instr, Result<u64, Trap>);
 
 // What a thread comes to behind an operator that gives this: it ends after three local steps, or traps at the third with nothing
 // written.

@@ -30,9 +30,9 @@ use Rattle.picked.proofs.valid.Sounds.{settled_into, Sound, TestSound, AllSound,
 use Rattle.picked.proofs.valid.Shared.{cells_lie, variable_has_one}
 
 -- a constant's word is one that an instruction may set
-word_written : (t : Scalar) (n : ℕ) → word_of t (pos n) < 2 ^ 32
-word_written Int n = word_below Int (pos n)
-word_written Unsigned n = word_below Unsigned (pos n)
+word_written : (t : Scalar) (n : ℕ) → word_of t (pos n) < 2 ^ 64
+word_written Int n = let h = word_below Int (pos n) in omega (arith, h)
+word_written Unsigned n = let h = word_below Unsigned (pos n) in omega (arith, h)
 
 -- a callee's number is that of a function of so many parameters
 abbrev pub CalleesTake : Program → Code → Type 0

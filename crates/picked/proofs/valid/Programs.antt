@@ -95,22 +95,22 @@ new_name earlier items f body e h p typed cancels =
 
 module _ (code : Code) (arguments : List ℕ) (g : FunctionCode) (end : ℕ) (open_at : ℕ → List ℕ) where
   -- the constants of loops are words
-  more_words : (at r w : ℕ) (looped : Looped) → w < 2 ^ 32 → AreBelow (2 ^ 32) looped.constants → AreBelow (2 ^ 32) (one_more at r w looped).constants
+  more_words : (at r w : ℕ) (looped : Looped) → w < 2 ^ 64 → AreBelow (2 ^ 64) looped.constants → AreBelow (2 ^ 64) (one_more at r w looped).constants
   more_words at r w looped low h = by (is_more at r w looped)
     where
-      by : (b : Bool) → AreBelow (2 ^ 32) (if b then record looped { constants = looped.constants ++ w ∷ [] } else looped).constants
-      by true = below_append (2 ^ 32) looped.constants (w ∷ []) h (low, tt)
+      by : (b : Bool) → AreBelow (2 ^ 64) (if b then record looped { constants = looped.constants ++ w ∷ [] } else looped).constants
+      by true = below_append (2 ^ 64) looped.constants (w ∷ []) h (low, tt)
       by false = h
 
-  words_by : (i : Instr) (at : ℕ) (looped : Looped) → IsWritten code g end (instr_of arguments i) → AreBelow (2 ^ 32) looped.constants → AreBelow (2 ^ 32) (looped_by i at looped).constants
+  words_by : (i : Instr) (at : ℕ) (looped : Looped) → IsWritten code g end (instr_of arguments i) → AreBelow (2 ^ 64) looped.constants → AreBelow (2 ^ 64) (looped_by i at looped).constants
   words_by (own.Constant r w) at looped written h = more_words at r w looped written.1 h
   words_by i at looped written h = h
 
-  looped_words : (is : List Instr) (at q : ℕ) → AreGood code arguments g end open_at q is → AreBelow (2 ^ 32) (in_loops at is)
+  looped_words : (is : List Instr) (at q : ℕ) → AreGood code arguments g end open_at q is → AreBelow (2 ^ 64) (in_loops at is)
   looped_words [] at q h = tt
   looped_words (i ∷ is) at q h = words_by i at (looped_from (suc at) is) h.0.written (looped_words is (suc at) (suc q) h.1)
 
-  sets_good : (r : ℕ) (ws : List ℕ) (q : ℕ) → r + length ws ≤ g.registers → AreBelow (2 ^ 32) ws → Runs code arguments g end open_at q [] (all_set r ws) → AreGood code arguments g end open_at q (all_set r ws)
+  sets_good : (r : ℕ) (ws : List ℕ) (q : ℕ) → r + length ws ≤ g.registers → AreBelow (2 ^ 64) ws → Runs code arguments g end open_at q [] (all_set r ws) → AreGood code arguments g end open_at q (all_set r ws)
   sets_good r [] q room words run = tt
   sets_good r (w ∷ ws) q room words run = (
     good_on code arguments g end open_at q [] (own.Constant r w) (all_set (suc r) ws) (λ q bs. (refl, tt)) (omega (arith, room), words.0) run,
@@ -202,7 +202,7 @@ module _ (p : Program) (typed : IsTypedProgram p) (cancels : CancelsAreFit p) wh
       }
 
   -- the constants of a body's loops are words, as the body shows in a code of its own
-  loops_are_words : (f : Function) (body : Stmts) → definition_of p f.name.text ≡ Some (f, body) → (from : ℕ) (l : Lists) → AreBelow (2 ^ 32) (in_loops from (body_with nothing_ready p f body from l).code)
+  loops_are_words : (f : Function) (body : Stmts) → definition_of p f.name.text ≡ Some (f, body) → (from : ℕ) (l : Lists) → AreBelow (2 ^ 64) (in_loops from (body_with nothing_ready p f body from l).code)
   loops_are_words f body e from l =
       let w = body_with nothing_ready p f body from l in
       let before : List Instr = replicate from own.Return in
@@ -217,7 +217,7 @@ module _ (p : Program) (typed : IsTypedProgram p) (cancels : CancelsAreFit p) wh
 
   -- a body behind the instructions that set its constants
   ready_valid : (layout : Layout) (f : Function) (body : Stmts) → definition_of p f.name.text ≡ Some (f, body) → (from : ℕ) (l : Lists) →
-      (body_with layout p f body (from + length layout.constants) l).lists.registers ≤ layout.writable → AreBelow (2 ^ 32) layout.constants → BodyValid f from l (body_ready layout p f body from l)
+      (body_with layout p f body (from + length layout.constants) l).lists.registers ≤ layout.writable → AreBelow (2 ^ 64) layout.constants → BodyValid f from l (body_ready layout p f body from l)
   ready_valid layout f body e from l room words =
       let n : ℕ = length layout.constants in
       let begins : ℕ = from + n in
@@ -265,13 +265,13 @@ module _ (p : Program) (typed : IsTypedProgram p) (cancels : CancelsAreFit p) wh
       plain : Written
       plain = body_with nothing_ready p f body from l
 
-      by_room : (layout : Layout) → plain.lists.registers ≡ layout.writable → AreBelow (2 ^ 32) layout.constants → (b : Bool) → BodyValid f from l (if b then body_ready layout p f body from l else plain)
+      by_room : (layout : Layout) → plain.lists.registers ≡ layout.writable → AreBelow (2 ^ 64) layout.constants → (b : Bool) → BodyValid f from l (if b then body_ready layout p f body from l else plain)
       by_room layout same words true =
           let leaner = body_leaner p f body layout from (from + length layout.constants) l l in
           ready_valid layout f body e from l (omega (arith, same, leaner)) words
       by_room layout same words false = plain_valid f body e from l
 
-      by : (ws : List ℕ) → AreBelow (2 ^ 32) ws → BodyValid f from l (body_better p f body from l plain ws)
+      by : (ws : List ℕ) → AreBelow (2 ^ 64) ws → BodyValid f from l (body_better p f body from l plain ws)
       by [] words = plain_valid f body e from l
       by (w ∷ ws) words = by_room (record { writable = plain.lists.registers; constants = w ∷ ws }) refl words (nat_le (plain.lists.registers + length (w ∷ ws)) MOST_REGISTERS)
 
