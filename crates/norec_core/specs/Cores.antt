@@ -13,7 +13,7 @@ use Rattle.norec_core.specs.declared.step.Phase.TheVariants.{AtOperation, Stores
 use Rattle.nesting.specs.Begins.{Saved}
 use Rattle.norec_core.specs.Attempts.{Attempt}
 use Rattle.norec_core.specs.Accesses.{IsAnswerTo}
-use Rattle.norec_core.specs.Phases.{CoreStep, core_access, core_step, idle}
+use Rattle.norec_core.specs.Phases.{CoreStep, core_access, core_step, commit_access, idle}
 
 pub record CoreState : Type 0 where
   pub attempt : Option (Attempt Saved)  -- the one under way, if any
@@ -36,6 +36,11 @@ stepped c answer = stepped_by c c.asked answer
 -- a read of this cell loads its word and then the lock
 abbrev pub LoadsBoth : {S : Type 0} → Attempt S → ℕ → Type 0
 LoadsBoth a cell = (a.phase ≡ AtOperation) × (a.kept ≡ false) × (written cell a.writes ≡ None)
+
+-- a commit makes no access: that of an inner transaction, or of one that wrote nothing; the lock is not had
+abbrev pub CommitsAtOnce : {S : Type 0} → Attempt S → Type 0
+CommitsAtOnce a =
+    (a.phase ≡ AtOperation) × (a.kept ≡ false) × (commit_access a a.inner a.kept a.writes ≡ Local)
 
 -- a commit stores the pair at this place of the write log next, or past the last pair the lock
 abbrev pub IsStoring : {S : Type 0} → ℕ → Attempt S → Type 0

@@ -3,7 +3,7 @@
 ghost use Rattle.std.specs.Prelude.{◌≡◌, ◌≢◌, ◌↔◌, ◌+◌, ◌^◌, ◌<◌, ℕ, true, false, None, Some, IsTrue, IsSome, IsSomeAnd, IfNone, IfOk, IfSome, OnOk, OnErr, OnSome};
 ghost use Rattle.norec_core.specs.Accesses.{stops};
 ghost use Rattle.norec_core.specs.Phases.{core_access, core_step};
-ghost use Rattle.norec_core.specs.Cores.{ComparesWith, IsAnswered, IsAskedAgain, IsComparing, IsDoneAtOnce, IsDropped, IsStoring, IsWaiting, LoadsBoth, stepped, stepped_twice, is_kept, has_lock};
+ghost use Rattle.norec_core.specs.Cores.{CommitsAtOnce, ComparesWith, IsAnswered, IsAskedAgain, IsComparing, IsDoneAtOnce, IsDropped, IsStoring, IsWaiting, LoadsBoth, stepped, stepped_twice, is_kept, has_lock};
 ghost use Rattle.norec_core.specs.declared.step.Answer.{Answer as Reply};
 ghost use Rattle.norec_core.specs.declared.step.Op.{Op as Operation};
 ghost use Rattle.norec_core.specs.declared.step.Answer.TheVariants.{Value};
@@ -170,6 +170,7 @@ impl<A: Allocator + Copy> Core<A> {
     pub fn commit(&mut self) -> bool
         ensures done { result ≡ true → IsDoneAtOnce self.old Op.Commit Outcome.Done self.new }
         ensures not_done { result ≡ false → self.new.attempt ≡ self.old.attempt }
+        ensures at_once { result ≡ false → IsSomeAnd self.old.attempt (λ a. CommitsAtOnce a) → ⊥ }
     {
         if !self.steps.is_plain() || !self.steps.commits_at_once() {
             return false;

@@ -188,7 +188,8 @@ impl<A: Allocator + Copy> Steps<A> {
     #[inline(always)]
     pub(crate) fn commits_at_once(&self) -> bool
         requires { self.now.attempt.phase ≡ Phase.AtOperation }
-        ensures { result ≡ true → commit_access self.now.attempt self.now.attempt.inner self.now.attempt.kept self.now.attempt.writes ≡ Access.Local }
+        ensures local { result ≡ true → commit_access self.now.attempt self.now.attempt.inner self.now.attempt.kept self.now.attempt.writes ≡ Access.Local }
+        ensures not_local { result ≡ false → commit_access self.now.attempt self.now.attempt.inner self.now.attempt.kept self.now.attempt.writes ≢ Access.Local }
     {
         match self.commit_access() {
             Access::Local => true,

@@ -21,16 +21,6 @@ use syntax::tree::{First, Function, Global, Item};
 /// The most cells of all globals.
 const MOST_CELLS: u64 = 4096;
 
-/// The number of a global's cells.
-fn cells_of<A: Allocator>(g: &Global<A>) -> u64
-    ensures { result ≡ cells (global_of g.now) }
-{
-    match g.length {
-        Some((count, _)) => count,
-        None => 1,
-    }
-}
-
 fn symbol_of<'a, A: Allocator>(g: &Global<A>) -> Symbol<'a, Function<A>>
     ensures { known_of result ≡ known_global (global_of g.now) }
 {
@@ -90,7 +80,7 @@ fn check_global<'a, A: Allocator + Copy>(
 {
     check_new(names, g)?;
     check_length(&g.length)?;
-    let count = cells_of(g);
+    let count = g.cell_count() as u64;
     check_first(count, g.first.as_slice())?;
     let few = taken.saturating_add(count) <= MOST_CELLS;
     demand(few, Violation::BadLength(g.name.span))
@@ -137,7 +127,7 @@ pub(crate) fn check_globals<'a, A: Allocator + Copy>(
         let g = &all[i];
         check_global(names, *taken, g)?;
         add_global(names, earlier, &all[..i], g)?;
-        *taken += cells_of(g);
+        *taken += g.cell_count() as u64;
     }
     Ok(())
 }

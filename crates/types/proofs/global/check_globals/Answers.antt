@@ -42,7 +42,7 @@ overflow_add-taken g c =
     let x = c.index-all-i.result in
     let none : None ≡ first_unmet (demand 21 x.name.span (is_unknown (known_in c.each.names x.name.text)) ++ IsLength x.length ++ HaveCells (drop (cells (global_of x)) x.first) ++ demand 25 x.name.span (nat_le (c.each.taken + cells (global_of x)) 4096)) = sym (ap unmet_in c.in_ok-check_global.was) ∙ c.check_global.ensures in
     let few = le_true _ _ (last_met (demand 21 x.name.span (is_unknown (known_in c.each.names x.name.text)) ++ IsLength x.length ++ HaveCells (drop (cells (global_of x)) x.first)) 25 x.name.span (nat_le (c.each.taken + cells (global_of x)) 4096) none) in
-    let count = c.cells_of.ensures in
+    let count = c.cell_count.ensures in
     omega (arith, few, count)
 
 pub each-preserved : goal.each-preserved
@@ -58,7 +58,7 @@ each-preserved g c =
     let taken = globals_taken gs i x c.index-all-i.is c.each-test.true in
     let none : None ≡ first_unmet (demand 21 x.name.span (is_unknown (known_in c.each.names x.name.text)) ++ IsLength x.length ++ HaveCells (drop n x.first) ++ demand 25 x.name.span (nat_le (c.each.taken + n) 4096)) = sym (ap unmet_in c.in_ok-check_global.was) ∙ c.check_global.ensures in
     let few = le_true _ _ (last_met (demand 21 x.name.span (is_unknown (known_in c.each.names x.name.text)) ++ IsLength x.length ++ HaveCells (drop n x.first)) 25 x.name.span (nat_le (c.each.taken + n) 4096) none) in
-    let count = c.cells_of.ensures in
+    let count = c.cell_count.ensures in
     let sums : sum_by cells (map global_of (take (i + 1) gs)) ≡ sum_by cells before + n = ap (sum_by cells) taken ∙ sum_by-append cells before (global_of x ∷ []) ∙ ap (λ m. sum_by cells before + m) (sum_by-cons cells (global_of x) [] ∙ omega arith) in (
       ok.none,
       ok.known ∙ ap (λ b. file_scope (e ++ Shares b ∷ [])) (sym taken),
