@@ -16,7 +16,6 @@ pub mod Stops
 pub mod Symbols
 pub mod Memories
 pub mod Turns
-pub mod Figures
 pub mod Framed
 pub mod FramedSteps
 pub mod Going

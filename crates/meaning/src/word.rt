@@ -4,7 +4,7 @@ ghost use Rattle.std.specs.Prelude.{◌≡◌, pos};
 ghost use Rattle.syntax.specs.Numbers.{converted, flag as flag_due, is_zero as is_zero_due, word_of};
 ghost use Rattle.meaning.specs.inner.Word.{value_of};
 
-use crate::arithmetic::{convert, residue};
+use crate::arithmetic::{convert, word};
 use lex::token::Scalar;
 use syntax::numbers::Value;
 
@@ -62,7 +62,7 @@ pub(crate) fn packed(v: Value) -> Word
 pub(crate) fn constant(n: u64, of: Scalar) -> Word
     ensures { value_of result ≡ record { of = of; word = word_of of (pos n) } }
 {
-    pack(of, residue(of, n))
+    pack(of, word(of, i128::from(n)))
 }
 
 /// Whether a value is 0.

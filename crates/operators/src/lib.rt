@@ -1,6 +1,9 @@
-//! Operators on words, one function each. A word is any number of 64 bits, of which a type sees the residue: no number here needs
-//! more than 64 bits, but for what is shifted to the left. Products and quotients of two `int`s are those of the processor's 32
-//! bits.
+//! Operators on words, one function each: what the source's meaning and the code's have in common, right above the definitions of
+//! `syntax`.
+//!
+//! A word is any number of 64 bits, of which a type sees the residue: no number here needs more than 64 bits, but for what is
+//! shifted to the left. Products and quotients of two `int`s are those of the processor's 32 bits.
+#![tactic(auto)]
 
 ghost use Rattle.std.specs.Prelude.{◌≡◌, ◌≢◌, ◌≤ℤ◌, ◌<◌, ◌≤◌, ◌^◌, pos, neg_ℤ, Ok};
 ghost use Rattle.syntax.specs.Numbers.{number as number_in, bits, residue, fitted, computed, complemented};
