@@ -246,6 +246,29 @@ fn bits_and_comparisons(rt: HostRuntime) {
     assert_all(&rt, &[("bits", bits), ("comparisons", comparisons)]);
 }
 
+// Constants of 2^32 or above, and operators that see all of their bits or the lower 32.
+fn wide_constants() -> &'static [Computed] {
+    static ROWS: [Computed; 5] = [
+        (4294967296, 0, Instr::Move(1, 2), Ok(4294967296)),
+        (
+            18446744073709551615,
+            18446744073709551614,
+            Instr::And(1, 2, 3),
+            Ok(18446744073709551614),
+        ),
+        (4294967296, 2, Instr::Or(1, 2, 3), Ok(4294967298)),
+        (4294967296, 8589934592, Instr::Equal(1, 2, 3), Ok(0)),
+        (4294967297, 1, Instr::AddUnsigned(1, 2, 3), Ok(2)),
+    ];
+    &ROWS
+}
+
+#[test]
+fn constants_of_two_words(rt: HostRuntime) {
+    let wide = are_computed(rt.alloc(), wide_constants());
+    assert_that(&rt, wide);
+}
+
 // Instructions, what thread 5 comes to in a worker of them, the local steps that it makes, and its register 1.
 type Row = (&'static [Instr], Doing, u64, u64);
 
