@@ -8,6 +8,7 @@ use Rattle.seats.specs.Setup.{Setup}
 use Rattle.workers.specs.declared.hall.Hall.{Hall}
 use Rattle.workers.specs.declared.worker.Worker.{Worker}
 use Rattle.workers.specs.declared.close.Finished.{Finished}
+use Rattle.workers.specs.declared.tally.Tally.{Tally}
 
 -- A is the allocator
 module _ {A : Type 0} where
@@ -39,7 +40,11 @@ module _ {A : Type 0} where
   abbrev pub accesses_of : Worker A → ℕ
   accesses_of w = w.thread.accesses
 
-  -- the same four of a thread of a closed hall
+  -- what it has counted of its thread's attempts
+  abbrev pub tally_of : Worker A → Tally
+  tally_of w = w.tally
+
+  -- the same five of a thread of a closed hall
   abbrev pub finished_number : Finished A → ℕ
   finished_number f = f.number
 
@@ -51,3 +56,6 @@ module _ {A : Type 0} where
 
   abbrev pub finished_accesses : Finished A → ℕ
   finished_accesses f = f.thread.accesses
+
+  abbrev pub finished_tally : Finished A → Tally
+  finished_tally f = f.tally

@@ -3,7 +3,7 @@
 ghost use Rattle.std.specs.Prelude.{◌≡◌, ◌<◌, ◌≤◌, ℕ, [], IfOk, IfErr, OnOk, MatchOption, MatchBool, vec_len};
 ghost use Rattle.std.specs.Vec.{vec_capacity};
 ghost use Rattle.bytecode.specs.Valid.{cells_of};
-ghost use Rattle.workers.specs.Seen.{finished_accesses, finished_number, finished_steps, finished_thread, setup_of, table_of};
+ghost use Rattle.workers.specs.Seen.{finished_accesses, finished_number, finished_steps, finished_tally, finished_thread, setup_of, table_of};
 ghost use Rattle.workers.specs.Workers.{AreWorkersOf};
 ghost use Rattle.workers.specs.Closing.{reason_number, HasWorker, NoWorker, AllHere, NoneHolds, Holds, Closes, parts_back, finished_back};
 
@@ -98,7 +98,7 @@ impl<A: Allocator + Copy> Finished<A> {
 
     /// What was counted of its attempts.
     pub fn tally(&self) -> Tally
-        ensures { result ≡ self.now.tally }
+        ensures { result ≡ finished_tally self.now }
     {
         self.tally
     }

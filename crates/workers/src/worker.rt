@@ -8,7 +8,7 @@ ghost use Rattle.machine.specs.Threads.{access as access_of};
 ghost use Rattle.machine.specs.Standing.{IsThreadOf};
 ghost use Rattle.machine.specs.States.{ComparesEntry, ComparesNext, StandsAt, StandsStill, StoresNext, WaitsNext};
 ghost use Rattle.seats.specs.Setup.{Setup};
-ghost use Rattle.workers.specs.Seen.{accesses_of, setup_of, state_of, steps_of, table_of, thread_of, worker_number};
+ghost use Rattle.workers.specs.Seen.{accesses_of, setup_of, state_of, steps_of, table_of, tally_of, thread_of, worker_number};
 ghost use Rattle.workers.specs.Works.{StopsAt};
 
 use crate::hall::Hall;
@@ -569,7 +569,7 @@ impl<A: Allocator + Copy> Worker<A> {
 
     /// What it has counted of its thread's attempts.
     pub fn tally(&self) -> Tally
-        ensures { result ≡ self.now.tally }
+        ensures { result ≡ tally_of self.now }
     {
         self.tally
     }
