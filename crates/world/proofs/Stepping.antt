@@ -1,5 +1,5 @@
 -- A world's next step.
-use Rattle.std.proofs.Common.{◌≡◌, ◌<◌, ◌≤◌, ◌+◌, ◌%◌, ◌^◌, ◌⊎◌, inl, inr, append-nil, ℕ, zero, suc, Bool, true, false, List, [], ◌∷◌, ◌++◌, Option, None, Some, length, refl, sym, ◌∙◌, ap, subst, slice_get, set, replicate, arith, length-append, append_assoc}
+use Rattle.std.proofs.Common.{◌≡◌, ◌<◌, ◌≤◌, ◌+◌, ◌%◌, ◌^◌, ◌⊎◌, inl, inr, append-nil, ℕ, zero, suc, Bool, true, false, List, [], ◌∷◌, ◌++◌, Option, None, Some, length, refl, sym, ◌∙◌, ap, subst, slice_get, set, replicate, take, arith, length-append, append_assoc}
 use Rattle.std.specs.Prelude.{option_map, Result, Err, ◌↔◌}
 use Rattle.std.proofs.Math.ListN.{length-set}
 use Rattle.syntax.specs.Behaviours.{IsMemory}
@@ -40,7 +40,7 @@ use Rattle.machine.proofs.single.Aborts.{abort_reason}
 use Rattle.machine.proofs.single.Locked.{never_aborts}
 use Rattle.machine.proofs.tallies.Spans.{counts_by_meaning}
 use Rattle.world.proofs.Cells.{answer_fits, initial_fits, memory_length, word_fits}
-use Rattle.world.specs.Simulations.{CountsAccesses, IsExplained, IsHolder, Simulation, accesses_in, accesses_of, cost_at, cost_next, event_at, event_next, further, output_at, shown_at, shown_by, shown_next, part_of, status_at, stops_at, stops_next, world_of}
+use Rattle.world.specs.Simulations.{CountsAccesses, IsExplained, IsHolder, Simulation, accesses_in, accesses_of, cost_at, cost_next, earlier, event_at, event_next, further, output_at, shown_at, shown_by, shown_next, part_of, status_at, stops_at, stops_next, world_of}
 use Rattle.world.specs.inner.Kept.{AreOfParts, IsMakeable, IsOfPart, IsWorldOf}
 
 module _ (code : Code) where
@@ -140,8 +140,8 @@ module _ (s : Simulation) (lock : ℕ) (words : List ℕ) (threads : List Thread
     order = one_order (effect s.code) (beginning s.code) (bounds_of s.code) (initial_of s.code) (initial_fits s.code) (fits_cells s.code k.valid) s.threads s.trace;
     attempts = all_compute (effect s.code) (beginning s.code) (bounds_of s.code) (initial_of s.code) (initial_fits s.code) (fits_cells s.code k.valid) s.threads s.trace;
     drops = drops_are_bounded (effect s.code) (beginning s.code) (bounds_of s.code) (initial_of s.code) (initial_fits s.code) (fits_cells s.code k.valid) s.threads s.trace;
-    changes = λ t p a here has gone none. abort_reason (effect s.code) p.thread a w.lock w.words has gone none;
-    takings = drops_come_after_takings (effect s.code) (beginning s.code) (bounds_of s.code) (initial_of s.code) (initial_fits s.code) (fits_cells s.code k.valid) s.threads s.trace;
+    changes = λ n t p a here has gone none. abort_reason (effect s.code) p.thread a (world_of (earlier s n)).lock (world_of (earlier s n)).words has gone none;
+    takings = λ n. drops_come_after_takings (effect s.code) (beginning s.code) (bounds_of s.code) (initial_of s.code) (initial_fits s.code) (fits_cells s.code k.valid) s.threads (take n s.trace);
     holders = never_aborts (effect s.code) (beginning s.code) (bounds_of s.code) (initial_of s.code) (initial_fits s.code) (fits_cells s.code k.valid) s.threads s.trace;
     counts = counted;
   }

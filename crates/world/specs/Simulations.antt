@@ -1,5 +1,5 @@
 -- A world of the machine as its contracts see it: what runs, and the steps that were made. All else follows from these.
-use Rattle.std.specs.Prelude.{◌≡◌, ◌+◌, ◌%◌, ◌⊎◌, ℕ, Bool, true, false, List, ◌∷◌, ◌++◌, Option, None, Some, option_map}
+use Rattle.std.specs.Prelude.{◌≡◌, ◌+◌, ◌%◌, ◌⊎◌, ℕ, Bool, true, false, List, ◌∷◌, ◌++◌, Option, None, Some, option_map, take}
 use Rattle.std.specs.List.{slice_get}
 use Rattle.syntax.specs.Behaviours.{Behaviour, Means, Step}
 use Rattle.syntax.specs.Threads.{thread}
@@ -45,6 +45,10 @@ part_of s t = slice_get (world_of s).parts t
 -- further steps
 abbrev pub further : Simulation → List ℕ → Simulation
 further s ts = record s { trace = s.trace ++ ts }
+
+-- the first n of its steps alone
+abbrev pub earlier : Simulation → ℕ → Simulation
+earlier s n = record s { trace = take n s.trace }
 
 -- the next step of a thread would swap the lock from its last even value
 abbrev pub stops_next : Code → Option (Part Configuration) → Bool
@@ -132,10 +136,10 @@ CountsAccesses s = (t : ℕ) (p : Part Configuration) (us : List ℕ) (k : ℕ) 
 -- that the code means. What a thread begins from here on, where it has no attempt, stands behind all that has taken
 -- effect. All attempts, the dropped ones too, stand in one order, which is that of time. Each attempt, also one that
 -- will be dropped, is where its code's meaning comes on the memory of its moment. A thread has been dropped at most
--- once for each transaction of another thread that took the lock, and once more while the lock is held; and its next
--- step drops its attempt only where validation loaded the word of an entry of the read log and found another one, and
--- where the lock was taken since its last snapshot. From here on a thread that has the lock never aborts, and the
--- accesses of an undisturbed transaction are those that the code's meaning tells.
+-- once for each transaction of another thread that took the lock, and once more while the lock is held. Each step made,
+-- and the next one of each thread, drops an attempt only where validation loaded the word of an entry of the read log
+-- and found another one, and where the lock was taken since the last snapshot. From here on a thread that has the lock
+-- never aborts, and the accesses of an undisturbed transaction are those that the code's meaning tells.
 pub record IsExplained (s : Simulation) : Type 0 where
   pub reached : Reached (effect s.code) (beginning s.code) (initial_of s.code) s.threads (world_of s)
   pub code : IsOpaque (effect s.code) (beginning s.code) (meaning (effect s.code) (beginning s.code)) (bounds_of s.code)
@@ -149,8 +153,8 @@ pub record IsExplained (s : Simulation) : Type 0 where
   pub order : IsInOneOrder (effect s.code) (beginning s.code) (initial_of s.code) s.threads s.trace
   pub attempts : AttemptsCompute (effect s.code) (beginning s.code) (initial_of s.code) (world_of s)
   pub drops : DropsAreBounded (effect s.code) (beginning s.code) (initial_of s.code) s.threads s.trace
-  pub changes : DropsComeOfChanges (effect s.code) (world_of s)
-  pub takings : DropsComeAfterTakings (effect s.code) (world_of s)
+  pub changes : (n : ℕ) → DropsComeOfChanges (effect s.code) (world_of (earlier s n))
+  pub takings : (n : ℕ) → DropsComeAfterTakings (effect s.code) (world_of (earlier s n))
   pub holders : HoldersNeverAbort (effect s.code) (world_of s)
   pub counts : CountsAccesses s
 
