@@ -1,4 +1,4 @@
-//! The whole way of four programs, with each of its growths refused once.
+//! The whole way of five programs, with each of its growths refused once.
 
 use crate::accepted::{accepted_at_once, accepted_of};
 use crate::codes::code_of;
@@ -48,6 +48,25 @@ __transaction_atomic { __transaction_atomic { if (f == 0) { g = 9; __transaction
             "event [14, 1]",
             "event [22, 1]",
             "replay [1, 6, 1]",
+            "end",
+        ],
+    };
+    &ROW
+}
+
+// A swap is lost, the validation behind it fails, and the transaction is made again.
+fn loses_a_swap() -> &'static Row {
+    static ROW: Row = Row {
+        text: "int x; void worker(int self) { __transaction_atomic { x = x + 1; } }",
+        transactions: 1,
+        order: &[0, 1],
+        schedule: "0 a1\n1 a1\n0 a1\n1 a1\n0 a1\n1 a1\n0 a1\n1 a1\n0 a1\n1 a1\n0 a2\n1 a9",
+        meant: &["left [1]", "ended []", "cell [2]", "end"],
+        made: &[
+            "event [11, 0]",
+            "event [13, 1]",
+            "event [19, 1]",
+            "replay [2]",
             "end",
         ],
     };
@@ -255,6 +274,28 @@ fn a_cancel_is_meant(rt: HostRuntime) {
 #[test]
 fn a_cancel_is_made(rt: HostRuntime) {
     assert_goes_on(&rt, rt.alloc(), cancels(), Half::Made, cancels().made);
+}
+
+#[test]
+fn a_lost_swap_is_meant(rt: HostRuntime) {
+    assert_goes_on(
+        &rt,
+        rt.alloc(),
+        loses_a_swap(),
+        Half::Meant,
+        loses_a_swap().meant,
+    );
+}
+
+#[test]
+fn a_lost_swap_is_made(rt: HostRuntime) {
+    assert_goes_on(
+        &rt,
+        rt.alloc(),
+        loses_a_swap(),
+        Half::Made,
+        loses_a_swap().made,
+    );
 }
 
 #[test]

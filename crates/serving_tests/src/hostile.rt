@@ -1,116 +1,11 @@
-//! Hostile use: sources that are as deep, as large and as long as they may be, and one more; sources that end after any
-//! byte; and each growth of what is answered refused in turn.
+//! Hostile use: each growth of what is answered refused in turn, and threads that are not started.
 
-use crate::refusals::joined;
 use command::{Format, Request, Task};
 use refusing::{Refusing, growths};
 use serving::{Detail, serve_alone};
-use serving_in_memory::{Answer, Served, answers, is_answer, request_of, serve_line};
+use serving_in_memory::{Answer, Served, is_answer, request_of};
 use std::alloc::Global;
 use std::str;
-use std::sync::Wait;
-use std::thread::Threads;
-
-const CHECK: &str = "txc check a.c";
-
-const ACCEPTED: Answer<'static> = (0, b"accepted\n", b"");
-
-/// Pieces of a source, each so many times, and what `txc check` answers to it.
-type Row = (&'static [(&'static str, usize)], Answer<'static>);
-
-fn rows() -> &'static [Row] {
-    static ROWS: [Row; 8] = [
-        // as deep as may be; one more is among the examples of faults
-        (
-            &[
-                ("void worker(int self) { ", 1),
-                ("(", 97),
-                ("1", 1),
-                (")", 97),
-                ("; }", 1),
-            ],
-            ACCEPTED,
-        ),
-        // as many cells as may be, and more
-        (&[("int a[4096]; void worker(int self) { }", 1)], ACCEPTED),
-        (
-            &[("int a[4096], b; void worker(int self) { }", 1)],
-            (1, b"", b"txc: fault 25 at 1:14: bad array length\n"),
-        ),
-        (
-            &[("int a[4097]; void worker(int self) { }", 1)],
-            (1, b"", b"txc: fault 25 at 1:7: bad array length\n"),
-        ),
-        (
-            &[("int a[0]; void worker(int self) { }", 1)],
-            (1, b"", b"txc: fault 25 at 1:7: bad array length\n"),
-        ),
-        (
-            &[("int a[2] = {1,2,3}; void worker(int self) { }", 1)],
-            (1, b"", b"txc: fault 25 at 1:17: bad array length\n"),
-        ),
-        // a mebibyte, and a byte more
-        (
-            &[
-                (
-                    "int x; void worker(int self) { __transaction_atomic { x = x + 1; } }",
-                    1,
-                ),
-                (" ", 1_048_508),
-            ],
-            ACCEPTED,
-        ),
-        (
-            &[
-                (
-                    "int x; void worker(int self) { __transaction_atomic { x = x + 1; } }",
-                    1,
-                ),
-                (" ", 1_048_509),
-            ],
-            (1, b"", b"txc: fault 05 at 1:1: file too long\n"),
-        ),
-    ];
-    &ROWS
-}
-
-// Whether `txc check` answers a source in pieces so.
-fn is_checked_so<H: Threads + Wait + Sync>(
-    rt: &H,
-    alloc: Global,
-    pieces: &[(&str, usize)],
-    wanted: Answer,
-) -> bool {
-    match joined(alloc, pieces) {
-        Ok(source) => {
-            answers(
-                rt,
-                alloc,
-                CHECK,
-                source.as_str().as_bytes(),
-                b"",
-                false,
-                wanted,
-            )
-        }
-        Err(_) => false,
-    }
-}
-
-// The number, from 0, of the first row that is answered otherwise.
-fn answered_otherwise<H: Threads + Wait + Sync>(rt: &H, alloc: Global) -> Option<usize> {
-    for (number, (pieces, wanted)) in rows().iter().enumerate() {
-        if !is_checked_so(rt, alloc, pieces, *wanted) {
-            return Some(number);
-        }
-    }
-    None
-}
-
-#[test]
-fn the_most_is_accepted_and_one_more_refused(rt: HostRuntime) {
-    assert_eq!(rt; answered_otherwise(&rt, rt.alloc()), None);
-}
 
 /// A transaction in another one is cancelled, and what it has read is compared still.
 const CANCELS: &[u8] =
@@ -124,31 +19,6 @@ const PRINTS: &[u8] =
 /// Thread 0 makes 64 frames, and thread 1 is trapped at the 65th.
 const CALLS: &[u8] =
     b"void down(int k) { if (k > 0) down(k - 1); } void worker(int self) { down(62 + self); }";
-
-// Whether a source is accepted, or refused by a fault with its number.
-fn is_judged(served: &Served) -> bool {
-    if served.status == 0 {
-        is_answer(served, ACCEPTED)
-    } else {
-        served.status == 1 && served.out.is_empty() && served.err.starts_with(b"txc: fault ")
-    }
-}
-
-// How many of the beginnings of a source are judged, up to the first that is not.
-fn beginnings_judged<H: Threads + Wait + Sync>(rt: &H, alloc: Global, source: &[u8]) -> usize {
-    for end in 0..source.len() {
-        match serve_line(rt, alloc, CHECK, &source[..end], b"", false) {
-            Some(served) if is_judged(&served) => {}
-            _ => return end,
-        }
-    }
-    source.len()
-}
-
-#[test]
-fn each_beginning_of_a_source_is_judged(rt: HostRuntime) {
-    assert_eq!(rt; beginnings_judged(&rt, rt.alloc(), CANCELS), CANCELS.len());
-}
 
 /// A command line, and the source and the schedule of its files.
 type Asked = (&'static str, &'static [u8], &'static [u8]);

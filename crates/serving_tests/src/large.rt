@@ -11,7 +11,7 @@ type Pieces = &'static [(&'static str, usize)];
 
 /// Texts in pieces, and what `txc check` answers to them.
 fn checks() -> &'static [(Pieces, Answer<'static>)] {
-    static ROWS: [(Pieces, Answer<'static>); 12] = [
+    static ROWS: [(Pieces, Answer<'static>); 14] = [
         // as many tokens as a text can have
         (
             &[(";", 1_048_575), (" ", 1)],
@@ -29,7 +29,27 @@ fn checks() -> &'static [(Pieces, Answer<'static>)] {
             ],
             (0, b"accepted\n", b""),
         ),
-        // the most bytes, and one more
+        // the most bytes, and one more, behind a transaction and behind nothing
+        (
+            &[
+                (
+                    "int x; void worker(int self) { __transaction_atomic { x = x + 1; } }",
+                    1,
+                ),
+                (" ", 1_048_508),
+            ],
+            (0, b"accepted\n", b""),
+        ),
+        (
+            &[
+                (
+                    "int x; void worker(int self) { __transaction_atomic { x = x + 1; } }",
+                    1,
+                ),
+                (" ", 1_048_509),
+            ],
+            (1, b"", b"txc: fault 05 at 1:1: file too long\n"),
+        ),
         (
             &[("void worker(int self) { }", 1), (" ", 1_048_551)],
             (0, b"accepted\n", b""),
@@ -350,8 +370,7 @@ fn long_orders_are_answered(rt: HostRuntime) {
         b"== thread 0: ended\n== thread 1: ended\n== memory\nx = 2\n".as_slice(),
         b"".as_slice(),
     );
-    let adds = b"int x; void worker(int self) { __transaction_atomic { x = x + 1; } }";
-    assert!(rt; turns_give(&rt, alloc, 10_000, adds, both));
+    assert!(rt; turns_give(&rt, alloc, 10_000, ADDS, both));
     let counted = (
         0,
         b"== thread 0: ended\n== thread 1: ended\n== memory\nx = 2000\n".as_slice(),
@@ -359,6 +378,9 @@ fn long_orders_are_answered(rt: HostRuntime) {
     );
     assert!(rt; turns_give(&rt, alloc, 2_002, COUNTS, counted));
 }
+
+/// Each thread adds one.
+const ADDS: &[u8] = b"int x; void worker(int self) { __transaction_atomic { x = x + 1; } }";
 
 // Whether so many threads each add one.
 fn threads_add<H: Threads + Wait + Sync>(rt: &H, alloc: Global, threads: u32) -> bool {
@@ -368,8 +390,7 @@ fn threads_add<H: Threads + Wait + Sync>(rt: &H, alloc: Global, threads: u32) ->
     let Ok(end) = format!(in alloc; "== memory\nx = {threads}\n") else {
         return false;
     };
-    let source = b"int x; void worker(int self) { __transaction_atomic { x = x + 1; } }";
-    match serve_line(rt, alloc, line.as_str(), source, b"", false) {
+    match serve_line(rt, alloc, line.as_str(), ADDS, b"", false) {
         Some(served) => served.status == 0
             && served.out.as_slice().ends_with(end.as_str().as_bytes()),
         None => false,
@@ -389,6 +410,68 @@ fn threads_that_do_not_add<H: Threads + Wait + Sync>(rt: &H, alloc: Global) -> O
 #[test]
 fn every_number_of_threads_runs(rt: HostRuntime) {
     assert_eq!(rt; threads_that_do_not_add(&rt, rt.alloc()), None);
+}
+
+// A schedule of so many threads, one behind the other, each to its end, the last one first.
+fn schedule_of(alloc: Global, threads: u32) -> Result<String, AllocError> {
+    let mut schedule = String::new(alloc);
+    for number in 0..threads {
+        let thread = threads.saturating_sub(number).saturating_sub(1);
+        schedule.push_str(format!(in alloc; "{thread} a9\n")?.as_str())?;
+    }
+    Ok(schedule)
+}
+
+// What the replay of that schedule reports: each thread commits behind six accesses.
+fn replay_of(alloc: Global, threads: u32) -> Result<String, AllocError> {
+    let mut report = String::from_str(alloc, "== events\n")?;
+    for number in 0..threads {
+        let at = number.saturating_add(1).saturating_mul(6);
+        let thread = threads.saturating_sub(number).saturating_sub(1);
+        report.push_str(format!(in alloc; "{at} {thread} commit\n")?.as_str())?;
+    }
+    for number in 0..threads {
+        report.push_str(format!(in alloc; "== thread {number}: ended\n")?.as_str())?;
+    }
+    report.push_str(format!(in alloc; "== memory\nx = {threads}\n")?.as_str())?;
+    Ok(report)
+}
+
+// Whether a replay of so many threads that each add one is reported so.
+fn threads_add_in_a_replay<H: Threads + Wait + Sync>(rt: &H, alloc: Global, threads: u32) -> bool {
+    let Ok(line) = format!(in alloc; "txc replay a.c --threads {threads} --schedule s.txt") else {
+        return false;
+    };
+    match (schedule_of(alloc, threads), replay_of(alloc, threads)) {
+        (Ok(schedule), Ok(report)) => answers(
+            rt,
+            alloc,
+            line.as_str(),
+            ADDS,
+            schedule.as_str().as_bytes(),
+            false,
+            (0, report.as_str().as_bytes(), b""),
+        ),
+        _ => false,
+    }
+}
+
+// The first number of threads, from 1 to 64, that do not all add one in a replay.
+fn threads_that_do_not_add_in_a_replay<H: Threads + Wait + Sync>(
+    rt: &H,
+    alloc: Global,
+) -> Option<u32> {
+    for threads in 1..65u32 {
+        if !threads_add_in_a_replay(rt, alloc, threads) {
+            return Some(threads);
+        }
+    }
+    None
+}
+
+#[test]
+fn every_number_of_threads_is_replayed(rt: HostRuntime) {
+    assert_eq!(rt; threads_that_do_not_add_in_a_replay(&rt, rt.alloc()), None);
 }
 
 /// A program with all kinds of statements, whose beginnings are checked.

@@ -1,10 +1,11 @@
 //! What a text's threads do.
 
 use crate::accepted::accepted_of;
+use crate::asserted::assert_all;
 use crate::of_meaning::memory::zeros;
-use meaning::{ThreadOutcome, thread};
+use meaning::{ThreadEnd, ThreadOutcome, thread};
 use separation::Accepted;
-use std::alloc::Allocator;
+use std::alloc::{Allocator, Global};
 
 // What `worker(t)` of a program does where its transactions find memories of so many cells that hold 0; none where memory is
 // refused.
@@ -42,4 +43,38 @@ pub(crate) fn first_left<A: Allocator>(outcome: &ThreadOutcome<A>) -> Option<u64
         Some(memory) => memory.first().copied(),
         None => None,
     }
+}
+
+/// A thousand transactions, each of which adds its number to what it finds.
+const THOUSAND: &str =
+    "int x; void worker(int self) { for (int i = 0; i < 1000; i++) __transaction_atomic { x = x + i; } }";
+
+// Whether a thread has left so many memories, each with its number in the first cell.
+fn has_left_numbers(outcome: &ThreadOutcome, count: usize) -> bool {
+    for (number, memory) in outcome.lefts.iter().enumerate() {
+        if memory.first().copied() != Some(number as u64) {
+            return false;
+        }
+    }
+    outcome.lefts.len() == count
+}
+
+// Whether the thread that is handed so many memories leaves as many, and comes to this end.
+fn comes_to(alloc: Global, founds: usize, end: ThreadEnd) -> bool {
+    match run(alloc, THOUSAND, 0, founds, 100_000) {
+        Some(outcome) => has_left_numbers(&outcome, founds) && outcome.end == end,
+        None => false,
+    }
+}
+
+#[test]
+fn a_thousand_transactions_are_handed_memories(rt: HostRuntime) {
+    let alloc = rt.alloc();
+    assert_all(
+        &rt,
+        &[
+            ("a memory each", comes_to(alloc, 1000, ThreadEnd::Ended)),
+            ("one fewer", comes_to(alloc, 999, ThreadEnd::Wants)),
+        ],
+    );
 }

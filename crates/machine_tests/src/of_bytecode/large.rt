@@ -1,8 +1,9 @@
-//! The longest codes, and what an instruction takes.
+//! The longest codes, codes of many functions and texts, and what an instruction takes.
 
 use crate::asserted::assert_that;
-use crate::of_bytecode::built::of;
-use bytecode::{Instr, MOST_INSTRUCTIONS};
+use crate::of_bytecode::built::{WORKER, is_valid, of, parts_of};
+use bytecode::{FunctionCode, Instr, MOST_INSTRUCTIONS, Parts};
+use containers::Text;
 use std::alloc::{AllocError, Global};
 use std::mem::size_of;
 
@@ -39,4 +40,71 @@ fn the_longest_code_is_valid(rt: HostRuntime) {
 fn a_longer_code_is_not_valid(rt: HostRuntime) {
     let valid = is_valid_at(rt.alloc(), MOST_INSTRUCTIONS + 1);
     assert_that(&rt, valid == Some(false));
+}
+
+// Appends a function that returns at once, named by its number behind an `f`, whose instruction stands at `first`.
+fn push_function(alloc: Global, to: &mut Parts, number: u32, first: u32) -> Result<(), AllocError> {
+    let name = format!(in alloc; "f{number}")?;
+    to.functions.push(FunctionCode {
+        name: Text::from_string(name),
+        first,
+        registers: 0,
+        parameters: 0,
+    })?;
+    to.instructions.push(Instr::Return)
+}
+
+// Appends a text of this number.
+fn push_text(alloc: Global, to: &mut Parts, number: u32) -> Result<(), AllocError> {
+    let text = format!(in alloc; "{number},")?;
+    to.texts.push(Text::from_string(text))
+}
+
+// `worker`, which prints text `at` and calls function `at`, as many functions behind it, each with a name of its own, and as
+// many texts.
+fn many(alloc: Global, count: u32, at: u32) -> Result<Parts, AllocError> {
+    let body = [
+        Instr::PrintText(at),
+        Instr::Call(0, 0, at, 0),
+        Instr::Return,
+    ];
+    let mut parts = parts_of(alloc, &[WORKER], &[], &body, &[])?;
+    for number in 0..count {
+        push_function(alloc, &mut parts, number, number.saturating_add(3))?;
+        push_text(alloc, &mut parts, number)?;
+    }
+    Ok(parts)
+}
+
+// Parts as `many` gives them, and behind them one more function with this number.
+fn one_more(alloc: Global, count: u32, number: u32) -> Result<Parts, AllocError> {
+    let mut parts = many(alloc, count, 1)?;
+    push_function(alloc, &mut parts, number, count.saturating_add(3))?;
+    Ok(parts)
+}
+
+// What `validate` says of parts, where there was memory for them.
+fn is_valid_made(alloc: Global, parts: Result<Parts, AllocError>) -> Option<bool> {
+    match parts {
+        Ok(parts) => is_valid(alloc, parts),
+        Err(_) => None,
+    }
+}
+
+#[test]
+fn two_thousand_functions_and_texts_are_valid(rt: HostRuntime) {
+    let alloc = rt.alloc();
+    let last = is_valid_made(alloc, many(alloc, 2_000, 1_999));
+    assert_that(&rt, last == Some(true));
+    let no_text = is_valid_made(alloc, many(alloc, 2_000, 2_000));
+    assert_that(&rt, no_text == Some(false));
+}
+
+#[test]
+fn the_last_of_two_thousand_names_is_another(rt: HostRuntime) {
+    let alloc = rt.alloc();
+    let another = is_valid_made(alloc, one_more(alloc, 2_000, 2_000));
+    assert_that(&rt, another == Some(true));
+    let first = is_valid_made(alloc, one_more(alloc, 2_000, 0));
+    assert_that(&rt, first == Some(false));
 }
