@@ -10,13 +10,15 @@ pub struct Span {
     pub end: usize,
 }
 
-/// The type of a number: 32 bits, in two's complement where it is signed (C11 6.2.5).
+/// The type of a number, in two's complement where it is signed (C11 6.2.5).
 #[derive(Clone, Copy, PartialEq, Eq)]
 pub enum Scalar {
     /// -2147483648 to 2147483647.
     Int,
     /// 0 to 4294967295.
     Unsigned,
+    /// `long long`: -9223372036854775808 to 9223372036854775807.
+    LongLong,
 }
 
 /// A keyword (C11 6.4.1, and the transactions of GNU C).

@@ -21,6 +21,7 @@ pub mod Ends
 pub mod ExactLocals
 pub mod Expressions
 pub mod Fits
+pub mod Items
 pub mod Kept
 pub mod Loops
 pub mod Memories

@@ -5,7 +5,7 @@ use Rattle.std.proofs.lemmas.Slice.Eq.{bytes_eq-Decides}
 use Rattle.lex.specs.declared.token.Span.{Span}
 use Rattle.lex.specs.declared.token.Span.{Span}
 use Rattle.lex.specs.declared.token.Scalar.{Scalar}
-use Rattle.lex.specs.declared.token.Scalar.TheVariants.{Int, Unsigned}
+use Rattle.lex.specs.declared.token.Scalar.TheVariants.{Int, Unsigned, LongLong}
 use Rattle.syntax.specs.declared.tree.UnaryOp.{UnaryOp}
 use Rattle.syntax.specs.declared.tree.UnaryOp.TheVariants.{Negate, Keep, Not, Complement}
 use Rattle.syntax.specs.declared.tree.BinaryOp.{BinaryOp}
@@ -222,9 +222,9 @@ scope_append (Shares gs ∷ earlier) items x = among_known gs (file_scope earlie
 
 pub same_type_is : (s t : Scalar) → IsTrue (same_type s t) → s ≡ t
 same_type_is Int Int h = refl
-same_type_is Int Unsigned h = absurd (cc)
-same_type_is Unsigned Int h = absurd (cc)
 same_type_is Unsigned Unsigned h = refl
+same_type_is LongLong LongLong h = refl
+same_type_is s t h = absurd (cc)
 
 pub same_result_is : (r : Option Scalar) (t : Scalar) → IsTrue (same_result (Some t) r) → r ≡ Some t
 same_result_is None t h = absurd (cc)

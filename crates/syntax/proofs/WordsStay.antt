@@ -5,7 +5,7 @@ use Rattle.std.proofs.Common.{◌≡◌, refl, sym, ap, subst, length-append, ap
 use Rattle.std.specs.Prelude.{if◌then◌else◌, nat_lt, bytes_eq, IfOk, pos, neg_ℤ, ◌*ℤ◌, slice_index, option_map, unwrap_or}
 use Rattle.std.specs.List.{AllByRecursion}
 use Rattle.lex.specs.declared.token.Scalar.{Scalar}
-use Rattle.lex.specs.declared.token.Scalar.TheVariants.{Int, Unsigned}
+use Rattle.lex.specs.declared.token.Scalar.TheVariants.{Int, Unsigned, LongLong}
 use Rattle.syntax.specs.declared.tree.UnaryOp.{UnaryOp}
 use Rattle.syntax.specs.declared.tree.UnaryOp.TheVariants.{Negate, Keep, Not, Complement}
 use Rattle.syntax.specs.declared.tree.BinaryOp.{BinaryOp}
@@ -123,6 +123,7 @@ typed_word t (Err k) h = tt
 complement_below : (t : Scalar) (w : ℕ) → complemented t w < modulus t
 complement_below Int w = omega arith
 complement_below Unsigned w = omega arith
+complement_below LongLong w = omega arith
 
 unary_word : (op : UnaryOp) (v : Value) → IsValue v → IfOk (unary op v) IsValue
 unary_word Negate v h = typed_word v.of (fitted v.of (neg_ℤ (number_of v))) (fitted_below v.of (neg_ℤ (number_of v)))
@@ -140,10 +141,15 @@ shift_right_below s a b = shift_below s (λ k. fitted s (int_div_euclid (number 
 common_same : (s t : Scalar) → common t s ≡ common s t
 common_same Int Int = refl
 common_same Int Unsigned = refl
+common_same Int LongLong = refl
 common_same Unsigned Int = refl
 common_same Unsigned Unsigned = refl
+common_same Unsigned LongLong = refl
+common_same LongLong Int = refl
+common_same LongLong Unsigned = refl
+common_same LongLong LongLong = refl
 
-any_below : (op : BinaryOp) (s t : Scalar) (a b : ℕ) → a < modulus (operand_type op s t) → b < modulus (operand_type op t s) → IfOk (computed op (operand_type op s t) a b) (λ w. w < modulus (result_type op (operand_type op s t)))
+pub any_below : (op : BinaryOp) (s t : Scalar) (a b : ℕ) → a < modulus (operand_type op s t) → b < modulus (operand_type op t s) → IfOk (computed op (operand_type op s t) a b) (λ w. w < modulus (result_type op (operand_type op s t)))
 any_below ShiftLeft s t a b g h = shift_left_below s a b
 any_below ShiftRight s t a b g h = shift_right_below s a b
 any_below op s t a b g h = computed_below op (common s t) a b g (subst (λ (u : Scalar). b < modulus u) (common_same s t) h)

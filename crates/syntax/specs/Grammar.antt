@@ -4,7 +4,7 @@ use Rattle.lex.specs.{declared.token.Fixed.Fixed, Tokens.Terminal, Tokens.Tok, T
 use Rattle.lex.specs.declared.token.Fixed.TheVariants.{Keyword, Punctuator}
 use Rattle.lex.specs.declared.token.Keyword.TheVariants as key
 use Rattle.lex.specs.declared.token.Punctuator.TheVariants as punct
-use Rattle.syntax.specs.Tree.{Span, Scalar, Int, Unsigned, UnaryOp, Negate, Keep, Not, Complement, BinaryOp, Or, Xor, And, Equal, NotEqual, Less, Greater, LessEqual, GreaterEqual, ShiftLeft, ShiftRight, Add, Subtract, Multiply, Divide, Remainder, LogicalOp, AndThen, OrElse, IncDec, Increment, Decrement, Mode, Atomic, Relaxed, Kind, Plain, Outer, Attribute, Safe, Unsafe, Callable, First, Name, Expr, Exprs, Variable, Constant, Element, Call, Parenthesized, Cast, Unary, Binary, Logical, Conditional, InTransaction, Simple, Evaluate, Assign, Adjust, Declarator, Declaration, Start, Nothing, Declares, Does, Stmt, Stmts, Empty, Declare, Do, Block, Print, If, IfElse, While, DoWhile, For, Break, Continue, Return, Transaction, Cancel, CancelOuter, Parameter, Function, Global, Item, Defines, Shares, Program}
+use Rattle.syntax.specs.Tree.{Span, Scalar, Int, Unsigned, LongLong, UnaryOp, Negate, Keep, Not, Complement, BinaryOp, Or, Xor, And, Equal, NotEqual, Less, Greater, LessEqual, GreaterEqual, ShiftLeft, ShiftRight, Add, Subtract, Multiply, Divide, Remainder, LogicalOp, AndThen, OrElse, IncDec, Increment, Decrement, Mode, Atomic, Relaxed, Kind, Plain, Outer, Attribute, Safe, Unsafe, Callable, First, Name, Expr, Exprs, Variable, Constant, Element, Call, Parenthesized, Cast, Unary, Binary, Logical, Conditional, InTransaction, Simple, Evaluate, Assign, Adjust, Declarator, Declaration, Start, Nothing, Declares, Does, Stmt, Stmts, Empty, Declare, Do, Block, Print, If, IfElse, While, DoWhile, For, Break, Continue, Return, Transaction, Cancel, CancelOuter, Parameter, Function, Global, Item, Defines, Shares, Program}
 use Rattle.syntax.specs.Depth.{program_depth}
 use Rattle.syntax.specs.Phrases.{Phrase, One, Nil, never, ◌⨾◌, ◌∣◌, given, Many, Sign, Word, IsAt, Listed, spanning, end_of}
 
@@ -169,9 +169,11 @@ Groups n a b = (n ≤ level a) × (n < level b)
 
 -- ---- expressions (C11 6.5.1 to 6.5.15)
 
+-- a type; no text spells `long long` yet
 abbrev pub scalar : Scalar → Phrase
 scalar Int = Word key.Int ∣ Word key.Signed ∣ Word key.Signed ⨾ Word key.Int
 scalar Unsigned = Word key.Unsigned ∣ Word key.Unsigned ⨾ Word key.Int
+scalar LongLong = never
 
 abbrev pub named : Name → Phrase
 named = One the_name

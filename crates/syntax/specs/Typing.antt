@@ -4,7 +4,7 @@
 -- they are looked at: a program is typed where every demand is met, and its fault is the first that is not.
 use Rattle.std.specs.Prelude.{ℕ, ◌+◌, List, [], ◌∷◌, ◌++◌, length, map, drop, sum_by, Option, Some, None, Bool, true, false, not, ◌&&◌, ◌||◌, IsTrue, is_some, is_none, if◌then◌else◌, codes, option_map, unwrap_or, ◌==◌, nat_le, bytes_eq, All}
 use Rattle.std.specs.List.{list_any}
-use Rattle.syntax.specs.Tree.{Span, Scalar, Int, Unsigned, First, Name, Expr, Exprs, Variable, Constant, Element, Call, Parenthesized, Cast, Unary, Binary, Logical, Conditional, InTransaction, Simple, Evaluate, Assign, Adjust, Declarator, Start, Nothing, Declares, Does, Stmt, Stmts, Declare, Do, Block, Print, If, IfElse, While, DoWhile, For, Break, Continue, Return, Transaction, Parameter, Function, Global, Item, Defines, Shares, Program}
+use Rattle.syntax.specs.Tree.{Span, Scalar, Int, Unsigned, LongLong, First, Name, Expr, Exprs, Variable, Constant, Element, Call, Parenthesized, Cast, Unary, Binary, Logical, Conditional, InTransaction, Simple, Evaluate, Assign, Adjust, Declarator, Start, Nothing, Declares, Does, Stmt, Stmts, Declare, Do, Block, Print, If, IfElse, While, DoWhile, For, Break, Continue, Return, Transaction, Parameter, Function, Global, Item, Defines, Shares, Program}
 use Rattle.syntax.specs.Names.{cells, definition_of}
 use Rattle.syntax.specs.Types.{Known, Unknown, Callable, Scope, file_scope, with_number, number_type, element_type, type_of}
 use Rattle.syntax.specs.Formats.{pieces, is_format, figures}
@@ -42,6 +42,7 @@ count (Exprs.◌∷◌ e es) = count es + 1
 abbrev pub same_type : Scalar → Scalar → Bool
 same_type Int Int = true
 same_type Unsigned Unsigned = true
+same_type LongLong LongLong = true
 same_type s t = false
 
 abbrev pub is_type : Scalar → Option Scalar → Bool

@@ -1,13 +1,13 @@
 //! What the cells of a global begin with.
 
-ghost use Rattle.std.specs.Prelude.{◌≡◌};
-ghost use Rattle.syntax.specs.Names.{cells, first_value, first_word};
+ghost use Rattle.std.specs.Prelude.{◌≡◌, ◌++◌, map, replicate, OnOk};
+ghost use Rattle.syntax.specs.Names.{cells, first_value, first_word, first_words};
 ghost use Rattle.syntax.specs.Views.{global_of};
 
 use crate::number::{number, word_of};
 use crate::tree::{First, Global};
 use lex::token::Scalar;
-use std::alloc::Allocator;
+use std::alloc::{AllocError, Allocator};
 
 impl First {
     /// The word of the number in the constant's own type.
@@ -38,4 +38,42 @@ impl<A: Allocator> Global<A> {
             None => 1,
         }
     }
+}
+
+/// Adds the words that are given for cells of this type.
+fn push_firsts<A: Allocator>(
+    words: &mut Vec<u64, A>,
+    of: Scalar,
+    firsts: &[First],
+) -> Result<(), AllocError>
+    ensures { OnOk result (words.new.items ≡ words.old.items ++ map (first_word of) firsts.now) }
+{
+    'firsts: for first in firsts {
+        words.push(first.word(of))?;
+    }
+    Ok(())
+}
+
+/// Adds cells that hold 0.
+fn push_zeros<A: Allocator>(words: &mut Vec<u64, A>, count: usize) -> Result<(), AllocError>
+    ensures { OnOk result (words.new.items ≡ words.old.items ++ replicate count 0) }
+{
+    'zeros: for _ in 0..count {
+        words.push(0)?;
+    }
+    Ok(())
+}
+
+/// Adds the words of a global, one for each cell: those that are given, and else 0.
+pub fn push_global<A: Allocator, B: Allocator>(
+    words: &mut Vec<u64, B>,
+    global: &Global<A>,
+) -> Result<(), AllocError>
+    ensures { OnOk result (words.new.items ≡ words.old.items ++ first_words (global_of global.now)) }
+{
+    let firsts = global.first.as_slice();
+    let cells = global.cell_count();
+    let given = cells.min(firsts.len());
+    push_firsts(words, global.of, &firsts[..given])?;
+    push_zeros(words, cells.saturating_sub(firsts.len()))
 }

@@ -15,14 +15,17 @@ pub fn number(of: Scalar, word: u64) -> i64
     match of {
         Scalar::Int => i64::from(((word % 4294967296) as u32).cast_signed()),
         Scalar::Unsigned => (word % 4294967296) as i64,
+        Scalar::LongLong => word.cast_signed(),
     }
 }
 
 /// The word of a number.
-pub(crate) fn word_of(of: Scalar, number: i128) -> u64
+#[inline(always)]
+pub fn word_of(of: Scalar, number: i128) -> u64
     ensures { result ≡ word_of of number }
 {
     match of {
         Scalar::Int | Scalar::Unsigned => number.rem_euclid(4294967296) as u64,
+        Scalar::LongLong => number.rem_euclid(18446744073709551616) as u64,
     }
 }

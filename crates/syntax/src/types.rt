@@ -1,10 +1,11 @@
 //! The types of numbers.
 
-ghost use Rattle.std.specs.Prelude.{◌≡◌};
-ghost use Rattle.syntax.specs.Numbers.{common, result_type};
+ghost use Rattle.std.specs.Prelude.{◌≡◌, option_map};
+ghost use Rattle.syntax.specs.Numbers.{common, operand_type, result_type};
+ghost use Rattle.syntax.specs.Types.{common_of, unary_type, binary_type};
 ghost use Rattle.syntax.specs.Typing.{same_type};
 
-use crate::tree::BinaryOp;
+use crate::tree::{BinaryOp, UnaryOp};
 use lex::token::Scalar;
 
 /// Whether two types are the same.
@@ -12,7 +13,9 @@ pub fn same_type(s: Scalar, t: Scalar) -> bool
     ensures { result ≡ same_type s t }
 {
     match (s, t) {
-        (Scalar::Int, Scalar::Int) | (Scalar::Unsigned, Scalar::Unsigned) => true,
+        (Scalar::Int, Scalar::Int)
+        | (Scalar::Unsigned, Scalar::Unsigned)
+        | (Scalar::LongLong, Scalar::LongLong) => true,
         _ => false,
     }
 }
@@ -22,8 +25,33 @@ pub fn common_type(s: Scalar, t: Scalar) -> Scalar
     ensures { result ≡ common s t }
 {
     match (s, t) {
+        (Scalar::LongLong, _)
+        | (Scalar::Int, Scalar::LongLong)
+        | (Scalar::Unsigned, Scalar::LongLong) => Scalar::LongLong,
         (Scalar::Int, Scalar::Int) => Scalar::Int,
-        (Scalar::Int, Scalar::Unsigned) | (Scalar::Unsigned, _) => Scalar::Unsigned,
+        (Scalar::Int, Scalar::Unsigned)
+        | (Scalar::Unsigned, Scalar::Int)
+        | (Scalar::Unsigned, Scalar::Unsigned) => Scalar::Unsigned,
+    }
+}
+
+/// The same of operands that may have none: then there is none.
+pub fn common_of(s: Option<Scalar>, t: Option<Scalar>) -> Option<Scalar>
+    ensures { result ≡ common_of s t }
+{
+    match (s, t) {
+        (Some(s), Some(t)) => Some(common_type(s, t)),
+        _ => None,
+    }
+}
+
+/// The type to which an operand is converted, where the other one is of this type.
+pub fn operand_type(op: BinaryOp, own: Scalar, other: Scalar) -> Scalar
+    ensures { result ≡ operand_type op own other }
+{
+    match op {
+        BinaryOp::ShiftLeft | BinaryOp::ShiftRight => own,
+        _ => common_type(own, other),
     }
 }
 
@@ -39,5 +67,35 @@ pub fn result_type(op: BinaryOp, of: Scalar) -> Scalar
         | BinaryOp::LessEqual
         | BinaryOp::GreaterEqual => Scalar::Int,
         _ => of,
+    }
+}
+
+/// The same where the operands may have none.
+fn joined_type(op: BinaryOp, both: Option<Scalar>) -> Option<Scalar>
+    ensures { result ≡ option_map (result_type op) both }
+{
+    match both {
+        Some(of) => Some(result_type(op, of)),
+        None => None,
+    }
+}
+
+/// The type of what an operator before its operand gives (C11 6.5.3.3).
+pub fn unary_type(op: UnaryOp, of: Option<Scalar>) -> Option<Scalar>
+    ensures { result ≡ unary_type op of }
+{
+    match op {
+        UnaryOp::Not => Some(Scalar::Int),
+        UnaryOp::Negate | UnaryOp::Keep | UnaryOp::Complement => of,
+    }
+}
+
+/// The type of what an operator between two operands gives (C11 6.5.5 to 6.5.12).
+pub fn binary_type(op: BinaryOp, s: Option<Scalar>, t: Option<Scalar>) -> Option<Scalar>
+    ensures { result ≡ binary_type op s t }
+{
+    match op {
+        BinaryOp::ShiftLeft | BinaryOp::ShiftRight => s,
+        _ => joined_type(op, common_of(s, t)),
     }
 }
