@@ -28,7 +28,7 @@ use Rattle.safety.specs.declared.site.TransactionsAround.{TransactionsAround}
 use Rattle.safety.specs.inner.Known.{around}
 use Rattle.safety.specs.inner.Walks.{Appends, head_sites}
 use Rattle.safety.proofs.SameNames.{behind, expr_if_any_same, simple_if_any_same, declarators_same, stmt_same, stmts_same}
-use Rattle.types.specs.inner.BlockItems.{declaration_in}
+use Rattle.types.specs.BlockItems.{declaration_in}
 use Rattle.types.proofs.BlockItems.{declaration_is}
 
 pub two : (o m n : List OwnSite) (a b all : List Site) → all ≡ a ++ b → Appends o m a → Appends m n b → Appends o n all

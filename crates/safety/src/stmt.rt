@@ -1,9 +1,8 @@
 //! The sites of a body.
 
 ghost use Rattle.std.specs.Prelude.{◌≡◌, ◌++◌, ◌∷◌, [], ℕ, List, map, option_map, OnOk, IfOk};
-ghost use Rattle.syntax.specs.Views.{expr_of, simple_of, declarator_of, declaration_of, start_of, stmt_of, stmts_of, parameter_of};
+ghost use Rattle.syntax.specs.Views.{expr_of, simple_of, declarator_of, start_of, stmt_of, stmts_of, parameter_of};
 ghost use Rattle.syntax.specs.Typing.{names_of, parameter_names};
-ghost use Rattle.types.specs.inner.BlockItems.{declaration_in};
 ghost use Rattle.safety.specs.Views.{sites_of_own};
 ghost use Rattle.safety.specs.Sites.{with_names, sites_if_any, expr_sites, declarator_sites, start_sites, names_of_start, stmt_sites, stmts_sites, body_sites};
 ghost use Rattle.safety.specs.inner.Known.{names_in, around_in};
@@ -18,6 +17,7 @@ use containers::Items;
 use lex::token::Span;
 use std::alloc::{AllocError, Allocator};
 use syntax::tree::{Declaration, Declarator, ForHead, Function, Parameter, Start, Stmt};
+use types::as_declaration;
 
 /// A name that is declared, and its first value.
 fn add_declarator<'a, A: Allocator + Copy>(
@@ -171,16 +171,6 @@ fn add_stmt<'a, A: Allocator + Copy>(
         }
         Stmt::Cancel(at) => add(sites, place, Construct::Cancels, *at),
         Stmt::CancelOuter(at) => add(sites, place, Construct::CancelsOuter, *at),
-    }
-}
-
-/// The declaration that a statement is, where it is one.
-fn as_declaration<A: Allocator>(stmt: &Stmt<A>) -> Option<&Declaration<A>>
-    ensures { option_map (λ d. declaration_of d.now) result ≡ declaration_in (stmt_of stmt.now) }
-{
-    match stmt {
-        Stmt::Declare(one) => Some(one),
-        _ => None,
     }
 }
 

@@ -3,7 +3,7 @@ use Rattle.std.proofs.Common.{◌≡◌, List, [], ◌∷◌, ◌++◌, ℕ, map
 use Rattle.syntax.specs.Tree.{Declaration, Declarator, Stmt, Declare}
 use Rattle.syntax.specs.Types.{Scope}
 use Rattle.syntax.specs.Typing.{has_name, scope_after, names_of}
-use Rattle.types.specs.inner.BlockItems.{declaration_in}
+use Rattle.types.specs.BlockItems.{declaration_in}
 use Rattle.types.specs.inner.Known.{declared_by}
 
 none_some : {X : Type 0} (d : X) → Some d ≡ None → ⊥

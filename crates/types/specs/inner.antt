@@ -8,7 +8,5 @@ pub mod Known
 -- what is found out item by item
 pub mod Bodies
 pub mod Found
--- the items of a block
-pub mod BlockItems
 -- formats
 pub mod Figures

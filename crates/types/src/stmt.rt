@@ -3,7 +3,7 @@
 ghost use Rattle.std.specs.Prelude.{◌≡◌, ◌≤◌, ◌++◌, [], List, ℕ, option_map, is_some, not, if◌then◌else◌, OnOk};
 ghost use Rattle.syntax.specs.Views.{expr_of, simple_of, declaration_of, start_of, stmt_of, stmts_of};
 ghost use Rattle.syntax.specs.Typing.{scope_after, names_of, scope_of_start, returns_right};
-ghost use Rattle.types.specs.inner.BlockItems.{declaration_in};
+ghost use Rattle.types.specs.BlockItems.{declaration_in};
 ghost use Rattle.syntax.specs.Typing.{demand, demands_of, first_unmet, GivesNumber, IsTyped, IsNumber, IsTypedSimple, IsTypedStart, IsTypedStmt, AreTypedStmts};
 ghost use Rattle.types.specs.inner.Unmet.{Answers, unmet_in};
 ghost use Rattle.types.specs.inner.Known.{known_in, count_in, AreDeclared, Grows, Agrees};
@@ -179,7 +179,7 @@ pub(crate) fn check_stmt<'a, A: Allocator + Copy>(
 }
 
 /// The declaration that a statement is, where it is one.
-fn as_declaration<A: Allocator>(stmt: &Stmt<A>) -> Option<&Declaration<A>>
+pub fn as_declaration<A: Allocator>(stmt: &Stmt<A>) -> Option<&Declaration<A>>
     ensures { option_map (λ d. declaration_of d.now) result ≡ declaration_in (stmt_of stmt.now) }
 {
     match stmt {

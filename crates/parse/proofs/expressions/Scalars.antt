@@ -4,7 +4,7 @@ use Rattle.lex.specs.declared.token.Fixed.{Fixed}
 use Rattle.lex.specs.declared.token.Fixed.TheVariants.{Keyword}
 use Rattle.lex.specs.declared.token.Keyword.TheVariants as key
 use Rattle.lex.specs.declared.token.Scalar.{Scalar}
-use Rattle.lex.specs.declared.token.Scalar.TheVariants.{Int, Unsigned}
+use Rattle.lex.specs.declared.token.Scalar.TheVariants.{Int, Unsigned, LongLong}
 use Rattle.lex.specs.declared.token.Span.{Span}
 use Rattle.lex.specs.Tokens.{Terminal, name, fixed, Tok}
 use Rattle.syntax.specs.Tree.{Name}
@@ -167,6 +167,7 @@ words_come d Unsigned p (inr s) = record {
   within = λ w. (tt, tt);
   stops = λ h s. s;
 }
+words_come d LongLong p h = absurd h
 
 -- A type is read exactly where `int` does not follow it.
 pub scalar_exact : (d : ℕ) → Exact (λ D. scalar) Grammar.scalar (λ D. Shallow D) (λ t h. is_next (Keyword key.Int) h ≡ false) Always d
