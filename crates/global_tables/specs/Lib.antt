@@ -1,0 +1,2 @@
+-- globals by their names, and how many cells they have
+pub mod Tables
