@@ -13,6 +13,8 @@ mod Goes
 mod Fails
 mod Ends
 mod Answering
+-- the operator that an instruction is
+mod Operators
 -- what an instruction names
 mod Callees
 -- how functions lie, and what a code is asked for
@@ -27,3 +29,5 @@ mod FlatCodes
 mod Kept
 -- what a valid code reads and writes
 pub mod Fits
+mod Cells
+mod Marking

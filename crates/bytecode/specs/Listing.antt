@@ -2,7 +2,7 @@
 use Rattle.std.specs.Prelude.{ℕ, suc, ◌-◌, ◌==◌, List, [], ◌∷◌, ◌++◌, take, drop, codes, decimal, flat_map, Option, Some, None, slice_get, unwrap_or}
 use Rattle.std.specs.Map.{lookup}
 use Rattle.lex.specs.declared.token.Scalar.{Scalar}
-use Rattle.lex.specs.declared.token.Scalar.TheVariants.{Int, Unsigned}
+use Rattle.lex.specs.declared.token.Scalar.TheVariants.{Int, Unsigned, LongLong}
 use Rattle.syntax.specs.declared.tree.BinaryOp.{BinaryOp}
 use Rattle.syntax.specs.declared.tree.BinaryOp.TheVariants.{Or, Xor, And, Equal, NotEqual, Less, Greater, LessEqual, GreaterEqual, ShiftLeft, ShiftRight, Add, Subtract, Multiply, Divide, Remainder}
 use Rattle.bytecode.specs.Code.{Instr, FunctionCode, Code}
@@ -24,6 +24,12 @@ k_text k = codes " #" ++ decimal k
 abbrev pub typed_word : List ℕ → Scalar → List ℕ
 typed_word w Int = w ++ codes ".s"
 typed_word w Unsigned = w ++ codes ".u"
+typed_word w LongLong = w ++ codes ".l"
+
+abbrev pub not_word : Scalar → List ℕ
+not_word Int = codes "not"
+not_word Unsigned = codes "not"
+not_word LongLong = codes "not.l"
 
 abbrev pub op_text : BinaryOp → Scalar → List ℕ
 op_text Add t = typed_word (codes "add") t
@@ -53,7 +59,9 @@ instr_text fs (Instr.Constant d n) = codes "const" ++ r_text d ++ k_text n
 instr_text fs (Instr.Move d a) = codes "move" ++ r_text d ++ r_text a
 instr_text fs (Instr.Compute op t d a b) = op_text op t ++ r_text d ++ r_text a ++ r_text b
 instr_text fs (Instr.Negate t d a) = typed_word (codes "neg") t ++ r_text d ++ r_text a
-instr_text fs (Instr.Complement d a) = codes "not" ++ r_text d ++ r_text a
+instr_text fs (Instr.Complement t d a) = not_word t ++ r_text d ++ r_text a
+instr_text fs (Instr.Extend d a) = codes "ext" ++ r_text d ++ r_text a
+instr_text fs (Instr.Low d a) = codes "low" ++ r_text d ++ r_text a
 instr_text fs (Instr.Jump to) = codes "jump" ++ p_text to
 instr_text fs (Instr.JumpZero a to) = codes "jz" ++ r_text a ++ p_text to
 instr_text fs (Instr.JumpNonzero a to) = codes "jnz" ++ r_text a ++ p_text to

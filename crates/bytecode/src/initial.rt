@@ -1,49 +1,24 @@
-//! The memory in which the threads of a code begin.
+//! The memory in which the threads of a code begin, and what its cells keep of a word.
 
-ghost use Rattle.std.specs.Prelude.{◌≡◌, ◌++◌, map, replicate, IfOk, OnOk};
-ghost use Rattle.syntax.specs.Views.{global_of};
-ghost use Rattle.syntax.specs.Names.{first_word, first_words};
+ghost use Rattle.std.specs.Prelude.{◌≡◌, ◌++◌, ◌<◌, length, OnOk};
+ghost use Rattle.syntax.specs.Numbers.{residue};
+ghost use Rattle.bytecode.specs.Code.{bounds_of, stored};
 ghost use Rattle.bytecode.specs.Initial.{initial_of};
 ghost use Rattle.bytecode.specs.Valid.{IsValid};
 
 use crate::code::Code;
 use lex::token::Scalar;
 use std::alloc::{AllocError, Allocator};
-use syntax::tree::{First, Global};
+use syntax::initial::push_global;
 
-fn push_firsts<A: Allocator>(
-    words: &mut Vec<u64, A>,
-    of: Scalar,
-    firsts: &[First],
-) -> Result<(), AllocError>
-    ensures { OnOk result (words.new.items ≡ words.old.items ++ map (first_word of) firsts.now) }
+// What a type sees of a word.
+fn seen(of: Scalar, word: u64) -> u64
+    ensures { result ≡ residue of word }
 {
-    'firsts: for first in firsts {
-        words.push(first.word(of))?;
+    match of {
+        Scalar::Int | Scalar::Unsigned => word % 4294967296,
+        Scalar::LongLong => word,
     }
-    Ok(())
-}
-
-fn push_zeros<A: Allocator>(words: &mut Vec<u64, A>, count: usize) -> Result<(), AllocError>
-    ensures { OnOk result (words.new.items ≡ words.old.items ++ replicate count 0) }
-{
-    'zeros: for _ in 0..count {
-        words.push(0)?;
-    }
-    Ok(())
-}
-
-fn push_global<A: Allocator, B: Allocator>(
-    words: &mut Vec<u64, B>,
-    global: &Global<A>,
-) -> Result<(), AllocError>
-    ensures { OnOk result (words.new.items ≡ words.old.items ++ first_words (global_of global.now)) }
-{
-    let firsts = global.first.as_slice();
-    let cells = global.cell_count();
-    let given = cells.min(firsts.len());
-    push_firsts(words, global.of, &firsts[..given])?;
-    push_zeros(words, cells.saturating_sub(firsts.len()))
 }
 
 impl<A: Allocator> Code<A> {
@@ -58,5 +33,21 @@ impl<A: Allocator> Code<A> {
             push_global(words, global)?;
         }
         Ok(())
+    }
+
+    /// What a cell keeps of a word: its residue for the cell's type. Takes a look at each global up to the cell's.
+    pub fn stored(&self, cell: u32, word: u64) -> u64
+        requires { cell < length (bounds_of self.now) }
+        ensures { result ≡ stored self.now cell word }
+    {
+        let mut left = cell as usize;
+        'each: for global in self.globals() {
+            let cells = global.cell_count();
+            if left < cells {
+                return seen(global.of, word);
+            }
+            left -= cells;
+        }
+        word
     }
 }

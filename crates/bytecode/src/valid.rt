@@ -1,6 +1,8 @@
 //! Which parts are a valid code.
 
-ghost use Rattle.std.specs.Prelude.{◌≡◌, ◌<◌, ◌≤◌, ◌+◌, MatchOption, IfOk, IfErr, IsTrue, ◌↔◌, length, map};
+ghost use Rattle.std.specs.Prelude.{◌≡◌, ◌<◌, ◌≤◌, ◌+◌, MatchOption, IfOk, IfErr, IsTrue, ◌↔◌, fold, flat_map, length, map};
+ghost use Rattle.std.specs.Hash as fed;
+ghost use Rattle.std.specs.Hash.DefaultHasher as sip;
 ghost use Rattle.std.specs.List.{list_all};
 ghost use Rattle.syntax.specs.Names.{initial_from};
 ghost use Rattle.syntax.specs.Views.{global_of};
@@ -13,8 +15,10 @@ use crate::code::{Code, FunctionCode, Parts};
 use crate::limits::{MOST_CELLS, MOST_INSTRUCTIONS, MOST_REGISTERS};
 use crate::walk::walk;
 use crate::written::is_written;
+use name_tables::Keyed;
 use std::alloc::{AllocError, Allocator};
 use std::collections::HashSet;
+use std::hash::{DefaultHasher, Hash, Hasher};
 use syntax::tree::Global;
 
 /// Why it was not found out whether parts are valid: they come back as they were given.
@@ -28,10 +32,7 @@ pub enum PartsFault<A: Allocator = std::alloc::Global> {
 fn is_shaped<A: Allocator>(g: &Global<A>) -> bool
     ensures { result ≡ is_shaped (global_of g.now) }
 {
-    let cells = match g.length {
-        Some((length, _)) => length as usize,
-        None => 1,
-    };
+    let cells = g.cell_count();
     1 <= cells && cells <= MOST_CELLS && g.first.len() <= cells
 }
 
@@ -99,12 +100,24 @@ fn are_laid_out<A: Allocator>(parts: &Parts<A>) -> bool
     true
 }
 
+// The hash of all functions' names, in order: so no name can be chosen for the key that it will have a part in.
+fn key_of<A: Allocator>(functions: &[FunctionCode<A>]) -> u64
+    ensures { result ≡ sip.finish (fold sip.write sip.initial (flat_map (λ f. fed.str f.name) functions.now)) }
+{
+    let mut hasher = DefaultHasher::new();
+    'each: for f in functions {
+        f.name.as_str().hash(&mut hasher);
+    }
+    hasher.finish()
+}
+
 // Whether no two functions have one name.
 fn have_distinct_names<A: Allocator + Copy>(alloc: A, parts: &Parts<A>) -> Result<bool, AllocError>
     ensures { IfOk result (λ b. IsTrue b ↔ HasDistinctNames (code_of parts.now)) }
 {
-    let mut names = HashSet::new(alloc);
-    'each: for f in parts.functions.as_slice() {
+    let functions = parts.functions.as_slice();
+    let mut names = HashSet::with_hasher(alloc, Keyed::new(key_of(functions)));
+    'each: for f in functions {
         match names.insert(f.name.as_str()) {
             Ok(true) => {}
             Ok(false) => return Ok(false),

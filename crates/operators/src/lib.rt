@@ -2,11 +2,13 @@
 //! `syntax`.
 //!
 //! A word is any number of 64 bits, of which a type sees the residue: no number here needs more than 64 bits, but for what is
-//! shifted to the left. Products and quotients of two `int`s are those of the processor's 32 bits.
+//! shifted to the left. Products and quotients of two `int`s are those of the processor's 32 bits, those of two `long long`s the
+//! processor's 64.
 #![tactic(auto)]
 
-ghost use Rattle.std.specs.Prelude.{◌≡◌, ◌≢◌, ◌≤ℤ◌, ◌<◌, ◌≤◌, ◌^◌, pos, neg_ℤ, Ok};
-ghost use Rattle.syntax.specs.Numbers.{number as number_in, bits, residue, fitted, computed, complemented};
+ghost use Rattle.std.specs.Prelude.{◌≡◌, ◌≢◌, ◌≤ℤ◌, ◌<◌, ◌≤◌, ◌^◌, ◌==◌, pos, neg_ℤ, Ok};
+ghost use Rattle.syntax.specs.Numbers.{number as number_in, word_of, bits, residue, fitted, computed, complemented};
+ghost use Rattle.operators.specs.inner.Checked.{checked};
 
 use lex::token::Scalar;
 use syntax::number::number;
@@ -27,6 +29,7 @@ fn fit(t: Scalar, z: i64) -> Result<u64, Trap>
             Ok(u64::from((z as i32).cast_unsigned()))
         }
         Scalar::Unsigned => Ok(z.rem_euclid(4294967296) as u64),
+        Scalar::LongLong => Ok(z.cast_unsigned()),
     }
 }
 
@@ -44,6 +47,24 @@ fn fit_wide(t: Scalar, z: i128) -> Result<u64, Trap>
             }
         }
         Scalar::Unsigned => Ok(z.rem_euclid(4294967296) as u64),
+        Scalar::LongLong => {
+            if -9223372036854775808 <= z && z < 9223372036854775808 {
+                Ok(z.rem_euclid(18446744073709551616) as u64)
+            } else {
+                Err(Trap::OutOfRange)
+            }
+        }
+    }
+}
+
+/// The word of a `long long` that a checked operation gives, or a trap where it gives none.
+#[inline(always)]
+fn fit_checked(z: Option<i64>) -> Result<u64, Trap>
+    ensures { result ≡ checked z }
+{
+    match z {
+        Some(z) => Ok(z.cast_unsigned()),
+        None => Err(Trap::OutOfRange),
     }
 }
 
@@ -52,7 +73,10 @@ fn fit_wide(t: Scalar, z: i128) -> Result<u64, Trap>
 pub fn add(t: Scalar, a: u64, b: u64) -> Result<u64, Trap>
     ensures { result ≡ computed BinaryOp.Add t a b }
 {
-    fit(t, number(t, a) + number(t, b))
+    match t {
+        Scalar::LongLong => fit_checked(number(t, a).checked_add(number(t, b))),
+        Scalar::Int | Scalar::Unsigned => fit(t, number(t, a) + number(t, b)),
+    }
 }
 
 /// A difference.
@@ -60,7 +84,10 @@ pub fn add(t: Scalar, a: u64, b: u64) -> Result<u64, Trap>
 pub fn subtract(t: Scalar, a: u64, b: u64) -> Result<u64, Trap>
     ensures { result ≡ computed BinaryOp.Subtract t a b }
 {
-    fit(t, number(t, a) - number(t, b))
+    match t {
+        Scalar::LongLong => fit_checked(number(t, a).checked_sub(number(t, b))),
+        Scalar::Int | Scalar::Unsigned => fit(t, number(t, a) - number(t, b)),
+    }
 }
 
 /// What a type of 32 bits sees of a word.
@@ -75,10 +102,11 @@ fn low(w: u64) -> u32
 #[inline(always)]
 fn bits(t: Scalar) -> u64
     ensures value { result ≡ bits t }
-    ensures most { result ≤ 32 }
+    ensures most { result ≤ 64 }
 {
     match t {
         Scalar::Int | Scalar::Unsigned => 32,
+        Scalar::LongLong => 64,
     }
 }
 
@@ -98,6 +126,22 @@ fn word(z: i32) -> u64
     u64::from(z.cast_unsigned())
 }
 
+/// The number of a `long long`'s word.
+#[inline(always)]
+fn long(w: u64) -> i64
+    ensures { result ≡ number_in Scalar.LongLong w }
+{
+    w.cast_signed()
+}
+
+/// The word of a `long long`.
+#[inline(always)]
+fn long_word(z: i64) -> u64
+    ensures { Ok result ≡ fitted Scalar.LongLong z }
+{
+    z.cast_unsigned()
+}
+
 /// A product of two `int`s.
 #[inline(always)]
 fn multiply_signed(a: u64, b: u64) -> Result<u64, Trap>
@@ -109,6 +153,14 @@ fn multiply_signed(a: u64, b: u64) -> Result<u64, Trap>
     }
 }
 
+/// A product of two `long long`s.
+#[inline(always)]
+fn multiply_long(a: u64, b: u64) -> Result<u64, Trap>
+    ensures { result ≡ computed BinaryOp.Multiply Scalar.LongLong a b }
+{
+    fit_checked(long(a).checked_mul(long(b)))
+}
+
 /// A product.
 #[inline(always)]
 pub fn multiply(t: Scalar, a: u64, b: u64) -> Result<u64, Trap>
@@ -117,6 +169,7 @@ pub fn multiply(t: Scalar, a: u64, b: u64) -> Result<u64, Trap>
     match t {
         Scalar::Int => multiply_signed(a, b),
         Scalar::Unsigned => Ok(u64::from(low(a)) * u64::from(low(b)) % 4294967296),
+        Scalar::LongLong => multiply_long(a, b),
     }
 }
 
@@ -144,16 +197,49 @@ fn remain_signed(a: u64, b: u64) -> Result<u64, Trap>
     }
 }
 
+/// A quotient of two `long long`s. The one that is out of range is that of the least number by -1.
+#[inline(always)]
+fn divide_long(a: u64, b: u64) -> Result<u64, Trap>
+    requires divisor { residue Scalar.LongLong b ≢ 0 }
+    ensures { result ≡ computed BinaryOp.Divide Scalar.LongLong a b }
+{
+    fit_checked(long(a).checked_div(long(b)))
+}
+
+/// What is left by a division of two `long long`s; it traps where the quotient does.
+#[inline(always)]
+fn remain_long(a: u64, b: u64) -> Result<u64, Trap>
+    requires divisor { residue Scalar.LongLong b ≢ 0 }
+    ensures { result ≡ computed BinaryOp.Remainder Scalar.LongLong a b }
+{
+    match long(a).checked_rem(long(b)) {
+        Some(z) => Ok(long_word(z)),
+        None => Err(Trap::OutOfRange),
+    }
+}
+
+/// Whether a divisor is 0.
+#[inline(always)]
+fn is_zero(t: Scalar, b: u64) -> bool
+    ensures { result ≡ (residue t b == 0) }
+{
+    match t {
+        Scalar::Int | Scalar::Unsigned => low(b) == 0,
+        Scalar::LongLong => b == 0,
+    }
+}
+
 /// A quotient.
 #[inline(always)]
 pub fn divide(t: Scalar, a: u64, b: u64) -> Result<u64, Trap>
     ensures { result ≡ computed BinaryOp.Divide t a b }
 {
-    if low(b) == 0 {
+    if is_zero(t, b) {
         return Err(Trap::ZeroDivisor);
     }
     match t {
         Scalar::Int => divide_signed(a, b),
+        Scalar::LongLong => divide_long(a, b),
         Scalar::Unsigned => Ok(u64::from(low(a) / low(b))),
     }
 }
@@ -163,16 +249,28 @@ pub fn divide(t: Scalar, a: u64, b: u64) -> Result<u64, Trap>
 pub fn remain(t: Scalar, a: u64, b: u64) -> Result<u64, Trap>
     ensures { result ≡ computed BinaryOp.Remainder t a b }
 {
-    if low(b) == 0 {
+    if is_zero(t, b) {
         return Err(Trap::ZeroDivisor);
     }
     match t {
         Scalar::Int => remain_signed(a, b),
+        Scalar::LongLong => remain_long(a, b),
         Scalar::Unsigned => Ok(u64::from(low(a) % low(b))),
     }
 }
 
-/// A power of two.
+/// A power of two, of any that a `long long` may be shifted by.
+#[inline(always)]
+fn wide_power(k: u64) -> i128
+    requires { k < 64 }
+    ensures value { result ≡ pos (2 ^ k) }
+    ensures low { pos 0 ≤ℤ result }
+    ensures high { result ≤ℤ pos (2 ^ 63) }
+{
+    i128::from(1u64 << k)
+}
+
+/// A power of two that 32 bits hold.
 #[inline(always)]
 fn power(k: u64) -> i64
     requires { k < 32 }
@@ -192,7 +290,7 @@ pub fn shift_left(t: Scalar, a: u64, b: u64) -> Result<u64, Trap>
         return Err(Trap::ShiftCount);
     }
     let x = i128::from(number(t, a));
-    let y = i128::from(power(b));
+    let y = wide_power(b);
     fit_wide(t, x * y)
 }
 
@@ -205,8 +303,10 @@ pub fn shift_right(t: Scalar, a: u64, b: u64) -> Result<u64, Trap>
         return Err(Trap::ShiftCount);
     }
     let x = number(t, a);
-    let y = power(b);
-    fit(t, x.div_euclid(y))
+    match t {
+        Scalar::Int | Scalar::Unsigned => fit(t, x.div_euclid(power(b))),
+        Scalar::LongLong => fit_wide(t, i128::from(x).div_euclid(wide_power(b))),
+    }
 }
 
 /// Whether two words are equal.
@@ -233,6 +333,7 @@ pub fn less(t: Scalar, a: u64, b: u64) -> u64
     match t {
         Scalar::Int => u64::from(signed(a) < signed(b)),
         Scalar::Unsigned => u64::from(low(a) < low(b)),
+        Scalar::LongLong => u64::from(long(a) < long(b)),
     }
 }
 
@@ -244,6 +345,7 @@ pub fn less_equal(t: Scalar, a: u64, b: u64) -> u64
     match t {
         Scalar::Int => u64::from(signed(a) <= signed(b)),
         Scalar::Unsigned => u64::from(low(a) <= low(b)),
+        Scalar::LongLong => u64::from(long(a) <= long(b)),
     }
 }
 
@@ -252,7 +354,10 @@ pub fn less_equal(t: Scalar, a: u64, b: u64) -> u64
 pub fn negate(t: Scalar, a: u64) -> Result<u64, Trap>
     ensures { result ≡ fitted t (neg_ℤ (number_in t a)) }
 {
-    fit(t, -number(t, a))
+    match t {
+        Scalar::Int | Scalar::Unsigned => fit(t, -number(t, a)),
+        Scalar::LongLong => fit_wide(t, -i128::from(number(t, a))),
+    }
 }
 
 /// Each bit the other way.
@@ -262,7 +367,24 @@ pub fn complement(t: Scalar, a: u64) -> u64
 {
     match t {
         Scalar::Int | Scalar::Unsigned => u64::from(4294967295 - low(a)),
+        Scalar::LongLong => 18446744073709551615 - a,
     }
+}
+
+/// The word of an `int`'s number as a `long long`.
+#[inline(always)]
+pub fn extend(a: u64) -> u64
+    ensures { result ≡ word_of Scalar.LongLong (number_in Scalar.Int a) }
+{
+    number(Scalar::Int, a).cast_unsigned()
+}
+
+/// The lower 32 bits.
+#[inline(always)]
+pub fn lower(a: u64) -> u64
+    ensures { result ≡ residue Scalar.Unsigned a }
+{
+    u64::from(low(a))
 }
 
 /// The result of an operator on two words of one type. Not always inlined: where the operator is given, little is left of it, but

@@ -100,7 +100,7 @@ fn push_variable<A: Allocator + Copy>(
     let first = beginning(alloc, variable.value)?;
     let text = Text::from_str(alloc, variable.name)?;
     to.push(Global {
-        of: Scalar::Int,
+        of: variable.of,
         name: Name {
             text,
             span: Span { start: 0, end: 0 },

@@ -4,11 +4,15 @@
 mod built;
 mod levels;
 mod samples;
+mod wide;
 mod written;
 
 pub use built::code_of;
 pub use levels::{Levels, NUMBERS, cancels_levels};
 pub use samples::{adds_five, traps};
+pub use wide::{
+    WideOperator, WideRow, code_over_both, shown_operator, wide_cells, wide_operators, wide_steps,
+};
 pub use written::{
-    TEXTS, WrittenCode, WrittenFunction, WrittenVariable, X, over_x, second, worker,
+    TEXTS, WrittenCode, WrittenFunction, WrittenVariable, X, Y, over_x, second, worker,
 };

@@ -1,6 +1,7 @@
 //! What a code is written as.
 
 use bytecode::Instr;
+use lex::token::Scalar;
 
 /// A function of a code. It ends where the next function begins, the last one with the last instruction.
 #[derive(Clone, Copy)]
@@ -17,9 +18,10 @@ pub struct WrittenFunction<'a> {
     pub parameters: u32,
 }
 
-/// A variable of type `int`.
+/// A variable.
 #[derive(Clone, Copy)]
 pub struct WrittenVariable<'a> {
+    pub of: Scalar,
     pub name: &'a str,
 
     /// What it is said to begin with; where nothing is said, it begins with 0.
@@ -37,9 +39,17 @@ pub struct WrittenCode<'a> {
     pub variables: &'a [WrittenVariable<'a>],
 }
 
-/// The variable `x`, with nothing said of what it begins with.
+/// The variable `x` of type `int`, with nothing said of what it begins with.
 pub const X: WrittenVariable<'static> = WrittenVariable {
+    of: Scalar::Int,
     name: "x",
+    value: None,
+};
+
+/// The variable `y` of type `long long`, with nothing said of what it begins with.
+pub const Y: WrittenVariable<'static> = WrittenVariable {
+    of: Scalar::LongLong,
+    name: "y",
     value: None,
 };
 

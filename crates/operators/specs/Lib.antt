@@ -1,0 +1,2 @@
+-- what only private functions speak of
+pub mod inner
