@@ -3,7 +3,7 @@ use Rattle.std.proofs.Common.{◌≡◌, ◌∙◌, ◌+◌, ◌≤◌, ◌<◌,
 use Rattle.std.specs.Prelude.{slice_set, replicate, EachIndex}
 use Rattle.std.proofs.lemmas.List.{at_drop_more, drop_all}
 use Rattle.syntax.specs.Behaviours.{IsMemory}
-use Rattle.syntax.specs.Tree.{Scalar, Int, Unsigned, Global}
+use Rattle.syntax.specs.Tree.{Scalar, Int, Unsigned, LongLong, Global}
 use Rattle.syntax.specs.Names.{cells, cell_types, bounds_of}
 use Rattle.syntax.specs.Numbers.{modulus}
 
@@ -25,6 +25,7 @@ written (b ∷ bounds) (w ∷ m) (suc a) v is lt = (is.0, written bounds m a v i
 type_fits : (t : Scalar) → modulus t ≤ 2 ^ 64
 type_fits Int = omega arith
 type_fits Unsigned = omega arith
+type_fits LongLong = omega arith
 
 pub word_at : (ts : List Scalar) (m : List ℕ) (a : ℕ) → IsMemory (map modulus ts) m → slice_index m a < 2 ^ 64
 word_at [] [] a is = omega arith

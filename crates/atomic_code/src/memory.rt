@@ -18,6 +18,7 @@ fn are_words(of: Scalar, words: &[u64]) -> bool
 {
     match of {
         Scalar::Int | Scalar::Unsigned => words.iter().all(|word| *word < 4_294_967_296),
+        Scalar::LongLong => true,
     }
 }
 

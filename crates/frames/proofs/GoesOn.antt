@@ -5,8 +5,8 @@ use Rattle.std.proofs.lemmas.Bool.{ltb-true}
 use Rattle.std.proofs.lemmas.List.{length-set, length-map, length-replicate}
 use Rattle.syntax.specs.declared.numbers.Trap.{Trap}
 use Rattle.syntax.specs.declared.numbers.Trap.TheVariants.{Index}
-use Rattle.lex.specs.declared.token.Scalar.TheVariants.{Unsigned}
-use Rattle.syntax.specs.Numbers.{complemented}
+use Rattle.lex.specs.declared.token.Scalar.TheVariants.{Int, Unsigned, LongLong}
+use Rattle.syntax.specs.Numbers.{number, word_of, residue, complemented}
 use Rattle.nesting.specs.Begins.{Saved}
 use Rattle.bytecode.specs.Effects.{Effect}
 use Rattle.bytecode.specs.Code.{Code, FunctionCode, Configuration, Frame, Instr, setting, stored, effect, effect_of, or_traps, called, entering, returned, value_in, printed}
@@ -15,7 +15,7 @@ use Rattle.bytecode.proofs.Tables.{some_same}
 use Rattle.local_steps.specs.Local.{standing, AreWords}
 use Rattle.frames.specs.Open.{AreSaved, MayStand, AreRestored, GoesOn}
 use Rattle.frames.proofs.Reached.{to_next, to_place, or_next, or_place}
-use Rattle.frames.proofs.Operators.{computed_fits, fitted_fits}
+use Rattle.frames.proofs.Operators.{computed_fits, fitted_fits, word_fits, complemented_fits}
 use Rattle.frames.proofs.Registers.{words_set, words_append, words_of_registers, words_zero}
 use Rattle.frames.proofs.Levels.{AreUpTo, callers_up_to, all_up_to, restored_under}
 use Rattle.frames.proofs.Leading.{Way, way_of}
@@ -166,7 +166,9 @@ module _ (code : Code) (v : IsValid code) (p : ℕ) (rs : List ℕ) (fs : List F
   goes_by (Instr.Move d a) at w = well_pure (standing (suc p) (slice_set rs d (slice_index rs a)) fs) (next_set _ at d _ refl (m.top.words a))
   goes_by (Instr.Compute op t d a b) at w = well_or_traps _ at _ d refl (computed_fits op t _ _ (m.top.words a) (m.top.words b))
   goes_by (Instr.Negate t d a) at w = well_or_traps _ at _ d refl (fitted_fits t _)
-  goes_by (Instr.Complement d a) at w = well_pure (standing (suc p) (slice_set rs d (complemented Unsigned (slice_index rs a))) fs) (next_set _ at d _ refl (omega arith))
+  goes_by (Instr.Complement u d a) at w = well_pure (standing (suc p) (slice_set rs d (complemented u (slice_index rs a))) fs) (next_set _ at d _ refl (complemented_fits u (slice_index rs a)))
+  goes_by (Instr.Extend d a) at w = well_pure (standing (suc p) (slice_set rs d (word_of LongLong (number Int (slice_index rs a)))) fs) (next_set _ at d _ refl (word_fits LongLong (number Int (slice_index rs a))))
+  goes_by (Instr.Low d a) at w = well_pure (standing (suc p) (slice_set rs d (residue Unsigned (slice_index rs a))) fs) (next_set _ at d _ refl (omega arith))
   goes_by (Instr.Jump to) at w = well_pure (standing to rs fs) (here to rs (to_place code m.top.function p m.top.begins (Instr.Jump to) m.top.reached at to refl) refl m.top.words)
   goes_by (Instr.JumpZero a to) at w = well_branch _ at (slice_index rs a == 0) to (suc p) (or_place code m.top.function p m.top.begins (Instr.JumpZero a to) m.top.reached at to refl) (or_next code m.top.function p m.top.begins (Instr.JumpZero a to) m.top.reached at to refl)
   goes_by (Instr.JumpNonzero a to) at w = well_branch _ at (slice_index rs a == 0) (suc p) to (or_next code m.top.function p m.top.begins (Instr.JumpNonzero a to) m.top.reached at to refl) (or_place code m.top.function p m.top.begins (Instr.JumpNonzero a to) m.top.reached at to refl)
