@@ -20,6 +20,7 @@ pub record CoreState : Type 0 where
   pub asked : Option Op  -- what was prepared and is not told its answer yet
   pub saved : Saved  -- what the begin that was prepared saves, or what the last cancel or abort goes back to
   pub read_room : ℕ  -- for how many more entries of the read log there is room
+  pub write_room : ℕ  -- for how many more pairs of the write log
 
 -- an operation was prepared, and the answer is one to its access
 abbrev pub IsAnswered : CoreState → Answer → Type 0
@@ -36,6 +37,10 @@ stepped c answer = stepped_by c c.asked answer
 -- a read of this cell loads its word and then the lock
 abbrev pub LoadsBoth : {S : Type 0} → Attempt S → ℕ → Type 0
 LoadsBoth a cell = (a.phase ≡ AtOperation) × (a.kept ≡ false) × (written cell a.writes ≡ None)
+
+-- it stands at an operation, and has not the lock
+abbrev pub IsUnlocked : {S : Type 0} → Attempt S → Type 0
+IsUnlocked a = (a.phase ≡ AtOperation) × (a.kept ≡ false)
 
 -- a commit makes no access: that of an inner transaction, or of one that wrote nothing; the lock is not had
 abbrev pub CommitsAtOnce : {S : Type 0} → Attempt S → Type 0

@@ -1,9 +1,9 @@
 //! The core of a thread: an operation's step is prepared, then told the answer to its access.
 
-ghost use Rattle.std.specs.Prelude.{◌≡◌, ◌≢◌, ◌↔◌, ◌+◌, ◌^◌, ◌<◌, ℕ, true, false, None, Some, IsTrue, IsSome, IsSomeAnd, IfNone, IfOk, IfSome, OnOk, OnErr, OnSome};
+ghost use Rattle.std.specs.Prelude.{◌≡◌, ◌≢◌, ◌↔◌, ◌+◌, ◌^◌, ◌<◌, ℕ, true, false, None, Some, IsTrue, IsSome, IsSomeAnd, IfNone, IfOk, IfSome, OnOk, OnErr, OnSome, length};
 ghost use Rattle.norec_core.specs.Accesses.{stops};
 ghost use Rattle.norec_core.specs.Phases.{core_access, core_step};
-ghost use Rattle.norec_core.specs.Cores.{CommitsAtOnce, ComparesWith, IsAnswered, IsAskedAgain, IsComparing, IsDoneAtOnce, IsDropped, IsStoring, IsWaiting, LoadsBoth, stepped, stepped_twice, is_kept, has_lock};
+ghost use Rattle.norec_core.specs.Cores.{CommitsAtOnce, ComparesWith, IsAnswered, IsAskedAgain, IsComparing, IsDoneAtOnce, IsDropped, IsStoring, IsUnlocked, IsWaiting, LoadsBoth, stepped, stepped_twice, is_kept, has_lock};
 ghost use Rattle.norec_core.specs.declared.step.Answer.{Answer as Reply};
 ghost use Rattle.norec_core.specs.declared.step.Op.{Op as Operation};
 ghost use Rattle.norec_core.specs.declared.step.Answer.TheVariants.{Value};
@@ -36,7 +36,7 @@ impl<A: Allocator> Model for Core<A> {
 
     ghost Value = { CoreState };
 
-    ghost view = { λ c. record { attempt = attempt_of c.steps; asked = asked_of c.is_asked c.op; saved = c.steps.aside; read_room = c.steps.read_room } };
+    ghost view = { λ c. record { attempt = attempt_of c.steps; asked = asked_of c.is_asked c.op; saved = c.steps.aside; read_room = c.steps.read_room; write_room = c.steps.write_room } };
 
     ghost invariant = { λ c. IsPrepared (asked_of c.is_asked c.op) c.steps };
 }
@@ -124,6 +124,7 @@ impl<A: Allocator + Copy> Core<A> {
         ensures written { (word : ℕ) → result ≡ ReadStep.Written word → IsDoneAtOnce self.old (Op.Read cell) (Outcome.Read word) self.new }
         ensures loads { result ≡ ReadStep.Loads → IsSomeAnd self.old.attempt (λ a. LoadsBoth a cell) }
         ensures room { result ≡ ReadStep.Loads → 0 < self.new.read_room }
+        ensures full { result ≡ ReadStep.Other → IsSomeAnd self.old.attempt (λ a. IsUnlocked a) → self.old.read_room ≡ 0 }
         ensures attempt { self.new.attempt ≡ self.old.attempt }
     {
         match self.steps.reading(cell) {
@@ -155,6 +156,7 @@ impl<A: Allocator + Copy> Core<A> {
     pub fn write(&mut self, cell: u32, word: u64) -> bool
         ensures done { result ≡ true → IsDoneAtOnce self.old (Op.Write cell word) Outcome.Done self.new }
         ensures not_done { result ≡ false → self.new.attempt ≡ self.old.attempt }
+        ensures full { result ≡ false → IsSomeAnd self.old.attempt (λ a. IsUnlocked a) → self.old.write_room ≡ 0 }
     {
         if !self.steps.is_plain() || !self.steps.make_write_room() {
             return false;
@@ -186,6 +188,7 @@ impl<A: Allocator + Copy> Core<A> {
     pub fn prepare_begin(&mut self, registers: &[u64], frames: usize, place: u32) -> bool
         ensures none { result ≡ true → self.new.attempt ≡ None }
         ensures saved { result ≡ true → self.new.saved ≡ record { registers = registers.now; frames = frames; place = place } }
+        ensures full { result ≡ false → self.old.attempt ≡ None → length self.old.saved.registers < length registers.now }
         ensures attempt { self.new.attempt ≡ self.old.attempt }
     {
         if self.steps.has_begun() {

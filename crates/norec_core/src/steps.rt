@@ -1,6 +1,6 @@
 //! The steps of an attempt, phase by phase: the access of each, and what comes of its answer.
 
-ghost use Rattle.std.specs.Prelude.{◌≡◌, ◌≢◌, ◌+◌, ◌-◌, ◌^◌, ◌<◌, ◌≤◌, ℕ, true, false, None, IfNone, IfSome, OnOk, OnErr, OnSome, drop, slice_get};
+ghost use Rattle.std.specs.Prelude.{◌≡◌, ◌≢◌, ◌+◌, ◌-◌, ◌^◌, ◌<◌, ◌≤◌, ℕ, true, false, None, IfNone, IfSome, OnOk, OnErr, OnSome, drop, length, slice_get};
 ghost use Rattle.write_log.specs.Overlay.{put, written};
 ghost use Rattle.norec_core.specs.Accesses.{stops};
 ghost use Rattle.norec_core.specs.Phases.{core_access, core_step, core_phase, core_operation, core_read, core_commit, core_cancel, core_store, core_swap, core_check, core_time, core_compare, operation_access, commit_access, entry_access, store_access};
@@ -109,6 +109,7 @@ impl<A: Allocator + Copy> Steps<A> {
     pub(crate) fn reading(&self, cell: u32) -> ReadStep
         ensures written { (word : ℕ) → result ≡ ReadStep.Written word → (self.now.begun ≡ true) × IsWritten self.now.attempt cell word }
         ensures loads { result ≡ ReadStep.Loads → (self.now.begun ≡ true) × LoadsBoth self.now.attempt cell }
+        ensures other { result ≡ ReadStep.Other → IsPlain self.now.begun self.now.attempt.kept self.now.attempt.phase → ⊥ }
     {
         if !self.plain {
             return ReadStep::Other;
@@ -123,6 +124,7 @@ impl<A: Allocator + Copy> Steps<A> {
     #[inline(always)]
     pub(crate) fn make_read_room(&mut self) -> bool
         ensures room { result ≡ true → 0 < self.new.read_room }
+        ensures full { result ≡ false → self.old.read_room ≡ 0 }
         ensures others { GainsRoom self.old self.new }
     {
         self.logs.prepare_read().is_ok()
@@ -169,6 +171,7 @@ impl<A: Allocator + Copy> Steps<A> {
     #[inline(always)]
     pub(crate) fn make_write_room(&mut self) -> bool
         ensures room { result ≡ true → 0 < self.new.write_room }
+        ensures full { result ≡ false → self.old.write_room ≡ 0 }
         ensures others { GainsRoom self.old self.new }
     {
         self.logs.prepare_write().is_ok()
@@ -212,6 +215,7 @@ impl<A: Allocator + Copy> Steps<A> {
     #[inline(always)]
     pub(crate) fn set_aside(&mut self, registers: &[u64], frames: usize, place: u32) -> bool
         ensures aside { result ≡ true → self.new.aside ≡ record { registers = registers.now; frames = frames; place = place } }
+        ensures full { result ≡ false → length self.old.aside.registers < length registers.now }
         ensures others { GainsRoom (record self.old { aside = self.new.aside }) self.new }
     {
         self.logs
