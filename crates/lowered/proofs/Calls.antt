@@ -6,7 +6,7 @@ use Rattle.std.specs.List.{AllByRecursion}
 use Rattle.std.proofs.lemmas.List.{get_or-set_same, get_or-set_other, length-set, length-append, length-map, length-replicate, map-append}
 use Rattle.std.proofs.lemmas.Bool.{lt-ltb}
 use Rattle.lex.specs.declared.token.Scalar.{Scalar}
-use Rattle.lex.specs.declared.token.Scalar.TheVariants.{Int, Unsigned}
+use Rattle.lex.specs.declared.token.Scalar.TheVariants.{Int, Unsigned, LongLong}
 use Rattle.syntax.specs.declared.numbers.Trap.TheVariants.{Frames}
 use Rattle.syntax.specs.declared.numbers.Value.{Value}
 use Rattle.syntax.specs.Tree.{Name, Parameter, Function, Stmts, Program}
@@ -19,7 +19,7 @@ use Rattle.syntax.specs.Actions.{Outside, Answer, Gives, Action, go_on, ◌>>=�
 use Rattle.syntax.specs.Meaning.{End, Next, Breaks, Continues, Returns, Cancels, CancelsOuter, stmts, entered, result_of, calls}
 use Rattle.syntax.specs.Threads.{outcome_of, first_state, thread}
 use Rattle.syntax.specs.Typing.{IsTypedProgram}
-use Rattle.syntax.proofs.Words.{truth_below, word_below}
+use Rattle.syntax.proofs.Words.{word_below}
 use Rattle.syntax.proofs.Memories.{typed_cells}
 use Rattle.bytecode.specs.Effects.{Effect}
 use Rattle.bytecode.specs.Sequential.{start, meaning, sequential_step, outside}
@@ -31,46 +31,58 @@ use Rattle.lowered.specs.Programs.{parameter_locals, no_exits, ConstantsCode, Fu
 use Rattle.lowered.specs.Means.{MeansItsProgram}
 use Rattle.lowered.proofs.Agreement.{Agrees, NeverAstray, astray, same, fewer, shown, over}
 use Rattle.lowered.proofs.Runs.{Around, Bare, Shared, context_of, holding, state, IsSeen, on_seen, KnownCells, HasCellsOf, AreMemories, IsGood, registers_in, Holds, configuration, effect_at, goes_by, traps, less, all}
-use Rattle.lowered.proofs.Expressions.{CallsFollow, word_same}
+use Rattle.lowered.proofs.Conversions.{conversions, truth_converted}
+use Rattle.lowered.proofs.Expressions.{CallsFollow, handed}
 use Rattle.lowered.proofs.Locals.{AreWords, length_like}
 use Rattle.lowered.proofs.Flow.{GoesEnd, word_in, ArrivedAt, HereAt, MoreAt, TurnsFall, stmts_follow}
 use Rattle.lowered.proofs.Turns.{while_falls, do_falls, for_falls}
+
+-- the words of arguments in the types of parameters
+abbrev words_for : List Parameter → List Value → List ℕ
+words_for qs vs = handed (map (λ (q : Parameter). q.of) qs) vs
+
+length_handed : (ts : List Scalar) (vs : List Value) → length (handed ts vs) ≡ length vs
+length_handed ts [] = refl
+length_handed [] (v ∷ vs) = ap suc (length_handed [] vs)
+length_handed (t ∷ ts) (v ∷ vs) = ap suc (length_handed ts vs)
 
 -- locals that a call begins with: its arguments, where a parameter's name binds them
 record Entered (qs : List Parameter) (vs : List Value) (ls : List Local) : Type 0 where
   count : length vs ≡ length qs
   shapes : map shape ls ≡ map shape (parameter_locals qs)
-  words : map (λ (l : Local). l.word) ls ≡ named_ones qs (map (λ (v : Value). v.word) vs)
+  words : map (λ (l : Local). l.word) ls ≡ named_ones qs (words_for qs vs)
   own : AreWords ls
 
 abbrev EnteredSo : List Parameter → List Value → Option (List Local) → Type 0
 EnteredSo qs vs None = Unit {0}
 EnteredSo qs vs (Some ls) = Entered qs vs ls
 
-first_entered : (q : Parameter) (n : Option Name) (qs : List Parameter) (v : Value) (vs : List Value) (o : Option (List Local)) → q.name ≡ n → v.word < modulus v.of → EnteredSo qs vs o → EnteredSo (q ∷ qs) (v ∷ vs) (option_map (λ ls. unwrap_or (option_map (λ (x : Name). record { name = x.text; of = q.of; word = (converted q.of v).word } ∷ []) n) [] ++ ls) o)
-first_entered q n qs v vs None e b h = tt
-first_entered q None qs v vs (Some ls) e b h =
-    let ws : List ℕ = map (λ (v : Value). v.word) vs in
+first_entered : (q : Parameter) (n : Option Name) (qs : List Parameter) (v : Value) (vs : List Value) (o : Option (List Local)) → q.name ≡ n → EnteredSo qs vs o → EnteredSo (q ∷ qs) (v ∷ vs) (option_map (λ ls. unwrap_or (option_map (λ (x : Name). record { name = x.text; of = q.of; word = (converted q.of v).word } ∷ []) n) [] ++ ls) o)
+first_entered q n qs v vs None e h = tt
+first_entered q None qs v vs (Some ls) e h =
+    let w : ℕ = (converted q.of v).word in
+    let ws : List ℕ = words_for qs vs in
     record {
       count = ap suc h.count;
       shapes = h.shapes ∙ ap (λ (n : Option Name). map shape (unwrap_or (option_map (λ (x : Name). record { name = x.text; of = q.of; word = 0 } ∷ []) n) [] ++ parameter_locals qs)) (sym e);
-      words = h.words ∙ ap (λ (n : Option Name). if is_some n then v.word ∷ named_ones qs ws else named_ones qs ws) (sym e);
+      words = h.words ∙ ap (λ (n : Option Name). if is_some n then w ∷ named_ones qs ws else named_ones qs ws) (sym e);
       own = h.own;
     }
-first_entered q (Some x) qs v vs (Some ls) e b h =
-    let ws : List ℕ = map (λ (v : Value). v.word) vs in
+first_entered q (Some x) qs v vs (Some ls) e h =
+    let w : ℕ = (converted q.of v).word in
+    let ws : List ℕ = words_for qs vs in
     record {
       count = ap suc h.count;
       shapes = ap (λ (s : List (List ℕ × Scalar)). (x.text, q.of) ∷ s) h.shapes ∙ ap (λ (n : Option Name). map shape (unwrap_or (option_map (λ (x : Name). record { name = x.text; of = q.of; word = 0 } ∷ []) n) [] ++ parameter_locals qs)) (sym e);
-      words = ap (λ w. w ∷ map (λ (l : Local). l.word) ls) (word_same q.of v.of v.word b) ∙ ap (λ us. v.word ∷ us) h.words ∙ ap (λ (n : Option Name). if is_some n then v.word ∷ named_ones qs ws else named_ones qs ws) (sym e);
+      words = ap (λ us. w ∷ us) h.words ∙ ap (λ (n : Option Name). if is_some n then w ∷ named_ones qs ws else named_ones qs ws) (sym e);
       own = (word_below q.of (number_of v), h.own);
     }
 
-all_entered : (qs : List Parameter) (vs : List Value) → AllByRecursion (λ (v : Value). v.word < modulus v.of) vs → EnteredSo qs vs (entered qs vs)
-all_entered [] [] b = record { count = refl; shapes = refl; words = refl; own = tt }
-all_entered [] (v ∷ vs) b = tt
-all_entered (q ∷ qs) [] b = tt
-all_entered (q ∷ qs) (v ∷ vs) b = first_entered q q.name qs v vs (entered qs vs) refl b.0 (all_entered qs vs b.1)
+all_entered : (qs : List Parameter) (vs : List Value) → EnteredSo qs vs (entered qs vs)
+all_entered [] [] = record { count = refl; shapes = refl; words = refl; own = tt }
+all_entered [] (v ∷ vs) = tt
+all_entered (q ∷ qs) [] = tt
+all_entered (q ∷ qs) (v ∷ vs) = first_entered q q.name qs v vs (entered qs vs) refl (all_entered qs vs)
 
 -- what is arranged: each once, whatever it is taken to
 mapped_or : (b : Bool) (f : ℕ → ℕ) (r : ℕ) (xs : List ℕ) → map f (if b then r ∷ xs else xs) ≡ (if b then f r ∷ map f xs else map f xs)
@@ -116,6 +128,16 @@ one_arranged [] w e = absurd (omega (arith, e))
 one_arranged (q ∷ []) w e = one_of (is_some q.name) w
 one_arranged (q ∷ r ∷ qs) w e = absurd (omega (arith, e))
 
+-- a thread's number, in whatever type
+one_handed : (qs : List Parameter) (t : ℕ) → t < 2 ^ 32 → 1 ≡ length qs → arranged qs (words_for qs (record { of = Unsigned; word = t } ∷ [])) ≡ t ∷ []
+one_handed [] t below e = absurd (omega (arith, e))
+one_handed (q ∷ qs) t below e = ap (λ w. arranged (q ∷ qs) (w ∷ [])) (own q.of) ∙ one_arranged (q ∷ qs) t e
+  where
+    own : (u : Scalar) → (converted u (record { of = Unsigned; word = t })).word ≡ t
+    own Int = conversions Unsigned Int t below
+    own Unsigned = conversions Unsigned Unsigned t below
+    own LongLong = conversions Unsigned LongLong t below
+
 word_listed : (ls : List Local) (i : ℕ) → word_at ls i ≡ slice_index (map (λ (l : Local). l.word) ls) i
 word_listed [] i = refl
 word_listed (l ∷ ls) zero = refl
@@ -151,13 +173,13 @@ is_set r (x ∷ ws) rs (suc k) w i at e h =
     let len : length (slice_set rs r x) ≡ length rs = length-set rs r x in
     is_set (suc r) ws (slice_set rs r x) k w i (omega (arith, at)) e (omega (arith, h, len))
 
-entered_holds : (g : FunctionCode) (layout : Layout) (qs : List Parameter) (vs : List Value) (ls : List Local) → Entered qs vs ls → g.parameters ≡ length qs → length qs ≤ layout.writable → g.registers ≡ registers_in layout → Holds (parameter_locals qs) ls layout (length (parameter_locals qs)) (set_from layout.writable layout.constants (first_registers g (arranged qs (map (λ (v : Value). v.word) vs))))
+entered_holds : (g : FunctionCode) (layout : Layout) (qs : List Parameter) (vs : List Value) (ls : List Local) → Entered qs vs ls → g.parameters ≡ length qs → length qs ≤ layout.writable → g.registers ≡ registers_in layout → Holds (parameter_locals qs) ls layout (length (parameter_locals qs)) (set_from layout.writable layout.constants (first_registers g (arranged qs (words_for qs vs))))
 entered_holds g layout qs vs ls h n fits all =
-    let ws : List ℕ = map (λ (v : Value). v.word) vs in
+    let ws : List ℕ = words_for qs vs in
     let zeros : List ℕ = replicate (g.registers - g.parameters) 0 in
     let old : List ℕ = first_registers g (arranged qs ws) in
     let len : length ls ≡ length (parameter_locals qs) = length_like (parameter_locals qs) ls h.shapes in
-    let len2 : length ws ≡ length qs = length-map vs (λ (v : Value). v.word) ∙ h.count in
+    let len2 : length ws ≡ length qs = length_handed (map (λ (q : Parameter). q.of) qs) vs ∙ h.count in
     let len3 : length ls ≡ length (named_ones qs ws) = sym (length-map ls (λ (l : Local). l.word)) ∙ ap length h.words in
     let parts : length (named_ones qs ws) + length (nameless_ones qs ws) ≡ length qs = length_parts qs ws len2 in
     let whole : length (arranged qs ws) ≡ length qs = length_arranged qs ws len2 in
@@ -207,11 +229,11 @@ module _ (p : Program) (code : Code) (are : HasCellsOf code p) where
       (end : End) (sh : Shared) (text : List ℕ) (ls1 : List Local) (rs : List ℕ) (q : ℕ) → IsGood code a sh → ArrivedAt p code layout (no_exits u) (HereAt p code layout later) (MoreAt p code layout scope) last end q ls1 rs →
       Agrees (effect code) N K (holding a sh text (configuration code q rs frames)) (λ n. after (go_on (Gives end (state n ls1 (context_of a sh) text)) (leaving ls u)))
   body_ends N K layout a ls frames u after scope later last i s go Next sh text ls1 rs q good arrived =
-      go (converted (unwrap_or u Int) (flag false)) sh text rs q None (subst (λ y. At code y (Instr.Return None)) (sym arrived.0) i) (sym (word_same (unwrap_or u Int) Int 0 (truth_below false))) refl (word_below (unwrap_or u Int) (number_of (flag false))) good
+      go (converted (unwrap_or u Int) (flag false)) sh text rs q None (subst (λ y. At code y (Instr.Return None)) (sym arrived.0) i) (sym (ap (λ (v : Value). v.word) (truth_converted Int (unwrap_or u Int) false))) refl (word_below (unwrap_or u Int) (number_of (flag false))) good
   body_ends N K layout a ls frames u after scope later last i s go Breaks sh text ls1 rs q good arrived = astray (effect code) 0 (s.astray _)
   body_ends N K layout a ls frames u after scope later last i s go Continues sh text ls1 rs q good arrived = astray (effect code) 0 (s.astray _)
   body_ends N K layout a ls frames u after scope later last i s go (Returns v) sh text ls1 rs q good arrived =
-      go (converted (unwrap_or u Int) v) sh text rs q arrived.0 arrived.1 (arrived.2 ∙ sym (word_same (unwrap_or u Int) v.of v.word arrived.3)) refl (word_below (unwrap_or u Int) (number_of v)) good
+      go (converted (unwrap_or u Int) v) sh text rs q arrived.0 arrived.1 arrived.2 refl (word_below (unwrap_or u Int) (number_of v)) good
   body_ends N K layout a ls frames u after scope later last i s go Cancels sh text ls1 rs q good arrived = astray (effect code) 0 (s.astray _)
   body_ends N K layout a ls frames u after scope later last i s go CancelsOuter sh text ls1 rs q good arrived = absurd arrived
 
@@ -225,9 +247,9 @@ module _ (p : Program) (code : Code) (are : HasCellsOf code p) where
   body_goes : (k : ℕ) (frames : List Frame) (layout : Layout) (cf : CallsFollow p (calls p k) code layout frames) (N K : ℕ) (a : Around) (ls : List Local) (u : Option Scalar) (after : Answer Value → Outcome) (scope later : LocalScope) (last : ℕ) → At code last (Instr.Return None) → IsSeen a after → GoesReturn N K a after ls frames u → GoesEnd p (calls p k) code layout frames cf are N K a (λ q. after (go_on q (leaving ls u))) (no_exits u) (HereAt p code layout later) (MoreAt p code layout scope) last
   body_goes k frames layout cf N K a ls u after scope later last i s go = record { ends = body_ends N K layout a ls frames u after scope later last i s go; outer = tt }
 
-  body_follows : (k : ℕ) (frames : List Frame) (g : FunctionCode) (f : Function) (body : Stmts) → (c : FunctionIsLowered p code g f body) → CallsFollow p (calls p k) code c.layout frames → (N K : ℕ) (vs : List Value) (rs : List ℕ) (o : Option (List Local)) → EnteredSo f.parameters vs o → (length vs ≡ length f.parameters → rs ≡ first_registers g (arranged f.parameters (map (λ (v : Value). v.word) vs))) → AllByRecursion (λ (v : Value). v.word < modulus v.of) vs → (a : Around) (sh : Shared) (text : List ℕ) (ls : List Local) (after : Answer Value → Outcome) → IsGood code a sh → IsSeen a after → GoesReturn N K a after ls frames f.result → Agrees (effect code) N K (holding a sh text (configuration code g.first rs frames)) (λ n. after (go_on (or_astray o (state n ls (context_of a sh) text)) (λ mine. locals >>= λ outer. put_locals mine >> (stmts p (calls p k) body >>= leaving outer f.result))))
-  body_follows k frames g f body c cf N K vs rs None h e b a sh text ls after good s go = astray (effect code) 0 (s.astray _)
-  body_follows k frames g f body c cf N K vs rs (Some mine) h e b a sh text ls after good s go =
+  body_follows : (k : ℕ) (frames : List Frame) (g : FunctionCode) (f : Function) (body : Stmts) → (c : FunctionIsLowered p code g f body) → CallsFollow p (calls p k) code c.layout frames → (N K : ℕ) (vs : List Value) (rs : List ℕ) (o : Option (List Local)) → EnteredSo f.parameters vs o → (length vs ≡ length f.parameters → rs ≡ first_registers g (arranged f.parameters (words_for f.parameters vs))) → (a : Around) (sh : Shared) (text : List ℕ) (ls : List Local) (after : Answer Value → Outcome) → IsGood code a sh → IsSeen a after → GoesReturn N K a after ls frames f.result → Agrees (effect code) N K (holding a sh text (configuration code g.first rs frames)) (λ n. after (go_on (or_astray o (state n ls (context_of a sh) text)) (λ mine. locals >>= λ outer. put_locals mine >> (stmts p (calls p k) body >>= leaving outer f.result))))
+  body_follows k frames g f body c cf N K vs rs None h e a sh text ls after good s go = astray (effect code) 0 (s.astray _)
+  body_follows k frames g f body c cf N K vs rs (Some mine) h e a sh text ls after good s go =
       constants_run c.layout.constants c.layout.writable g.first c.begins a sh text rs frames c.sets
       (stmts_follow p (calls p k) code c.layout frames cf are (turns_fall k c.layout frames cf) body N K (no_exits f.result) (parameter_locals f.parameters) c.begins c.last a sh text mine (set_from c.layout.writable c.layout.constants rs) (λ q. after (go_on q (leaving ls f.result))) c.runs
       (subst (λ xs. Holds (parameter_locals f.parameters) mine c.layout (length (parameter_locals f.parameters)) (set_from c.layout.writable c.layout.constants xs)) (sym (e h.count)) (entered_holds g c.layout f.parameters vs mine h c.parameters c.fits c.registers)) good (on_seen a after (leaving ls f.result) s)
@@ -245,12 +267,12 @@ module _ (p : Program) (code : Code) (are : HasCellsOf code p) where
 
   module _ (lowered : IsLowered p code) where
     calls_follow : (k : ℕ) (frames : List Frame) (layout : Layout) → k + length frames ≡ 63 → CallsFollow p (calls p k) code layout frames
-    calls_follow zero frames layout deep N K x vs number q d args g f body a sh text ls rs after at known named defined words below good s go =
+    calls_follow zero frames layout deep N K x vs number q d args g f body a sh text ls rs after at known named defined words good s go =
         let full : length frames ≡ 63 = omega (arith, deep) in
         traps code a after sh ls text (configuration code q rs frames) Frames s
         (effect_at code q (Instr.Call number d (arranged f.parameters args)) rs frames at ∙ ap (called (configuration code q rs frames) d (arranged f.parameters args)) known
         ∙ ap (λ n. if nat_lt n 63 then Effect.Pure (configuration code g.first (first_registers g (map (slice_index rs) (arranged f.parameters args))) (record { place = suc q; result = d; registers = rs } ∷ frames)) else Effect.Traps Frames) full)
-    calls_follow (suc k) frames layout deep N K x vs number q d args g f body a sh text ls rs after at known named defined words below good s go =
+    calls_follow (suc k) frames layout deep N K x vs number q d args g f body a sh text ls rs after at known named defined words good s go =
         let inner : List Frame = record { place = suc q; result = d; registers = rs } ∷ frames in
         let here : definition_of p g.name ≡ Some (f, body) = ap (definition_of p) named ∙ defined in
         let c : FunctionIsLowered p code g f body = lowered.each number g f body known here in
@@ -258,7 +280,7 @@ module _ (p : Program) (code : Code) (are : HasCellsOf code p) where
         (enters_frame frames q d rs (arranged f.parameters args) g (Instr.Call number d (arranged f.parameters args)) (omega (arith, deep)) (ap (called (configuration code q rs frames) d (arranged f.parameters args)) known) at)
         (same (effect code) (λ n. after (go_on (or_astray (entered f.parameters vs) (state n ls (context_of a sh) text)) (λ mine. locals >>= λ outer. put_locals mine >> (stmts p (calls p k) body >>= leaving outer f.result))))
         (λ n. ap (λ o. after (go_on (or_astray o (state n ls (context_of a sh) text)) (λ f. or_astray (entered f.0.parameters vs) >>= λ mine. locals >>= λ outer. put_locals mine >> (stmts p (calls p k) f.1 >>= λ end. put_locals outer >> result_of f.0.result end)))) defined)
-        (body_follows k inner g f body c (calls_follow k inner c.layout (omega (arith, deep))) N K vs (first_registers g (map (slice_index rs) (arranged f.parameters args))) (entered f.parameters vs) (all_entered f.parameters vs below) (λ count. ap (first_registers g) (arranged_mapped (slice_index rs) f.parameters args ∙ ap (arranged f.parameters) words)) below a sh text ls after good s
+        (body_follows k inner g f body c (calls_follow k inner c.layout (omega (arith, deep))) N K vs (first_registers g (map (slice_index rs) (arranged f.parameters args))) (entered f.parameters vs) (all_entered f.parameters vs) (λ count. ap (first_registers g) (arranged_mapped (slice_index rs) f.parameters args ∙ ap (arranged f.parameters) words)) a sh text ls after good s
         (λ v sh1 text1 rs1 q1 r at1 word of_v below_v good1.
         goes_by code a sh1 text1 (configuration code q1 rs1 inner) (configuration code (suc q) (slice_set rs d v.word) frames)
         (effect_at code q1 (Instr.Return r) rs1 inner at1 ∙ returns_word q d rs frames r rs1 q1 v.word word)
@@ -284,8 +306,8 @@ module _ (p : Program) (code : Code) (are : HasCellsOf code p) where
         let sh : Shared = record { founds = founds; lefts = []; memory = []; kept = false } in
         let here : definition_of p g.name ≡ Some (d.0, d.1) = ap (definition_of p) w.2 ∙ e in
         let c : FunctionIsLowered p code g d.0 d.1 = lowered.each w.0 g d.0 d.1 w.1 here in
-        body_follows 63 [] g d.0 d.1 c (calls_follow 63 [] c.layout (omega arith)) N K vs (first_registers g (t ∷ [])) (entered d.0.parameters vs) (all_entered d.0.parameters vs (below, tt))
-        (λ count. ap (first_registers g) (sym (one_arranged d.0.parameters t count))) (below, tt) Bare sh [] [] after good
+        body_follows 63 [] g d.0 d.1 c (calls_follow 63 [] c.layout (omega arith)) N K vs (first_registers g (t ∷ [])) (entered d.0.parameters vs) (all_entered d.0.parameters vs)
+        (λ count. ap (first_registers g) (sym (one_handed d.0.parameters t below count))) Bare sh [] [] after good
         (record { spent = λ t. refl; wants = λ t. refl; trapped = λ k t. refl; astray = λ t. refl })
         (λ v sh1 text1 rs1 q r at word of_v below_v good1. ends (configuration code q rs1 []) sh1.founds sh1.lefts text1 [] sh1.memory sh1.kept (effect_at code q (Instr.Return r) rs1 [] at ∙ returns_end r rs1 q))
 

@@ -1,15 +1,14 @@
 -- The instructions of an expression do what the expression does.
-use Rattle.std.proofs.Common.{◌≡◌, ◌++◌, ℕ, zero, suc, ◌+◌, ◌<◌, ◌^◌, ◌%◌, Bool, true, false, List, [], ◌∷◌, length, Option, Some, None, Result, Ok, Err, refl, sym, ap, ◌∙◌, subst, arith, inl, inr, pos}
+use Rattle.std.proofs.Common.{◌≡◌, ◌++◌, ℕ, zero, suc, ◌+◌, ◌<◌, Bool, true, false, List, [], ◌∷◌, length, Option, Some, None, Result, Ok, Err, refl, sym, ap, ◌∙◌, subst, arith, inl, inr, pos}
 use Rattle.std.specs.Prelude.{slice_get, slice_index, slice_set, map, if◌then◌else◌, nat_lt, ◌==◌, not, IfOk}
 use Rattle.std.proofs.lemmas.List.{get_or-set_same, get_or-set_other, length-set, length-map}
 use Rattle.lex.specs.declared.token.Span.{Span}
 use Rattle.lex.specs.declared.token.Scalar.{Scalar}
-use Rattle.lex.specs.declared.token.Scalar.TheVariants.{Int, Unsigned}
+use Rattle.lex.specs.declared.token.Scalar.TheVariants.{Int, Unsigned, LongLong}
 use Rattle.syntax.specs.declared.tree.UnaryOp.TheVariants.{Negate, Keep, Not, Complement}
 use Rattle.syntax.specs.declared.tree.BinaryOp.{BinaryOp}
 use Rattle.syntax.specs.declared.tree.BinaryOp.TheVariants.{Or, Equal, NotEqual}
 use Rattle.syntax.specs.declared.tree.LogicalOp.TheVariants.{AndThen, OrElse}
-use Rattle.std.specs.List.{AllByRecursion}
 use Rattle.std.specs.Prelude.{unwrap_or}
 use Rattle.syntax.specs.Names.{definition_of}
 use Rattle.bytecode.specs.Code.{FunctionCode}
@@ -20,7 +19,7 @@ use Rattle.syntax.specs.declared.numbers.Halt.TheVariants.{Wants, Astray}
 use Rattle.syntax.specs.declared.numbers.Trap.{Trap}
 use Rattle.syntax.specs.declared.numbers.Trap.TheVariants.{Index}
 use Rattle.syntax.specs.declared.numbers.Value.{Value}
-use Rattle.syntax.specs.Numbers.{modulus, residue, number, word_of, number_of, complemented, computed, typed, operand_type, result_type, binary, unary, converted, is_zero, flag, truth}
+use Rattle.syntax.specs.Numbers.{modulus, residue, number, word_of, number_of, common, complemented, computed, typed, operand_type, result_type, binary, unary, converted, is_zero, flag, truth}
 use Rattle.syntax.specs.Names.{Local, newest, newest_from, word_at, global_of, cells, GlobalCells}
 use Rattle.syntax.specs.Types.{type_of, running_scope}
 use Rattle.syntax.specs.Laws.{shape}
@@ -30,70 +29,30 @@ use Rattle.syntax.specs.Meaning.{Spot, InLocal, InCell, End, Returns, fetch, clo
 use Rattle.std.specs.Option.{option_or}
 use Rattle.std.specs.Prelude.{bytes_eq, neg_ℤ}
 use Rattle.syntax.specs.Numbers.{fitted}
-use Rattle.syntax.proofs.Words.{computed_below, fitted_below, narrows, truth_below, word_below}
+use Rattle.syntax.proofs.Words.{fitted_below, narrows, truth_below, word_below}
 use Rattle.bytecode.specs.Effects.{Effect}
 use Rattle.bytecode.specs.Code.{Code, Configuration, Frame, Instr, effect, effect_of, or_traps, setting}
-use Rattle.lowered.specs.Expressions.{ValueTransactionCode, LocalScope, IsLike, At, LeadsTo, Branching, MayTake, computing, arranged, Layout, GivenBy, Converts, OperatorCode, StraightCode, LiesReady, OperandCode, VariableCode, ElementAt, Branches, BothHold, EitherHolds, ComparedWithZero, TruthCode, BranchCode, ConditionalCode, types_left, ExprCode, OwnTests, ArgsCode, CondCode}
+use Rattle.lowered.specs.Expressions.{ValueTransactionCode, LocalScope, IsLike, At, LeadsTo, Branching, MayTake, constant_in, computing, complementing, arranged, Layout, GivenBy, Converts, DueCode, TypedCode, HandedCode, WordCode, OperandCode, VariableCode, ElementAt, Branches, BothHold, EitherHolds, ComparedWithZero, TruthCode, BranchCode, ConditionalCode, types_left, ExprCode, OwnTests, ArgsCode, CondCode}
 use Rattle.lowered.proofs.Locals.{word_typed, type_like, KnownLocal, newest_known}
-use Rattle.lowered.proofs.Unconverted.{handed_as_it_lies}
+use Rattle.lowered.proofs.Conversions.{unconverted, truth_under, truth_converted, zero_in, zero_kept, operated_below}
 use Rattle.lowered.proofs.Agreement.{Agrees, astray, same, fewer}
-use Rattle.lowered.proofs.Runs.{Enters, enters, Held, inner_held, outermost_held, begins_inner, begins_outermost, wants_one, commits_inner, leaves_outermost, next_commit, IsBounded, AreBounded, KnownCells, HasCellsOf, AreMemories, Around, Bare, Within, Shared, context_of, holding, state, IsSeen, on_seen, IsGood, registers_in, Holds, Keeps, keeps_all, keeps_more, keeps_set, keeps_on, keeps_then, kept_at, holds_on, configuration, effect_at, goes, goes_by, reads_by, word_read, tick_goes, traps}
+use Rattle.lowered.proofs.Runs.{Enters, enters, Held, inner_held, outermost_held, begins_inner, begins_outermost, wants_one, commits_inner, leaves_outermost, next_commit, IsBounded, AreBounded, KnownCells, HasCellsOf, AreMemories, Around, Bare, Within, Shared, context_of, holding, state, IsSeen, on_seen, IsGood, registers_in, Holds, Keeps, keeps_all, keeps_more, keeps_set, keeps_on, kept_at, holds_on, configuration, effect_at, goes, goes_by, reads_by, word_read, tick_goes, traps}
 
--- the types have as many numbers
-pub as_many : (s t : Scalar) → modulus s ≡ modulus t
-as_many Int Int = refl
-as_many Int Unsigned = refl
-as_many Unsigned Int = refl
-as_many Unsigned Unsigned = refl
-
--- so that a word of one is a word of the other
-pub below_as : (s t : Scalar) (w : ℕ) → w < modulus s → w < modulus t
-below_as s t w h = subst (λ n. w < n) (as_many s t) h
-
-pub residue_same : (t : Scalar) (w : ℕ) → w < modulus t → residue t w ≡ w
-residue_same Int w h = let e : w % (2 ^ 32) ≡ w = omega (arith, h) in e
-residue_same Unsigned w h = let e : w % (2 ^ 32) ≡ w = omega (arith, h) in e
-
--- each type has the words 0 and 1
-truth_converted : (t u : Scalar) (b : Bool) → converted u (record { of = t; word = truth b }) ≡ record { of = u; word = truth b }
-truth_converted Int Int false = refl
-truth_converted Int Int true = refl
-truth_converted Int Unsigned false = refl
-truth_converted Int Unsigned true = refl
-truth_converted Unsigned Int false = refl
-truth_converted Unsigned Int true = refl
-truth_converted Unsigned Unsigned false = refl
-truth_converted Unsigned Unsigned true = refl
-
--- and a conversion keeps it
-pub residue_of : (u t : Scalar) (w : ℕ) → word_of u (number t w) ≡ residue u w
-residue_of u t w = let e = as_many u t in narrows t u w (omega (arith, e))
-
-pub word_same : (u t : Scalar) (w : ℕ) → w < modulus t → word_of u (number t w) ≡ w
-word_same u t w h = residue_of u t w ∙ residue_same u w (below_as t u w h)
-
-zero_word : (t : Scalar) → word_of t (pos 0) ≡ 0
-zero_word Int = refl
-zero_word Unsigned = refl
-
-complement_same : (t : Scalar) (w : ℕ) → complemented t w ≡ complemented Unsigned w
-complement_same Int w = refl
-complement_same Unsigned w = refl
-
-complement_below : (t : Scalar) (w : ℕ) → complemented Unsigned w < modulus t
+complement_below : (t : Scalar) (w : ℕ) → complemented t w < modulus t
 complement_below Int w = omega arith
 complement_below Unsigned w = omega arith
-
--- an operator on values whose words are those of their types
-pub binary_same : (op : BinaryOp) (s t : Scalar) (a b : ℕ) → a < modulus s → b < modulus t → binary op (record { of = s; word = a }) (record { of = t; word = b }) ≡ typed (result_type op (operand_type op s t)) (computed op (operand_type op s t) a b)
-binary_same op s t a b h k =
-    ap (λ x. typed (result_type op (operand_type op s t)) (computed op (operand_type op s t) x (word_of (operand_type op t s) (number t b)))) (word_same (operand_type op s t) s a h)
-    ∙ ap (λ y. typed (result_type op (operand_type op s t)) (computed op (operand_type op s t) a y)) (word_same (operand_type op t s) t b k)
+complement_below LongLong w = omega arith
 
 -- the instruction of an operator computes it
 pub computing_does : (code : Code) (op : BinaryOp) (t : Scalar) (c : Configuration) (d a b : ℕ) → effect_of code c (Some (computing op t d a b)) ≡ or_traps (computed op t (slice_index c.registers a) (slice_index c.registers b)) (setting c d)
 computing_does code Or t c d a b = refl
 computing_does code op t c d a b = refl
+
+-- and that of a complement makes it
+complementing_does : (code : Code) (t : Scalar) (c : Configuration) (d a : ℕ) → effect_of code c (Some (complementing t d a)) ≡ Effect.Pure (setting c d (complemented t (slice_index c.registers a)))
+complementing_does code Int c d a = refl
+complementing_does code Unsigned c d a = refl
+complementing_does code LongLong c d a = refl
 
 -- the newest local of a name hangs on names and types alone
 newest_shape : ℕ → List (List ℕ × Scalar) → List ℕ → Option (ℕ × Scalar)
@@ -107,6 +66,15 @@ newest_shaped (l ∷ ls) i x = ap (λ o. option_or o (if bytes_eq l.name x then 
 
 pub newest_like : (x : List ℕ) (scope ls : List Local) → IsLike scope ls → newest ls x ≡ newest scope x
 newest_like x scope ls e = newest_shaped ls 0 x ∙ ap (λ ss. newest_shape 0 ss x) e ∙ sym (newest_shaped scope 0 x)
+
+-- the words of values that are due in these types
+abbrev pub first_word : List Scalar → Value → ℕ
+first_word [] v = v.word
+first_word (t ∷ ts) v = (converted t v).word
+
+abbrev pub handed : List Scalar → List Value → List ℕ
+handed ts [] = []
+handed ts (v ∷ vs) = first_word ts v ∷ handed (types_left ts) vs
 
 -- an element's cell, or a trap
 abbrev pub element_in : Option GlobalCells → Value → Action Spot
@@ -158,36 +126,47 @@ module _ (p : Program) (call : Caller) (code : Code) (layout : Layout) (frames :
       reads_by code h sh text (configuration code q rs frames) cell (setting (configuration code q rs frames) r) (effect_at code q i rs frames c.instr ∙ e)
       (go_at (Within h) after ls to (suc q) home free r t u old c.to_is c.type_is go (record { of = u; word = w }) sh text (slice_set rs r w) (arrives (Within h) sh home free r w u old rs c.takes c.register len (word_read code sh.memory cell u g.0 bounded) k g))
 
-  -- a conversion of a value that lies in a register
-  pub converts : {N K : ℕ} (s u : Scalar) (v : Value) (a : Around) (sh : Shared) (text : List ℕ) (ls : List Local) (after : Answer Value → Outcome) (q to : ℕ) (home : Option ℕ) (free ra r : ℕ) (old rs : List ℕ) → Converts code layout home s u ra q to free r → Computed a s ra home free old v sh rs → GoesOn N K a after ls to home free r u old → Does N K a sh text ls q rs (λ st. after (Gives (converted u v) st))
-  converts {N = N} {K = K} s u v a sh text ls after q to home free ra r old rs c d go =
-      subst (λ x. Agrees (effect code) N K (holding a sh text (configuration code x rs frames)) (λ n. after (Gives (converted u v) (state n ls (context_of a sh) text)))) c.0
-      (go (converted u v) sh text rs (record { typed_so = refl; word = word_below u (number_of v); here = ap (slice_index rs) c.1 ∙ d.here ∙ sym (word_same u v.of v.word d.word); keeps = d.keeps; good = d.good }))
+  -- a register is set, and the thread goes on from the place behind
+  pub set_on : {N K : ℕ} (i : Instr) (w : ℕ) (u : Scalar) (a : Around) (sh : Shared) (text : List ℕ) (does : ℕ → Outcome) (q to : ℕ) (home : Option ℕ) (free r : ℕ) (old rs : List ℕ) → GivenBy code layout home i u q to free r u → effect_of code (configuration code q rs frames) (Some i) ≡ Effect.Pure (setting (configuration code q rs frames) r w) → length rs ≡ registers_in layout → Keeps layout home free old rs → ((new : List ℕ) → slice_index new r ≡ w → Keeps layout home free old new → Agrees (effect code) N K (holding a sh text (configuration code to new frames)) does) → Agrees (effect code) N K (holding a sh text (configuration code q rs frames)) does
+  set_on {N = N} {K = K} i w u a sh text does q to home free r old rs c e len k go =
+      goes_by code a sh text (configuration code q rs frames) (setting (configuration code q rs frames) r w) (effect_at code q i rs frames c.instr ∙ e)
+      (subst (λ x. Agrees (effect code) N K (holding a sh text (configuration code x (slice_set rs r w) frames)) does) c.to_is
+      (go (slice_set rs r w) (get_or-set_same rs r w 0 (let b = c.register in omega (arith, b, len))) (keeps_set layout home free old rs r w c.takes c.register k)))
 
-  -- an operator on two values that lie in registers: each is converted, and then it computes
-  pub operates : {N K : ℕ} (op : BinaryOp) (v w : Value) (ta tb : Scalar) (ra rb : ℕ) (a : Around) (sh : Shared) (text : List ℕ) (ls : List Local) (after : Answer Value → Outcome) (q to : ℕ) (home : Option ℕ) (free r : ℕ) (t : Scalar) (old rs : List ℕ) → v.of ≡ ta → w.of ≡ tb → slice_index rs ra ≡ v.word → slice_index rs rb ≡ w.word → v.word < modulus v.of → w.word < modulus w.of → OperatorCode code layout home op ta tb ra rb q to free r t → length rs ≡ registers_in layout → Keeps layout home free old rs → IsGood code a sh → IsSeen a after → GoesOn N K a after ls to home free r t old → Does N K a sh text ls q rs (λ s. after (or_trap (binary op v w) s))
-  operates {N = N} {K = K} op v w ta tb ra rb a sh text ls after q to home free r t old rs of_v of_w left right below_v below_w c len keeps good s go =
+  -- a value that lies in a register in the other type too
+  remains : {N K : ℕ} (s u : Scalar) (v : Value) (a : Around) (sh : Shared) (text : List ℕ) (does : ℕ → Outcome) (q to : ℕ) (home : Option ℕ) (free ra r : ℕ) (old rs : List ℕ) → to ≡ q → r ≡ ra → word_of u (number s v.word) ≡ v.word → Computed a s ra home free old v sh rs → ((new : List ℕ) → slice_index new r ≡ (converted u v).word → Keeps layout home free old new → Agrees (effect code) N K (holding a sh text (configuration code to new frames)) does) → Agrees (effect code) N K (holding a sh text (configuration code q rs frames)) does
+  remains {N = N} {K = K} s u v a sh text does q to home free ra r old rs at there kept d go =
+      subst (λ x. Agrees (effect code) N K (holding a sh text (configuration code x rs frames)) does) at
+      (go rs (ap (slice_index rs) there ∙ d.here ∙ sym kept ∙ ap (λ o. word_of u (number o v.word)) (sym d.typed_so)) d.keeps)
+
+  -- a conversion of a value that lies in a register
+  pub comes : {N K : ℕ} (s u : Scalar) (v : Value) (a : Around) (sh : Shared) (text : List ℕ) (does : ℕ → Outcome) (q to : ℕ) (home : Option ℕ) (free ra r : ℕ) (old rs : List ℕ) → Converts code layout home s u ra q to free r → Computed a s ra home free old v sh rs → length rs ≡ registers_in layout → ((new : List ℕ) → slice_index new r ≡ (converted u v).word → Keeps layout home free old new → Agrees (effect code) N K (holding a sh text (configuration code to new frames)) does) → Agrees (effect code) N K (holding a sh text (configuration code q rs frames)) does
+  comes Int LongLong v a sh text does q to home free ra r old rs c d len go =
+      set_on (Instr.Extend r ra) (word_of LongLong (number Int (slice_index rs ra))) LongLong a sh text does q to home free r old rs c refl len d.keeps
+      (λ new here keeps. go new (here ∙ ap (λ w. word_of LongLong (number Int w)) d.here ∙ ap (λ o. word_of LongLong (number o v.word)) (sym d.typed_so)) keeps)
+  comes LongLong Int v a sh text does q to home free ra r old rs c d len go =
+      set_on (Instr.Low r ra) (residue Unsigned (slice_index rs ra)) Int a sh text does q to home free r old rs c refl len d.keeps
+      (λ new here keeps. go new (here ∙ ap (residue Unsigned) d.here ∙ sym (narrows LongLong Int v.word (omega arith)) ∙ ap (λ o. word_of Int (number o v.word)) (sym d.typed_so)) keeps)
+  comes LongLong Unsigned v a sh text does q to home free ra r old rs c d len go =
+      set_on (Instr.Low r ra) (residue Unsigned (slice_index rs ra)) Unsigned a sh text does q to home free r old rs c refl len d.keeps
+      (λ new here keeps. go new (here ∙ ap (residue Unsigned) d.here ∙ sym (narrows LongLong Unsigned v.word (omega arith)) ∙ ap (λ o. word_of Unsigned (number o v.word)) (sym d.typed_so)) keeps)
+  comes s u v a sh text does q to home free ra r old rs c d len go =
+      remains s u v a sh text does q to home free ra r old rs c.0 c.1 (unconverted s u v.word (subst (λ o. v.word < modulus o) d.typed_so d.word) tt) d go
+
+  -- an operator on two values that lie in registers, each in the type in which it is due
+  pub operates : {N K : ℕ} (op : BinaryOp) (v w : Value) (ta tb : Scalar) (ra rb : ℕ) (a : Around) (sh : Shared) (text : List ℕ) (ls : List Local) (after : Answer Value → Outcome) (q to : ℕ) (home : Option ℕ) (free r : ℕ) (t : Scalar) (old rs : List ℕ) → v.of ≡ ta → w.of ≡ tb → slice_index rs ra ≡ (converted (operand_type op ta tb) v).word → slice_index rs rb ≡ (converted (operand_type op tb ta) w).word → GivenBy code layout home (computing op (operand_type op ta tb) r ra rb) (result_type op (operand_type op ta tb)) q to free r t → length rs ≡ registers_in layout → Keeps layout home free old rs → IsGood code a sh → IsSeen a after → GoesOn N K a after ls to home free r t old → Does N K a sh text ls q rs (λ s. after (or_trap (binary op v w) s))
+  operates op v w ta tb ra rb a sh text ls after q to home free r t old rs of_v of_w left right c len keeps good s go =
       let o : Scalar = operand_type op ta tb in
       let other : Scalar = operand_type op tb ta in
-      let rest : Value → Action Value = λ x. or_trap (typed (result_type op o) (computed op o x.word (converted other w).word)) in
       let found : binary op v w ≡ typed (result_type op o) (computed op o (converted o v).word (converted other w).word) =
       (λ j. typed (result_type op (operand_type op (of_v j) (of_w j))) (computed op (operand_type op (of_v j) (of_w j)) (converted (operand_type op (of_v j) (of_w j)) v).word (converted (operand_type op (of_w j) (of_v j)) w).word)) in
-      same (effect code) (λ n. after (rest (converted o v) (state n ls (context_of a sh) text)))
-      (λ n. ap (λ z. after (or_trap z (state n ls (context_of a sh) text))) found)
-      (converts ta o v a sh text ls (λ z. after (go_on z rest)) q c.mid None c.later ra c.rc rs rs c.left (record { typed_so = of_v; word = below_v; here = left; keeps = keeps_all layout None c.later rs; good = good })
-      (λ x sh1 text1 rs1 d.
-      let rest1 : Value → Action Value = λ y. or_trap (typed (result_type op o) (computed op o x.word y.word)) in
-      converts tb other w a sh1 text1 ls (λ z. after (go_on z rest1)) c.mid c.last None c.after rb c.rd rs1 rs1 c.right (record { typed_so = of_w; word = below_w; here = kept_at layout c.later rb rs rs1 c.apart d.keeps ∙ right; keeps = keeps_all layout None c.after rs1; good = d.good })
-      (λ y sh2 text2 rs2 e.
-      let here_x : slice_index rs2 c.rc ≡ x.word = kept_at layout c.after c.rc rs1 rs2 c.apart_on e.keeps ∙ d.here in
-      let below_x : slice_index rs2 c.rc < modulus o = subst (λ z. z < modulus o) (sym here_x) (subst (λ z. x.word < modulus z) d.typed_so d.word) in
-      let below_y : slice_index rs2 c.rd < modulus o = subst (λ z. z < modulus o) (sym e.here) (below_as other o y.word (subst (λ z. y.word < modulus z) e.typed_so e.word)) in
-      let res : Result ℕ Trap = computed op o (slice_index rs2 c.rc) (slice_index rs2 c.rd) in
-      let kept_all : Keeps layout home free old rs2 =
-      keeps_then layout home free c.after old rs1 rs2 (let h = c.kept in let k = c.kept_on in omega (arith, h, k)) (keeps_then layout home free c.later old rs rs1 c.kept keeps d.keeps) e.keeps in
-      same (effect code) (λ n. after (or_trap (typed (result_type op o) res) (state n ls (context_of a sh2) text2)))
-      (λ n. ap (λ z. after (or_trap (typed (result_type op o) (computed op o z y.word)) (state n ls (context_of a sh2) text2))) (sym here_x) ∙ ap (λ z. after (or_trap (typed (result_type op o) (computed op o (slice_index rs2 c.rc) z)) (state n ls (context_of a sh2) text2))) (sym e.here))
-      (results (computing op o r c.rc c.rd) (result_type op o) a sh2 text2 ls after c.last to home free r t old rs2 res c.operates (computing_does code op o (configuration code c.last rs2 frames) r c.rc c.rd) (computed_below op o _ _ below_x below_y) (e.keeps.size ∙ d.keeps.size ∙ len) kept_all e.good s go))))
+      let there : computed op o (converted o v).word (converted other w).word ≡ computed op o (slice_index rs ra) (slice_index rs rb) = (λ j. computed op o (sym left j) (sym right j)) in
+      let below_a : slice_index rs ra < modulus o = subst (λ z. z < modulus o) (sym left) (word_below o (number_of v)) in
+      let below_b : slice_index rs rb < modulus other = subst (λ z. z < modulus other) (sym right) (word_below other (number_of w)) in
+      let res : Result ℕ Trap = computed op o (slice_index rs ra) (slice_index rs rb) in
+      same (effect code) (λ n. after (or_trap (typed (result_type op o) res) (state n ls (context_of a sh) text)))
+      (λ n. ap (λ z. after (or_trap z (state n ls (context_of a sh) text))) (found ∙ ap (typed (result_type op o)) there))
+      (results (computing op o r ra rb) (result_type op o) a sh text ls after q to home free r t old rs res c (computing_does code op o (configuration code q rs frames) r ra rb) (operated_below op ta tb _ _ below_a below_b) len keeps good s go)
 
   -- where a variable stands
   abbrev pub spot_in : Option (ℕ × Scalar) → Option GlobalCells → Action Spot
@@ -278,8 +257,8 @@ module _ (p : Program) (call : Caller) (code : Code) (layout : Layout) (frames :
       Agrees (effect code) N K (holding a sh text (configuration code (if b then unmet else met) new frames)) (λ n. after (Gives (record { of = t; word = truth (not b) }) (state n ls (context_of a sh) text)))
 
   truth_of : {N K : ℕ} (a : Around) (after : Answer Value → Outcome) (ls : List Local) (met unmet free : ℕ) (old : List ℕ) → GoesBoth N K a after ls met unmet free old → GoesTruth N K a after ls met unmet free old
-  truth_of a after ls met unmet free old go t true sh text new k g = go (record { of = t; word = truth false }) true sh text new refl (below_as Int t (truth false) (truth_below false)) k g
-  truth_of a after ls met unmet free old go t false sh text new k g = go (record { of = t; word = truth true }) false sh text new refl (below_as Int t (truth true) (truth_below true)) k g
+  truth_of a after ls met unmet free old go t true sh text new k g = go (record { of = t; word = truth false }) true sh text new refl (truth_under t false) k g
+  truth_of a after ls met unmet free old go t false sh text new k g = go (record { of = t; word = truth true }) false sh text new refl (truth_under t true) k g
 
   flag_of : {N K : ℕ} (a : Around) (after : Answer Value → Outcome) (ls : List Local) (met unmet free : ℕ) (old : List ℕ) → GoesTruth N K a after ls met unmet free old → GoesFlag N K a after ls met unmet free old
   flag_of a after ls met unmet free old go b sh text new k g = go Int b sh text new k g
@@ -385,15 +364,15 @@ module _ (p : Program) (call : Caller) (code : Code) (layout : Layout) (frames :
   abbrev comparing : BinaryOp → Expr → Value → Action Value
   comparing op y v = expr p call y >>= λ w. or_trap (binary op v w)
 
+  -- the word of the constant, and whether the other side is 0
+  zero_asked : (t : Scalar) (v : Value) → v.word < modulus v.of → (word_of (common v.of t) (number v.of v.word) == word_of (common t v.of) (number t (word_of t (pos 0)))) ≡ is_zero v
+  zero_asked t v below = ap (λ w. word_of (common v.of t) (number v.of v.word) == w) (zero_in (common t v.of) t) ∙ zero_kept v.of t v.word below
+
   zero_differs : (t : Scalar) (at : Span) (v : Value) (s : State) → v.word < modulus v.of → comparing NotEqual (Constant 0 t at) v s ≡ Gives (flag (not (is_zero v))) s
-  zero_differs t at v s below =
-      ap (λ r. or_trap r s) (binary_same NotEqual v.of t v.word (word_of t (pos 0)) below (word_below t (pos 0)))
-      ∙ ap (λ w. Gives (flag (not (v.word == w))) s) (zero_word t)
+  zero_differs t at v s below = ap (λ b. Gives (flag (not b)) s) (zero_asked t v below)
 
   zero_equals : (t : Scalar) (at : Span) (v : Value) (s : State) → v.word < modulus v.of → comparing Equal (Constant 0 t at) v s ≡ Gives (flag (is_zero v)) s
-  zero_equals t at v s below =
-      ap (λ r. or_trap r s) (binary_same Equal v.of t v.word (word_of t (pos 0)) below (word_below t (pos 0)))
-      ∙ ap (λ w. Gives (flag (v.word == w)) s) (zero_word t)
+  zero_equals t at v s below = ap (λ b. Gives (flag b) s) (zero_asked t v below)
 
   compared_follows : (scope : LocalScope) (op : BinaryOp) (x y : Expr) (A : Branching) → BranchingFollows scope (expr p call x) A → FlagFollows scope (expr p call x >>= comparing op y) (ComparedWithZero code layout op y A)
   compared_follows scope op x y A ih N K from met unmet free a sh text ls old after (nought, inl c) h good s go =
@@ -428,17 +407,51 @@ module _ (p : Program) (call : Caller) (code : Code) (layout : Layout) (frames :
       (λ n j. after (Gives (record { of = d.typed_so j; word = sym d.here j }) (state n ls (context_of a sh) text)))
       (sets (Instr.Move r rc) t a sh text ls after q to home free r (slice_index rs rc) t old rs c refl len (subst (λ z. z < modulus t) (sym d.here) (subst (λ z. x.word < modulus z) d.typed_so d.word)) (keeps_more layout home free old rs d.keeps) d.good go)
 
-  -- a branch's value, once it is converted, straight
-  straight_follows : (home : Option ℕ) (whole : Expr) (scope : LocalScope) (e : Expr) → AlwaysFollows home scope e → (N K from to free r : ℕ) (t : Scalar) (a : Around) (sh : Shared) (text : List ℕ) (ls : List Local) (old : List ℕ) (after : Answer Value → Outcome) → StraightCode code layout home (ExprCode code layout p home scope e) from to free r t → type_of (running_scope p ls) whole ≡ Some t → Holds scope ls layout free old → IsGood code a sh → IsSeen a after → GoesOn N K a after ls to home free r t old → Does N K a sh text ls from old (λ s. after (go_on (expr p call e s) (choosing whole)))
+  -- a word that is set, or that lies ready
+  pub word_comes : {N K : ℕ} (w : ℕ) (u : Scalar) (a : Around) (sh : Shared) (text : List ℕ) (scope : LocalScope) (ls : List Local) (does : ℕ → Outcome) (from to free r : ℕ) (old : List ℕ) → WordCode code layout w u from to free r → Holds scope ls layout free old → ((new : List ℕ) → slice_index new r ≡ w → Keeps layout None free old new → Agrees (effect code) N K (holding a sh text (configuration code to new frames)) does) → Agrees (effect code) N K (holding a sh text (configuration code from old frames)) does
+  word_comes w u a sh text scope ls does from to free r old (inl c) h go =
+      set_on (Instr.Constant r w) w u a sh text does from to None free r old old c refl h.size_is (keeps_all layout None free old) go
+  word_comes {N = N} {K = K} w u a sh text scope ls does from to free r old (inr c) h go =
+      subst (λ x. Agrees (effect code) N K (holding a sh text (configuration code x old frames)) does) c.to_is
+      (go old (ap (slice_index old) c.register ∙ h.ready c.number w c.known) (keeps_all layout None free old))
+
+  -- a value of type t that is due in u: the register has its word in that type
+  pub record Taken (a : Around) (u t : Scalar) (r : ℕ) (home : Option ℕ) (free : ℕ) (old : List ℕ) (v : Value) (sh : Shared) (new : List ℕ) : Type 0 where
+    pub typed_so : v.of ≡ t
+    pub here : slice_index new r ≡ (converted u v).word
+    pub keeps : Keeps layout home free old new
+    pub good : IsGood code a sh
+
+  abbrev pub GoesTaken : ℕ → ℕ → (a : Around) → (Answer Value → Outcome) → List Local → (to : ℕ) → Option ℕ → (free r : ℕ) → (u t : Scalar) → List ℕ → Type 0
+  GoesTaken N K a after ls to home free r u t old =
+      (v : Value) (sh : Shared) (text : List ℕ) (new : List ℕ) → Taken a u t r home free old v sh new → Agrees (effect code) N K (holding a sh text (configuration code to new frames)) (λ n. after (Gives v (state n ls (context_of a sh) text)))
+
+  -- a value that lies in a register, once it is converted
+  pub taken : {N K : ℕ} (u t : Scalar) (v : Value) (a : Around) (sh : Shared) (text : List ℕ) (ls : List Local) (after : Answer Value → Outcome) (q to : ℕ) (home : Option ℕ) (free ra r : ℕ) (old rs : List ℕ) → Converts code layout home t u ra q to free r → Computed a t ra home free old v sh rs → length rs ≡ registers_in layout → GoesTaken N K a after ls to home free r u t old → Does N K a sh text ls q rs (λ s. after (Gives v s))
+  taken u t v a sh text ls after q to home free ra r old rs c d len go =
+      comes t u v a sh text (λ m. after (Gives v (state m ls (context_of a sh) text))) q to home free ra r old rs c d len
+      (λ new here keeps. go v sh text new (record { typed_so = d.typed_so; here = here; keeps = keeps; good = d.good }))
+
+  pub due_follows : (home : Option ℕ) (scope : LocalScope) (e : Expr) → AlwaysFollows home scope e → (u : Scalar) (N K from to free r : ℕ) (t : Scalar) (a : Around) (sh : Shared) (text : List ℕ) (ls : List Local) (old : List ℕ) (after : Answer Value → Outcome) → DueCode code layout home e (ExprCode code layout p home scope e) u from to free r t → Holds scope ls layout free old → IsGood code a sh → IsSeen a after → GoesTaken N K a after ls to home free r u t old → Does N K a sh text ls from old (λ s. after (expr p call e s))
+  due_follows home scope (Constant n x at) ih u N K from to free r t a sh text ls old after c h good s go =
+      let v : Value = record { of = x; word = word_of x (pos n) } in
+      set_on (Instr.Constant r (constant_in u x n)) (constant_in u x n) u a sh text (λ m. after (Gives v (state m ls (context_of a sh) text))) from to home free r old old c.1 refl h.size_is (keeps_all layout home free old)
+      (λ new here keeps. go v sh text new (record { typed_so = sym c.0; here = here; keeps = keeps; good = good }))
+  due_follows home scope e ih u N K from to free r t a sh text ls old after c h good s go =
+      ih N K from c.mid free c.ra t a sh text ls old after c.computes h good s
+      (λ v sh1 text1 rs1 d. taken u t v a sh1 text1 ls after c.mid to home free c.ra r old rs1 c.converts d (d.keeps.size ∙ h.size_is) go)
+
+  -- a branch's value, in the type of both, straight
+  straight_follows : (home : Option ℕ) (whole : Expr) (scope : LocalScope) (e : Expr) → AlwaysFollows home scope e → (N K from to free r : ℕ) (t : Scalar) (a : Around) (sh : Shared) (text : List ℕ) (ls : List Local) (old : List ℕ) (after : Answer Value → Outcome) → TypedCode code layout home e (ExprCode code layout p home scope e) t from to free r → type_of (running_scope p ls) whole ≡ Some t → Holds scope ls layout free old → IsGood code a sh → IsSeen a after → GoesOn N K a after ls to home free r t old → Does N K a sh text ls from old (λ s. after (go_on (expr p call e s) (choosing whole)))
   straight_follows home whole scope e ih N K from to free r t a sh text ls old after c is h good s go =
-      ih N K from c.mid free c.ra c.ta a sh text ls old (λ q. after (go_on q (choosing whole))) c.computes h good (on_seen a after (choosing whole) s)
+      due_follows home scope e ih t N K from to free r c.0 a sh text ls old (λ q. after (go_on q (choosing whole))) c.1 h good (on_seen a after (choosing whole) s)
       (λ w sh1 text1 rs1 d.
       same (effect code) (λ n. after (Gives (converted t w) (state n ls (context_of a sh1) text1)))
       (λ n. ap (λ o. after (go_on (or_astray o (state n ls (context_of a sh1) text1)) (λ t. pure (converted t w)))) is)
-      (converts c.ta t w a sh1 text1 ls after c.mid to home free c.ra r old rs1 c.converts d go))
+      (go (converted t w) sh1 text1 rs1 (record { typed_so = refl; word = word_below t (number_of w); here = d.here; keeps = d.keeps; good = d.good })))
 
   -- and where it is moved
-  branch_follows : (home : Option ℕ) (whole : Expr) (scope : LocalScope) (e : Expr) → ((h : Option ℕ) → AlwaysFollows h scope e) → (N K from to free r : ℕ) (t : Scalar) (a : Around) (sh : Shared) (text : List ℕ) (ls : List Local) (old : List ℕ) (after : Answer Value → Outcome) → BranchCode code layout home (λ h. ExprCode code layout p h scope e) from to free r t → type_of (running_scope p ls) whole ≡ Some t → Holds scope ls layout free old → IsGood code a sh → IsSeen a after → GoesOn N K a after ls to home free r t old → Does N K a sh text ls from old (λ s. after (go_on (expr p call e s) (choosing whole)))
+  branch_follows : (home : Option ℕ) (whole : Expr) (scope : LocalScope) (e : Expr) → ((h : Option ℕ) → AlwaysFollows h scope e) → (N K from to free r : ℕ) (t : Scalar) (a : Around) (sh : Shared) (text : List ℕ) (ls : List Local) (old : List ℕ) (after : Answer Value → Outcome) → BranchCode code layout home e (λ h. ExprCode code layout p h scope e) from to free r t → type_of (running_scope p ls) whole ≡ Some t → Holds scope ls layout free old → IsGood code a sh → IsSeen a after → GoesOn N K a after ls to home free r t old → Does N K a sh text ls from old (λ s. after (go_on (expr p call e s) (choosing whole)))
   branch_follows home whole scope e ih N K from to free r t a sh text ls old after (inl c) is h good s go =
       straight_follows home whole scope e (ih home) N K from to free r t a sh text ls old after c is h good s go
   branch_follows home whole scope e ih N K from to free r t a sh text ls old after (inr c) is h good s go =
@@ -448,7 +461,7 @@ module _ (p : Program) (call : Caller) (code : Code) (layout : Layout) (frames :
   goes_after : {N K : ℕ} (a : Around) (after : Answer Value → Outcome) (ls : List Local) (to : ℕ) (home : Option ℕ) (free r : ℕ) (t : Scalar) (old mid : List ℕ) → Keeps layout None free old mid → GoesOn N K a after ls to home free r t old → GoesOn N K a after ls to home free r t mid
   goes_after a after ls to home free r t old mid k go v sh text new d = go v sh text new (record { typed_so = d.typed_so; word = d.word; here = d.here; keeps = keeps_on layout home free free old mid new (omega arith) k d.keeps; good = d.good })
 
-  conditional_follows : (home : Option ℕ) (whole : Expr) (scope : LocalScope) (run : Action Value) (x y : Expr) (T : Branching) → BranchingFollows scope run T → ((h : Option ℕ) → AlwaysFollows h scope x) → ((h : Option ℕ) → AlwaysFollows h scope y) → (N K from to free r : ℕ) (t : Scalar) (a : Around) (sh : Shared) (text : List ℕ) (ls : List Local) (old : List ℕ) (after : Answer Value → Outcome) → ConditionalCode code layout home T (λ h. ExprCode code layout p h scope x) (λ h. ExprCode code layout p h scope y) from to free r t → type_of (running_scope p ls) whole ≡ Some t → Holds scope ls layout free old → IsGood code a sh → IsSeen a after → GoesOn N K a after ls to home free r t old → Does N K a sh text ls from old (λ s. after ((run >>= λ v. (if is_zero v then expr p call y else expr p call x) >>= choosing whole) s))
+  conditional_follows : (home : Option ℕ) (whole : Expr) (scope : LocalScope) (run : Action Value) (x y : Expr) (T : Branching) → BranchingFollows scope run T → ((h : Option ℕ) → AlwaysFollows h scope x) → ((h : Option ℕ) → AlwaysFollows h scope y) → (N K from to free r : ℕ) (t : Scalar) (a : Around) (sh : Shared) (text : List ℕ) (ls : List Local) (old : List ℕ) (after : Answer Value → Outcome) → ConditionalCode code layout home T (BranchCode code layout home x (λ h. ExprCode code layout p h scope x)) (BranchCode code layout home y (λ h. ExprCode code layout p h scope y)) from to free r t → type_of (running_scope p ls) whole ≡ Some t → Holds scope ls layout free old → IsGood code a sh → IsSeen a after → GoesOn N K a after ls to home free r t old → Does N K a sh text ls from old (λ s. after ((run >>= λ v. (if is_zero v then expr p call y else expr p call x) >>= choosing whole) s))
   conditional_follows home whole scope run x y T iht ihx ihy N K from to free r t a sh text ls old after c is h good s go =
       let rest : Value → Action Value = λ v. (if is_zero v then expr p call y else expr p call x) >>= choosing whole in
       fewer (effect code) (omega arith) (omega arith)
@@ -525,28 +538,36 @@ module _ (p : Program) (call : Caller) (code : Code) (layout : Layout) (frames :
       (N K : ℕ) (x : List ℕ) (vs : List Value) (number q d : ℕ) (args : List ℕ) (g : FunctionCode) (f : Function) (body : Stmts)
       (a : Around) (sh : Shared) (text : List ℕ) (ls : List Local) (rs : List ℕ) (after : Answer Value → Outcome) →
       At code q (Instr.Call number d (arranged f.parameters args)) → slice_get code.functions number ≡ Some g → g.name ≡ x → definition_of p x ≡ Some (f, body) →
-      map (slice_index rs) args ≡ map (λ (v : Value). v.word) vs → AllByRecursion (λ (v : Value). v.word < modulus v.of) vs → IsGood code a sh → IsSeen a after →
+      map (slice_index rs) args ≡ handed (map (λ q. q.of) f.parameters) vs → IsGood code a sh → IsSeen a after →
       ((v : Value) (sh1 : Shared) (text1 : List ℕ) → v.of ≡ unwrap_or f.result Int → v.word < modulus v.of → IsGood code a sh1 →
       Agrees (effect code) N K (holding a sh1 text1 (configuration code (suc q) (slice_set rs d v.word) frames)) (λ n. after (Gives v (state n ls (context_of a sh1) text1)))) →
       Agrees (effect code) N K (holding a sh text (configuration code q rs frames)) (λ n. after (call x vs (state n ls (context_of a sh) text)))
 
-  -- a word that lies ready
-  pub lies : {N K : ℕ} (w : ℕ) (u : Scalar) (a : Around) (sh : Shared) (text : List ℕ) (scope : LocalScope) (ls : List Local) (after : Answer Value → Outcome) (from to free r : ℕ) (t : Scalar) (old : List ℕ) → LiesReady code layout w u from to r t → w < modulus u → Holds scope ls layout free old → IsGood code a sh → GoesOn N K a after ls to None free r t old → Does N K a sh text ls from old (λ s. after (Gives (record { of = u; word = w }) s))
-  lies w u a sh text scope ls after from to free r t old c below h good go =
-      go_at a after ls to from None free r t u old c.to_is c.type_is go (record { of = u; word = w }) sh text old
-      (record { typed_so = refl; word = below; here = ap (slice_index old) c.register ∙ h.ready c.number w c.known; keeps = keeps_all layout None free old; good = good })
+  -- an operand of an operator
+  pub operand_follows : (scope : LocalScope) (e : Expr) → AlwaysFollows None scope e → (u : Scalar) (N K from to free r : ℕ) (t : Scalar) (a : Around) (sh : Shared) (text : List ℕ) (ls : List Local) (old : List ℕ) (after : Answer Value → Outcome) → OperandCode code layout e (ExprCode code layout p None scope e) u from to free r t → Holds scope ls layout free old → IsGood code a sh → IsSeen a after → GoesTaken N K a after ls to None free r u t old → Does N K a sh text ls from old (λ s. after (expr p call e s))
+  operand_follows scope (Constant n x at) ih u N K from to free r t a sh text ls old after c h good s go =
+      let v : Value = record { of = x; word = word_of x (pos n) } in
+      word_comes (constant_in u x n) u a sh text scope ls (λ m. after (Gives v (state m ls (context_of a sh) text))) from to free r old c.1 h
+      (λ new here keeps. go v sh text new (record { typed_so = sym c.0; here = here; keeps = keeps; good = good }))
+  operand_follows scope e ih u N K from to free r t a sh text ls old after c h good s go =
+      ih N K from c.mid free c.ra t a sh text ls old after c.computes h good s
+      (λ v sh1 text1 rs1 d. taken u t v a sh1 text1 ls after c.mid to None free c.ra r old rs1 c.converts d (d.keeps.size ∙ h.size_is) go)
 
-  -- the right side of an operator
-  pub operand_follows : (scope : LocalScope) (e : Expr) → AlwaysFollows None scope e → (N K from to free r : ℕ) (t : Scalar) (a : Around) (sh : Shared) (text : List ℕ) (ls : List Local) (old : List ℕ) (after : Answer Value → Outcome) → OperandCode code layout e (ExprCode code layout p None scope e) from to free r t → Holds scope ls layout free old → IsGood code a sh → IsSeen a after → GoesOn N K a after ls to None free r t old → Does N K a sh text ls from old (λ s. after (expr p call e s))
-  operand_follows scope (Constant n u at) ih N K from to free r t a sh text ls old after (inl c) h good s go = ih N K from to free r t a sh text ls old after c h good s go
-  operand_follows scope (Constant n u at) ih N K from to free r t a sh text ls old after (inr c) h good s go =
-      lies (word_of u (pos n)) u a sh text scope ls after from to free r t old c (word_below u (pos n)) h good go
-  operand_follows scope e ih N K from to free r t a sh text ls old after c h good s go = ih N K from to free r t a sh text ls old after c h good s go
+  -- the first of several values, in the type that is due
+  abbrev GoesHanded : ℕ → ℕ → (a : Around) → (Answer Value → Outcome) → List Local → List Scalar → (to free r : ℕ) → List ℕ → Type 0
+  GoesHanded N K a after ls ts to free r old =
+      (v : Value) (sh : Shared) (text : List ℕ) (new : List ℕ) → slice_index new r ≡ first_word ts v → Keeps layout None free old new → IsGood code a sh → Agrees (effect code) N K (holding a sh text (configuration code to new frames)) (λ n. after (Gives v (state n ls (context_of a sh) text)))
+
+  handed_follows : (scope : LocalScope) (ts : List Scalar) (e : Expr) → AlwaysFollows None scope e → (N K from to free r : ℕ) (a : Around) (sh : Shared) (text : List ℕ) (ls : List Local) (old : List ℕ) (after : Answer Value → Outcome) → HandedCode code layout ts e (ExprCode code layout p None scope e) from to free r → Holds scope ls layout free old → IsGood code a sh → IsSeen a after → GoesHanded N K a after ls ts to free r old → Does N K a sh text ls from old (λ s. after (expr p call e s))
+  handed_follows scope [] e ih N K from to free r a sh text ls old after c h good s go =
+      ih N K from to free r c.0 a sh text ls old after c.1 h good s (λ v sh1 text1 rs1 d. go v sh1 text1 rs1 d.here d.keeps d.good)
+  handed_follows scope (t ∷ ts) e ih N K from to free r a sh text ls old after c h good s go =
+      due_follows None scope e ih t N K from to free r c.0 a sh text ls old after c.1 h good s (λ v sh1 text1 rs1 d. go v sh1 text1 rs1 d.here d.keeps d.good)
 
   -- after the arguments
-  abbrev pub GoesArgs : ℕ → ℕ → (a : Around) → (Answer (List Value) → Outcome) → List Local → (to free : ℕ) → (args old : List ℕ) → Type 0
-  GoesArgs N K a after ls to free args old =
-      (vs : List Value) (sh : Shared) (text : List ℕ) (new : List ℕ) → map (slice_index new) args ≡ map (λ (v : Value). v.word) vs → AllByRecursion (λ (v : Value). v.word < modulus v.of) vs → Keeps layout None free old new → IsGood code a sh →
+  abbrev pub GoesArgs : ℕ → ℕ → (a : Around) → (Answer (List Value) → Outcome) → List Local → List Scalar → (to free : ℕ) → (args old : List ℕ) → Type 0
+  GoesArgs N K a after ls ts to free args old =
+      (vs : List Value) (sh : Shared) (text : List ℕ) (new : List ℕ) → map (slice_index new) args ≡ handed ts vs → Keeps layout None free old new → IsGood code a sh →
       Agrees (effect code) N K (holding a sh text (configuration code to new frames)) (λ n. after (Gives vs (state n ls (context_of a sh) text)))
 
   module _ (cf : CallsFollow) (are : HasCellsOf code p) where
@@ -563,17 +584,19 @@ module _ (p : Program) (call : Caller) (code : Code) (layout : Layout) (frames :
       expr_follows home scope (Call f es at) N K from to free r t a sh text ls old after c h good s go =
           let rest : List Value → Action Value = λ vs. tick >> call f.text vs in
           args_follow scope (map (λ q. q.of) c.f.parameters) es N K from c.mid free c.registers_of a sh text ls old (λ q. after (go_on q rest)) c.gives_args h good (on_seen a after rest s)
-          (λ vs sh1 text1 rs1 words below keeps good1.
+          (λ vs sh1 text1 rs1 words keeps good1.
           tick_goes code a after (call f.text vs) sh1 ls text1 (configuration code c.mid rs1 frames) s
-          (cf N K f.text vs c.number c.mid r c.registers_of c.function c.f c.body a sh1 text1 ls rs1 after c.calls.instr c.known c.named c.defined words below good1 s
+          (cf N K f.text vs c.number c.mid r c.registers_of c.function c.f c.body a sh1 text1 ls rs1 after c.calls.instr c.known c.named c.defined words good1 s
           (λ v sh2 text2 of_v below_v good2.
           go_at a after ls to (suc c.mid) home free r t (unwrap_or c.f.result Int) old c.calls.to_is c.calls.type_is go v sh2 text2 (slice_set rs1 r v.word)
           (record { typed_so = of_v; word = below_v; here = get_or-set_same rs1 r v.word 0 (let b = c.calls.register in let len = keeps.size ∙ h.size_is in omega (arith, b, len)); keeps = keeps_set layout home free old rs1 r v.word c.calls.takes c.calls.register (keeps_more layout home free old rs1 keeps); good = good2 }))))
       expr_follows home scope (Parenthesized e at) N K from to free r t a sh text ls old after c h good s go = expr_follows home scope e N K from to free r t a sh text ls old after c h good s go
       expr_follows home scope (Cast u e at) N K from to free r t a sh text ls old after c h good s go =
           let rest : Value → Action Value = λ v. pure (converted u v) in
-          expr_follows home scope e N K from c.mid free c.ra c.te a sh text ls old (λ q. after (go_on q rest)) c.computes h good (on_seen a after rest s)
-          (λ v sh1 text1 rs1 d. converts c.te u v a sh1 text1 ls after c.mid to home free c.ra r old rs1 c.converts d (go_at a after ls to to home free r t u old refl c.type_is go))
+          due_follows home scope e (expr_follows home scope e) u N K from to free r c.1.0 a sh text ls old (λ q. after (go_on q rest)) c.1.1 h good (on_seen a after rest s)
+          (λ v sh1 text1 rs1 d.
+          go_at a after ls to to home free r t u old refl c.0 go (converted u v) sh1 text1 rs1
+          (record { typed_so = refl; word = word_below u (number_of v); here = d.here; keeps = d.keeps; good = d.good }))
       expr_follows home scope (Unary Negate e at) N K from to free r t a sh text ls old after c h good s go =
           let rest : Value → Action Value = λ v. or_trap (unary Negate v) in
           let negated : Scalar → ℕ → Result ℕ Trap = λ o w. fitted o (neg_ℤ (number o w)) in
@@ -601,18 +624,18 @@ module _ (p : Program) (call : Caller) (code : Code) (layout : Layout) (frames :
           let rest : Value → Action Value = λ v. or_trap (unary Complement v) in
           expr_follows None scope e N K from c.mid free c.ra c.ta a sh text ls old (λ q. after (go_on q rest)) c.computes h good (on_seen a after rest s)
           (λ v sh1 text1 rs1 d.
-          same (effect code) (λ n. after (Gives (record { of = c.ta; word = complemented Unsigned (slice_index rs1 c.ra) }) (state n ls (context_of a sh1) text1)))
-          (λ n. ap (λ x. after (Gives x (state n ls (context_of a sh1) text1))) (ap (λ o. record { of = o; word = complemented o v.word }) d.typed_so ∙ ap (λ w. record { of = c.ta; word = complemented c.ta w }) (sym d.here) ∙ ap (λ w. record { of = c.ta; word = w }) (complement_same c.ta (slice_index rs1 c.ra))))
-          (sets (Instr.Complement r c.ra) c.ta a sh1 text1 ls after c.mid to home free r (complemented Unsigned (slice_index rs1 c.ra)) t old rs1 c.operates refl (d.keeps.size ∙ h.size_is) (complement_below c.ta (slice_index rs1 c.ra)) (keeps_more layout home free old rs1 d.keeps) d.good go))
+          same (effect code) (λ n. after (Gives (record { of = c.ta; word = complemented c.ta (slice_index rs1 c.ra) }) (state n ls (context_of a sh1) text1)))
+          (λ n. ap (λ x. after (Gives x (state n ls (context_of a sh1) text1))) (ap (λ o. record { of = o; word = complemented o v.word }) d.typed_so ∙ ap (λ w. record { of = c.ta; word = complemented c.ta w }) (sym d.here)))
+          (sets (complementing c.ta r c.ra) c.ta a sh1 text1 ls after c.mid to home free r (complemented c.ta (slice_index rs1 c.ra)) t old rs1 c.operates (complementing_does code c.ta (configuration code c.mid rs1 frames) r c.ra) (d.keeps.size ∙ h.size_is) (complement_below c.ta (slice_index rs1 c.ra)) (keeps_more layout home free old rs1 d.keeps) d.good go))
       expr_follows home scope (Binary op x y at) N K from to free r t a sh text ls old after c h good s go =
           let rest : Value → Action Value = λ v. expr p call y >>= λ w. or_trap (binary op v w) in
-          expr_follows None scope x N K from c.mid free c.ra c.ta a sh text ls old (λ q. after (go_on q rest)) c.left h good (on_seen a after rest s)
+          operand_follows scope x (expr_follows None scope x) (operand_type op c.ta c.tb) N K from c.mid free c.ra c.ta a sh text ls old (λ q. after (go_on q rest)) c.left h good (on_seen a after rest s)
           (λ v sh1 text1 rs1 d.
           let rest1 : Value → Action Value = λ w. or_trap (binary op v w) in
-          operand_follows scope y (expr_follows None scope y) N K c.mid c.last c.later c.rb c.tb a sh1 text1 ls rs1 (λ q. after (go_on q rest1)) c.right (holds_on scope ls layout free c.later old rs1 c.kept h d.keeps) d.good (on_seen a after rest1 s)
+          operand_follows scope y (expr_follows None scope y) (operand_type op c.tb c.ta) N K c.mid c.last c.later c.rb c.tb a sh1 text1 ls rs1 (λ q. after (go_on q rest1)) c.right (holds_on scope ls layout free c.later old rs1 c.kept h d.keeps) d.good (on_seen a after rest1 s)
           (λ w sh2 text2 rs2 e.
           let keeps : Keeps layout None free old rs2 = keeps_on layout None free c.later old rs1 rs2 c.kept d.keeps e.keeps in
-          operates op v w c.ta c.tb c.ra c.rb a sh2 text2 ls after c.last to home free r t old rs2 d.typed_so e.typed_so (e.keeps.below c.ra c.apart tt ∙ d.here) e.here d.word e.word c.operates (keeps.size ∙ h.size_is) (keeps_more layout home free old rs2 keeps) e.good s go))
+          operates op v w c.ta c.tb c.ra c.rb a sh2 text2 ls after c.last to home free r t old rs2 d.typed_so e.typed_so (kept_at layout c.later c.ra rs1 rs2 c.apart e.keeps ∙ d.here) e.here c.operates (keeps.size ∙ h.size_is) (keeps_more layout home free old rs2 keeps) e.good s go))
       expr_follows home scope (Logical AndThen x y at) N K from to free r t a sh text ls old after c h good s go =
           truth_follows home scope (expr p call x >>= λ v. (if is_zero v then pure v else expr p call y) >>= tested)
           (BothHold code layout (Branches code layout (ExprCode code layout p None scope x) (OwnTests code layout p scope x)) (Branches code layout (ExprCode code layout p None scope y) (OwnTests code layout p scope y)))
@@ -659,18 +682,17 @@ module _ (p : Program) (call : Caller) (code : Code) (layout : Layout) (frames :
           N K from met unmet free a sh text ls old after c h good s (flag_of a after ls met unmet free old go)
       own_follows scope e N K from met unmet free a sh text ls old after c h good s go = absurd c
 
-      pub args_follow : (scope : LocalScope) (ts : List Scalar) (es : Exprs) (N K from to free : ℕ) (args : List ℕ) (a : Around) (sh : Shared) (text : List ℕ) (ls : List Local) (old : List ℕ) (after : Answer (List Value) → Outcome) → ArgsCode code layout p scope ts es from to free args → Holds scope ls layout free old → IsGood code a sh → IsSeen a after → GoesArgs N K a after ls to free args old → Does N K a sh text ls from old (λ s. after (exprs p call es s))
+      pub args_follow : (scope : LocalScope) (ts : List Scalar) (es : Exprs) (N K from to free : ℕ) (args : List ℕ) (a : Around) (sh : Shared) (text : List ℕ) (ls : List Local) (old : List ℕ) (after : Answer (List Value) → Outcome) → ArgsCode code layout p scope ts es from to free args → Holds scope ls layout free old → IsGood code a sh → IsSeen a after → GoesArgs N K a after ls ts to free args old → Does N K a sh text ls from old (λ s. after (exprs p call es s))
       args_follow scope ts Exprs.[] N K from to free args a sh text ls old after c h good s go =
-          subst (λ q. Agrees (effect code) N K (holding a sh text (configuration code q old frames)) (λ n. after (Gives [] (state n ls (context_of a sh) text)))) c.0 (go [] sh text old (ap (map (slice_index old)) c.1) tt (keeps_all layout None free old) good)
+          subst (λ q. Agrees (effect code) N K (holding a sh text (configuration code q old frames)) (λ n. after (Gives [] (state n ls (context_of a sh) text)))) c.0 (go [] sh text old (ap (map (slice_index old)) c.1) (keeps_all layout None free old) good)
       args_follow scope ts (Exprs.◌∷◌ e es) N K from to free args a sh text ls old after c h good s go =
           let rest : Value → Action (List Value) = λ v. exprs p call es >>= λ vs. pure (v ∷ vs) in
-          let there = handed_as_it_lies code layout ts c.t None c.ra c.mid c.last free c.r c.converts in
-          expr_follows None scope e N K from c.mid free c.ra c.t a sh text ls old (λ q. after (go_on q rest)) c.computes h good (on_seen a after rest s)
-          (λ v sh1 text1 rs1 d.
+          handed_follows scope ts e (expr_follows None scope e) N K from c.last free c.r a sh text ls old (λ q. after (go_on q rest)) c.computes h good (on_seen a after rest s)
+          (λ v sh1 text1 rs1 here keeps1 good1.
           let rest1 : List Value → Action (List Value) = λ vs. pure (v ∷ vs) in
-          args_follow scope (types_left ts) es N K c.mid to c.later c.others a sh1 text1 ls rs1 (λ q. after (go_on q rest1)) (subst (λ q. ArgsCode code layout p scope (types_left ts) es q to c.later c.others) there.0 c.goes_on) (holds_on scope ls layout free c.later old rs1 c.kept h d.keeps) d.good (on_seen a after rest1 s)
-          (λ vs sh2 text2 rs2 words below keeps good2.
-          go (v ∷ vs) sh2 text2 rs2 (ap (map (slice_index rs2)) c.are ∙ ap (λ w. w ∷ map (slice_index rs2) c.others) (keeps.below c.r c.apart tt ∙ ap (slice_index rs1) there.1 ∙ d.here) ∙ ap (λ ws. v.word ∷ ws) words) (d.word, below) (keeps_on layout None free c.later old rs1 rs2 c.kept d.keeps keeps) good2))
+          args_follow scope (types_left ts) es N K c.last to c.later c.others a sh1 text1 ls rs1 (λ q. after (go_on q rest1)) c.goes_on (holds_on scope ls layout free c.later old rs1 c.kept h keeps1) good1 (on_seen a after rest1 s)
+          (λ vs sh2 text2 rs2 words keeps good2.
+          go (v ∷ vs) sh2 text2 rs2 (ap (map (slice_index rs2)) c.are ∙ ap (λ w. w ∷ map (slice_index rs2) c.others) (keeps.below c.r c.apart tt ∙ here) ∙ ap (λ ws. first_word ts v ∷ ws) words) (keeps_on layout None free c.later old rs1 rs2 c.kept keeps1 keeps) good2))
 
     -- a condition's code
     pub cond_follows : (scope : LocalScope) (e : Expr) → BranchingFollows scope (expr p call e) (CondCode code layout p scope e)

@@ -5,6 +5,7 @@ use Rattle.std.proofs.lemmas.List.{get_or-set_same, get_or-set_other, length-set
 use Rattle.std.proofs.lemmas.Bool.{cases_eq}
 use Rattle.lowered.proofs.Expressions.{CallsFollow, passes, leads}
 use Rattle.lex.specs.declared.token.Scalar.{Scalar}
+use Rattle.lex.specs.declared.token.Scalar.TheVariants.{Int}
 use Rattle.syntax.specs.declared.tree.Mode.{Mode}
 use Rattle.syntax.specs.declared.tree.Mode.TheVariants.{Atomic}
 use Rattle.syntax.specs.declared.tree.Kind.{Kind}
@@ -12,24 +13,25 @@ use Rattle.syntax.specs.declared.tree.Kind.TheVariants.{Plain, Outer}
 use Rattle.syntax.specs.Tree.{Expr, Simple, Declarator, Start, Nothing, Declares, Does, Stmt, Stmts, Empty, Declare, Do, Block, Print, If, IfElse, While, DoWhile, For, Break, Continue, Return, Transaction, Cancel, CancelOuter, Program}
 use Rattle.syntax.specs.declared.numbers.Value.{Value}
 use Rattle.syntax.specs.declared.numbers.Halt.TheVariants.{Wants, Astray}
-use Rattle.syntax.specs.Numbers.{modulus, is_zero, flag}
+use Rattle.syntax.specs.Numbers.{converted, is_zero, flag}
 use Rattle.syntax.specs.Names.{Local, word_at}
 use Rattle.syntax.specs.Behaviours.{Memory, Outcome}
 use Rattle.bytecode.specs.Sequential.{cancel_step}
 use Rattle.lowered.proofs.Agreement.{quiet, Agrees, astray, same, fewer, none_left}
 use Rattle.lowered.proofs.OuterCancels.{opened, OuterGoes, outer_as, outer_fewer, through_plain, through_bare, leaves_by, outer_follows}
 use Rattle.syntax.specs.Actions.{Outside, Inside, Answer, Gives, Stops, Action, pure, stop, go_on, ◌>>=◌, ◌>>◌, tick, locals, put_locals, may_print}
-use Rattle.syntax.specs.Meaning.{assign, InLocal, End, Next, Breaks, Continues, Returns, Cancels, CancelsOuter, mode_of, on_next, scoped, after_turn, loop, after_body, close_inner, close, leave, transaction, Caller, expr, simple, first_value, declare, holds, stepped, start_with, stmt, stmts}
+use Rattle.syntax.specs.Meaning.{InLocal, End, Next, Breaks, Continues, Returns, Cancels, CancelsOuter, mode_of, on_next, scoped, after_turn, loop, after_body, close_inner, close, leave, transaction, Caller, expr, simple, first_value, declare, holds, stepped, start_with, stmt, stmts}
 use Rattle.bytecode.specs.Code.{Code, Configuration, Frame, Instr, effect}
 use Rattle.lowered.specs.Expressions.{LocalScope, IsLike, At, LeadsTo, Layout}
 use Rattle.lowered.specs.Statements.{LocalAt, Exits, with_level, in_transaction, looping, with_local, with_declared, locals_of_start, locals_after, locals_at_end, Testing, Leaves, FirstValueCode, DeclareCode, IfCode, IfElseCode, WhileCode, DoWhileCode, HoldsCode, SteppedCode, StartCode, ForCode, TransactionCode, StmtCode, StmtsCode}
 use Rattle.lowered.proofs.Runs.{Enters, enters, Held, Around, Bare, Within, Shared, context_of, holding, state, IsSeen, on_seen, HasCellsOf, AreMemories, IsGood, Holds, configuration, effect_at, goes, goes_by, seen_spent, tick_goes, tick_counts, inner_held, outermost_held, begins_inner, begins_outermost, wants_one, commits_inner, cancels_inner, leaves_outermost, next_commit, next_cancel}
+use Rattle.lowered.proofs.Conversions.{truth_converted}
 use Rattle.lowered.proofs.Locals.{TypeIs, type_last, length_like, word_taken, words_taken, shape_taken, word_new, word_last, words_new, shape_new}
-use Rattle.lowered.proofs.Statements.{raised, stores, Goes, GoesNext, GoesTest, expression_follows, result_follows, test_follows, simple_follows}
+use Rattle.lowered.proofs.Statements.{Goes, GoesNext, GoesTest, expr_stores, result_follows, test_follows, simple_follows}
 use Rattle.lowered.proofs.Prints.{print_rest, print_follows}
 use Rattle.lowered.proofs.Turns.{while_turn, do_turn, for_turn, Falls}
 use Rattle.syntax.proofs.Loops.{loop_is_its_turns}
-use Rattle.syntax.proofs.Words.{some_below, truth_below}
+use Rattle.syntax.proofs.Words.{some_below}
 
 -- the registers hold what a scope knows, and further names declared in it
 pub record HoldsMore (scope : LocalScope) (ls : List Local) (layout : Layout) (registers : List ℕ) : Type 0 where
@@ -99,7 +101,7 @@ module _ (p : Program) (code : Code) (layout : Layout) where
   ArrivedAt x after others to Next q ls rs = (q ≡ to) × after ls rs
   ArrivedAt x after others to Breaks q ls rs = Leaves code layout p q x.in_loop (Instr.Jump x.break_to) × others ls rs
   ArrivedAt x after others to Continues q ls rs = Leaves code layout p q x.in_loop (Instr.Jump x.continue_to) × others ls rs
-  ArrivedAt x after others to (Returns v) q ls rs = (r : Option ℕ) × Leaves code layout p q x.in_function (Instr.Return r) × (word_in r rs ≡ v.word) × (v.word < modulus v.of)
+  ArrivedAt x after others to (Returns v) q ls rs = (r : Option ℕ) × Leaves code layout p q x.in_function (Instr.Return r) × (word_in r rs ≡ (converted x.gives v).word)
   ArrivedAt x after others to Cancels q ls rs = (x.innermost ≡ Some Atomic) × At code q Instr.Cancel
   ArrivedAt x after others to CancelsOuter q ls rs = ⊥
 
@@ -263,12 +265,8 @@ module _ (p : Program) (call : Caller) (code : Code) (layout : Layout) (frames :
   first_follows {N = N} {K = K} inner i t None rest from to below type_is c a sh text ls old after h good s go =
       subst (λ q. Goes p call code layout frames cf are N K a sh text ls q old (λ s. after (rest s))) c (go sh text ls old good h)
   first_follows {N = N} {K = K} inner i t (Some e) rest from to below type_is c a sh text ls old after h good s go =
-      let rest1 : Value → Action (Unit {0}) = λ v. assign (InLocal i t) v in
-      let after1 : Answer (Unit {0}) → Outcome = λ q. after (go_on q (λ u. rest)) in
-      expression_follows p call code layout frames cf are (Some i) inner e N K from c.mid c.value.free c.r c.value.t a sh text ls old (λ q. after1 (go_on q rest1)) c.value.computes (raised inner ls layout c.value.free old c.value.room h) good (on_seen a after1 rest1 (on_seen a after (λ u. rest) s))
-      (λ v sh1 text1 rs1 d.
-      stores p call code layout frames cf are (LocalAt (i, t)) (InLocal i t) inner c.value.free a sh1 text1 ls (λ q. after (go_on q (λ e. rest))) c.mid to c.r c.value.t old rs1 v c.value.room (refl, below, type_is) tt c.stores d.keeps d.here d.word h d.good (on_seen a after (λ e. rest) s)
-      (λ sh2 text2 ls2 rs2 good2 h2. go sh2 text2 ls2 rs2 good2 h2))
+      expr_stores p call code layout frames cf are e (LocalAt (i, t)) (InLocal i t) inner c.free a sh text ls (λ q. after (go_on q (λ e. rest))) (λ q. after (go_on q (λ u. rest))) from to old (λ v s1. refl) c.room (refl, below, type_is) tt c.stores h good (on_seen a after (λ e. rest) s) (on_seen a after (λ u. rest) s)
+      (λ sh2 text2 ls2 rs2 good2 h2. go sh2 text2 ls2 rs2 good2 h2)
 
   declare_follows : {N K : ℕ} (t : Scalar) (ds : List Declarator) (x : Exits) (scope : LocalScope) (from to : ℕ) → DeclareCode code layout p t ds scope from to → (a : Around) (sh : Shared) (text : List ℕ) (ls : List Local) (old : List ℕ) (after : Answer End → Outcome) → Here scope ls old → IsGood code a sh → IsSeen a after → GoesNext p call code layout frames cf are N K a after (with_declared t ds scope) to → Goes p call code layout frames cf are N K a sh text ls from old (λ s. after (declare p call t ds s))
   declare_follows {N = N} {K = K} t [] x scope from to c a sh text ls old after h good s go =
@@ -531,7 +529,7 @@ module _ (p : Program) (call : Caller) (code : Code) (layout : Layout) (frames :
   bare_each kind x scope ss from to c found founds lefts ls old after h s g go Continues sh text ls1 rs q good arrived =
       bare_commits Continues kind found founds lefts to sh text ls1 old rs q after arrived.0.0 s g (go.ends Continues (record { founds = founds; lefts = lefts ++ sh.memory ∷ []; memory = sh.memory; kept = sh.kept }) text ls1 rs (suc q) g (arrived.0.1, arrived.1))
   bare_each kind x scope ss from to c found founds lefts ls old after h s g go (Returns v) sh text ls1 rs q good arrived =
-      bare_commits (Returns v) kind found founds lefts to sh text ls1 old rs q after arrived.1.0 s g (go.ends (Returns v) (record { founds = founds; lefts = lefts ++ sh.memory ∷ []; memory = sh.memory; kept = sh.kept }) text ls1 rs (suc q) g (arrived.0, arrived.1.1, arrived.2, arrived.3))
+      bare_commits (Returns v) kind found founds lefts to sh text ls1 old rs q after arrived.1.0 s g (go.ends (Returns v) (record { founds = founds; lefts = lefts ++ sh.memory ∷ []; memory = sh.memory; kept = sh.kept }) text ls1 rs (suc q) g (arrived.0, arrived.1.1, arrived.2))
   bare_each kind x scope ss from to c found founds lefts ls old after h s g go Cancels sh text ls1 rs q good arrived =
       leaves_outermost code after (Gives Next) (mode_of kind) found found founds lefts sh text ls1 ls (configuration code q rs frames) (configuration code to old frames) (configuration code to old frames)
       (next_cancel code (mode_of kind) found founds lefts sh text (configuration code q rs frames) (configuration code to old frames) (effect_at code q Instr.Cancel rs frames arrived.1) (good.1 (atomic_of (mode_of kind) arrived.0)).0) s
@@ -589,7 +587,7 @@ module _ (p : Program) (call : Caller) (code : Code) (layout : Layout) (frames :
       (go.ends Continues sh1 text ls1 rs (suc q) (good_out k kind sh sh1 sh.memory (configuration code to old frames) g good) (arrived.0.1, arrived.1))
   inner_each k kind x scope ss from to c sh ls old after h g go (Returns v) sh1 text ls1 rs q good arrived =
       commits_inner code k sh1 text (mode_of kind) sh.memory (configuration code q rs frames) (configuration code (suc q) rs frames) (configuration code to old frames) (effect_at code q Instr.Commit rs frames arrived.1.0)
-      (go.ends (Returns v) sh1 text ls1 rs (suc q) (good_out k kind sh sh1 sh.memory (configuration code to old frames) g good) (arrived.0, arrived.1.1, arrived.2, arrived.3))
+      (go.ends (Returns v) sh1 text ls1 rs (suc q) (good_out k kind sh sh1 sh.memory (configuration code to old frames) g good) (arrived.0, arrived.1.1, arrived.2))
   inner_each k kind x scope ss from to c sh ls old after h g go Cancels sh1 text ls1 rs q good arrived =
       cancels_inner code k sh1 text (mode_of kind) sh.memory (configuration code q rs frames) (configuration code to old frames) (effect_at code q Instr.Cancel rs frames arrived.1)
       (go.ends Next (record sh1 { memory = sh.memory }) text ls old to (g.0, (λ e. ((good.1 e).0, (g.1 e).1)), good.2) (refl, h))
@@ -717,12 +715,12 @@ module _ (p : Program) (call : Caller) (code : Code) (layout : Layout) (frames :
       stmt_follows (Continue at) N K x scope from to a sh text ls old after c h good s go =
           timed (pure Continues) N K from a sh text ls old after s (go.ends Continues sh text ls old from good (c, h))
       stmt_follows (Return None at) N K x scope from to a sh text ls old after c h good s go =
-          timed (pure (Returns (flag false))) N K from a sh text ls old after s (go.ends (Returns (flag false)) sh text ls old from good (None, c, refl, truth_below false))
+          timed (pure (Returns (flag false))) N K from a sh text ls old after s (go.ends (Returns (flag false)) sh text ls old from good (None, c, sym (ap (λ (v : Value). v.word) (truth_converted Int x.gives false))))
       stmt_follows (Return (Some e) at) N K x scope from to a sh text ls old after c h good s go =
           let rest : Value → Action End = λ v. pure (Returns v) in
           timed (expr p call e >>= rest) N K from a sh text ls old after s
           (result_follows p call code layout frames cf are scope x.gives e from c.0 c.1 c.2 a sh text ls old (λ q. after (go_on q rest)) h good (on_seen a after rest s)
-          (λ v sh1 text1 rs1 b here h1 good1. go.ends (Returns v) sh1 text1 ls rs1 c.0 good1 (Some c.1, c.3, here, b)))
+          (λ v sh1 text1 rs1 here h1 good1. go.ends (Returns v) sh1 text1 ls rs1 c.0 good1 (Some c.1, c.3, here)))
       stmt_follows (Transaction kind ss at) N K x scope from to a sh text ls old after c h good s go =
           transaction_follows kind ss (stmts_follow ss) N K x scope from to a sh text ls old after c h good s go
       stmt_follows (Cancel at) N K x scope from to a sh text ls old after c h good s go =

@@ -1,6 +1,7 @@
 mod Agreement
 mod Runs
 mod Locals
+pub mod Conversions
 mod Expressions
 mod Statements
 mod Turns

@@ -1,7 +1,7 @@
 -- The instructions of a print do what it does.
 use Rattle.std.proofs.Common.{◌≡◌, ◌⊎◌, ℕ, suc, true, List, [], ◌∷◌, ◌++◌, length, refl, ap, ◌∙◌, subst, inl, inr}
 use Rattle.std.specs.Prelude.{slice_index, map}
-use Rattle.lowered.proofs.Expressions.{CallsFollow, args_follow}
+use Rattle.lowered.proofs.Expressions.{CallsFollow, handed, args_follow}
 use Rattle.syntax.specs.declared.tree.Mode.{Mode}
 use Rattle.syntax.specs.declared.tree.Mode.TheVariants.{Atomic, Relaxed}
 use Rattle.syntax.specs.Tree.{Program, Exprs}
@@ -21,6 +21,11 @@ use Rattle.std.specs.Fmt.{signed_decimal}
 use Rattle.syntax.specs.Numbers.{number}
 use Rattle.syntax.specs.Formats.{Piece, Literal, Figure, pieces}
 use Rattle.lowered.proofs.Statements.{raised, lowered, Goes, GoesNext}
+
+-- values that are due in no types
+unhanded : (vs : List Value) → handed [] vs ≡ map (λ (v : Value). v.word) vs
+unhanded [] = refl
+unhanded (v ∷ vs) = ap (λ ws. v.word ∷ ws) (unhanded vs)
 
 module _ (p : Program) (call : Caller) (code : Code) (layout : Layout) (frames : List Frame) (cf : CallsFollow p call code layout frames) (are : HasCellsOf code p) where
   -- printing: where it is allowed, an irrevocable was carried out
@@ -75,8 +80,8 @@ module _ (p : Program) (call : Caller) (code : Code) (layout : Layout) (frames :
   print_goes {N = N} {K = K} scope format es from to c a sh text ls old after may h good s go =
       let rest : List Value → Action End = λ vs. print_pieces (pieces format) vs >> pure Next in
       args_follow p call code layout frames cf are scope [] es N K (suc from) c.mid c.free c.rs a sh text ls old (λ q. after (go_on q rest)) c.args (raised scope ls layout c.free old c.room h) good (on_seen a after rest s)
-      (λ vs sh1 text1 rs1 words below keeps good1.
-      pieces_follow (pieces format) c.rs vs c.mid to c.prints a sh1 text1 ls rs1 (λ q. after (go_on q (λ u. pure Next))) words (may sh1 good1) (on_seen a after (λ u. pure Next) s)
+      (λ vs sh1 text1 rs1 words keeps good1.
+      pieces_follow (pieces format) c.rs vs c.mid to c.prints a sh1 text1 ls rs1 (λ q. after (go_on q (λ u. pure Next))) (words ∙ unhanded vs) (may sh1 good1) (on_seen a after (λ u. pure Next) s)
       (λ text2. go sh1 text2 ls rs1 good1 (lowered scope ls layout c.free old rs1 c.room h keeps)))
 
   pub print_follows : {N K : ℕ} (scope : LocalScope) (format : List ℕ) (es : Exprs) (from to : ℕ) (c : PrintCode code layout p scope format es from to) (a : Around) (sh : Shared) (text : List ℕ) (ls : List Local) (old : List ℕ) (after : Answer End → Outcome) → Holds scope ls layout (length scope) old → IsGood code a sh → IsSeen a after → GoesNext p call code layout frames cf are N K a after scope to → Goes p call code layout frames cf are N K a sh text ls from old (λ s. after (go_on (may_print s) (λ u. print_rest format es)))

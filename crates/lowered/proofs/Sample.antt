@@ -17,7 +17,7 @@ use Rattle.bytecode.specs.Beginning.{beginning}
 use Rattle.lowered.specs.Expressions.{Layout}
 use Rattle.lowered.specs.Statements.{LocalAt, CellAt}
 use Rattle.lowered.specs.Programs.{FunctionIsLowered, IsLowered}
-use Rattle.lowered.proofs.Unconverted.{operator_is, stored_is}
+use Rattle.lowered.proofs.Unconverted.{own_is, stored_is}
 
 abbrev nowhere : Span
 nowhere = record { start = 0; end = 0 }
@@ -87,15 +87,14 @@ worker_is_lowered = record {
       zeroes = refl;
       mid = 4;
       value = record {
-        mid = 4;
-        r = 1;
-        value = record {
-          free = 2;
-          room = omega arith;
-          t = Int;
-          computes = record { to_is = refl; takes = inr refl; register = omega arith; type_is = refl; instr = refl };
+        free = 2;
+        room = omega arith;
+        stores = record {
+          mid = 4;
+          r = 1;
+          sets = record { to_is = refl; takes = inr refl; register = omega arith; type_is = refl; instr = refl };
+          stores = inr (refl, refl);
         };
-        stores = stored_is code layout program _ _ _ _ _ _ (inr (refl, refl));
       };
       goes_on = refl;
     },
@@ -124,11 +123,11 @@ worker_is_lowered = record {
               rb = 3;
               ta = Int;
               tb = Int;
-              left = record { known = omega arith; to_is = refl; register = refl; type_is = refl };
+              left = own_is code layout _ _ _ _ _ _ _ (record { known = omega arith; to_is = refl; register = refl; type_is = refl });
               kept = omega arith;
-              apart = omega arith;
-              right = inr (record { number = 0; known = refl; to_is = refl; register = refl; type_is = refl });
-              operates = operator_is code layout _ _ _ _ _ _ _ _ _ _ _ (record { to_is = refl; takes = omega arith; register = omega arith; type_is = refl; instr = refl });
+              apart = inl (omega arith);
+              right = (refl, inr (record { number = 0; known = refl; to_is = refl; register = refl; type_is = refl }));
+              operates = record { to_is = refl; takes = omega arith; register = omega arith; type_is = refl; instr = refl };
             };
             jumps = refl;
             leads = inl refl;
@@ -147,26 +146,28 @@ worker_is_lowered = record {
               record {
                 target = CellAt (record { global = x; cell = 0 });
                 mid = 6;
-                fetched = 7;
-                last = 7;
+                done = 8;
                 later = 2;
-                after = 3;
-                ro = 2;
-                rb = 1;
                 r = 2;
-                of = Int;
-                tb = Int;
                 t = Int;
                 goes_to = inl (refl, refl);
                 room = omega arith;
                 spares = tt;
-                fetches = record { to_is = refl; takes = omega arith; register = omega arith; type_is = refl; instr = refl };
-                kept = omega arith;
-                apart = omega arith;
-                changes = record { known = omega arith; to_is = refl; register = refl; type_is = refl };
-                operates = operator_is code layout _ _ _ _ _ _ _ _ _ _ _ (record { to_is = refl; takes = omega arith; register = omega arith; type_is = refl; instr = refl });
-                done = 8;
-                stores = stored_is code layout program _ _ _ _ _ _ (inl (refl, refl));
+                operates = record {
+                  mid = 7;
+                  last = 7;
+                  later = 3;
+                  ra = 2;
+                  rb = 1;
+                  ta = Int;
+                  tb = Int;
+                  left = own_is code layout _ _ _ _ _ _ _ (record { to_is = refl; takes = omega arith; register = omega arith; type_is = refl; instr = refl });
+                  kept = omega arith;
+                  apart = inl (omega arith);
+                  right = own_is code layout _ _ _ _ _ _ _ (record { known = omega arith; to_is = refl; register = refl; type_is = refl });
+                  operates = record { to_is = refl; takes = omega arith; register = omega arith; type_is = refl; instr = refl };
+                };
+                stores = stored_is code layout program _ _ _ _ _ (inl (refl, refl));
               },
               refl,
             );
@@ -176,26 +177,28 @@ worker_is_lowered = record {
             record {
               target = LocalAt (1, Int);
               mid = 10;
-              fetched = 10;
-              last = 10;
+              done = 11;
               later = 2;
-              after = 2;
-              ro = 1;
-              rb = 4;
               r = 1;
-              of = Int;
-              tb = Int;
               t = Int;
               goes_to = inl (refl, (omega arith, refl));
               room = omega arith;
               spares = tt;
-              fetches = (refl, refl, refl);
-              kept = omega arith;
-              apart = omega arith;
-              changes = inr (record { number = 1; known = refl; to_is = refl; register = refl; type_is = refl });
-              operates = operator_is code layout _ _ _ _ _ _ _ _ _ _ _ (record { to_is = refl; takes = inr refl; register = omega arith; type_is = refl; instr = refl });
-              done = 11;
-              stores = stored_is code layout program _ _ _ _ _ _ (inr (refl, refl));
+              operates = record {
+                mid = 10;
+                last = 10;
+                later = 2;
+                ra = 1;
+                rb = 4;
+                ta = Int;
+                tb = Int;
+                left = own_is code layout _ _ _ _ _ _ _ (refl, refl, refl);
+                kept = omega arith;
+                apart = inl (omega arith);
+                right = (refl, inr (record { number = 1; known = refl; to_is = refl; register = refl; type_is = refl }));
+                operates = record { to_is = refl; takes = inr refl; register = omega arith; type_is = refl; instr = refl };
+              };
+              stores = stored_is code layout program _ _ _ _ _ (inr (refl, refl));
             },
             refl,
           ),

@@ -1,30 +1,30 @@
 -- The instructions of a statement do what the statement does.
-use Rattle.std.proofs.Common.{◌≡◌, ◌≢◌, ℕ, suc, ◌+◌, ◌<◌, ◌≤◌, ◌%◌, Bool, true, false, List, length, Option, Some, None, refl, sym, ap, ◌∙◌, subst, arith, inl, inr}
+use Rattle.std.proofs.Common.{◌≡◌, ◌≢◌, ℕ, suc, ◌+◌, ◌<◌, ◌≤◌, ◌%◌, Bool, true, false, List, length, Option, Some, None, refl, sym, ap, ◌∙◌, subst, arith, inl, inr, pos}
 use Rattle.std.specs.Prelude.{slice_index, slice_set, if◌then◌else◌, nat_lt, unwrap_or}
 use Rattle.std.proofs.lemmas.List.{get_or-set_same}
 use Rattle.std.proofs.lemmas.Bool.{cases_eq}
 use Rattle.std.proofs.Common.{◌⊎◌}
 use Rattle.lex.specs.declared.token.Scalar.{Scalar}
-use Rattle.lex.specs.declared.token.Scalar.TheVariants.{Int}
+use Rattle.lex.specs.declared.token.Scalar.TheVariants.{Int, LongLong}
 use Rattle.syntax.specs.declared.tree.BinaryOp.{BinaryOp}
-use Rattle.syntax.specs.Tree.{Expr, Variable, Element, Simple, Evaluate, Assign, Adjust, Program}
+use Rattle.syntax.specs.Tree.{Expr, Variable, Constant, Element, Simple, Evaluate, Assign, Adjust, Program}
 use Rattle.syntax.specs.declared.numbers.Trap.TheVariants.{Index}
 use Rattle.syntax.specs.declared.numbers.Value.{Value}
-use Rattle.syntax.specs.Numbers.{modulus, residue, number, word_of, binary, is_zero}
+use Rattle.syntax.specs.Numbers.{modulus, residue, number_of, word_of, converted, operand_type, binary, is_zero}
 use Rattle.syntax.specs.Names.{Local, newest, word_at, with_word, global_of, cells, GlobalCells}
 use Rattle.syntax.specs.Behaviours.{Outcome}
 use Rattle.syntax.specs.Actions.{Inside, State, Answer, Gives, Action, pure, go_on, ◌>>=◌, ◌>>◌, trap, or_trap}
 use Rattle.syntax.specs.Meaning.{Spot, InLocal, InCell, fetch, assign, End, Next, op_of, int_one, Caller, spot_from, expr, spot, changed, assigned, simple}
-use Rattle.syntax.proofs.Words.{residue_below}
+use Rattle.syntax.proofs.Words.{residue_below, word_below}
 use Rattle.syntax.proofs.Memories.{written_memory}
 use Rattle.bytecode.specs.Effects.{Effect}
 use Rattle.bytecode.specs.Code.{Code, Frame, Instr, effect, effect_of, setting, bounds_of, stored}
-use Rattle.lowered.specs.Expressions.{LocalScope, IsLike, At, Layout, Coded}
-use Rattle.lowered.specs.Statements.{Target, LocalAt, CellAt, ElementOf, assigning, home_of, Spares, Coding, Testing, ValueCode, ResultCode, TestCode, VariableTarget, CheckedAt, UncheckedAt, TargetCode, ReadTarget, FetchCode, StoreCode, StoredCode, AssignCode, ChangeCode, Operand, OneCode, SimpleCode}
-use Rattle.lowered.proofs.Unconverted.{as_it_lies}
-use Rattle.lowered.proofs.Agreement.{astray, same}
-use Rattle.lowered.proofs.Runs.{Around, Bare, Within, Shared, context_of, state, IsSeen, on_seen, IsBounded, AreBounded, KnownCells, HasCellsOf, IsGood, Holds, Keeps, ready_kept, keeps_all, keeps_more, keeps_set, keeps_on, holds_on, configuration, effect_at, goes_by, writes_by, traps}
-use Rattle.lowered.proofs.Expressions.{CallsFollow, below_as, residue_of, word_same, element_in, newest_like, GoesOn, Does, sets, reads, operates, spot_in, spot_from_is, lies, operand_follows, expr_follows, cond_follows}
+use Rattle.lowered.specs.Expressions.{LocalScope, IsLike, At, Layout, Due, widening, constant_in, ConvertedBy}
+use Rattle.lowered.specs.Statements.{Target, LocalAt, CellAt, ElementOf, assigning, home_of, target_type, Spares, Coding, Testing, ValueCode, ResultCode, TestCode, VariableTarget, CheckedAt, UncheckedAt, TargetCode, ReadTarget, FetchCode, StoreCode, StoredCode, ExprStored, AssignCode, ChangeCode, Operating, OneCode, SimpleCode}
+use Rattle.lowered.proofs.Conversions.{residue_same, cell_residue, truth_converted}
+use Rattle.lowered.proofs.Agreement.{Agrees, astray, same}
+use Rattle.lowered.proofs.Runs.{Around, Bare, Within, Shared, context_of, holding, state, IsSeen, on_seen, IsBounded, AreBounded, KnownCells, HasCellsOf, IsGood, registers_in, Holds, Keeps, ready_kept, keeps_all, keeps_more, keeps_set, keeps_on, kept_at, holds_on, configuration, effect_at, goes_by, writes_by, traps}
+use Rattle.lowered.proofs.Expressions.{CallsFollow, element_in, newest_like, GoesOn, GoesTaken, Does, Computed, set_on, comes, taken, reads, operates, spot_in, spot_from_is, word_comes, operand_follows, due_follows, expr_follows, cond_follows}
 use Rattle.lowered.proofs.Locals.{TypeIs, word_typed, type_like, KnownLocal, newest_known, word_written, word_other, words_written, shape_written, length_like}
 
 -- one local is written: the registers are as they were, but for its own
@@ -80,11 +80,11 @@ module _ (p : Program) (call : Caller) (code : Code) (layout : Layout) (frames :
   abbrev pub Goes : ℕ → ℕ → Around → Shared → List ℕ → List Local → ℕ → List ℕ → (State → Outcome) → Type 0
   Goes N K a sh text ls from registers does = Does p call code layout frames N K a sh text ls from registers does
 
-  -- what gives a value, and the code for it
-  abbrev pub Follow : Option ℕ → LocalScope → Action Value → Coded → Type 0
-  Follow home scope run C =
-      (N K from to free r : ℕ) (t : Scalar) (a : Around) (sh : Shared) (text : List ℕ) (ls : List Local) (old : List ℕ) (after : Answer Value → Outcome) →
-      C from to free r t → Holds scope ls layout free old → IsGood code a sh → IsSeen a after → GoesOn p call code layout frames N K a after ls to home free r t old → Goes N K a sh text ls from old (λ s. after (run s))
+  -- what gives an operand, and the code for it
+  abbrev FollowTaken : LocalScope → Action Value → Due → Type 0
+  FollowTaken scope run C =
+      (u : Scalar) (N K from to free r : ℕ) (t : Scalar) (a : Around) (sh : Shared) (text : List ℕ) (ls : List Local) (old : List ℕ) (after : Answer Value → Outcome) →
+      C u from to free r t → Holds scope ls layout free old → IsGood code a sh → IsSeen a after → GoesTaken p call code layout frames N K a after ls to None free r u t old → Goes N K a sh text ls from old (λ s. after (run s))
 
   -- after a simple statement
   abbrev pub GoesNext : ℕ → ℕ → (a : Around) → (Answer End → Outcome) → LocalScope → (to : ℕ) → Type 0
@@ -92,14 +92,21 @@ module _ (p : Program) (call : Caller) (code : Code) (layout : Layout) (frames :
       (sh : Shared) (text : List ℕ) (ls : List Local) (rs : List ℕ) → IsGood code a sh → Holds scope ls layout (length scope) rs →
       Goes N K a sh text ls to rs (λ s. after (Gives Next s))
 
-  stored_is : (cell : ℕ) (t : Scalar) (v : Value) (w : ℕ) → IsBounded code cell t → w ≡ v.word → word_of t (number v.of v.word) ≡ stored code cell w
-  stored_is cell t v w bounded e = residue_of t v.of v.word ∙ ap (residue t) (sym e) ∙ ap (λ n. w % n) (sym bounded)
+  -- what lies in a register on its way to a target: the word of the value in the target's type, or for a cell one of which
+  -- that is the residue
+  abbrev pub Lies : Target → (w : ℕ) → Value → Type 0
+  Lies (LocalAt l) w v = w ≡ (converted l.1 v).word
+  Lies (CellAt g) w v = residue g.global.of w ≡ (converted g.global.of v).word
+  Lies (ElementOf g ri) w v = residue g.global.of w ≡ (converted g.global.of v).word
+
+  stored_is : (cell : ℕ) (t : Scalar) (v : Value) (w : ℕ) → IsBounded code cell t → residue t w ≡ (converted t v).word → (converted t v).word ≡ stored code cell w
+  stored_is cell t v w bounded e = sym e ∙ ap (λ n. w % n) (sym bounded)
 
   stored_below : (cell : ℕ) (t : Scalar) (w : ℕ) → IsBounded code cell t → stored code cell w < slice_index (bounds_of code) cell
   stored_below cell t w bounded = subst (λ n. w % n < n) (sym bounded) (residue_below t w)
 
   -- a cell is written
-  cell_written : {N K : ℕ} (scope : LocalScope) (a : Around) (sh : Shared) (text : List ℕ) (ls : List Local) (after : Answer End → Outcome) (i : Instr) (q ra cell : ℕ) (t : Scalar) (rs : List ℕ) (v : Value) → At code q i → effect_of code (configuration code q rs frames) (Some i) ≡ Effect.Write cell (stored code cell (slice_index rs ra)) (configuration code (suc q) rs frames) → IsBounded code cell t → slice_index rs ra ≡ v.word → Holds scope ls layout (length scope) rs → IsGood code a sh → IsSeen a after → GoesNext N K a after scope (suc q) → Goes N K a sh text ls q rs (λ s. after (go_on (assign (InCell cell t) v s) (λ u. pure Next)))
+  cell_written : {N K : ℕ} (scope : LocalScope) (a : Around) (sh : Shared) (text : List ℕ) (ls : List Local) (after : Answer End → Outcome) (i : Instr) (q ra cell : ℕ) (t : Scalar) (rs : List ℕ) (v : Value) → At code q i → effect_of code (configuration code q rs frames) (Some i) ≡ Effect.Write cell (stored code cell (slice_index rs ra)) (configuration code (suc q) rs frames) → IsBounded code cell t → residue t (slice_index rs ra) ≡ (converted t v).word → Holds scope ls layout (length scope) rs → IsGood code a sh → IsSeen a after → GoesNext N K a after scope (suc q) → Goes N K a sh text ls q rs (λ s. after (go_on (assign (InCell cell t) v s) (λ u. pure Next)))
   cell_written scope Bare sh text ls after i q ra cell t rs v at e bounded here h g s go = astray (effect code) 0 (s.astray _)
   cell_written scope (Within k) sh text ls after i q ra cell t rs v at e bounded here h g s go =
       let w : ℕ = stored code cell (slice_index rs ra) in
@@ -109,23 +116,23 @@ module _ (p : Program) (call : Caller) (code : Code) (layout : Layout) (frames :
       (go (record sh { memory = slice_set sh.memory cell w }) text ls rs (written_memory (bounds_of code) sh.memory cell w (stored_below cell t (slice_index rs ra) bounded) g.0, g.1, g.2) h))
 
   -- a target is written
-  assigns : {N K : ℕ} (tg : Target) (at : Spot) (scope : LocalScope) (later : ℕ) (a : Around) (sh : Shared) (text : List ℕ) (ls : List Local) (after : Answer End → Outcome) (q ra : ℕ) (old rs : List ℕ) (v : Value) → length scope ≤ later → IsAt scope tg old at → Spares tg later → At code q (assigning tg ra) → Keeps layout (home_of tg) later old rs → slice_index rs ra ≡ v.word → v.word < modulus v.of → Holds scope ls layout (length scope) old → IsGood code a sh → IsSeen a after → GoesNext N K a after scope (suc q) → Goes N K a sh text ls q rs (λ s. after (go_on (assign at v s) (λ u. pure Next)))
-  assigns (LocalAt l) at scope later a sh text ls after q ra old rs v room is_at sp i k here below h g s go =
+  assigns : {N K : ℕ} (tg : Target) (at : Spot) (scope : LocalScope) (later : ℕ) (a : Around) (sh : Shared) (text : List ℕ) (ls : List Local) (after : Answer End → Outcome) (q ra : ℕ) (old rs : List ℕ) (v : Value) → length scope ≤ later → IsAt scope tg old at → Spares tg later → At code q (assigning tg ra) → Keeps layout (home_of tg) later old rs → Lies tg (slice_index rs ra) v → Holds scope ls layout (length scope) old → IsGood code a sh → IsSeen a after → GoesNext N K a after scope (suc q) → Goes N K a sh text ls q rs (λ s. after (go_on (assign at v s) (λ u. pure Next)))
+  assigns (LocalAt l) at scope later a sh text ls after q ra old rs v room is_at sp i k here h g s go =
       let w : ℕ = slice_index rs ra in
       let len : length ls ≡ length scope = length_like scope ls h.like in
       let in_scope = is_at.1 in
       let fits = h.fits in
       let size_is = k.size ∙ h.size_is in
       same (effect code) (λ n. after (Gives Next (state n (with_word ls l.0 w) (context_of a sh) text)))
-      (λ n. ap (λ x. after (go_on (assign x v (state n ls (context_of a sh) text)) (λ u. pure Next))) is_at.0 ∙ ap (λ x. after (Gives Next (state n (with_word ls l.0 x) (context_of a sh) text))) (word_same l.1 v.of v.word below ∙ sym here))
+      (λ n. ap (λ x. after (go_on (assign x v (state n ls (context_of a sh) text)) (λ u. pure Next))) is_at.0 ∙ ap (λ x. after (Gives Next (state n (with_word ls l.0 x) (context_of a sh) text))) (sym here))
       (goes_by code a sh text (configuration code q rs frames) (configuration code (suc q) (slice_set rs l.0 w) frames) (effect_at code q (Instr.Move l.0 ra) rs frames i)
       (go sh text (with_word ls l.0 w) (slice_set rs l.0 w) g
-      (written_local scope ls old (slice_set rs l.0 w) layout later l.0 w l.1 is_at.1 is_at.2 room h (keeps_set layout (Some l.0) later old rs l.0 w (inr refl) (omega (arith, in_scope, len, fits)) k) (get_or-set_same rs l.0 w 0 (omega (arith, in_scope, len, fits, size_is))) (subst (λ x. x < modulus l.1) (sym here) (below_as v.of l.1 v.word below)))))
-  assigns (CellAt c) at scope later a sh text ls after q ra old rs v room is_at sp i k here below h g s go =
+      (written_local scope ls old (slice_set rs l.0 w) layout later l.0 w l.1 is_at.1 is_at.2 room h (keeps_set layout (Some l.0) later old rs l.0 w (inr refl) (omega (arith, in_scope, len, fits)) k) (get_or-set_same rs l.0 w 0 (omega (arith, in_scope, len, fits, size_is))) (subst (λ x. x < modulus l.1) (sym here) (word_below l.1 (number_of v))))))
+  assigns (CellAt c) at scope later a sh text ls after q ra old rs v room is_at sp i k here h g s go =
       same (effect code) (λ n. after (go_on (assign (InCell c.cell c.global.of) v (state n ls (context_of a sh) text)) (λ u. pure Next)))
       (λ n. ap (λ x. after (go_on (assign x v (state n ls (context_of a sh) text)) (λ u. pure Next))) is_at.0)
       (cell_written scope a sh text ls after (Instr.Write c.cell ra) q ra c.cell c.global.of rs v i refl is_at.1.0 here (lowered scope ls layout later old rs room h k) g s go)
-  assigns (ElementOf c ri) at scope later a sh text ls after q ra old rs v room is_at0 sp i k here below h g s go =
+  assigns (ElementOf c ri) at scope later a sh text ls after q ra old rs v room is_at0 sp i k here h g s go =
       let is_at : IsAt scope (ElementOf c ri) rs at = at_kept scope (ElementOf c ri) later old rs at sp k is_at0 in
       same (effect code) (λ n. after (go_on (assign (InCell (c.cell + slice_index rs ri) c.global.of) v (state n ls (context_of a sh) text)) (λ u. pure Next)))
       (λ n. ap (λ x. after (go_on (assign x v (state n ls (context_of a sh) text)) (λ u. pure Next))) is_at.0)
@@ -134,25 +141,60 @@ module _ (p : Program) (call : Caller) (code : Code) (layout : Layout) (frames :
       (is_at.2.1 (slice_index rs ri) is_at.1) here (lowered scope ls layout later old rs room h k) g s go)
 
   -- a value goes to its target, or lies there already
-  stored_at : {N K : ℕ} (tg : Target) (at : Spot) (scope : LocalScope) (later : ℕ) (a : Around) (sh : Shared) (text : List ℕ) (ls : List Local) (after : Answer End → Outcome) (q to ra : ℕ) (old rs : List ℕ) (v : Value) → length scope ≤ later → IsAt scope tg old at → Spares tg later → StoreCode code layout p tg ra q to → Keeps layout (home_of tg) later old rs → slice_index rs ra ≡ v.word → v.word < modulus v.of → Holds scope ls layout (length scope) old → IsGood code a sh → IsSeen a after → GoesNext N K a after scope to → Goes N K a sh text ls q rs (λ s. after (go_on (assign at v s) (λ u. pure Next)))
-  stored_at {N = N} {K = K} tg at scope later a sh text ls after q to ra old rs v room is_at sp (inl c) k here below h g s go =
-      assigns tg at scope later a sh text ls after q ra old rs v room is_at sp c.1 k here below h g s (subst (λ x. GoesNext N K a after scope x) c.0 go)
-  stored_at {N = N} {K = K} (LocalAt l) at scope later a sh text ls after q to ra old rs v room is_at sp (inr c) k here below h g s go =
+  stored_at : {N K : ℕ} (tg : Target) (at : Spot) (scope : LocalScope) (later : ℕ) (a : Around) (sh : Shared) (text : List ℕ) (ls : List Local) (after : Answer End → Outcome) (q to ra : ℕ) (old rs : List ℕ) (v : Value) → length scope ≤ later → IsAt scope tg old at → Spares tg later → StoreCode code layout p tg ra q to → Keeps layout (home_of tg) later old rs → Lies tg (slice_index rs ra) v → Holds scope ls layout (length scope) old → IsGood code a sh → IsSeen a after → GoesNext N K a after scope to → Goes N K a sh text ls q rs (λ s. after (go_on (assign at v s) (λ u. pure Next)))
+  stored_at {N = N} {K = K} tg at scope later a sh text ls after q to ra old rs v room is_at sp (inl c) k here h g s go =
+      assigns tg at scope later a sh text ls after q ra old rs v room is_at sp c.1 k here h g s (subst (λ x. GoesNext N K a after scope x) c.0 go)
+  stored_at {N = N} {K = K} (LocalAt l) at scope later a sh text ls after q to ra old rs v room is_at sp (inr c) k here h g s go =
       let same_register : l.0 ≡ ra = ap (λ o. unwrap_or o 0) c.1 in
       let w : ℕ = slice_index rs ra in
       same (effect code) (λ n. after (Gives Next (state n (with_word ls l.0 w) (context_of a sh) text)))
-      (λ n. ap (λ x. after (go_on (assign x v (state n ls (context_of a sh) text)) (λ u. pure Next))) is_at.0 ∙ ap (λ x. after (Gives Next (state n (with_word ls l.0 x) (context_of a sh) text))) (word_same l.1 v.of v.word below ∙ sym here))
+      (λ n. ap (λ x. after (go_on (assign x v (state n ls (context_of a sh) text)) (λ u. pure Next))) is_at.0 ∙ ap (λ x. after (Gives Next (state n (with_word ls l.0 x) (context_of a sh) text))) (sym here))
       (subst (λ x. GoesNext N K a after scope x) c.0 go sh text (with_word ls l.0 w) rs g
-      (written_local scope ls old rs layout later l.0 w l.1 is_at.1 is_at.2 room h k (ap (slice_index rs) same_register) (subst (λ x. x < modulus l.1) (sym here) (below_as v.of l.1 v.word below))))
-  stored_at (CellAt g0) at scope later a sh text ls after q to ra old rs v room is_at sp (inr c) k here below h g s go = absurd (missing ra c.1)
-  stored_at (ElementOf g0 ri) at scope later a sh text ls after q to ra old rs v room is_at sp (inr c) k here below h g s go = absurd (missing ra c.1)
+      (written_local scope ls old rs layout later l.0 w l.1 is_at.1 is_at.2 room h k (ap (slice_index rs) same_register) (subst (λ x. x < modulus l.1) (sym here) (word_below l.1 (number_of v)))))
+  stored_at (CellAt g0) at scope later a sh text ls after q to ra old rs v room is_at sp (inr c) k here h g s go = absurd (missing ra c.1)
+  stored_at (ElementOf g0 ri) at scope later a sh text ls after q to ra old rs v room is_at sp (inr c) k here h g s go = absurd (missing ra c.1)
 
-  -- likewise, once it is converted
-  pub stores : {N K : ℕ} (tg : Target) (at : Spot) (scope : LocalScope) (later : ℕ) (a : Around) (sh : Shared) (text : List ℕ) (ls : List Local) (after : Answer End → Outcome) (q to ra : ℕ) (t : Scalar) (old rs : List ℕ) (v : Value) → length scope ≤ later → IsAt scope tg old at → Spares tg later → StoredCode code layout p tg t ra q to later → Keeps layout (home_of tg) later old rs → slice_index rs ra ≡ v.word → v.word < modulus v.of → Holds scope ls layout (length scope) old → IsGood code a sh → IsSeen a after → GoesNext N K a after scope to → Goes N K a sh text ls q rs (λ s. after (go_on (assign at v s) (λ u. pure Next)))
-  stores tg at scope later a sh text ls after q to ra t old rs v room is_at sp c k here below h g s go =
-      let there = as_it_lies code layout tg t (home_of tg) ra q c.mid later c.r c.converts in
-      stored_at tg at scope later a sh text ls after q to ra old rs v room is_at sp
-      (subst (λ r. StoreCode code layout p tg r q to) there.1 (subst (λ x. StoreCode code layout p tg c.r x to) there.0 c.stores)) k here below h g s go
+  -- a conversion of a value that goes to a cell
+  widens : {N K : ℕ} (x t : Scalar) (v : Value) (a : Around) (sh : Shared) (text : List ℕ) (does : ℕ → Outcome) (q to : ℕ) (free ra r : ℕ) (old rs : List ℕ) → ConvertedBy code layout (widening x t) None t ra q to free r → Computed p call code layout frames a x ra None free old v sh rs → length rs ≡ registers_in layout → ((new : List ℕ) → residue t (slice_index new r) ≡ (converted t v).word → Keeps layout None free old new → Agrees (effect code) N K (holding a sh text (configuration code to new frames)) does) → Agrees (effect code) N K (holding a sh text (configuration code q rs frames)) does
+  widens Int LongLong v a sh text does q to free ra r old rs c d len go =
+      comes p call code layout frames Int LongLong v a sh text does q to None free ra r old rs c d len
+      (λ new here keeps. go new (ap (residue LongLong) here ∙ residue_same LongLong (converted LongLong v).word (word_below LongLong (number_of v))) keeps)
+  widens {N = N} {K = K} x t v a sh text does q to free ra r old rs c d len go =
+      let below : v.word < modulus x = subst (λ o. v.word < modulus o) d.typed_so d.word in
+      let there : slice_index rs r ≡ v.word = ap (slice_index rs) c.1 ∙ d.here in
+      subst (λ y. Agrees (effect code) N K (holding a sh text (configuration code y rs frames)) does) c.0
+      (go rs (ap (residue t) there ∙ sym (cell_residue x t v.word below tt) ∙ ap (λ o. word_of t (number_of (record { of = o; word = v.word }))) (sym d.typed_so)) d.keeps)
+
+  -- a value in a register goes to its target, once it is converted
+  pub stores : {N K : ℕ} (tg : Target) (at : Spot) (scope : LocalScope) (later : ℕ) (a : Around) (sh : Shared) (text : List ℕ) (ls : List Local) (after : Answer End → Outcome) (q to ra : ℕ) (t : Scalar) (old rs : List ℕ) (v : Value) → length scope ≤ later → IsAt scope tg old at → Spares tg later → StoredCode code layout p tg t ra q to later → Computed p call code layout frames a t ra (home_of tg) later old v sh rs → length rs ≡ registers_in layout → Holds scope ls layout (length scope) old → IsSeen a after → GoesNext N K a after scope to → Goes N K a sh text ls q rs (λ s. after (go_on (assign at v s) (λ u. pure Next)))
+  stores (LocalAt l) at scope later a sh text ls after q to ra t old rs v room is_at sp c d len h s go =
+      comes p call code layout frames t l.1 v a sh text (λ n. after (go_on (assign at v (state n ls (context_of a sh) text)) (λ u. pure Next))) q c.mid (Some l.0) later ra c.r old rs c.converts d len
+      (λ new here keeps. stored_at (LocalAt l) at scope later a sh text ls after c.mid to c.r old new v room is_at sp c.stores keeps here h d.good s go)
+  stores (CellAt g) at scope later a sh text ls after q to ra t old rs v room is_at sp c d len h s go =
+      widens t g.global.of v a sh text (λ n. after (go_on (assign at v (state n ls (context_of a sh) text)) (λ u. pure Next))) q c.mid later ra c.r old rs c.converts d len
+      (λ new here keeps. stored_at (CellAt g) at scope later a sh text ls after c.mid to c.r old new v room is_at sp c.stores keeps here h d.good s go)
+  stores (ElementOf g ri) at scope later a sh text ls after q to ra t old rs v room is_at sp c d len h s go =
+      widens t g.global.of v a sh text (λ n. after (go_on (assign at v (state n ls (context_of a sh) text)) (λ u. pure Next))) q c.mid later ra c.r old rs c.converts d len
+      (λ new here keeps. stored_at (ElementOf g ri) at scope later a sh text ls after c.mid to c.r old new v room is_at sp c.stores keeps here h d.good s go)
+
+  -- a constant's word lies at its target as it should
+  constant_lies : (tg : Target) (x : Scalar) (n w : ℕ) → w ≡ constant_in (target_type tg) x n → Lies tg w (record { of = x; word = word_of x (pos n) })
+  constant_lies (LocalAt l) x n w e = e
+  constant_lies (CellAt g) x n w e = ap (residue g.global.of) e ∙ residue_same g.global.of (constant_in g.global.of x n) (word_below g.global.of (number_of (record { of = x; word = word_of x (pos n) })))
+  constant_lies (ElementOf g ri) x n w e = ap (residue g.global.of) e ∙ residue_same g.global.of (constant_in g.global.of x n) (word_below g.global.of (number_of (record { of = x; word = word_of x (pos n) })))
+
+  -- an expression's value goes to its target, whatever follows
+  pub expr_stores : {N K : ℕ} (e : Expr) (tg : Target) (at : Spot) (scope : LocalScope) (later : ℕ) (a : Around) (sh : Shared) (text : List ℕ) (ls : List Local) (after : Answer End → Outcome) (whole : Answer (Unit {0}) → Outcome) (from to : ℕ) (old : List ℕ) → ((v : Value) (s : State) → whole (assign at v s) ≡ after (go_on (assign at v s) (λ u. pure Next))) → length scope ≤ later → IsAt scope tg old at → Spares tg later → ExprStored code layout p scope tg e from to later → Holds scope ls layout (length scope) old → IsGood code a sh → IsSeen a after → IsSeen a whole → GoesNext N K a after scope to → Goes N K a sh text ls from old (λ s. whole (go_on (expr p call e s) (assign at)))
+  expr_stores (Constant n x y) tg at scope later a sh text ls after whole from to old is room is_at sp c h g s s1 go =
+      let v : Value = record { of = x; word = word_of x (pos n) } in
+      same (effect code) (λ m. after (go_on (assign at v (state m ls (context_of a sh) text)) (λ u. pure Next))) (λ m. is v (state m ls (context_of a sh) text))
+      (set_on p call code layout frames (Instr.Constant c.r (constant_in (target_type tg) x n)) (constant_in (target_type tg) x n) (target_type tg) a sh text (λ m. after (go_on (assign at v (state m ls (context_of a sh) text)) (λ u. pure Next))) from c.mid (home_of tg) later c.r old old c.sets refl h.size_is (keeps_all layout (home_of tg) later old)
+      (λ new here keeps. stored_at tg at scope later a sh text ls after c.mid to c.r old new v room is_at sp c.stores keeps (constant_lies tg x n (slice_index new c.r) here) h g s go))
+  expr_stores {N = N} {K = K} e tg at scope later a sh text ls after whole from to old is room is_at sp c h g s s1 go =
+      expr_follows p call code layout frames cf are (home_of tg) scope e N K from c.mid later c.r c.t a sh text ls old (λ q. whole (go_on q (assign at))) c.value (raised scope ls layout later old room h) g (on_seen a whole (assign at) s1)
+      (λ v sh1 text1 rs1 d.
+      same (effect code) (λ m. after (go_on (assign at v (state m ls (context_of a sh1) text1)) (λ u. pure Next))) (λ m. is v (state m ls (context_of a sh1) text1))
+      (stores tg at scope later a sh1 text1 ls after c.mid to c.r c.t old rs1 v room is_at sp c.stores d (d.keeps.size ∙ h.size_is) h s go))
 
   -- the left side of an assignment
   abbrev GoesAt : ℕ → ℕ → (a : Around) → (Answer Spot → Outcome) → LocalScope → Target → List Local → (to : ℕ) → List ℕ → Type 0
@@ -240,31 +282,31 @@ module _ (p : Program) (call : Caller) (code : Code) (layout : Layout) (frames :
   abbrev ended : Action (Unit {0}) → Action End
   ended run = run >> pure Next
 
-  assigned_follows : {N K : ℕ} (scope : LocalScope) (lhs : Expr) (by : Action Value) (C : Option ℕ → Coded) → ((home : Option ℕ) → Follow home scope by (C home)) → (from to : ℕ) → AssignCode code layout p scope lhs C from to → (a : Around) (sh : Shared) (text : List ℕ) (ls : List Local) (old : List ℕ) (after : Answer End → Outcome) → Holds scope ls layout (length scope) old → IsGood code a sh → IsSeen a after → GoesNext N K a after scope to → Goes N K a sh text ls from old (λ s. after ((spot p call lhs >>= λ at. ended (assigned p call at by None)) s))
-  assigned_follows {N = N} {K = K} scope lhs by C follow from to c a sh text ls old after h good s go =
-      let rest : Spot → Action End = λ at. ended (assigned p call at by None) in
+  assigned_follows : {N K : ℕ} (scope : LocalScope) (lhs e : Expr) (from to : ℕ) → AssignCode code layout p scope lhs e from to → (a : Around) (sh : Shared) (text : List ℕ) (ls : List Local) (old : List ℕ) (after : Answer End → Outcome) → Holds scope ls layout (length scope) old → IsGood code a sh → IsSeen a after → GoesNext N K a after scope to → Goes N K a sh text ls from old (λ s. after ((spot p call lhs >>= λ at. ended (assigned p call at (expr p call e) None)) s))
+  assigned_follows scope lhs e from to c a sh text ls old after h good s go =
+      let rest : Spot → Action End = λ at. ended (assigned p call at (expr p call e) None) in
       spot_follows scope lhs c.target from c.mid c.goes_to a sh text ls old (λ q. after (go_on q rest)) h good (on_seen a after rest s)
-      (λ at sh1 text1 rs1 is_at h1 good1.
-      let after1 : Answer (Unit {0}) → Outcome = λ q. after (go_on q (λ u. pure Next)) in
-      follow (home_of c.target) N K c.mid c.last c.later c.r c.t a sh1 text1 ls rs1 (λ q. after1 (go_on q (assign at))) c.value (raised scope ls layout c.later rs1 c.room h1) good1 (on_seen a after1 (assign at) (on_seen a after (λ u. pure Next) s))
-      (λ v sh2 text2 rs2 d. stores c.target at scope c.later a sh2 text2 ls after c.last to c.r c.t rs1 rs2 v c.room is_at c.spares c.stores d.keeps d.here d.word h1 d.good s go))
+      (λ at sh1 text1 rs1 is_at h1 good1. expr_stores e c.target at scope c.later a sh1 text1 ls after (λ q. after (go_on q (λ u. pure Next))) c.mid to rs1 (λ v s1. refl) c.room is_at c.spares c.stores h1 good1 s (on_seen a after (λ u. pure Next) s) go)
 
   -- once the target is known
-  changed_from : {N K : ℕ} (scope : LocalScope) (lhs : Expr) (op : BinaryOp) (by : Action Value) (C : Coded) → Follow None scope by C → (from to : ℕ) (c : ChangeCode code layout p scope lhs op C from to) (at : Spot) (a : Around) (sh1 : Shared) (text1 : List ℕ) (ls : List Local) (rs1 : List ℕ) (after : Answer End → Outcome) → IsAt scope c.target rs1 at → Holds scope ls layout (length scope) rs1 → IsGood code a sh1 → IsSeen a after → GoesNext N K a after scope to → Goes N K a sh1 text1 ls c.mid rs1 (λ s. after (ended (changed p call at by op) s))
+  changed_from : {N K : ℕ} (scope : LocalScope) (lhs : Expr) (op : BinaryOp) (by : Action Value) (C : Due) → FollowTaken scope by C → (from to : ℕ) (c : ChangeCode code layout p scope lhs op C from to) (at : Spot) (a : Around) (sh1 : Shared) (text1 : List ℕ) (ls : List Local) (rs1 : List ℕ) (after : Answer End → Outcome) → IsAt scope c.target rs1 at → Holds scope ls layout (length scope) rs1 → IsGood code a sh1 → IsSeen a after → GoesNext N K a after scope to → Goes N K a sh1 text1 ls c.mid rs1 (λ s. after (ended (changed p call at by op) s))
   changed_from {N = N} {K = K} scope lhs op by C follow from to c at a sh1 text1 ls rs1 after is_at h1 good1 s go =
       let after1 : Answer (Unit {0}) → Outcome = λ q. after (go_on q (λ u. pure Next)) in
       let seen1 : IsSeen a after1 = on_seen a after (λ u. pure Next) s in
       let rest1 : Value → Action (Unit {0}) = λ o. by >>= λ v. or_trap (binary op o v) >>= assign at in
-      fetch_follows c.target at scope c.later a sh1 text1 ls (λ q. after1 (go_on q rest1)) c.mid c.fetched c.ro c.of rs1 c.fetches is_at (raised scope ls layout c.later rs1 c.room h1) good1 (on_seen a after1 rest1 seen1)
+      let b = c.operates in
+      fetch_follows c.target at scope c.later a sh1 text1 ls (λ q. after1 (go_on q rest1)) c.mid b.left.mid b.left.ra b.ta rs1 b.left.computes is_at (raised scope ls layout c.later rs1 c.room h1) good1 (on_seen a after1 rest1 seen1)
       (λ o sh2 text2 rs2 d.
-      let rest2 : Value → Action (Unit {0}) = λ v. or_trap (binary op o v) >>= assign at in
-      follow N K c.fetched c.last c.after c.rb c.tb a sh2 text2 ls rs2 (λ q. after1 (go_on q rest2)) c.changes (holds_on scope ls layout c.later c.after rs1 rs2 c.kept (raised scope ls layout c.later rs1 c.room h1) d.keeps) d.good (on_seen a after1 rest2 seen1)
-      (λ v sh3 text3 rs3 e.
-      let keeps : Keeps layout None c.later rs1 rs3 = keeps_on layout None c.later c.after rs1 rs2 rs3 c.kept d.keeps e.keeps in
-      operates p call code layout frames op o v c.of c.tb c.ro c.rb a sh3 text3 ls (λ q. after1 (go_on q (assign at))) c.last c.done (home_of c.target) c.later c.r c.t rs1 rs3 d.typed_so e.typed_so (e.keeps.below c.ro c.apart tt ∙ d.here) e.here d.word e.word c.operates (keeps.size ∙ h1.size_is) (keeps_more layout (home_of c.target) c.later rs1 rs3 keeps) e.good (on_seen a after1 (assign at) seen1)
-      (λ new sh4 text4 rs4 f. stores c.target at scope c.later a sh4 text4 ls after c.done to c.r c.t rs1 rs4 new c.room is_at c.spares c.stores f.keeps f.here f.word h1 f.good s go)))
+      taken p call code layout frames (operand_type op b.ta b.tb) b.ta o a sh2 text2 ls (λ q. after1 (go_on q rest1)) b.left.mid b.mid None c.later b.left.ra b.ra rs1 rs2 b.left.converts d (d.keeps.size ∙ h1.size_is)
+      (λ o1 sh3 text3 rs3 e.
+      let rest2 : Value → Action (Unit {0}) = λ v. or_trap (binary op o1 v) >>= assign at in
+      follow (operand_type op b.tb b.ta) N K b.mid b.last b.later b.rb b.tb a sh3 text3 ls rs3 (λ q. after1 (go_on q rest2)) b.right (holds_on scope ls layout c.later b.later rs1 rs3 b.kept (raised scope ls layout c.later rs1 c.room h1) e.keeps) e.good (on_seen a after1 rest2 seen1)
+      (λ v sh4 text4 rs4 f.
+      let keeps : Keeps layout None c.later rs1 rs4 = keeps_on layout None c.later b.later rs1 rs3 rs4 b.kept e.keeps f.keeps in
+      operates p call code layout frames op o1 v b.ta b.tb b.ra b.rb a sh4 text4 ls (λ q. after1 (go_on q (assign at))) b.last c.done (home_of c.target) c.later c.r c.t rs1 rs4 e.typed_so f.typed_so (kept_at layout b.later b.ra rs3 rs4 b.apart f.keeps ∙ e.here) f.here b.operates (keeps.size ∙ h1.size_is) (keeps_more layout (home_of c.target) c.later rs1 rs4 keeps) f.good (on_seen a after1 (assign at) seen1)
+      (λ new sh5 text5 rs5 g. stores c.target at scope c.later a sh5 text5 ls after c.done to c.r c.t rs1 rs5 new c.room is_at c.spares c.stores g (g.keeps.size ∙ h1.size_is) h1 s go))))
 
-  changed_follows : {N K : ℕ} (scope : LocalScope) (lhs : Expr) (op : BinaryOp) (by : Action Value) (C : Coded) → Follow None scope by C → (from to : ℕ) → ChangeCode code layout p scope lhs op C from to → (a : Around) (sh : Shared) (text : List ℕ) (ls : List Local) (old : List ℕ) (after : Answer End → Outcome) → Holds scope ls layout (length scope) old → IsGood code a sh → IsSeen a after → GoesNext N K a after scope to → Goes N K a sh text ls from old (λ s. after ((spot p call lhs >>= λ at. ended (changed p call at by op)) s))
+  changed_follows : {N K : ℕ} (scope : LocalScope) (lhs : Expr) (op : BinaryOp) (by : Action Value) (C : Due) → FollowTaken scope by C → (from to : ℕ) → ChangeCode code layout p scope lhs op C from to → (a : Around) (sh : Shared) (text : List ℕ) (ls : List Local) (old : List ℕ) (after : Answer End → Outcome) → Holds scope ls layout (length scope) old → IsGood code a sh → IsSeen a after → GoesNext N K a after scope to → Goes N K a sh text ls from old (λ s. after ((spot p call lhs >>= λ at. ended (changed p call at by op)) s))
   changed_follows {N = N} {K = K} scope lhs op by C follow from to c a sh text ls old after h good s go = by_target c.goes_to
     where
       by_target : TargetCode code layout p scope lhs from c.mid (length scope) c.target ⊎ ReadTarget code layout p scope lhs from c.mid (length scope) c.target → Goes N K a sh text ls from old (λ s. after ((spot p call lhs >>= λ at. ended (changed p call at by op)) s))
@@ -272,21 +314,17 @@ module _ (p : Program) (call : Caller) (code : Code) (layout : Layout) (frames :
           spot_follows scope lhs c.target from c.mid d a sh text ls old (λ q. after (go_on q (λ at. ended (changed p call at by op)))) h good (on_seen a after (λ at. ended (changed p call at by op)) s)
           (λ at sh1 text1 rs1 is_at h1 good1. changed_from scope lhs op by C follow from to c at a sh1 text1 ls rs1 after is_at h1 good1 s go)
       by_target (inr d) =
-          read_follows scope lhs c.target from c.mid c.fetched c.later c.ro c.of d c.fetches a sh text ls old (λ q. after (go_on q (λ at. ended (changed p call at by op)))) h good (on_seen a after (λ at. ended (changed p call at by op)) s)
+          read_follows scope lhs c.target from c.mid c.operates.left.mid c.later c.operates.left.ra c.operates.ta d c.operates.left.computes a sh text ls old (λ q. after (go_on q (λ at. ended (changed p call at by op)))) h good (on_seen a after (λ at. ended (changed p call at by op)) s)
           (λ at sh1 text1 rs1 is_at h1 good1. changed_from scope lhs op by C follow from to c at a sh1 text1 ls rs1 after is_at h1 good1 s go)
 
-  one_follows : (scope : LocalScope) → Follow None scope (pure int_one) (OneCode code layout p)
-  one_follows scope N K from to free r t a sh text ls old after (inl c) h good s go =
-      sets p call code layout frames (Instr.Constant r 1) Int a sh text ls after from to None free r 1 t old old c refl h.size_is (omega arith) (keeps_all layout None free old) good go
-  one_follows scope N K from to free r t a sh text ls old after (inr c) h good s go =
-      lies p call code layout frames 1 Int a sh text scope ls after from to free r t old c (omega arith) h good go
+  one_follows : (scope : LocalScope) → FollowTaken scope (pure int_one) (OneCode code layout p)
+  one_follows scope u N K from to free r t a sh text ls old after c h good s go =
+      word_comes p call code layout frames 1 u a sh text scope ls (λ n. after (Gives int_one (state n ls (context_of a sh) text))) from to free r old c.1 h
+      (λ new here keeps. go int_one sh text new (record { typed_so = sym c.0; here = here ∙ ap (λ (v : Value). v.word) (sym (truth_converted Int u true)); keeps = keeps; good = good }))
 
-  operand_given : (scope : LocalScope) (e : Expr) → Follow None scope (expr p call e) (Operand code layout p scope e)
-  operand_given scope e N K from to free r t a sh text ls old after c h good s go =
-      operand_follows p call code layout frames scope e (expr_follows p call code layout frames cf are None scope e) N K from to free r t a sh text ls old after c h good s go
-
-  pub expression_follows : (home : Option ℕ) (scope : LocalScope) (e : Expr) → Follow home scope (expr p call e) (Coding code layout p home scope e)
-  expression_follows home scope e N K from to free r t a sh text ls old after c h good s go = expr_follows p call code layout frames cf are home scope e N K from to free r t a sh text ls old after c h good s go
+  operand_given : (scope : LocalScope) (e : Expr) → FollowTaken scope (expr p call e) (Operating code layout p scope e)
+  operand_given scope e u N K from to free r t a sh text ls old after c h good s go =
+      operand_follows p call code layout frames scope e (expr_follows p call code layout frames cf are None scope e) u N K from to free r t a sh text ls old after c h good s go
 
   -- a value somewhere above the locals
   abbrev pub GoesValue : ℕ → ℕ → (a : Around) → (Answer Value → Outcome) → LocalScope → List Local → (to r : ℕ) → Type 0
@@ -298,10 +336,15 @@ module _ (p : Program) (call : Caller) (code : Code) (layout : Layout) (frames :
       expr_follows p call code layout frames cf are None scope e N K from to c.free r c.t a sh text ls old after c.computes (raised scope ls layout c.free old c.room h) good s
       (λ v sh1 text1 rs1 d. go v sh1 text1 rs1 d.word d.here (lowered scope ls layout c.free old rs1 c.room h d.keeps) d.good)
 
-  -- likewise where it is converted
-  pub result_follows : {N K : ℕ} (scope : LocalScope) (u : Scalar) (e : Expr) (from to r : ℕ) → ResultCode code layout p scope u (Coding code layout p None scope e) from to r → (a : Around) (sh : Shared) (text : List ℕ) (ls : List Local) (old : List ℕ) (after : Answer Value → Outcome) → Holds scope ls layout (length scope) old → IsGood code a sh → IsSeen a after → GoesValue N K a after scope ls to r → Goes N K a sh text ls from old (λ s. after (expr p call e s))
+  -- likewise in the type that is due
+  abbrev pub GoesResult : ℕ → ℕ → (a : Around) → (Answer Value → Outcome) → LocalScope → List Local → (to r : ℕ) → Scalar → Type 0
+  GoesResult N K a after scope ls to r u =
+      (v : Value) (sh : Shared) (text : List ℕ) (rs : List ℕ) → slice_index rs r ≡ (converted u v).word → Holds scope ls layout (length scope) rs → IsGood code a sh → Goes N K a sh text ls to rs (λ s. after (Gives v s))
+
+  pub result_follows : {N K : ℕ} (scope : LocalScope) (u : Scalar) (e : Expr) (from to r : ℕ) → ResultCode code layout p scope u e from to r → (a : Around) (sh : Shared) (text : List ℕ) (ls : List Local) (old : List ℕ) (after : Answer Value → Outcome) → Holds scope ls layout (length scope) old → IsGood code a sh → IsSeen a after → GoesResult N K a after scope ls to r u → Goes N K a sh text ls from old (λ s. after (expr p call e s))
   result_follows {N = N} {K = K} scope u e from to r c a sh text ls old after h good s go =
-      value_follows scope e from c.mid c.ra c.value a sh text ls old after h good s (subst (λ q. GoesValue N K a after scope ls q c.ra) c.converts.0 (subst (λ i. GoesValue N K a after scope ls to i) c.converts.1 go))
+      due_follows p call code layout frames None scope e (expr_follows p call code layout frames cf are None scope e) u N K from to c.free r c.computes.0 a sh text ls old after c.computes.1 (raised scope ls layout c.free old c.room h) good s
+      (λ v sh1 text1 rs1 d. go v sh1 text1 rs1 d.here (lowered scope ls layout c.free old rs1 c.room h d.keeps) d.good)
 
   -- a condition, from its two places back to its beginning
   abbrev pub GoesTest : ℕ → ℕ → (a : Around) → (Answer Value → Outcome) → LocalScope → List Local → (met unmet : ℕ) → Type 0
@@ -318,8 +361,8 @@ module _ (p : Program) (call : Caller) (code : Code) (layout : Layout) (frames :
       value_follows scope e from to c.0 c.1 a sh text ls old (λ q. after (go_on q (λ v. pure Next))) h good (on_seen a after (λ v. pure Next) s)
       (λ v sh1 text1 rs1 b i h1 good1. go sh1 text1 ls rs1 good1 h1)
   simple_follows scope (Assign lhs None e) from to c a sh text ls old after h good s go =
-      assigned_follows scope lhs (expr p call e) (λ home. Coding code layout p home scope e) (λ home. expression_follows home scope e) from to c a sh text ls old after h good s go
+      assigned_follows scope lhs e from to c a sh text ls old after h good s go
   simple_follows scope (Assign lhs (Some op) e) from to c a sh text ls old after h good s go =
-      changed_follows scope lhs op (expr p call e) (Operand code layout p scope e) (operand_given scope e) from to c a sh text ls old after h good s go
+      changed_follows scope lhs op (expr p call e) (Operating code layout p scope e) (operand_given scope e) from to c a sh text ls old after h good s go
   simple_follows scope (Adjust lhs by) from to c a sh text ls old after h good s go =
       changed_follows scope lhs (op_of by) (pure int_one) (OneCode code layout p) (one_follows scope) from to c a sh text ls old after h good s go

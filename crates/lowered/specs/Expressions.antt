@@ -4,13 +4,13 @@
 use Rattle.std.specs.Prelude.{◌≡◌, ◌⊎◌, ℕ, suc, ◌<◌, ◌≤◌, ◌+◌, pos, List, [], ◌∷◌, ◌++◌, length, map, Option, Some, None, is_some, unwrap_or, slice_get, if◌then◌else◌}
 use Rattle.lex.specs.declared.token.Span.{Span}
 use Rattle.lex.specs.declared.token.Scalar.{Scalar}
-use Rattle.lex.specs.declared.token.Scalar.TheVariants.{Int, Unsigned}
+use Rattle.lex.specs.declared.token.Scalar.TheVariants.{Int, Unsigned, LongLong}
 use Rattle.syntax.specs.declared.tree.UnaryOp.TheVariants.{Negate, Keep, Not, Complement}
 use Rattle.syntax.specs.declared.tree.BinaryOp.{BinaryOp}
 use Rattle.syntax.specs.declared.tree.BinaryOp.TheVariants.{And, Or, Xor, Equal, NotEqual, Less, Greater, LessEqual, GreaterEqual}
 use Rattle.syntax.specs.declared.tree.LogicalOp.TheVariants.{AndThen, OrElse}
 use Rattle.syntax.specs.Tree.{Expr, Exprs, Variable, Constant, Element, Call, Parenthesized, Cast, Unary, Binary, Logical, Conditional, InTransaction, Stmts, Parameter, Function, Program}
-use Rattle.syntax.specs.Numbers.{word_of, operand_type, result_type}
+use Rattle.syntax.specs.Numbers.{word_of, number, operand_type, result_type}
 use Rattle.syntax.specs.Names.{Local, newest, global_of, cells, GlobalCells, definition_of}
 use Rattle.syntax.specs.Types.{type_of, running_scope}
 use Rattle.syntax.specs.Laws.{shape}
@@ -35,6 +35,10 @@ LeadsTo code q to = (q ≡ to) ⊎ At code q (Instr.Jump to)
 abbrev pub Coded : Type 1
 Coded = (from to free r : ℕ) → Scalar → Type 0
 
+-- the same of a value that is due in a type, which it has in the register: the other type is its own
+abbrev pub Due : Type 1
+Due = (due : Scalar) → Coded
+
 -- code from a place that leads to one place where a condition holds, and to another where it does not
 abbrev pub Branching : Type 1
 Branching = (from met unmet free : ℕ) → Type 0
@@ -56,22 +60,27 @@ computing Equal t d a b = Instr.Compute Equal Unsigned d a b
 computing NotEqual t d a b = Instr.Compute NotEqual Unsigned d a b
 computing op t d a b = Instr.Compute op t d a b
 
--- the instruction of a conversion, where a value has another word in the new type: of these types none has
+-- the instruction of a complement: of narrow types it is that of unsigned operands
+abbrev pub complementing : Scalar → (d a : ℕ) → Instr
+complementing LongLong d a = Instr.Complement LongLong d a
+complementing t d a = Instr.Complement Unsigned d a
+
+-- the instruction of a conversion, where values may have other words in the new type: an int's sign is extended, and of
+-- a long long the lower half is taken
 abbrev pub converting : (s u : Scalar) → Option (ℕ → ℕ → Instr)
+converting Int LongLong = Some Instr.Extend
+converting LongLong Int = Some Instr.Low
+converting LongLong Unsigned = Some Instr.Low
 converting s u = None
 
--- likewise of a value that is written to a cell, where the write does not take the residue by itself
+-- likewise of a value that is written to a cell: the write takes the lower half by itself
 abbrev pub widening : (s u : Scalar) → Option (ℕ → ℕ → Instr)
+widening Int LongLong = Some Instr.Extend
 widening s u = None
 
--- of the first of several values, which are due in these types: without a type it stays in its own
-abbrev pub handing : List Scalar → Scalar → Option (ℕ → ℕ → Instr)
-handing [] s = None
-handing (u ∷ us) s = converting s u
-
-abbrev pub handed_type : List Scalar → Scalar → Scalar
-handed_type [] s = s
-handed_type (u ∷ us) s = u
+-- the word of a constant of type s in type u
+abbrev pub constant_in : (u s : Scalar) → ℕ → ℕ
+constant_in u s n = word_of u (number s (word_of s (pos n)))
 
 abbrev pub types_left : List Scalar → List Scalar
 types_left [] = []
@@ -117,6 +126,23 @@ module _ (code : Code) (layout : Layout) where
   abbrev pub Converts : Option ℕ → (s u : Scalar) → (ra from to free r : ℕ) → Type 0
   Converts home s u ra from to free r = ConvertedBy (converting s u) home u ra from to free r
 
+  -- a value is computed and then converted
+  pub record ConvertedCode (home : Option ℕ) (e : Coded) (u : Scalar) (from to free r : ℕ) (t : Scalar) : Type 0 where
+    pub mid : ℕ
+    pub ra : ℕ
+    pub computes : e from mid free ra t
+    pub converts : Converts home t u ra mid to free r
+
+  -- an expression's value in the type that is due: a constant is set as what it is converted to
+  abbrev pub DueCode : Option ℕ → Expr → Coded → Due
+  DueCode home (Constant n s at) e u from to free r t =
+      (t ≡ s) × GivenBy home (Instr.Constant r (constant_in u s n)) u from to free r u
+  DueCode home e' e u from to free r t = ConvertedCode home e u from to free r t
+
+  -- in this type, whatever its own is
+  abbrev pub TypedCode : Option ℕ → Expr → Coded → (u : Scalar) → (from to free r : ℕ) → Type 0
+  TypedCode home e' e u from to free r = (t : Scalar) × DueCode home e' e u from to free r t
+
   -- a local's value lies in its register
   pub record LocalIs (locals : ℕ) (l : ℕ × Scalar) (from to r : ℕ) (t : Scalar) : Type 0 where
     pub known : l.0 < locals
@@ -132,10 +158,15 @@ module _ (code : Code) (layout : Layout) where
     pub register : r ≡ layout.writable + number
     pub type_is : t ≡ u
 
-  -- the right side of an operator: its value is computed, or it is a constant that lies ready
-  abbrev pub OperandCode : Expr → Coded → Coded
-  OperandCode (Constant n u at) e from to free r t = e from to free r t ⊎ LiesReady (word_of u (pos n)) u from to r t
-  OperandCode e' e from to free r t = e from to free r t
+  -- a word is set in a register, or lies ready in one
+  abbrev pub WordCode : (w : ℕ) (u : Scalar) (from to free r : ℕ) → Type 0
+  WordCode w u from to free r =
+      GivenBy None (Instr.Constant r w) u from to free r u ⊎ LiesReady w u from to r u
+
+  -- an operand of an operator: a constant is set, or lies ready, as what it is converted to
+  abbrev pub OperandCode : Expr → Coded → Due
+  OperandCode (Constant n s at) e u from to free r t = (t ≡ s) × WordCode (constant_in u s n) u from to free r
+  OperandCode e' e u from to free r t = ConvertedCode None e u from to free r t
 
   abbrev pub VariableCode : Option ℕ → (locals : ℕ) → Option (ℕ × Scalar) → Option GlobalCells → Coded
   VariableCode home locals (Some l) g from to free r t = LocalIs locals l from to r t
@@ -155,13 +186,8 @@ module _ (code : Code) (layout : Layout) where
   ElementAt home None index from to free r t = ⊥
   ElementAt home (Some g) index from to free r t = ElementCode home g index from to free r t
 
-  pub record CastCode (home : Option ℕ) (u : Scalar) (e : Coded) (from to free r : ℕ) (t : Scalar) : Type 0 where
-    pub mid : ℕ
-    pub ra : ℕ
-    pub te : Scalar
-    pub computes : e from mid free ra te
-    pub converts : Converts home te u ra mid to free r
-    pub type_is : t ≡ u
+  abbrev pub CastCode : Option ℕ → Expr → Coded → Scalar → Coded
+  CastCode home e' e u from to free r t = (t ≡ u) × TypedCode home e' e u from to free r
 
   -- an operator on one value, whose result has the value's type
   pub record UnaryCode (home : Option ℕ) (instr_of : Scalar → ℕ → Instr) (e : Coded) (from to free r : ℕ) (t : Scalar) :
@@ -182,26 +208,8 @@ module _ (code : Code) (layout : Layout) where
     pub zeroes : GivenBy None (Instr.Constant rz 0) Int mid (suc mid) free rz Int
     pub compares : GivenBy home (Instr.Compute Equal Unsigned r ra rz) Int (suc mid) to free r t
 
-  -- an operator on two values in registers, each converted to the type in which it computes: the left one first, which
-  -- keeps the right one
-  pub record OperatorCode (home : Option ℕ) (op : BinaryOp) (ta tb : Scalar) (ra rb from to free r : ℕ) (t : Scalar) :
-      Type 0 where
-    pub mid : ℕ
-    pub last : ℕ
-    pub later : ℕ
-    pub after : ℕ
-    pub rc : ℕ
-    pub rd : ℕ
-    pub kept : free ≤ later
-    pub apart : (rb < later) ⊎ (layout.writable ≤ rb)
-    pub left : Converts None ta (operand_type op ta tb) ra from mid later rc
-    pub kept_on : later ≤ after
-    pub apart_on : (rc < after) ⊎ (layout.writable ≤ rc)
-    pub right : Converts None tb (operand_type op tb ta) rb mid last after rd
-    pub operates : GivenBy home (computing op (operand_type op ta tb) r rc rd)
-        (result_type op (operand_type op ta tb)) last to free r t
-
-  pub record BinaryCode (home : Option ℕ) (op : BinaryOp) (a b : Coded) (from to free r : ℕ) (t : Scalar) : Type 0 where
+  -- an operator on two values, each in the type in which it is due
+  pub record BinaryCode (home : Option ℕ) (op : BinaryOp) (a b : Due) (from to free r : ℕ) (t : Scalar) : Type 0 where
     pub mid : ℕ
     pub last : ℕ
     pub later : ℕ
@@ -209,11 +217,12 @@ module _ (code : Code) (layout : Layout) where
     pub rb : ℕ
     pub ta : Scalar
     pub tb : Scalar
-    pub left : a from mid free ra ta
+    pub left : a (operand_type op ta tb) from mid free ra ta
     pub kept : free ≤ later
-    pub apart : ra < later
-    pub right : b mid last later rb tb
-    pub operates : OperatorCode home op ta tb ra rb last to free r t
+    pub apart : (ra < later) ⊎ (layout.writable ≤ ra)
+    pub right : b (operand_type op tb ta) mid last later rb tb
+    pub operates : GivenBy home (computing op (operand_type op ta tb) r ra rb)
+        (result_type op (operand_type op ta tb)) last to free r t
 
   -- a value is computed and tested by a jump; where it does not jump, the code leads on
   pub record ValueTested (jump : ℕ → ℕ → Instr) (value : Coded) (from there on free : ℕ) : Type 0 where
@@ -256,48 +265,42 @@ module _ (code : Code) (layout : Layout) where
     pub gives_zero : GivenBy home (Instr.Constant r 0) Int unmet (suc unmet) free r t
     pub zero_leads : LeadsTo code (suc unmet) to
 
-  -- a branch's value, once it is converted, lies in a register straight, or is moved there
-  pub record StraightCode (home : Option ℕ) (e : Coded) (from to free r : ℕ) (t : Scalar) : Type 0 where
-    pub mid : ℕ
-    pub ra : ℕ
-    pub ta : Scalar
-    pub computes : e from mid free ra ta
-    pub converts : Converts home ta t ra mid to free r
-
-  pub record MovedCode (home : Option ℕ) (e : Coded) (from to free r : ℕ) (t : Scalar) : Type 0 where
+  -- a branch's value, in the type of both, comes to a register straight, or is moved there
+  pub record MovedCode (home : Option ℕ) (e' : Expr) (e : Coded) (from to free r : ℕ) (t : Scalar) : Type 0 where
     pub mid : ℕ
     pub rc : ℕ
-    pub computes : StraightCode None e from mid free rc t
+    pub computes : TypedCode None e' e t from mid free rc
     pub moves : GivenBy home (Instr.Move r rc) t mid to free r t
 
-  abbrev pub BranchCode : Option ℕ → (Option ℕ → Coded) → Coded
-  BranchCode home e from to free r t =
-      StraightCode home (e home) from to free r t ⊎ MovedCode home (e None) from to free r t
+  abbrev pub BranchCode : Option ℕ → Expr → (Option ℕ → Coded) → Coded
+  BranchCode home e' e from to free r t =
+      TypedCode home e' (e home) t from to free r ⊎ MovedCode home e' (e None) from to free r t
 
-  pub record ConditionalCode (home : Option ℕ) (c : Branching) (a b : Option ℕ → Coded) (from to free r : ℕ)
-      (t : Scalar) : Type 0 where
+  pub record ConditionalCode (home : Option ℕ) (c : Branching) (a b : Coded) (from to free r : ℕ) (t : Scalar) :
+      Type 0 where
     pub met : ℕ
     pub unmet : ℕ
     pub last : ℕ
     pub end : ℕ
     pub tests : c from met unmet free
-    pub then_code : BranchCode home a met last free r t
+    pub then_code : a met last free r t
     pub then_leads : LeadsTo code last to
-    pub else_code : BranchCode home b unmet end free r t
+    pub else_code : b unmet end free r t
     pub else_leads : LeadsTo code end to
 
-  -- values from left to right, which are due in these types, each in a register of its own
-  pub record ArgCode (ts : List Scalar) (first : Coded) (rest : ℕ → ℕ → List ℕ → Type 0) (from free : ℕ) (rs : List ℕ) :
-      Type 0 where
-    pub mid : ℕ
+  -- the first of several values, which are due in these types: without a type it stays in its own
+  abbrev pub HandedCode : List Scalar → Expr → Coded → (from to free r : ℕ) → Type 0
+  HandedCode [] e' e from to free r = (t : Scalar) × e from to free r t
+  HandedCode (u ∷ us) e' e from to free r = TypedCode None e' e u from to free r
+
+  -- values from left to right, each in a register of its own
+  pub record ArgCode (first : (from to free r : ℕ) → Type 0) (rest : ℕ → ℕ → List ℕ → Type 0) (from free : ℕ)
+      (rs : List ℕ) : Type 0 where
     pub last : ℕ
     pub later : ℕ
-    pub ra : ℕ
     pub r : ℕ
-    pub t : Scalar
     pub others : List ℕ
-    pub computes : first from mid free ra t
-    pub converts : ConvertedBy (handing ts t) None (handed_type ts t) ra mid last free r
+    pub computes : first from last free r
     pub kept : free ≤ later
     pub apart : r < later
     pub goes_on : rest last later others
@@ -336,15 +339,15 @@ module _ (code : Code) (layout : Layout) where
       ExprCode home scope (Element x i at) = ElementAt home (global_of p x.text) (ExprCode None scope i)
       ExprCode home scope (Call f es at) = CallCode home p f.text (λ ts. ArgsCode scope ts es)
       ExprCode home scope (Parenthesized e at) = ExprCode home scope e
-      ExprCode home scope (Cast u e at) = CastCode home u (ExprCode home scope e)
+      ExprCode home scope (Cast u e at) = CastCode home e (ExprCode home scope e) u
       ExprCode home scope (Unary Negate e at) = λ from to free r t.
           UnaryCode home (λ ta ra. Instr.Negate ta r ra) (ExprCode None scope e) from to free r t
       ExprCode home scope (Unary Keep e at) = ExprCode home scope e
       ExprCode home scope (Unary Not e at) = NotCode home (ExprCode None scope e)
       ExprCode home scope (Unary Complement e at) = λ from to free r t.
-          UnaryCode home (λ ta ra. Instr.Complement r ra) (ExprCode None scope e) from to free r t
+          UnaryCode home (λ ta ra. complementing ta r ra) (ExprCode None scope e) from to free r t
       ExprCode home scope (Binary op a b at) =
-          BinaryCode home op (ExprCode None scope a) (OperandCode b (ExprCode None scope b))
+          BinaryCode home op (OperandCode a (ExprCode None scope a)) (OperandCode b (ExprCode None scope b))
       ExprCode home scope (Logical AndThen a b at) =
           TruthCode home (BothHold (Branches (ExprCode None scope a) (OwnTests scope a))
           (Branches (ExprCode None scope b) (OwnTests scope b)))
@@ -353,7 +356,7 @@ module _ (code : Code) (layout : Layout) where
           (Branches (ExprCode None scope b) (OwnTests scope b)))
       ExprCode home scope (Conditional c a b at) = λ from to free r t.
           ConditionalCode home (Branches (ExprCode None scope c) (OwnTests scope c))
-          (λ h. ExprCode h scope a) (λ h. ExprCode h scope b) from to free r t
+          (BranchCode home a (λ h. ExprCode h scope a)) (BranchCode home b (λ h. ExprCode h scope b)) from to free r t
           × ((ls : List Local) → IsLike scope ls → type_of (running_scope p ls) (Conditional c a b at) ≡ Some t)
       ExprCode home scope (InTransaction mode keyword e at) = ValueTransactionCode (ExprCode home scope e)
 
@@ -377,8 +380,8 @@ module _ (code : Code) (layout : Layout) where
       pub ArgsCode : LocalScope → List Scalar → Exprs → (from to free : ℕ) → List ℕ → Type 0
       ArgsCode scope ts Exprs.[] from to free rs = (to ≡ from) × (rs ≡ [])
       ArgsCode scope ts (Exprs.◌∷◌ e es) from to free rs =
-          ArgCode ts (ExprCode None scope e) (λ mid later others. ArgsCode scope (types_left ts) es mid to later others)
-          from free rs
+          ArgCode (HandedCode ts e (ExprCode None scope e))
+          (λ mid later others. ArgsCode scope (types_left ts) es mid to later others) from free rs
 
     -- code that leads to `met` where an expression's value is not 0, and to `unmet` where it is
     abbrev pub CondCode : LocalScope → Expr → Branching

@@ -7,12 +7,12 @@ use Rattle.syntax.specs.declared.tree.Mode.{Mode}
 use Rattle.syntax.specs.declared.tree.Mode.TheVariants.{Atomic}
 use Rattle.syntax.specs.declared.tree.Kind.{Kind}
 use Rattle.syntax.specs.declared.tree.Kind.TheVariants.{Plain, Outer}
-use Rattle.syntax.specs.Tree.{Expr, Exprs, Variable, Element, Simple, Evaluate, Assign, Adjust, Declarator, Start, Nothing, Declares, Does, Stmt, Stmts, Empty, Declare, Do, Block, Print, If, IfElse, While, DoWhile, For, Break, Continue, Return, Transaction, Cancel, CancelOuter, Program}
+use Rattle.syntax.specs.Tree.{Expr, Exprs, Variable, Constant, Element, Simple, Evaluate, Assign, Adjust, Declarator, Start, Nothing, Declares, Does, Stmt, Stmts, Empty, Declare, Do, Block, Print, If, IfElse, While, DoWhile, For, Break, Continue, Return, Transaction, Cancel, CancelOuter, Program}
 use Rattle.syntax.specs.Meaning.{op_of, mode_of}
 use Rattle.syntax.specs.Formats.{Piece, Literal, Figure, pieces}
 use Rattle.syntax.specs.Names.{newest, global_of, cells, GlobalCells}
 use Rattle.bytecode.specs.Code.{Instr, Code}
-use Rattle.lowered.specs.Expressions.{LocalScope, Layout, At, LeadsTo, Coded, Branching, converting, widening, GivenBy, ConvertedBy, Converts, OperatorCode, LiesReady, OperandCode, ExprCode, CondCode, ArgsCode}
+use Rattle.lowered.specs.Expressions.{LocalScope, Layout, At, LeadsTo, Coded, Due, Branching, converting, widening, constant_in, GivenBy, ConvertedBy, ConvertedCode, TypedCode, WordCode, OperandCode, BinaryCode, ExprCode, CondCode, ArgsCode}
 
 -- where an assignment goes: a local's register, a cell, or an element whose index lies in a register
 pub data Target : Type 0 where
@@ -117,12 +117,11 @@ module _ (code : Code) (layout : Layout) (p : Program) where
     pub t : Scalar
     pub computes : e from to free r t
 
-  -- likewise of one that is converted
-  pub record ResultCode (scope : LocalScope) (u : Scalar) (e : Coded) (from to r : ℕ) : Type 0 where
-    pub mid : ℕ
-    pub ra : ℕ
-    pub value : ValueCode scope e from mid ra
-    pub converts : Converts code layout None value.t u ra mid to value.free r
+  -- likewise of one in the type that is due
+  pub record ResultCode (scope : LocalScope) (u : Scalar) (e : Expr) (from to r : ℕ) : Type 0 where
+    pub free : ℕ
+    pub room : length scope ≤ free
+    pub computes : TypedCode code layout None e (Coding None scope e) u from to free r
 
   -- a condition, with what it needs above the locals
   pub record TestCode (scope : LocalScope) (c : Branching) (from met unmet : ℕ) : Type 0 where
@@ -191,70 +190,77 @@ module _ (code : Code) (layout : Layout) (p : Program) where
     pub converts : ConvertedBy code layout (due target s) (home_of target) (target_type target) ra from mid free r
     pub stores : StoreCode target r mid to
 
-  pub record AssignCode (scope : LocalScope) (lhs : Expr) (e : Option ℕ → Coded) (from to : ℕ) : Type 0 where
-    pub target : Target
+  -- a value that is computed and goes to a target
+  pub record ValueStored (target : Target) (e : Coded) (from to free : ℕ) : Type 0 where
     pub mid : ℕ
-    pub last : ℕ
-    pub later : ℕ
     pub r : ℕ
     pub t : Scalar
+    pub value : e from mid free r t
+    pub stores : StoredCode target t r mid to free
+
+  -- a word of the target's type that is set and goes there
+  pub record WordStored (target : Target) (w : ℕ) (from to free : ℕ) : Type 0 where
+    pub mid : ℕ
+    pub r : ℕ
+    pub sets :
+        GivenBy code layout (home_of target) (Instr.Constant r w) (target_type target) from mid free r
+        (target_type target)
+    pub stores : StoreCode target r mid to
+
+  -- an expression's value goes to a target: a constant is set as what it is converted to
+  abbrev pub ExprStored : LocalScope → Target → Expr → (from to free : ℕ) → Type 0
+  ExprStored scope target (Constant n s at) from to free =
+      WordStored target (constant_in (target_type target) s n) from to free
+  ExprStored scope target e from to free = ValueStored target (Coding (home_of target) scope e) from to free
+
+  pub record AssignCode (scope : LocalScope) (lhs e : Expr) (from to : ℕ) : Type 0 where
+    pub target : Target
+    pub mid : ℕ
+    pub later : ℕ
     pub goes_to : TargetCode scope lhs from mid (length scope) target
     pub room : length scope ≤ later
     pub spares : Spares target later
-    pub value : e (home_of target) mid last later r t
-    pub stores : StoredCode target t r last to later
+    pub stores : ExprStored scope target e mid to later
 
   -- the old value is read first, and the result goes to its place
-  pub record ChangeCode (scope : LocalScope) (lhs : Expr) (op : BinaryOp) (by : Coded) (from to : ℕ) : Type 0 where
+  pub record ChangeCode (scope : LocalScope) (lhs : Expr) (op : BinaryOp) (by : Due) (from to : ℕ) : Type 0 where
     pub target : Target
     pub mid : ℕ
-    pub fetched : ℕ
-    pub last : ℕ
+    pub done : ℕ
     pub later : ℕ
-    pub after : ℕ
-    pub ro : ℕ
-    pub rb : ℕ
     pub r : ℕ
-    pub of : Scalar
-    pub tb : Scalar
     pub t : Scalar
     pub goes_to :
         TargetCode scope lhs from mid (length scope) target ⊎ ReadTarget scope lhs from mid (length scope) target
     pub room : length scope ≤ later
     pub spares : Spares target later
-    pub fetches : FetchCode target mid fetched later ro of
-    pub kept : later ≤ after
-    pub apart : ro < after
-    pub changes : by fetched last after rb tb
-    pub done : ℕ
-    pub operates : OperatorCode code layout (home_of target) op of tb ro rb last done later r t
+    pub operates :
+        BinaryCode code layout (home_of target) op (ConvertedCode code layout None (FetchCode target)) by mid done later
+        r t
     pub stores : StoredCode target t r done to later
 
-  -- the right side of an operator, and the 1 that is added or subtracted
-  abbrev pub Operand : LocalScope → Expr → Coded
-  Operand scope e = OperandCode code layout e (Coding None scope e)
+  -- the right side of an operator, and the int 1 that is added or subtracted, whose word is the same in each type
+  abbrev pub Operating : LocalScope → Expr → Due
+  Operating scope e = OperandCode code layout e (Coding None scope e)
 
-  abbrev pub OneCode : Coded
-  OneCode from to free r t =
-      GivenBy code layout None (Instr.Constant r 1) Int from to free r t ⊎ LiesReady code layout 1 Int from to r t
+  abbrev pub OneCode : Due
+  OneCode u from to free r t = (t ≡ Int) × WordCode code layout 1 u from to free r
 
   abbrev pub SimpleCode : LocalScope → Simple → (from to : ℕ) → Type 0
   SimpleCode scope (Evaluate e) from to = (r : ℕ) × ValueCode scope (Coding None scope e) from to r
-  SimpleCode scope (Assign lhs None e) from to = AssignCode scope lhs (λ home. Coding home scope e) from to
-  SimpleCode scope (Assign lhs (Some op) e) from to = ChangeCode scope lhs op (Operand scope e) from to
+  SimpleCode scope (Assign lhs None e) from to = AssignCode scope lhs e from to
+  SimpleCode scope (Assign lhs (Some op) e) from to = ChangeCode scope lhs op (Operating scope e) from to
   SimpleCode scope (Adjust lhs by) from to = ChangeCode scope lhs (op_of by) OneCode from to
 
   -- the first value of the local in a register, in its own scope
-  pub record FirstCode (scope : LocalScope) (local : ℕ × Scalar) (e : Coded) (from to : ℕ) : Type 0 where
-    pub mid : ℕ
-    pub r : ℕ
-    pub value : ValueCode scope e from mid r
-    pub stores : StoredCode (LocalAt local) value.t r mid to value.free
+  pub record FirstCode (scope : LocalScope) (local : ℕ × Scalar) (e : Expr) (from to : ℕ) : Type 0 where
+    pub free : ℕ
+    pub room : length scope ≤ free
+    pub stores : ExprStored scope (LocalAt local) e from to free
 
   abbrev pub FirstValueCode : LocalScope → ℕ × Scalar → Option Expr → (from to : ℕ) → Type 0
   FirstValueCode scope local None from to = to ≡ from
-  FirstValueCode scope local (Some e) from to =
-      FirstCode scope local (Coding (Some local.0) scope e) from to
+  FirstValueCode scope local (Some e) from to = FirstCode scope local e from to
 
   -- a local's register is 0, and then has its first value
   pub record DeclaratorCode (scope inner : LocalScope) (t : Scalar) (first : Option Expr) (rest : ℕ → Type 0)
@@ -413,7 +419,7 @@ module _ (code : Code) (layout : Layout) (p : Program) where
     StmtCode x scope (Continue at) from to = Leaves from x.in_loop (Instr.Jump x.continue_to)
     StmtCode x scope (Return None at) from to = Leaves from x.in_function (Instr.Return None)
     StmtCode x scope (Return (Some e) at) from to =
-        (mid : ℕ) × (r : ℕ) × ResultCode scope x.gives (Coding None scope e) from mid r
+        (mid : ℕ) × (r : ℕ) × ResultCode scope x.gives e from mid r
         × Leaves mid x.in_function (Instr.Return (Some r))
     StmtCode x scope (Transaction kind ss at) from to = TransactionCode kind x (λ y. StmtsCode y scope ss) from to
     StmtCode x scope (Cancel at) from to = (x.innermost ≡ Some Atomic) × At code from Instr.Cancel

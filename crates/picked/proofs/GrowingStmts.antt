@@ -1,9 +1,9 @@
 -- What follows in a body needs no fewer registers.
 use Rattle.std.proofs.Common.{◌≡◌, ℕ, suc, ◌+◌, ◌≤◌, List, [], ◌∷◌, ◌++◌, length, Option, Some, None, Bool, true, false, if◌then◌else◌, ◌==◌, refl, arith}
 use Rattle.lex.specs.declared.token.Scalar.{Scalar}
-use Rattle.lex.specs.declared.token.Scalar.TheVariants.{Int}
 use Rattle.syntax.specs.declared.tree.BinaryOp.{BinaryOp}
-use Rattle.syntax.specs.Tree.{Expr, Variable, Element, Simple, Evaluate, Assign, Adjust, Declarator, Start, Nothing, Declares, Does, Stmt, Stmts, Empty, Declare, Do, Block, Print, If, IfElse, While, DoWhile, For, Break, Continue, Return, Transaction, Cancel, CancelOuter, Program}
+use Rattle.syntax.specs.Tree.{Expr, Variable, Constant, Element, Simple, Evaluate, Assign, Adjust, Declarator, Start, Nothing, Declares, Does, Stmt, Stmts, Empty, Declare, Do, Block, Print, If, IfElse, While, DoWhile, For, Break, Continue, Return, Transaction, Cancel, CancelOuter, Program}
+use Rattle.syntax.specs.Numbers.{operand_type, result_type}
 use Rattle.syntax.specs.Names.{newest, global_of, GlobalCells}
 use Rattle.syntax.specs.Formats.{Piece, Literal, Figure, pieces}
 use Rattle.syntax.specs.Meaning.{op_of}
@@ -14,10 +14,10 @@ use Rattle.picked.specs.declared.held.Target.{Target}
 use Rattle.picked.specs.declared.held.Target.TheVariants as target
 use Rattle.picked.specs.declared.held.Exits.{Exits}
 use Rattle.picked.specs.Lists.{Lists, used}
-use Rattle.picked.specs.Expressions.{Emitted, above, both, constant, ready, emitted, all_emitted, condition}
-use Rattle.picked.specs.Simples.{nothing_written, one_written, variable_target, element_target, aimed, above_target, fetched, home_or, stored, value_or_one, assigned, adjusted, simple_written, first_written, declarator_written, declared_written, start_written}
+use Rattle.picked.specs.Expressions.{Emitted, above, converting, converted_by, both, constant, ready, emitted_type, emitted, all_emitted, condition}
+use Rattle.picked.specs.Simples.{nothing_written, one_written, variable_target, element_target, aimed, above_target, fetched, home_or, stored, type_at, taking, expr_fitting, value_or_one, type_or_int, changed, assigned, adjusted, simple_written, first_written, declarator_written, declared_written, start_written}
 use Rattle.picked.specs.Statements.{in_transaction, looping, pieces_written, for_test, for_step, written, all_written}
-use Rattle.picked.proofs.Growing.{used_more, ready_more, emitted_more, operand_more, all_more, condition_more}
+use Rattle.picked.proofs.Growing.{used_more, ready_more, converted_more, emitted_more, due_more, operand_more, all_more, condition_more}
 
 pub target_more : (x : Option (ℕ × Scalar)) (g : Option GlobalCells) (from : ℕ) (l : Lists) → l.registers ≤ (variable_target x g from l).lists.registers
 target_more (Some x) g from l = used_more x.0 l
@@ -44,6 +44,10 @@ stored_same (target.Cell c t) a from l = refl
 stored_same (target.Element i c n t) a from l = refl
 stored_same target.Nowhere a from l = refl
 
+pub expr_fitting_more : (t : Target) (s : Scalar) (e' : Expr) (e : Emitted) (from into : ℕ) (l : Lists) → l.registers ≤ e.lists.registers → l.registers ≤ (expr_fitting t s e' e from into l).lists.registers
+expr_fitting_more t s (Constant n x at) e from into l h = used_more into l
+expr_fitting_more t s e' e from into l h = let a = converted_more (taking t s) (type_at t) e into in omega (arith, h, a)
+
 pub pieces_same : (ps : List Piece) (rs : List ℕ) (from : ℕ) (l : Lists) → (pieces_written ps rs from l).lists.registers ≡ l.registers
 pieces_same [] rs from l = refl
 pieces_same (Literal text ∷ ps) rs from l = pieces_same ps rs (from + 1) (record l { texts = l.texts ++ text ∷ [] })
@@ -56,34 +60,49 @@ module _ (p : Program) (scope : LocalScope) where
   aimed_more check (Element x i at) from free l = element_more check (global_of p x.text) (emitted p scope i from free free l) from l (emitted_more p scope i from free free l)
   aimed_more check e from free l = omega arith
 
-  pub one_more : (by : Option Expr) (from free : ℕ) (l : Lists) → l.registers ≤ (value_or_one p scope by from free l).lists.registers
-  one_more None from free l = ready_more (ready l.layout 1 Int from) l (constant 1 Int from free l) (used_more free l)
-  one_more (Some e) from free l = operand_more p scope e from free l
+  pub one_more : (u : Scalar) (by : Option Expr) (from free : ℕ) (l : Lists) → l.registers ≤ (value_or_one p scope u by from free l).lists.registers
+  one_more u None from free l = ready_more (ready l.layout 1 u from) l (constant 1 u from free l) (used_more free l)
+  one_more u (Some e) from free l = operand_more p scope u e from free l
 
   -- a value, and where it goes
   pub assigned_more : (lhs e : Expr) (from free : ℕ) (l : Lists) → l.registers ≤ (assigned p scope lhs e from free l).lists.registers
   assigned_more lhs e from free l =
       let t = aimed p scope true lhs from free l in
       let later = above_target t.target free in
-      let made = emitted p scope e t.to (home_or t.target later) later t.lists in
+      let home = home_or t.target later in
+      let first = emitted p scope e t.to home later t.lists in
+      let made = expr_fitting t.target (emitted_type p scope e) e first t.to home t.lists in
       let a = aimed_more true lhs from free l in
-      let b = emitted_more p scope e t.to (home_or t.target later) later t.lists in
+      let b = expr_fitting_more t.target (emitted_type p scope e) e first t.to home t.lists (emitted_more p scope e t.to home later t.lists) in
       let c = stored_same t.target made.held.register made.held.to made.lists in
       omega (arith, a, b, c)
+
+  pub changed_more : (op : BinaryOp) (by : Option Expr) (t : Target) (from free : ℕ) (l : Lists) → l.registers ≤ (changed p scope op by t from free l).lists.registers
+  changed_more op by t from free l =
+      let s = type_at t in
+      let u = operand_type op s (type_or_int p scope by) in
+      let first = fetched t from free l in
+      let old = converted_by (converting s u) u first free in
+      let v = operand_type op (type_or_int p scope by) s in
+      let other = value_or_one p scope v by old.held.to (above free old.held.register) old.lists in
+      let home = home_or t free in
+      let whole = both op u old other home in
+      let a = fetched_more t from free l in
+      let b = converted_more (converting s u) u first free in
+      let c = one_more v by old.held.to (above free old.held.register) old.lists in
+      let d = used_more home other.lists in
+      let e = converted_more (taking t (result_type op u)) s whole home in
+      omega (arith, a, b, c, d, e)
 
   pub adjusted_more : (op : BinaryOp) (lhs : Expr) (by : Option Expr) (from free : ℕ) (l : Lists) → l.registers ≤ (adjusted p scope op lhs by from free l).lists.registers
   adjusted_more op lhs by from free l =
       let t = aimed p scope false lhs from free l in
       let later = above_target t.target free in
-      let old = fetched t.target t.to later t.lists in
-      let other = value_or_one p scope by old.held.to (above later old.held.register) old.lists in
-      let made = both op old other (home_or t.target later) in
+      let made = changed p scope op by t.target t.to later t.lists in
       let a = aimed_more false lhs from free l in
-      let b = fetched_more t.target t.to later t.lists in
-      let c = one_more by old.held.to (above later old.held.register) old.lists in
-      let d = used_more (home_or t.target later) other.lists in
-      let e = stored_same t.target made.held.register made.held.to made.lists in
-      omega (arith, a, b, c, d, e)
+      let b = changed_more op by t.target t.to later t.lists in
+      let c = stored_same t.target made.held.register made.held.to made.lists in
+      omega (arith, a, b, c)
 
   pub simple_more : (s : Simple) (from free : ℕ) (l : Lists) → l.registers ≤ (simple_written p scope s from free l).lists.registers
   simple_more (Evaluate e) from free l = emitted_more p scope e from free free l
@@ -95,8 +114,9 @@ module _ (p : Program) where
   pub first_more : (scope : LocalScope) (i : ℕ) (t : Scalar) (first : Option Expr) (from : ℕ) (l : Lists) → l.registers ≤ (first_written p scope i t first from l).lists.registers
   first_more scope i t None from l = omega arith
   first_more scope i t (Some e) from l =
-      let made = emitted p scope e from i (suc i) l in
-      let a = emitted_more p scope e from i (suc i) l in
+      let first = emitted p scope e from i (suc i) l in
+      let made = expr_fitting (target.Local i t) (emitted_type p scope e) e first from i l in
+      let a = expr_fitting_more (target.Local i t) (emitted_type p scope e) e first from i l (emitted_more p scope e from i (suc i) l) in
       let b = stored_same (target.Local i t) made.held.register made.held.to made.lists in
       omega (arith, a, b)
 
@@ -134,8 +154,8 @@ module _ (p : Program) where
     written_more (Do s) x scope from l = simple_more p scope s from (length scope) l
     written_more (Block ss) x scope from l = stmts_more ss x scope from l
     written_more (Print at format format_at es) x scope from l =
-        let args = all_emitted p scope es (from + 1) (length scope) l in
-        let a = all_more p scope es (from + 1) (length scope) l in
+        let args = all_emitted p scope [] es (from + 1) (length scope) l in
+        let a = all_more p scope [] es (from + 1) (length scope) l in
         let b = pieces_same (pieces format) args.registers args.to args.lists in
         omega (arith, a, b)
     written_more (If c s) x scope from l =
@@ -173,7 +193,7 @@ module _ (p : Program) where
     written_more (Break at) x scope from l = omega arith
     written_more (Continue at) x scope from l = omega arith
     written_more (Return None at) x scope from l = omega arith
-    written_more (Return (Some e) at) x scope from l = emitted_more p scope e from (length scope) (length scope) l
+    written_more (Return (Some e) at) x scope from l = due_more p scope x.gives e from (length scope) (length scope) l
     written_more (Transaction kind ss at) x scope from l = stmts_more ss (in_transaction kind x) scope (from + 1) l
     written_more (Cancel at) x scope from l = omega arith
     written_more (CancelOuter at) x scope from l = omega arith

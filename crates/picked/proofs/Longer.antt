@@ -1,9 +1,9 @@
 -- What follows in a body only makes the lists longer, and keeps what lies ready.
 use Rattle.std.proofs.Common.{ℕ, suc, ◌+◌, List, [], ◌∷◌, ◌++◌, length, Option, Some, None, Bool, true, false, subst, sym, refl, arith}
 use Rattle.lex.specs.declared.token.Scalar.{Scalar}
-use Rattle.lex.specs.declared.token.Scalar.TheVariants.{Int}
 use Rattle.syntax.specs.declared.tree.BinaryOp.{BinaryOp}
-use Rattle.syntax.specs.Tree.{Expr, Variable, Element, Simple, Evaluate, Assign, Adjust, Declarator, Start, Nothing, Declares, Does, Stmt, Stmts, Empty, Declare, Do, Block, Print, If, IfElse, While, DoWhile, For, Break, Continue, Return, Transaction, Cancel, CancelOuter, Program}
+use Rattle.syntax.specs.Tree.{Expr, Variable, Constant, Element, Simple, Evaluate, Assign, Adjust, Declarator, Start, Nothing, Declares, Does, Stmt, Stmts, Empty, Declare, Do, Block, Print, If, IfElse, While, DoWhile, For, Break, Continue, Return, Transaction, Cancel, CancelOuter, Program}
+use Rattle.syntax.specs.Numbers.{operand_type, result_type}
 use Rattle.syntax.specs.Names.{newest, global_of, GlobalCells}
 use Rattle.syntax.specs.Formats.{Piece, Literal, Figure, pieces}
 use Rattle.syntax.specs.Meaning.{op_of}
@@ -13,11 +13,11 @@ use Rattle.picked.specs.declared.held.Target.{Target}
 use Rattle.picked.specs.declared.held.Target.TheVariants as target
 use Rattle.picked.specs.declared.held.Exits.{Exits}
 use Rattle.picked.specs.Lists.{Lists, used}
-use Rattle.picked.specs.Expressions.{Emitted, above, both, constant, ready, emitted, all_emitted, condition}
-use Rattle.picked.specs.Simples.{variable_target, element_target, aimed, above_target, fetched, home_or, stored, value_or_one, assigned, adjusted, simple_written, first_written, declarator_written, declared_written, start_written}
+use Rattle.picked.specs.Expressions.{Emitted, above, converting, converted_by, both, constant, ready, emitted_type, emitted, all_emitted, condition}
+use Rattle.picked.specs.Simples.{variable_target, element_target, aimed, above_target, fetched, home_or, stored, type_at, taking, expr_fitting, value_or_one, type_or_int, changed, assigned, adjusted, simple_written, first_written, declarator_written, declared_written, start_written}
 use Rattle.picked.specs.Statements.{in_transaction, looping, pieces_written, for_test, for_step, written, all_written}
 use Rattle.picked.proofs.stands.Standing.{Grows, grows_same, grows_further, grows_used, front_same, front_more}
-use Rattle.picked.proofs.LongerExprs.{used_longer, ready_longer, emitted_longer, all_longer, condition_longer, operand_longer}
+use Rattle.picked.proofs.LongerExprs.{used_longer, ready_longer, converted_longer, emitted_longer, due_longer, all_longer, condition_longer, operand_longer}
 use Rattle.picked.proofs.Leaner.{stored_keeps}
 
 target_longer : (x : Option (ℕ × Scalar)) (g : Option GlobalCells) (from : ℕ) (l : Lists) → Grows l (variable_target x g from l).lists
@@ -38,6 +38,10 @@ fetched_longer target.Nowhere from free l = used_longer free l
 stored_longer : (t : Target) (a from : ℕ) (l m : Lists) → Grows l m → Grows l (stored t a from m).lists
 stored_longer t a from l m h = subst (λ (x : Lists). Grows l x) (sym (stored_keeps t a from m)) h
 
+expr_fitting_longer : (t : Target) (s : Scalar) (e' : Expr) (e : Emitted) (from into : ℕ) (l : Lists) → Grows l e.lists → Grows l (expr_fitting t s e' e from into l).lists
+expr_fitting_longer t s (Constant n x at) e from into l h = used_longer into l
+expr_fitting_longer t s e' e from into l h = converted_longer (taking t s) (type_at t) e into l h
+
 pieces_longer : (ps : List Piece) (rs : List ℕ) (from : ℕ) (l : Lists) → Grows l (pieces_written ps rs from l).lists
 pieces_longer [] rs from l = grows_same l
 pieces_longer (Literal text ∷ ps) rs from l =
@@ -53,28 +57,41 @@ module _ (p : Program) (scope : LocalScope) where
   aimed_longer check (Element x i at) from free l = element_longer check (global_of p x.text) (emitted p scope i from free free l) from l (emitted_longer p scope i from free free l)
   aimed_longer check e from free l = grows_same l
 
-  one_longer : (by : Option Expr) (from free : ℕ) (l : Lists) → Grows l (value_or_one p scope by from free l).lists
-  one_longer None from free l = ready_longer (ready l.layout 1 Int from) l (constant 1 Int from free l) (used_longer free l)
-  one_longer (Some e) from free l = operand_longer p scope e from free l
+  one_longer : (u : Scalar) (by : Option Expr) (from free : ℕ) (l : Lists) → Grows l (value_or_one p scope u by from free l).lists
+  one_longer u None from free l = ready_longer (ready l.layout 1 u from) l (constant 1 u from free l) (used_longer free l)
+  one_longer u (Some e) from free l = operand_longer p scope u e from free l
 
   assigned_longer : (lhs e : Expr) (from free : ℕ) (l : Lists) → Grows l (assigned p scope lhs e from free l).lists
   assigned_longer lhs e from free l =
       let t = aimed p scope true lhs from free l in
       let later = above_target t.target free in
-      let made = emitted p scope e t.to (home_or t.target later) later t.lists in
+      let home = home_or t.target later in
+      let first = emitted p scope e t.to home later t.lists in
+      let made = expr_fitting t.target (emitted_type p scope e) e first t.to home t.lists in
       stored_longer t.target made.held.register made.held.to l made.lists
-      (grows_further l t.lists made.lists (aimed_longer true lhs from free l) (emitted_longer p scope e t.to (home_or t.target later) later t.lists))
+      (grows_further l t.lists made.lists (aimed_longer true lhs from free l)
+      (expr_fitting_longer t.target (emitted_type p scope e) e first t.to home t.lists (emitted_longer p scope e t.to home later t.lists)))
+
+  changed_longer : (op : BinaryOp) (by : Option Expr) (t : Target) (from free : ℕ) (l : Lists) → Grows l (changed p scope op by t from free l).lists
+  changed_longer op by t from free l =
+      let s = type_at t in
+      let u = operand_type op s (type_or_int p scope by) in
+      let first = fetched t from free l in
+      let old = converted_by (converting s u) u first free in
+      let v = operand_type op (type_or_int p scope by) s in
+      let other = value_or_one p scope v by old.held.to (above free old.held.register) old.lists in
+      let home = home_or t free in
+      let a = converted_longer (converting s u) u first free l (fetched_longer t from free l) in
+      let b = grows_further l old.lists other.lists a (one_longer v by old.held.to (above free old.held.register) old.lists) in
+      converted_longer (taking t (result_type op u)) s (both op u old other home) home l (grows_used l other.lists home b)
 
   adjusted_longer : (op : BinaryOp) (lhs : Expr) (by : Option Expr) (from free : ℕ) (l : Lists) → Grows l (adjusted p scope op lhs by from free l).lists
   adjusted_longer op lhs by from free l =
       let t = aimed p scope false lhs from free l in
       let later = above_target t.target free in
-      let old = fetched t.target t.to later t.lists in
-      let other = value_or_one p scope by old.held.to (above later old.held.register) old.lists in
-      let made = both op old other (home_or t.target later) in
-      let a = grows_further l t.lists old.lists (aimed_longer false lhs from free l) (fetched_longer t.target t.to later t.lists) in
-      let b = grows_further l old.lists other.lists a (one_longer by old.held.to (above later old.held.register) old.lists) in
-      stored_longer t.target made.held.register made.held.to l made.lists (grows_used l other.lists (home_or t.target later) b)
+      let made = changed p scope op by t.target t.to later t.lists in
+      stored_longer t.target made.held.register made.held.to l made.lists
+      (grows_further l t.lists made.lists (aimed_longer false lhs from free l) (changed_longer op by t.target t.to later t.lists))
 
   simple_longer : (s : Simple) (from free : ℕ) (l : Lists) → Grows l (simple_written p scope s from free l).lists
   simple_longer (Evaluate e) from free l = emitted_longer p scope e from free free l
@@ -86,8 +103,9 @@ module _ (p : Program) where
   first_longer : (scope : LocalScope) (i : ℕ) (t : Scalar) (first : Option Expr) (from : ℕ) (l : Lists) → Grows l (first_written p scope i t first from l).lists
   first_longer scope i t None from l = grows_same l
   first_longer scope i t (Some e) from l =
-      let made = emitted p scope e from i (suc i) l in
-      stored_longer (target.Local i t) made.held.register made.held.to l made.lists (emitted_longer p scope e from i (suc i) l)
+      let first = emitted p scope e from i (suc i) l in
+      let made = expr_fitting (target.Local i t) (emitted_type p scope e) e first from i l in
+      stored_longer (target.Local i t) made.held.register made.held.to l made.lists (expr_fitting_longer (target.Local i t) (emitted_type p scope e) e first from i l (emitted_longer p scope e from i (suc i) l))
 
   declarator_longer : (t : Scalar) (d : Declarator) (scope : LocalScope) (from : ℕ) (l : Lists) → Grows l (declarator_written p t d scope from l).lists
   declarator_longer t d scope from l =
@@ -122,8 +140,8 @@ module _ (p : Program) where
     written_longer (Do s) x scope from l = simple_longer p scope s from (length scope) l
     written_longer (Block ss) x scope from l = stmts_longer ss x scope from l
     written_longer (Print at format format_at es) x scope from l =
-        let args = all_emitted p scope es (from + 1) (length scope) l in
-        grows_further l args.lists (pieces_written (pieces format) args.registers args.to args.lists).lists (all_longer p scope es (from + 1) (length scope) l)
+        let args = all_emitted p scope [] es (from + 1) (length scope) l in
+        grows_further l args.lists (pieces_written (pieces format) args.registers args.to args.lists).lists (all_longer p scope [] es (from + 1) (length scope) l)
         (pieces_longer (pieces format) args.registers args.to args.lists)
     written_longer (If c s) x scope from l =
         let test = condition p scope c from (length scope) l in
@@ -155,7 +173,7 @@ module _ (p : Program) where
     written_longer (Break at) x scope from l = grows_same l
     written_longer (Continue at) x scope from l = grows_same l
     written_longer (Return None at) x scope from l = grows_same l
-    written_longer (Return (Some e) at) x scope from l = emitted_longer p scope e from (length scope) (length scope) l
+    written_longer (Return (Some e) at) x scope from l = due_longer p scope x.gives e from (length scope) (length scope) l
     written_longer (Transaction kind ss at) x scope from l = stmts_longer ss (in_transaction kind x) scope (from + 1) l
     written_longer (Cancel at) x scope from l = grows_same l
     written_longer (CancelOuter at) x scope from l = grows_same l

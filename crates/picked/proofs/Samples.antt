@@ -2,18 +2,20 @@
 use Rattle.std.proofs.Common.{◌≡◌, ℕ, zero, suc, List, [], ◌∷◌, ◌++◌, Some, None, refl}
 use Rattle.std.specs.Prelude.{codes}
 use Rattle.lex.specs.declared.token.Span.{Span}
-use Rattle.syntax.specs.declared.tree.BinaryOp.TheVariants.{Less, Greater, Add, NotEqual}
+use Rattle.syntax.specs.declared.tree.BinaryOp.TheVariants.{Less, Greater, Add, NotEqual, ShiftLeft}
 use Rattle.syntax.specs.declared.tree.UnaryOp.TheVariants.{Not}
-use Rattle.lex.specs.declared.token.Scalar.TheVariants.{Int}
+use Rattle.lex.specs.declared.token.Scalar.TheVariants.{Int, LongLong}
 use Rattle.syntax.specs.declared.tree.LogicalOp.TheVariants.{AndThen}
 use Rattle.syntax.specs.declared.tree.Mode.TheVariants.{Atomic, Relaxed}
 use Rattle.syntax.specs.declared.tree.Kind.TheVariants.{Plain, Outer}
 use Rattle.syntax.specs.declared.tree.IncDec.TheVariants.{Increment}
-use Rattle.syntax.specs.Tree.{Expr, Exprs, Print, If, While, For, Declares, Break, Name, Variable, Constant, Element, Call, Unary, Parenthesized, Binary, Logical, InTransaction, Assign, Adjust, Stmts, Do, Transaction, CancelOuter, Return, Function, Global, Defines, Shares}
+use Rattle.syntax.specs.Tree.{Expr, Exprs, Print, If, While, For, Declares, Break, Name, Variable, Constant, Element, Call, Unary, Parenthesized, Binary, Logical, InTransaction, Assign, Adjust, Stmts, Do, Transaction, CancelOuter, Return, Function, Global, Defines, Shares, Cast, Program}
 use Rattle.bytecode.specs.Code.{Code, Instr}
 use Rattle.picked.specs.Lists.{Lists}
 use Rattle.picked.specs.Expressions.{emitted}
+use Rattle.bytecode.specs.declared.instr.Instr.{Instr as Own}
 use Rattle.bytecode.specs.declared.instr.Instr.TheVariants as own
+use Rattle.lowered.specs.Expressions.{LocalScope}
 use Rattle.picked.specs.Statements.{written}
 use Rattle.picked.specs.Programs.{no_exits, nothing_ready, picked_code}
 
@@ -125,6 +127,59 @@ unfolding of_f of_worker
 second_code = refl
 
 -- while (!(v != 0)) v = 5;
-waiting : (written [] (While (Unary Not (Parenthesized (Binary NotEqual (var (codes "v")) (num 0) no_span) no_span) no_span) (Do (Assign (var (codes "v")) None (num 5)))) no_exits (record { name = codes "v"; of = Int; word = 0 } ∷ []) 7 no_lists).code ≡
+waiting : (written [] (While (Unary Not (Parenthesized (Binary NotEqual (var (codes "v")) (num 0) no_span) no_span) no_span) (Do (Assign (var (codes "v")) None (num 5)))) (no_exits None) (record { name = codes "v"; of = Int; word = 0 } ∷ []) 7 no_lists).code ≡
     own.Jump 10 ∷ own.Jump 11 ∷ own.Constant 0 5 ∷ own.JumpZero 0 9 ∷ []
 waiting = refl
+
+-- long long y; int x; and locals: long long v; int i;
+abbrev wide : Program
+wide = Shares (record { of = LongLong; name = named (codes "y"); length = None; first = [] } ∷ x ∷ []) ∷ []
+
+abbrev locals : LocalScope
+locals = record { name = codes "v"; of = LongLong; word = 0 } ∷ record { name = codes "i"; of = Int; word = 0 } ∷ []
+
+abbrev assigned : List ℕ → Expr → List Own
+assigned to e = (written wide (Do (Assign (var to) None e)) (no_exits None) locals 7 no_lists).code
+
+-- v = v + 1; v = 1 + v; v = i + v; v = v << i;
+adds_to_v : assigned (codes "v") (Binary Add (var (codes "v")) (num 1) no_span) ≡ own.Constant 2 1 ∷ own.AddLong 0 0 2 ∷ []
+adds_to_v = refl
+
+adds_v : assigned (codes "v") (Binary Add (num 1) (var (codes "v")) no_span) ≡ own.Constant 2 1 ∷ own.AddLong 0 2 0 ∷ []
+adds_v = refl
+
+adds_both : assigned (codes "v") (Binary Add (var (codes "i")) (var (codes "v")) no_span) ≡ own.Extend 2 1 ∷ own.AddLong 0 2 0 ∷ []
+adds_both = refl
+
+shifts_v : assigned (codes "v") (Binary ShiftLeft (var (codes "v")) (var (codes "i")) no_span) ≡ own.ShiftLeftLong 0 0 1 ∷ []
+shifts_v = refl
+
+-- v = i; i = v; v = 5; i = v < 5;
+extends : assigned (codes "v") (var (codes "i")) ≡ own.Extend 0 1 ∷ []
+extends = refl
+
+halves : assigned (codes "i") (var (codes "v")) ≡ own.Low 1 0 ∷ []
+halves = refl
+
+sets : assigned (codes "v") (num 5) ≡ own.Constant 0 5 ∷ []
+sets = refl
+
+compares : assigned (codes "i") (Binary Less (var (codes "v")) (num 5) no_span) ≡ own.Constant 2 5 ∷ own.LessLong 1 0 2 ∷ []
+compares = refl
+
+-- y = i; x = v; x = 4294967297LL;
+widens : assigned (codes "y") (var (codes "i")) ≡ own.Extend 2 1 ∷ own.Write 2 0 ∷ []
+widens = refl
+
+narrows : assigned (codes "x") (var (codes "v")) ≡ own.Write 0 1 ∷ []
+narrows = refl
+
+sets_lower_half : assigned (codes "x") (Constant 4294967297 LongLong no_span) ≡ own.Constant 2 1 ∷ own.Write 2 1 ∷ []
+sets_lower_half = refl
+
+-- i += v; and a condition (int)v
+changes : (written wide (Do (Assign (var (codes "i")) (Some Add) (var (codes "v")))) (no_exits None) locals 7 no_lists).code ≡ own.Extend 2 1 ∷ own.AddLong 1 2 0 ∷ own.Low 1 1 ∷ []
+changes = refl
+
+asks : (written wide (If (Cast Int (var (codes "v")) no_span) (Do (Assign (var (codes "i")) None (num 1)))) (no_exits None) locals 7 no_lists).code ≡ own.Low 2 0 ∷ own.JumpZero 2 10 ∷ own.Constant 1 1 ∷ []
+asks = refl

@@ -2,6 +2,8 @@
 pub mod Standing
 -- what names stand for in a typed program
 pub mod Named
+-- the types of what is emitted
+pub mod Kinds
 -- the parts of an expression
 pub mod Emitting
 -- the parts of a condition

@@ -1,20 +1,20 @@
 -- The instructions that are picked for an expression. Each part is told its first place and gives the place behind
 -- it, so that jumps over it need no further pass. A result that is computed comes into the register `into`, and
 -- registers from `free` on may be written.
-use Rattle.std.specs.Prelude.{ℕ, suc, pos, ◌+◌, List, [], ◌∷◌, ◌++◌, length, Option, Some, None, option_map, max, if◌then◌else◌, ◌==◌}
+use Rattle.std.specs.Prelude.{ℕ, suc, pos, ◌+◌, List, [], ◌∷◌, ◌++◌, length, map, Option, Some, None, option_map, max, if◌then◌else◌, ◌==◌}
 use Rattle.lex.specs.declared.token.Scalar.{Scalar}
-use Rattle.lex.specs.declared.token.Scalar.TheVariants.{Int, Unsigned}
+use Rattle.lex.specs.declared.token.Scalar.TheVariants.{Int, Unsigned, LongLong}
 use Rattle.syntax.specs.declared.tree.UnaryOp.TheVariants.{Negate, Keep, Not, Complement}
 use Rattle.syntax.specs.declared.tree.BinaryOp.{BinaryOp}
 use Rattle.syntax.specs.declared.tree.BinaryOp.TheVariants.{Or, Xor, And, Equal, NotEqual, Less, Greater, LessEqual, GreaterEqual, ShiftLeft, ShiftRight, Add, Subtract, Multiply, Divide, Remainder}
 use Rattle.syntax.specs.declared.tree.LogicalOp.{LogicalOp}
-use Rattle.syntax.specs.Tree.{Expr, Exprs, Variable, Constant, Element, Call, Parenthesized, Cast, Unary, Binary, Logical, Conditional, InTransaction, Program}
+use Rattle.syntax.specs.Tree.{Parameter, Expr, Exprs, Variable, Constant, Element, Call, Parenthesized, Cast, Unary, Binary, Logical, Conditional, InTransaction, Program}
 use Rattle.syntax.specs.Numbers.{word_of, common, operand_type, result_type}
 use Rattle.syntax.specs.Names.{newest, global_of, cells, GlobalCells}
 use Rattle.bytecode.specs.declared.instr.Instr.{Instr}
 use Rattle.bytecode.specs.declared.instr.Instr.TheVariants as own
 use Rattle.bytecode.specs.declared.limits.TheConstants.{MOST_REGISTERS}
-use Rattle.lowered.specs.Expressions.{LocalScope, Layout, arranged}
+use Rattle.lowered.specs.Expressions.{LocalScope, Layout, constant_in, types_left, arranged}
 use Rattle.picked.specs.declared.held.Held.{Held}
 use Rattle.picked.specs.Lists.{Lists, used, holding}
 use Rattle.picked.specs.Names.{Callee, callee_of}
@@ -24,18 +24,25 @@ use Rattle.picked.specs.Conditions.{Condition, test_in, going_on, by_value, oppo
 abbrev pub computing : BinaryOp → Scalar → ℕ → ℕ → ℕ → Instr
 computing Add Int d a b = own.AddSigned d a b
 computing Add Unsigned d a b = own.AddUnsigned d a b
+computing Add LongLong d a b = own.AddLong d a b
 computing Subtract Int d a b = own.SubtractSigned d a b
 computing Subtract Unsigned d a b = own.SubtractUnsigned d a b
+computing Subtract LongLong d a b = own.SubtractLong d a b
 computing Multiply Int d a b = own.MultiplySigned d a b
 computing Multiply Unsigned d a b = own.MultiplyUnsigned d a b
+computing Multiply LongLong d a b = own.MultiplyLong d a b
 computing Divide Int d a b = own.DivideSigned d a b
 computing Divide Unsigned d a b = own.DivideUnsigned d a b
+computing Divide LongLong d a b = own.DivideLong d a b
 computing Remainder Int d a b = own.RemainderSigned d a b
 computing Remainder Unsigned d a b = own.RemainderUnsigned d a b
+computing Remainder LongLong d a b = own.RemainderLong d a b
 computing ShiftLeft Int d a b = own.ShiftLeftSigned d a b
 computing ShiftLeft Unsigned d a b = own.ShiftLeftUnsigned d a b
+computing ShiftLeft LongLong d a b = own.ShiftLeftLong d a b
 computing ShiftRight Int d a b = own.ShiftRightSigned d a b
 computing ShiftRight Unsigned d a b = own.ShiftRightUnsigned d a b
+computing ShiftRight LongLong d a b = own.ShiftRightLong d a b
 computing And t d a b = own.And d a b
 computing Or t d a b = own.Or d a b
 computing Xor t d a b = own.Xor d a b
@@ -43,16 +50,32 @@ computing Equal t d a b = own.Equal d a b
 computing NotEqual t d a b = own.NotEqual d a b
 computing Less Int d a b = own.LessSigned d a b
 computing Less Unsigned d a b = own.LessUnsigned d a b
+computing Less LongLong d a b = own.LessLong d a b
 computing Greater Int d a b = own.LessSigned d b a
 computing Greater Unsigned d a b = own.LessUnsigned d b a
+computing Greater LongLong d a b = own.LessLong d b a
 computing LessEqual Int d a b = own.LessEqualSigned d a b
 computing LessEqual Unsigned d a b = own.LessEqualUnsigned d a b
+computing LessEqual LongLong d a b = own.LessEqualLong d a b
 computing GreaterEqual Int d a b = own.LessEqualSigned d b a
 computing GreaterEqual Unsigned d a b = own.LessEqualUnsigned d b a
+computing GreaterEqual LongLong d a b = own.LessEqualLong d b a
 
 abbrev pub negating : Scalar → ℕ → ℕ → Instr
 negating Int d a = own.NegateSigned d a
 negating Unsigned d a = own.NegateUnsigned d a
+negating LongLong d a = own.NegateLong d a
+
+abbrev pub complementing : Scalar → ℕ → ℕ → Instr
+complementing LongLong d a = own.ComplementLong d a
+complementing t d a = own.Complement d a
+
+-- the instruction of a conversion, where there is one
+abbrev pub converting : (s u : Scalar) → Option (ℕ → ℕ → Instr)
+converting Int LongLong = Some own.Extend
+converting LongLong Int = Some own.Low
+converting LongLong Unsigned = Some own.Low
+converting s u = None
 
 -- instructions, the lists after them, and where the value lies behind them
 pub record Emitted : Type 0 where
@@ -94,10 +117,10 @@ abbrev pub ready : Layout → (w : ℕ) → Scalar → (from : ℕ) → Option H
 ready layout w t from =
     option_map (λ r. record { register = r; of = t; to = from }) (ready_from layout.writable layout.constants w)
 
--- a constant that lies ready, as the right side of an operator
-abbrev pub constant_ready : Layout → Expr → ℕ → Option Held
-constant_ready layout (Constant n t at) from = ready layout (word_of t (pos n)) t from
-constant_ready layout e from = None
+-- a constant that lies ready in the type that is due, as the right side of an operator
+abbrev pub constant_ready : Layout → Scalar → Expr → ℕ → Option Held
+constant_ready layout u (Constant n t at) from = ready layout (constant_in u t n) u from
+constant_ready layout u e from = None
 
 -- a value that lies ready, or else one that is computed
 abbrev pub ready_or : Option Held → Lists → Emitted → Emitted
@@ -118,8 +141,25 @@ element (Some g) i from into l =
     then_one i (own.ReadAt into i.held.register g.cell (cells g.global)) into g.global.of
 element None i from into l = constant 0 Int from into l
 
-abbrev pub converted_to : Scalar → Emitted → Emitted
-converted_to t e = record e { held = record { register = e.held.register; of = t; to = e.held.to } }
+-- a value by a conversion: it lies where it lay, or one instruction makes it
+abbrev pub converted_by : Option (ℕ → ℕ → Instr) → Scalar → Emitted → (into : ℕ) → Emitted
+converted_by None u e into = record e { held = record { register = e.held.register; of = u; to = e.held.to } }
+converted_by (Some i) u e into = then_one e (i into e.held.register) into u
+
+-- the value and the type of a constant
+abbrev pub constant_of : Expr → Option (ℕ × Scalar)
+constant_of (Constant n t at) = Some (n, t)
+constant_of e = None
+
+-- a value of type s in type u: of an expression that is a constant, that is set as what it is converted to
+abbrev pub in_type : (s u : Scalar) → Expr → Emitted → (from into : ℕ) → Lists → Emitted
+in_type s u (Constant n t at) e from into l = constant (constant_in u t n) u from into l
+in_type s u e' e from into l = converted_by (converting s u) u e into
+
+-- likewise in the first of these types, where there is one
+abbrev pub in_first_type : Scalar → List Scalar → Expr → Emitted → (from into : ℕ) → Lists → Emitted
+in_first_type s [] e' e from into l = e
+in_first_type s (u ∷ us) e' e from into l = in_type s u e' e from into l
 
 -- a value that is computed in a transaction of its own
 abbrev pub in_own_transaction : Emitted → Emitted
@@ -133,7 +173,7 @@ abbrev pub negated : Emitted → ℕ → Emitted
 negated e into = then_one e (negating e.held.of into e.held.register) into e.held.of
 
 abbrev pub complemented : Emitted → ℕ → Emitted
-complemented e into = then_one e (own.Complement into e.held.register) into e.held.of
+complemented e into = then_one e (complementing e.held.of into e.held.register) into e.held.of
 
 -- `!`: whether it is 0
 abbrev pub compared : Emitted → (into free : ℕ) → Emitted
@@ -145,14 +185,13 @@ compared e into free =
       held = record { register = into; of = Int; to = e.held.to + 2 };
     }
 
-abbrev pub both : BinaryOp → Emitted → Emitted → ℕ → Emitted
-both op a b into =
-    let t = operand_type op a.held.of b.held.of in
-    record {
-      code = a.code ++ b.code ++ computing op t into a.held.register b.held.register ∷ [];
-      lists = used into b.lists;
-      held = record { register = into; of = result_type op t; to = b.held.to + 1 };
-    }
+-- an operator on two values, which computes in this type
+abbrev pub both : BinaryOp → Scalar → Emitted → Emitted → ℕ → Emitted
+both op t a b into = record {
+  code = a.code ++ b.code ++ computing op t into a.held.register b.held.register ∷ [];
+  lists = used into b.lists;
+  held = record { register = into; of = result_type op t; to = b.held.to + 1 };
+}
 
 -- the int 1 where a condition holds, and 0 where it does not
 abbrev pub answered : Condition → ℕ → Emitted
@@ -170,18 +209,23 @@ answered c into =
 abbrev pub settled : ℕ → Emitted → Emitted
 settled r e = if e.held.register == r then e else then_one e (own.Move r e.held.register) r e.held.of
 
--- a condition, and one of two values that lie in one register
-abbrev pub chosen : Condition → Emitted → Emitted → ℕ → Emitted
-chosen c a b into = record {
+-- a condition, and one of two values of this type that lie in one register
+abbrev pub chosen : Scalar → Condition → Emitted → Emitted → ℕ → Emitted
+chosen t c a b into = record {
   code = going_on c.code (test_in c) (a.held.to + 1) ++ a.code ++ own.Jump b.held.to ∷ b.code;
   lists = b.lists;
-  held = record { register = into; of = common a.held.of b.held.of; to = b.held.to };
+  held = record { register = into; of = t; to = b.held.to };
 }
 
 -- a condition as its operator has it, or else by its value
 abbrev pub tested : Option Condition → Emitted → Condition
 tested None e = by_value e.code e.lists e.held
 tested (Some c) e = c
+
+-- a condition under a cast, which is tested as it is where no instruction converts it
+abbrev pub where_same : Option (ℕ → ℕ → Instr) → Option Condition → Option Condition
+where_same None c = c
+where_same (Some i) c = None
 
 -- two conditions, one behind the other
 abbrev pub joining : LogicalOp → (first second : ℕ → Lists → Condition) → ℕ → Lists → Condition
@@ -210,25 +254,66 @@ called (Some f) args from into l =
       held = record { register = into; of = f.of; to = args.to + 1 };
     }
 
+-- the types of what is emitted for variables, elements and calls
+abbrev pub variable_type : Option (ℕ × Scalar) → Option GlobalCells → Scalar
+variable_type (Some x) g = x.1
+variable_type None (Some g) = g.global.of
+variable_type None None = Int
+
+abbrev pub element_type : Option GlobalCells → Scalar
+element_type (Some g) = g.global.of
+element_type None = Int
+
+abbrev pub called_type : Option Callee → Scalar
+called_type (Some f) = f.of
+called_type None = Int
+
+-- the types of a function's parameters
+abbrev pub types_of : List Parameter → List Scalar
+types_of qs = map (λ q. q.of) qs
+
+abbrev pub taken_types : Option Callee → List Scalar
+taken_types (Some f) = types_of f.parameters
+taken_types None = []
+
 module _ (p : Program) (scope : LocalScope) where
+  -- the type of what is emitted for an expression
+  abbrev pub emitted_type : Expr → Scalar
+  emitted_type (Variable x) = variable_type (newest scope x.text) (global_of p x.text)
+  emitted_type (Constant n t at) = t
+  emitted_type (Element x i at) = element_type (global_of p x.text)
+  emitted_type (Call f es at) = called_type (callee_of p f.text)
+  emitted_type (Parenthesized e at) = emitted_type e
+  emitted_type (Cast t e at) = t
+  emitted_type (Unary Not e at) = Int
+  emitted_type (Unary op e at) = emitted_type e
+  emitted_type (Binary op a b at) = result_type op (operand_type op (emitted_type a) (emitted_type b))
+  emitted_type (Logical op a b at) = Int
+  emitted_type (Conditional c a b at) = common (emitted_type a) (emitted_type b)
+  emitted_type (InTransaction mode keyword e at) = emitted_type e
+
   abbrev mutual
     pub emitted : Expr → (from into free : ℕ) → Lists → Emitted
     emitted (Variable x) from into free l = variable (newest scope x.text) (global_of p x.text) from into l
     emitted (Constant n t at) from into free l = constant (word_of t (pos n)) t from into l
     emitted (Element x i at) from into free l =
         element (global_of p x.text) (emitted i from free free l) from into l
-    emitted (Call f es at) from into free l = called (callee_of p f.text) (all_emitted es from free l) from into l
+    emitted (Call f es at) from into free l =
+        called (callee_of p f.text) (all_emitted (taken_types (callee_of p f.text)) es from free l) from into l
     emitted (Parenthesized e at) from into free l = emitted e from into free l
-    emitted (Cast t e at) from into free l = converted_to t (emitted e from into free l)
+    emitted (Cast t e at) from into free l = in_type (emitted_type e) t e (emitted e from into free l) from into l
     emitted (Unary Negate e at) from into free l = negated (emitted e from free free l) into
     emitted (Unary Keep e at) from into free l = emitted e from into free l
     emitted (Unary Not e at) from into free l = compared (emitted e from free free l) into free
     emitted (Unary Complement e at) from into free l = complemented (emitted e from free free l) into
     emitted (Binary op a b at) from into free l =
-        let left = emitted a from free free l in
+        let t = operand_type op (emitted_type a) (emitted_type b) in
+        let u = operand_type op (emitted_type b) (emitted_type a) in
+        let left = in_type (emitted_type a) t a (emitted a from free free l) from free l in
         let later = above free left.held.register in
-        let computed = emitted b left.held.to later later left.lists in
-        both op left (ready_or (constant_ready left.lists.layout b left.held.to) left.lists computed) into
+        let y = emitted b left.held.to later later left.lists in
+        let computed = in_type (emitted_type b) u b y left.held.to later left.lists in
+        both op t left (ready_or (constant_ready left.lists.layout u b left.held.to) left.lists computed) into
     emitted (Logical op a b at) from into free l =
         answered
         (joining op (λ to m. tested (own_condition a to free m) (emitted a to free free m))
@@ -236,15 +321,19 @@ module _ (p : Program) (scope : LocalScope) where
         into
     emitted (Conditional c a b at) from into free l =
         let test = tested (own_condition c from free l) (emitted c from free free l) in
-        let first = settled into (emitted a (test.to + 1) into free test.lists) in
-        chosen test first (settled into (emitted b (first.held.to + 1) into free first.lists)) into
+        let t = common (emitted_type a) (emitted_type b) in
+        let x = emitted a (test.to + 1) into free test.lists in
+        let first = settled into (in_type (emitted_type a) t a x (test.to + 1) into test.lists) in
+        let y = emitted b (first.held.to + 1) into free first.lists in
+        let second = settled into (in_type (emitted_type b) t b y (first.held.to + 1) into first.lists) in
+        chosen t test first second into
     emitted (InTransaction mode keyword e at) from into free l =
         in_own_transaction (emitted e (from + 1) into free l)
 
     -- a condition whose operator says how it is tested
     pub own_condition : Expr → (from free : ℕ) → Lists → Option Condition
     own_condition (Parenthesized e at) from free l = own_condition e from free l
-    own_condition (Cast t e at) from free l = own_condition e from free l
+    own_condition (Cast t e at) from free l = where_same (converting (emitted_type e) t) (own_condition e from free l)
     own_condition (Unary Keep e at) from free l = own_condition e from free l
     own_condition (Unary Not e at) from free l =
         Some (opposite (tested (own_condition e from free l) (emitted e from free free l)))
@@ -255,16 +344,25 @@ module _ (p : Program) (scope : LocalScope) where
         (λ to m. tested (own_condition b to free m) (emitted b to free free m)) from l)
     own_condition e from free l = None
 
-    -- values from left to right, each in a register of its own
-    pub all_emitted : Exprs → (from free : ℕ) → Lists → AllEmitted
-    all_emitted Exprs.[] from free l = none_emitted from l
-    all_emitted (Exprs.◌∷◌ e es) from free l =
-        let first = emitted e from free free l in
-        followed first (all_emitted es first.held.to (above free first.held.register) first.lists)
+    -- values from left to right, which are due in these types, each in a register of its own
+    pub all_emitted : List Scalar → Exprs → (from free : ℕ) → Lists → AllEmitted
+    all_emitted ts Exprs.[] from free l = none_emitted from l
+    all_emitted ts (Exprs.◌∷◌ e es) from free l =
+        let first = in_first_type (emitted_type e) ts e (emitted e from free free l) from free l in
+        followed first
+        (all_emitted (types_left ts) es first.held.to (above free first.held.register) first.lists)
+
+  -- an expression's value in this type, in a register of its own or another one
+  abbrev pub due : Scalar → Expr → (from into free : ℕ) → Lists → Emitted
+  due u e from into free l = in_type (emitted_type e) u e (emitted e from into free l) from into l
+
+  -- one of several values, which are due in these types from it on
+  abbrev pub handed : List Scalar → Expr → (from free : ℕ) → Lists → Emitted
+  handed ts e from free l = in_first_type (emitted_type e) ts e (emitted e from free free l) from free l
 
   -- the right side of an operator
-  abbrev pub operand : Expr → (from free : ℕ) → Lists → Emitted
-  operand e from free l = ready_or (constant_ready l.layout e from) l (emitted e from free free l)
+  abbrev pub operand : Scalar → Expr → (from free : ℕ) → Lists → Emitted
+  operand u e from free l = ready_or (constant_ready l.layout u e from) l (due u e from free free l)
 
   abbrev pub condition : Expr → (from free : ℕ) → Lists → Condition
   condition e from free l = tested (own_condition e from free l) (emitted e from free free l)
@@ -278,5 +376,6 @@ module _ (p : Program) (scope : LocalScope) where
   abbrev pub conditional : (c a b : Expr) → (from into free : ℕ) → Lists → Emitted
   conditional c a b from into free l =
       let test = condition c from free l in
-      let first = settled into (emitted a (test.to + 1) into free test.lists) in
-      chosen test first (settled into (emitted b (first.held.to + 1) into free first.lists)) into
+      let t = common (emitted_type a) (emitted_type b) in
+      let first = settled into (due t a (test.to + 1) into free test.lists) in
+      chosen t test first (settled into (due t b (first.held.to + 1) into free first.lists)) into

@@ -1,5 +1,7 @@
 -- The instructions that are picked for functions and programs.
-use Rattle.std.specs.Prelude.{ℕ, suc, ◌+◌, nat_le, if◌then◌else◌, List, [], ◌∷◌, ◌++◌, length, map, Option, Some, None}
+use Rattle.std.specs.Prelude.{ℕ, suc, ◌+◌, nat_le, if◌then◌else◌, List, [], ◌∷◌, ◌++◌, length, map, Option, Some, None, unwrap_or}
+use Rattle.lex.specs.declared.token.Scalar.{Scalar}
+use Rattle.lex.specs.declared.token.Scalar.TheVariants.{Int}
 use Rattle.syntax.specs.Tree.{Function, Stmts, Defines, Shares, Program}
 use Rattle.syntax.specs.Names.{globals}
 use Rattle.bytecode.specs.declared.instr.Instr.{Instr}
@@ -15,14 +17,21 @@ use Rattle.picked.specs.Simples.{Written}
 use Rattle.picked.specs.Loops.{in_loops}
 use Rattle.picked.specs.Statements.{all_written}
 
-abbrev pub no_exits : Exits
-no_exits = record { break_to = 0; continue_to = 0; in_loop = 0; in_function = 0; to_outer = 0 }
+abbrev pub no_exits : Option Scalar → Exits
+no_exits result = record {
+  break_to = 0;
+  continue_to = 0;
+  in_loop = 0;
+  in_function = 0;
+  to_outer = 0;
+  gives = unwrap_or result Int;
+}
 
 -- a function's body with these constants, and a return where that runs off its end
 abbrev pub body_with : Layout → Program → Function → Stmts → ℕ → Lists → Written
 body_with layout p f body from l =
     let first = record l { registers = length f.parameters; layout = layout } in
-    let made = all_written p body no_exits (parameter_locals f.parameters) from first in
+    let made = all_written p body (no_exits f.result) (parameter_locals f.parameters) from first in
     record { code = made.code ++ own.Return ∷ []; lists = made.lists; to = made.to + 1 }
 
 abbrev pub nothing_ready : Layout

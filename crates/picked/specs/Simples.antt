@@ -1,19 +1,20 @@
 -- The instructions that are picked for assignments and declarations.
 use Rattle.std.specs.Prelude.{ℕ, suc, ◌+◌, List, [], ◌∷◌, ◌++◌, length, Option, Some, None, Bool, true, false, if◌then◌else◌, ◌==◌}
 use Rattle.lex.specs.declared.token.Scalar.{Scalar}
-use Rattle.lex.specs.declared.token.Scalar.TheVariants.{Int}
+use Rattle.lex.specs.declared.token.Scalar.TheVariants.{Int, LongLong}
 use Rattle.syntax.specs.declared.tree.BinaryOp.{BinaryOp}
-use Rattle.syntax.specs.Tree.{Expr, Variable, Element, Simple, Evaluate, Assign, Adjust, Declarator, Start, Nothing, Declares, Does, Program}
+use Rattle.syntax.specs.Tree.{Expr, Variable, Constant, Element, Simple, Evaluate, Assign, Adjust, Declarator, Start, Nothing, Declares, Does, Program}
 use Rattle.syntax.specs.Names.{newest, global_of, cells, GlobalCells}
+use Rattle.syntax.specs.Numbers.{operand_type, result_type}
 use Rattle.syntax.specs.Meaning.{op_of}
 use Rattle.bytecode.specs.declared.instr.Instr.{Instr}
 use Rattle.bytecode.specs.declared.instr.Instr.TheVariants as own
 use Rattle.picked.specs.declared.held.Target.{Target}
 use Rattle.picked.specs.declared.held.Target.TheVariants as target
 use Rattle.picked.specs.Lists.{Lists, used}
-use Rattle.lowered.specs.Expressions.{LocalScope}
+use Rattle.lowered.specs.Expressions.{LocalScope, constant_in}
 use Rattle.lowered.specs.Statements.{with_local}
-use Rattle.picked.specs.Expressions.{Emitted, above, one, constant, ready, ready_or, in_local, both, emitted, operand}
+use Rattle.picked.specs.Expressions.{Emitted, above, one, constant, ready, ready_or, in_local, converting, converted_by, both, emitted_type, emitted, operand}
 
 -- instructions, the lists after them, and the place behind them
 pub record Written : Type 0 where
@@ -84,6 +85,34 @@ stored (target.Cell c t) a from l = one_written (own.Write a c) from l
 stored (target.Element i c n t) a from l = one_written (own.WriteAt i a c n) from l
 stored target.Nowhere a from l = nothing_written from l
 
+-- the type of what lies at a target
+abbrev pub type_at : Target → Scalar
+type_at (target.Local i t) = t
+type_at (target.Cell c t) = t
+type_at (target.Element i c n t) = t
+type_at target.Nowhere = Int
+
+-- the instruction of a conversion on the way to a cell, where the write does not take the lower half by itself
+abbrev pub widening : (s u : Scalar) → Option (ℕ → ℕ → Instr)
+widening Int LongLong = Some own.Extend
+widening s u = None
+
+-- the instruction that a value of this type asks for on its way to a target
+abbrev pub taking : Target → Scalar → Option (ℕ → ℕ → Instr)
+taking (target.Local i t) s = converting s t
+taking (target.Cell c t) s = widening s t
+taking (target.Element i c n t) s = widening s t
+taking target.Nowhere s = None
+
+-- a value of type s on its way to a target
+abbrev pub fitting : Target → Scalar → Emitted → (into : ℕ) → Emitted
+fitting t s e into = converted_by (taking t s) (type_at t) e into
+
+-- likewise an expression's: a constant is set as what it is converted to
+abbrev pub expr_fitting : Target → Scalar → Expr → Emitted → (from into : ℕ) → Lists → Emitted
+expr_fitting t s (Constant n x at) e from into l = constant (constant_in (type_at t) x n) (type_at t) from into l
+expr_fitting t s e' e from into l = fitting t s e into
+
 -- one after another
 abbrev pub and_then : Written → Written → Written
 and_then a b = record { code = a.code ++ b.code; lists = b.lists; to = b.to }
@@ -98,8 +127,8 @@ abbrev pub behind : Aimed → Written → Written
 behind t w = record { code = t.code ++ w.code; lists = w.lists; to = w.to }
 
 -- the 1 that is added or subtracted
-abbrev pub emitted_one : (from free : ℕ) → Lists → Emitted
-emitted_one from free l = ready_or (ready l.layout 1 Int from) l (constant 1 Int from free l)
+abbrev pub emitted_one : Scalar → (from free : ℕ) → Lists → Emitted
+emitted_one u from free l = ready_or (ready l.layout 1 u from) l (constant 1 u from free l)
 
 module _ (p : Program) (scope : LocalScope) where
   -- where an assignment goes, with the test of an index or without it
@@ -109,25 +138,42 @@ module _ (p : Program) (scope : LocalScope) where
       element_target check (global_of p x.text) (emitted p scope i from free free l) from l
   aimed check e from free l = aimed_at target.Nowhere from l
 
-  -- the right side of an operator: a value, or else 1
-  abbrev pub value_or_one : Option Expr → (from free : ℕ) → Lists → Emitted
-  value_or_one None from free l = emitted_one from free l
-  value_or_one (Some e) from free l = operand p scope e from free l
+  -- the right side of an operator in the type that is due: a value, or else 1
+  abbrev pub value_or_one : Scalar → Option Expr → (from free : ℕ) → Lists → Emitted
+  value_or_one u None from free l = emitted_one u from free l
+  value_or_one u (Some e) from free l = operand p scope u e from free l
+
+  -- its own type
+  abbrev pub type_or_int : Option Expr → Scalar
+  type_or_int None = Int
+  type_or_int (Some e) = emitted_type p scope e
+
+  -- an expression's value on its way to a target
+  abbrev pub placed : Target → Expr → (from home free : ℕ) → Lists → Emitted
+  placed t e from home free l =
+      expr_fitting t (emitted_type p scope e) e (emitted p scope e from home free l) from home l
 
   abbrev pub assigned : Expr → Expr → (from free : ℕ) → Lists → Written
   assigned lhs e from free l =
       let t = aimed true lhs from free l in
       let later = above_target t.target free in
-      behind t (then_stored t.target (emitted p scope e t.to (home_or t.target later) later t.lists))
+      behind t (then_stored t.target (placed t.target e t.to (home_or t.target later) later t.lists))
 
-  -- the old value, another one, the operator on both, and the result in the old one's place
+  -- the old value, another one, and the operator on both, as it goes into the old one's place
+  abbrev pub changed : BinaryOp → Option Expr → Target → (from free : ℕ) → Lists → Emitted
+  changed op by t from free l =
+      let s = type_at t in
+      let u = operand_type op s (type_or_int by) in
+      let old = converted_by (converting s u) u (fetched t from free l) free in
+      let v = operand_type op (type_or_int by) s in
+      let other = value_or_one v by old.held.to (above free old.held.register) old.lists in
+      let home = home_or t free in
+      fitting t (result_type op u) (both op u old other home) home
+
   abbrev pub adjusted : BinaryOp → Expr → Option Expr → (from free : ℕ) → Lists → Written
   adjusted op lhs by from free l =
       let t = aimed false lhs from free l in
-      let later = above_target t.target free in
-      let old = fetched t.target t.to later t.lists in
-      let other = value_or_one by old.held.to (above later old.held.register) old.lists in
-      behind t (then_stored t.target (both op old other (home_or t.target later)))
+      behind t (then_stored t.target (changed op by t.target t.to (above_target t.target free) t.lists))
 
   abbrev pub simple_written : Simple → (from free : ℕ) → Lists → Written
   simple_written (Evaluate e) from free l = evaluated (emitted p scope e from free free l)
@@ -139,7 +185,7 @@ module _ (p : Program) (scope : LocalScope) where
 abbrev pub first_written : Program → LocalScope → ℕ → Scalar → Option Expr → ℕ → Lists → Written
 first_written p scope i t None from l = nothing_written from l
 first_written p scope i t (Some e) from l =
-    then_stored (target.Local i t) (emitted p scope e from i (suc i) l)
+    then_stored (target.Local i t) (placed p scope (target.Local i t) e from i (suc i) l)
 
 -- a declared local is 0 and then has its first value
 abbrev pub declarator_written : Program → Scalar → Declarator → LocalScope → ℕ → Lists → Written

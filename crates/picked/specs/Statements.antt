@@ -2,7 +2,7 @@
 -- pads: places that are known before the body is made, from which a break and a continue go on.
 use Rattle.std.specs.Prelude.{ℕ, zero, suc, ◌+◌, List, [], ◌∷◌, ◌++◌, length, replicate, Option, Some, None}
 use Rattle.lex.specs.declared.token.Scalar.{Scalar}
-use Rattle.lex.specs.declared.token.Scalar.TheVariants.{Int, Unsigned}
+use Rattle.lex.specs.declared.token.Scalar.TheVariants.{Int, Unsigned, LongLong}
 use Rattle.syntax.specs.declared.tree.Kind.{Kind}
 use Rattle.syntax.specs.declared.tree.Kind.TheVariants.{Plain, Outer}
 use Rattle.syntax.specs.Tree.{Expr, Simple, Stmt, Stmts, Empty, Declare, Do, Block, Print, If, IfElse, While, DoWhile, For, Break, Continue, Return, Transaction, Cancel, CancelOuter, Program}
@@ -13,7 +13,7 @@ use Rattle.lowered.specs.Expressions.{LocalScope}
 use Rattle.lowered.specs.Statements.{locals_of_start, locals_after}
 use Rattle.picked.specs.declared.held.Exits.{Exits}
 use Rattle.picked.specs.Lists.{Lists}
-use Rattle.picked.specs.Expressions.{Emitted, AllEmitted, emitted, all_emitted, condition}
+use Rattle.picked.specs.Expressions.{Emitted, AllEmitted, due, all_emitted, condition}
 use Rattle.picked.specs.Conditions.{Condition, test_in, going_on, going_back}
 use Rattle.picked.specs.Simples.{Written, nothing_written, one_written, and_then, evaluated, simple_written, declared_written, start_written}
 
@@ -92,6 +92,7 @@ returned n e = and_then (evaluated e) (left_by n (own.ReturnValue e.held.registe
 abbrev pub printing : Scalar → ℕ → Instr
 printing Int r = own.PrintSigned r
 printing Unsigned r = own.PrintUnsigned r
+printing LongLong r = own.PrintLong r
 
 abbrev pub and_one : Instr → Written → Written
 and_one i a = record { code = i ∷ a.code; lists = a.lists; to = a.to }
@@ -120,10 +121,10 @@ module _ (p : Program) where
   for_step scope None from l = nothing_written from l
   for_step scope (Some s) from l = simple_written p scope s from (length scope) l
 
-  abbrev pub return_written : LocalScope → Option Expr → ℕ → ℕ → Lists → Written
-  return_written scope None commits from l = left_by commits own.Return from l
-  return_written scope (Some e) commits from l =
-      returned commits (emitted p scope e from (length scope) (length scope) l)
+  abbrev pub return_written : LocalScope → Option Expr → Exits → ℕ → Lists → Written
+  return_written scope None x from l = left_by x.in_function own.Return from l
+  return_written scope (Some e) x from l =
+      returned x.in_function (due p scope x.gives e from (length scope) (length scope) l)
 
   abbrev mutual
     pub written : Stmt → Exits → LocalScope → ℕ → Lists → Written
@@ -132,7 +133,7 @@ module _ (p : Program) where
     written (Do s) x scope from l = simple_written p scope s from (length scope) l
     written (Block ss) x scope from l = all_written ss x scope from l
     written (Print at format format_at es) x scope from l =
-        print_written (all_emitted p scope es (from + 1) (length scope) l) (pieces format)
+        print_written (all_emitted p scope [] es (from + 1) (length scope) l) (pieces format)
     written (If c a) x scope from l =
         let test = condition p scope c from (length scope) l in
         branched test (written a x scope (test.to + 1) test.lists)
@@ -156,7 +157,7 @@ module _ (p : Program) where
         for_written first body next (for_test inner c (pads + 3) next.to next.lists)
     written (Break at) x scope from l = left_by x.in_loop (own.Jump x.break_to) from l
     written (Continue at) x scope from l = left_by x.in_loop (own.Jump x.continue_to) from l
-    written (Return e at) x scope from l = return_written scope e x.in_function from l
+    written (Return e at) x scope from l = return_written scope e x from l
     written (Transaction kind ss at) x scope from l =
         transacted (all_written ss (in_transaction kind x) scope (from + 1) l)
     written (Cancel at) x scope from l = one_written own.Cancel from l

@@ -34,7 +34,8 @@ pub enum Target {
     Nowhere,
 }
 
-/// Where a break and a continue lead, and how many transactions are open in the loop and in the function.
+/// Where a break and a continue lead, how many transactions are open in the loop and in the function, and the type of what
+/// the function returns.
 #[derive(Clone, Copy)]
 pub struct Exits {
     pub break_to: u32,
@@ -43,4 +44,5 @@ pub struct Exits {
     pub in_function: u32,
     /// From the innermost outer transaction on; 0 where there is none.
     pub to_outer: u32,
+    pub gives: Scalar,
 }

@@ -3,18 +3,18 @@ use Rattle.std.proofs.Common.{◌≡◌, refl, subst, ◌∙◌, ℕ, zero, suc,
 use Rattle.std.specs.Prelude.{if◌then◌else◌}
 use Rattle.std.specs.Option.{IfSome}
 use Rattle.std.proofs.lemmas.List.{length-append, length-map, map-append}
+use Rattle.lex.specs.declared.token.Scalar.{Scalar}
 use Rattle.lex.specs.declared.token.Scalar.TheVariants.{Int}
 use Rattle.syntax.specs.declared.tree.BinaryOp.{BinaryOp}
 use Rattle.syntax.specs.declared.tree.BinaryOp.TheVariants.{Equal, NotEqual}
 use Rattle.syntax.specs.declared.tree.LogicalOp.{LogicalOp}
 use Rattle.syntax.specs.declared.tree.LogicalOp.TheVariants.{AndThen, OrElse}
 use Rattle.syntax.specs.Tree.{Expr, Constant}
-use Rattle.syntax.specs.Numbers.{common}
 use Rattle.bytecode.specs.declared.instr.Instr.{Instr}
 use Rattle.bytecode.specs.declared.instr.Instr.TheVariants as own
 use Rattle.bytecode.specs.Code.{Code}
 use Rattle.bytecode.specs.Views.{instr_of}
-use Rattle.lowered.specs.Expressions.{Coded, Layout, Branching, At, LeadsTo, MayTake, Branches, BothHold, EitherHolds, IsNought, ComparedWithZero, TruthCode, BranchCode, ConditionalCode}
+use Rattle.lowered.specs.Expressions.{Coded, Layout, Branching, At, LeadsTo, MayTake, Branches, BothHold, EitherHolds, IsNought, ComparedWithZero, TruthCode, ConditionalCode}
 use Rattle.picked.specs.declared.draft.Draft.TheVariants as draft
 use Rattle.picked.specs.Lists.{Lists, used}
 use Rattle.picked.specs.Conditions.{Condition, test_in, jump_if, jump_if_not, completed, going_on, going_back, turned, by_value, opposite, first_of, joined, is_nought, zero_test, zero_tested}
@@ -185,12 +185,11 @@ module _ (code : Code) (arguments : List ℕ) (layout : Layout) where
       }
 
   -- a condition, and one of two values
-  pub chosen_emits : (home : Option ℕ) (T : Branching) (A B : Option ℕ → Coded) (from into free : ℕ) (l : Lists) (c : Condition) (a b : Emitted) →
-      let t = common a.held.of b.held.of in
-      Decides T from free l c → Emits code arguments layout (λ from to free r t'. BranchCode code layout home A from to free into t) (c.to + 1) free c.lists a
-      → Emits code arguments layout (λ from to free r t'. BranchCode code layout home B from to free into t) (a.held.to + 1) free a.lists b →
-      Emits code arguments layout (ConditionalCode code layout home T A B) from free l (chosen c a b into)
-  chosen_emits home T A B from into free l c a b h g k =
+  pub chosen_emits : (home : Option ℕ) (T : Branching) (A B : Coded) (t : Scalar) (from into free : ℕ) (l : Lists) (c : Condition) (a b : Emitted) →
+      Decides T from free l c → Emits code arguments layout (λ from to free r x. A from to free into t) (c.to + 1) free c.lists a
+      → Emits code arguments layout (λ from to free r x. B from to free into t) (a.held.to + 1) free a.lists b →
+      Emits code arguments layout (ConditionalCode code layout home T A B) from free l (chosen t c a b into)
+  chosen_emits home T A B t from into free l c a b h g k =
       let test : List Instr = going_on c.code (test_in c) (a.held.to + 1) in
       let skip : Instr = own.Jump b.held.to in
       let head : List Instr = test ++ a.code in

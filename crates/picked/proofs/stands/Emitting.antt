@@ -1,24 +1,23 @@
 -- What is emitted stands for an expression, part by part.
-use Rattle.std.proofs.Common.{◌≡◌, refl, sym, subst, ℕ, suc, pos, ◌+◌, ◌≤◌, ◌<◌, List, [], ◌∷◌, ◌++◌, length, arith, Option, Some, None, Bool, true, false, ◌⊎◌, inl, inr, ⊎_elim, eqb-true}
+use Rattle.std.proofs.Common.{◌≡◌, refl, sym, subst, ℕ, suc, ◌+◌, ◌≤◌, ◌<◌, List, [], ◌∷◌, ◌++◌, length, arith, Option, Some, None, Bool, true, false, ◌⊎◌, inl, inr, ⊎_elim, eqb-true}
 use Rattle.std.specs.Prelude.{if◌then◌else◌, ◌==◌, option_map}
 use Rattle.std.proofs.lemmas.Bool.{eqb-false}
 use Rattle.std.proofs.lemmas.List.{length-append}
 use Rattle.lex.specs.declared.token.Scalar.{Scalar}
-use Rattle.lex.specs.declared.token.Scalar.TheVariants.{Int, Unsigned}
+use Rattle.lex.specs.declared.token.Scalar.TheVariants.{Int, Unsigned, LongLong}
 use Rattle.syntax.specs.declared.tree.BinaryOp.{BinaryOp}
 use Rattle.syntax.specs.declared.tree.BinaryOp.TheVariants.{Or, Less, Greater, LessEqual, GreaterEqual, ShiftLeft, ShiftRight, Add, Subtract, Multiply, Divide, Remainder}
 use Rattle.syntax.specs.Tree.{Expr, Constant}
-use Rattle.syntax.specs.Numbers.{word_of, operand_type, result_type}
+use Rattle.syntax.specs.Numbers.{operand_type, result_type}
 use Rattle.syntax.specs.Names.{GlobalCells, cells}
 use Rattle.bytecode.specs.declared.instr.Instr.{Instr}
 use Rattle.bytecode.specs.declared.instr.Instr.TheVariants as own
 use Rattle.bytecode.specs.Code.{Code, Instr as Plain}
 use Rattle.bytecode.specs.Views.{instr_of}
 use Rattle.lowered.specs.Expressions as Lowered
-use Rattle.lowered.specs.Expressions.{Coded, Layout, MayTake, GivenBy, LocalIs, LiesReady, OperandCode, VariableCode, ElementCode, CastCode, ValueTransactionCode, UnaryCode, NotCode, BinaryCode, MovedCode, BranchCode}
+use Rattle.lowered.specs.Expressions.{Coded, Due, Layout, MayTake, constant_in, GivenBy, Converts, ConvertedCode, DueCode, TypedCode, LocalIs, WordCode, OperandCode, VariableCode, ElementCode, CastCode, ValueTransactionCode, UnaryCode, NotCode, BinaryCode, MovedCode, BranchCode, HandedCode}
 use Rattle.picked.specs.Lists.{Lists, used}
-use Rattle.picked.specs.Expressions.{computing, negating, Emitted, above, one, then_one, ready_from, ready, constant_ready, ready_or, in_local, converted_to, in_own_transaction, negated, complemented, compared, both, settled}
-use Rattle.lowered.proofs.Unconverted.{operator_is}
+use Rattle.picked.specs.Expressions.{computing, negating, complementing, Emitted, above, one, then_one, constant, ready_from, ready, constant_ready, ready_or, in_local, converting, converted_by, in_type, in_first_type, in_own_transaction, negated, complemented, compared, both, settled}
 use Rattle.picked.proofs.stands.Standing.{Stand, front, behind, Grows, grows_same, grows_further, grows_used, max_left, max_right, Fits, fits_before, is_register, given}
 
 -- operators have the instructions of the relation
@@ -40,6 +39,12 @@ computing_is arguments op t d a b = refl
 pub negating_is : (arguments : List ℕ) (t : Scalar) (d a : ℕ) → instr_of arguments (negating t d a) ≡ Plain.Negate t d a
 negating_is arguments Int d a = refl
 negating_is arguments Unsigned d a = refl
+negating_is arguments LongLong d a = refl
+
+pub complementing_is : (arguments : List ℕ) (t : Scalar) (d a : ℕ) → instr_of arguments (complementing t d a) ≡ Lowered.complementing t d a
+complementing_is arguments Int d a = refl
+complementing_is arguments Unsigned d a = refl
+complementing_is arguments LongLong d a = refl
 
 pub above_free : (free r : ℕ) → free ≤ above free r
 above_free free r = max_left free (suc r)
@@ -89,12 +94,70 @@ module _ (code : Code) (arguments : List ℕ) (layout : Layout) where
       then_emits A (ElementCode code layout home g A) home (own.ReadAt into e.held.register g.cell (cells g.global)) g.global.of from free into l e h m
       (λ a b. record { mid = e.held.to; ri = e.held.register; ti = e.held.of; computes = a; reads = b })
 
-  pub cast_emits : (home : Option ℕ) (t : Scalar) (A : Coded) (from free : ℕ) (l : Lists) (e : Emitted) → Emits A from free l e → Emits (CastCode code layout home t A) from free l (converted_to t e)
-  cast_emits home t A from free l e h = record {
+  -- a value that is the same in the type that is due
+  remains : (home : Option ℕ) (A : Coded) (s u : Scalar) (from free : ℕ) (l : Lists) (e : Emitted) → Emits A from free l e → e.held.of ≡ s → Converts code layout home s u e.held.register e.held.to e.held.to free e.held.register →
+      Emits (λ from to free r x. ConvertedCode code layout home A u from to free r s) from free l (converted_by None u e 0)
+  remains home A s u from free l e h q c = record {
     to_is = h.to_is;
     grows = h.grows;
-    stands = λ f st. record { mid = e.held.to; ra = e.held.register; te = e.held.of; computes = h.stands f st; converts = (refl, refl); type_is = refl };
+    stands = λ f st. record { mid = e.held.to; ra = e.held.register; computes = subst (λ x. A from e.held.to free e.held.register x) q (h.stands f st); converts = c };
   }
+
+  -- a value by a conversion
+  pub converted_emits : (home : Option ℕ) (A : Coded) (s u : Scalar) (from free into : ℕ) (l : Lists) (e : Emitted) → Emits A from free l e → e.held.of ≡ s → MayTake home free into →
+      Emits (λ from to free r x. ConvertedCode code layout home A u from to free r s) from free l (converted_by (converting s u) u e into)
+  converted_emits home A Int LongLong from free into l e h q m =
+      then_emits A (λ from to free r x. ConvertedCode code layout home A LongLong from to free r Int) home (own.Extend into e.held.register) LongLong from free into l e h m
+      (λ a b. record { mid = e.held.to; ra = e.held.register; computes = subst (λ x. A from e.held.to free e.held.register x) q a; converts = b })
+  converted_emits home A LongLong Int from free into l e h q m =
+      then_emits A (λ from to free r x. ConvertedCode code layout home A Int from to free r LongLong) home (own.Low into e.held.register) Int from free into l e h m
+      (λ a b. record { mid = e.held.to; ra = e.held.register; computes = subst (λ x. A from e.held.to free e.held.register x) q a; converts = b })
+  converted_emits home A LongLong Unsigned from free into l e h q m =
+      then_emits A (λ from to free r x. ConvertedCode code layout home A Unsigned from to free r LongLong) home (own.Low into e.held.register) Unsigned from free into l e h m
+      (λ a b. record { mid = e.held.to; ra = e.held.register; computes = subst (λ x. A from e.held.to free e.held.register x) q a; converts = b })
+  converted_emits home A s u from free into l e h q m = remains home A s u from free l e h q (refl, refl)
+
+  -- a value that did not come into the register that was asked for lies in a local's own
+  converted_elsewhere : (A : Coded) (s u : Scalar) (from free into : ℕ) (l : Lists) (e : Emitted) → (Emits A from free l e ⊎ (e.held.register ≡ into)) → e.held.of ≡ s →
+      Emits (λ from to free r x. ConvertedCode code layout None A u from to free r s) from free l (converted_by (converting s u) u e into) ⊎ ((converted_by (converting s u) u e into).held.register ≡ into)
+  converted_elsewhere A Int LongLong from free into l e h q = inr refl
+  converted_elsewhere A LongLong Int from free into l e h q = inr refl
+  converted_elsewhere A LongLong Unsigned from free into l e h q = inr refl
+  converted_elsewhere A s u from free into l e h q = ⊎_elim (λ g. inl (remains None A s u from free l e g q (refl, refl))) (λ k. inr k) h
+
+  -- of a constant the type is its own
+  abbrev pub OwnIs : Expr → Scalar → Type 0
+  OwnIs (Constant n t at) s = s ≡ t
+  OwnIs e s = Unit {0}
+
+  -- an expression's value in the type that is due
+  pub in_type_emits : (home : Option ℕ) (e' : Expr) (A : Coded) (s u : Scalar) (from free into : ℕ) (l : Lists) (e : Emitted) → Emits A from free l e → e.held.of ≡ s → OwnIs e' s → MayTake home free into →
+      Emits (λ from to free r x. DueCode code layout home e' A u from to free r s) from free l (in_type s u e' e from into l)
+  in_type_emits home (Constant n t at) A s u from free into l e h q o m =
+      let g = one_emits home (λ r. Plain.Constant r (constant_in u t n)) (own.Constant into (constant_in u t n)) u from free into l refl m in
+      record { to_is = g.to_is; grows = g.grows; stands = λ f st. (o, g.stands f st) }
+  in_type_emits home e' A s u from free into l e h q o m = converted_emits home A s u from free into l e h q m
+
+  pub in_type_elsewhere : (e' : Expr) (A : Coded) (s u : Scalar) (from free into : ℕ) (l : Lists) (e : Emitted) → (Emits A from free l e ⊎ (e.held.register ≡ into)) → e.held.of ≡ s →
+      Emits (λ from to free r x. DueCode code layout None e' A u from to free r s) from free l (in_type s u e' e from into l) ⊎ ((in_type s u e' e from into l).held.register ≡ into)
+  in_type_elsewhere (Constant n t at) A s u from free into l e h q = inr refl
+  in_type_elsewhere e' A s u from free into l e h q = converted_elsewhere A s u from free into l e h q
+
+  -- whatever its own type is
+  pub typed_emits : (home : Option ℕ) (e' : Expr) (A : Coded) (s u : Scalar) (from free : ℕ) (l : Lists) (e : Emitted) → Emits (λ from to free r x. DueCode code layout home e' A u from to free r s) from free l e →
+      Emits (λ from to free r x. TypedCode code layout home e' A u from to free r) from free l e
+  typed_emits home e' A s u from free l e h = record { to_is = h.to_is; grows = h.grows; stands = λ f st. (s, h.stands f st) }
+
+  pub cast_emits : (home : Option ℕ) (e' : Expr) (A : Coded) (s u : Scalar) (from free : ℕ) (l : Lists) (e : Emitted) → e.held.of ≡ u → Emits (λ from to free r x. DueCode code layout home e' A u from to free r s) from free l e →
+      Emits (CastCode code layout home e' A u) from free l e
+  cast_emits home e' A s u from free l e k h = record { to_is = h.to_is; grows = h.grows; stands = λ f st. (k, (s, h.stands f st)) }
+
+  -- the first of several values
+  pub in_first_emits : (ts : List Scalar) (e' : Expr) (A : Coded) (s : Scalar) (from free : ℕ) (l : Lists) (e : Emitted) → Emits A from free l e → e.held.of ≡ s → OwnIs e' s →
+      Emits (λ from to free r x. HandedCode code layout ts e' A from to free r) from free l (in_first_type s ts e' e from free l)
+  in_first_emits [] e' A s from free l e h q o = record { to_is = h.to_is; grows = h.grows; stands = λ f st. (e.held.of, h.stands f st) }
+  in_first_emits (u ∷ us) e' A s from free l e h q o =
+      typed_emits None e' A s u from free l (in_type s u e' e from free l) (in_type_emits None e' A s u from free free l e h q o (omega arith))
 
   pub in_own_emits : (A : Coded) (from free : ℕ) (l : Lists) (e : Emitted) → Emits A (from + 1) free l e → Emits (ValueTransactionCode code layout A) from free l (in_own_transaction e)
   in_own_emits A from free l e h =
@@ -129,10 +192,16 @@ module _ (code : Code) (arguments : List ℕ) (layout : Layout) where
       })
 
   pub complemented_emits : (home : Option ℕ) (A : Coded) (from free into : ℕ) (l : Lists) (e : Emitted) → Emits A from free l e → MayTake home free into →
-      Emits (λ from to free r t. UnaryCode code layout home (λ ta ra. Plain.Complement r ra) A from to free r t) from free l (complemented e into)
+      Emits (λ from to free r t. UnaryCode code layout home (λ ta ra. Lowered.complementing ta r ra) A from to free r t) from free l (complemented e into)
   complemented_emits home A from free into l e h m =
-      then_emits A (λ from to free r t. UnaryCode code layout home (λ ta ra. Plain.Complement r ra) A from to free r t) home (own.Complement into e.held.register) e.held.of from free into l e h m
-      (λ a b. record { mid = e.held.to; ra = e.held.register; ta = e.held.of; computes = a; operates = b })
+      then_emits A (λ from to free r t. UnaryCode code layout home (λ ta ra. Lowered.complementing ta r ra) A from to free r t) home (complementing e.held.of into e.held.register) e.held.of from free into l e h m
+      (λ a b. record {
+        mid = e.held.to;
+        ra = e.held.register;
+        ta = e.held.of;
+        computes = a;
+        operates = subst (λ i. GivenBy code layout home i e.held.of e.held.to (e.held.to + 1) free into e.held.of) (complementing_is arguments e.held.of into e.held.register) b;
+      })
 
   pub compared_emits : (home : Option ℕ) (A : Coded) (from free into : ℕ) (l : Lists) (e : Emitted) → Emits A from free l e → MayTake home free into →
       Emits (NotCode code layout home A) from free l (compared e into free)
@@ -159,29 +228,42 @@ module _ (code : Code) (arguments : List ℕ) (layout : Layout) where
             };
       }
 
-  -- a value that lies ready, or else one that is computed
-  pub ready_or_emits : (w : ℕ) (u : Scalar) (A : Coded) (from free : ℕ) (l : Lists) (e : Emitted) → Emits A from free l e →
-      Emits (λ from to free r t. A from to free r t ⊎ LiesReady code layout w u from to r t) from free l (ready_or (ready l.layout w u from) l e)
-  ready_or_emits w u A from free l e h = by (ready_from l.layout.writable l.layout.constants w) refl
+  -- a word that lies ready, or else is set
+  pub word_emits : (w : ℕ) (u : Scalar) (from free : ℕ) (l : Lists) →
+      Emits (λ from to free r x. WordCode code layout w u from to free r) from free l (ready_or (ready l.layout w u from) l (constant w u from free l))
+  word_emits w u from free l = by (ready_from l.layout.writable l.layout.constants w) refl
     where
       by : (o : Option ℕ) → ready_from l.layout.writable l.layout.constants w ≡ o →
-          Emits (λ from to free r t. A from to free r t ⊎ LiesReady code layout w u from to r t) from free l (ready_or (option_map (λ r. record { register = r; of = u; to = from }) o) l e)
-      by None n = record { to_is = h.to_is; grows = h.grows; stands = λ f st. inl (h.stands f st) }
+          Emits (λ from to free r x. WordCode code layout w u from to free r) from free l (ready_or (option_map (λ r. record { register = r; of = u; to = from }) o) l (constant w u from free l))
+      by None n =
+          let g = one_emits None (λ r. Plain.Constant r w) (own.Constant free w) u from free free l refl (omega arith) in
+          record { to_is = g.to_is; grows = g.grows; stands = λ f st. inl (g.stands f st) }
       by (Some r) n = record {
         to_is = omega arith;
         grows = grows_same l;
         stands = λ f st. inr (let k = f.ready w r n in record { number = k.number; known = k.known; to_is = refl; register = k.register; type_is = refl });
       }
 
-  -- the right side of an operator
-  pub operand_emits : (b : Expr) (A : Coded) (from free : ℕ) (l : Lists) (e : Emitted) → Emits A from free l e → Emits (OperandCode code layout b A) from free l (ready_or (constant_ready l.layout b from) l e)
-  operand_emits (Constant n t at) A from free l e h = ready_or_emits (word_of t (pos n)) t A from free l e h
-  operand_emits b A from free l e h = h
+  -- the right side of an operator, and its left side
+  pub operand_emits : (b : Expr) (A : Coded) (s u : Scalar) (from free : ℕ) (l : Lists) (e : Emitted) → Emits A from free l e → e.held.of ≡ s → OwnIs b s →
+      Emits (λ from to free r x. OperandCode code layout b A u from to free r s) from free l (ready_or (constant_ready l.layout u b from) l (in_type s u b e from free l))
+  operand_emits (Constant n t at) A s u from free l e h q o =
+      let g = word_emits (constant_in u t n) u from free l in
+      record { to_is = g.to_is; grows = g.grows; stands = λ f st. (o, g.stands f st) }
+  operand_emits b A s u from free l e h q o = converted_emits None A s u from free free l e h q (omega arith)
 
-  pub both_emits : (home : Option ℕ) (op : BinaryOp) (A B : Coded) (from free into : ℕ) (l : Lists) (a b : Emitted) → Emits A from free l a → Emits B a.held.to (above free a.held.register) a.lists b → MayTake home free into →
-      Emits (BinaryCode code layout home op A B) from free l (both op a b into)
-  both_emits home op A B from free into l a b h g m =
-      let t : Scalar = operand_type op a.held.of b.held.of in
+  pub left_emits : (a : Expr) (A : Coded) (s u : Scalar) (from free : ℕ) (l : Lists) (e : Emitted) → Emits A from free l e → e.held.of ≡ s → OwnIs a s →
+      Emits (λ from to free r x. OperandCode code layout a A u from to free r s) from free l (in_type s u a e from free l)
+  left_emits (Constant n t at) A s u from free l e h q o =
+      let g = one_emits None (λ r. Plain.Constant r (constant_in u t n)) (own.Constant free (constant_in u t n)) u from free free l refl (omega arith) in
+      record { to_is = g.to_is; grows = g.grows; stands = λ f st. (o, inl (g.stands f st)) }
+  left_emits a A s u from free l e h q o = converted_emits None A s u from free free l e h q (omega arith)
+
+  pub both_emits : (home : Option ℕ) (op : BinaryOp) (A B : Due) (ta tb : Scalar) (from free into : ℕ) (l : Lists) (a b : Emitted) → Emits (λ from to free r x. A (operand_type op ta tb) from to free r ta) from free l a →
+      Emits (λ from to free r x. B (operand_type op tb ta) from to free r tb) a.held.to (above free a.held.register) a.lists b → MayTake home free into →
+      Emits (BinaryCode code layout home op A B) from free l (both op (operand_type op ta tb) a b into)
+  both_emits home op A B ta tb from free into l a b h g m =
+      let t : Scalar = operand_type op ta tb in
       let i : Instr = computing op t into a.held.register b.held.register in
       let two : length (a.code ++ b.code) ≡ length a.code + length b.code = length-append a.code b.code in
       let last_is : b.held.to ≡ from + length (a.code ++ b.code) = (let x = h.to_is in let y = g.to_is in omega (arith, x, y, two)) in
@@ -198,35 +280,35 @@ module _ (code : Code) (arguments : List ℕ) (layout : Layout) where
               later = above free a.held.register;
               ra = a.held.register;
               rb = b.held.register;
-              ta = a.held.of;
-              tb = b.held.of;
+              ta = ta;
+              tb = tb;
               left = h.stands (fits_before code arguments layout a.lists b.lists g.grows inner) (front code arguments from a.code b.code first);
               kept = above_free free a.held.register;
-              apart = above_it free a.held.register;
+              apart = inl (above_it free a.held.register);
               right = g.stands inner (behind code arguments from a.held.to a.code b.code h.to_is first);
-              operates = operator_is code layout home op a.held.of b.held.of a.held.register b.held.register b.held.to (b.held.to + 1) free into (result_type op t)
-                  (subst (λ j. GivenBy code layout home j (result_type op t) b.held.to (b.held.to + 1) free into (result_type op t)) (computing_is arguments op t into a.held.register b.held.register)
-                  (given code arguments layout home i (result_type op t) b.held.to (b.held.to + 1) free into (omega arith) m (is_register code arguments layout b.lists into f) last.0));
+              operates = subst (λ j. GivenBy code layout home j (result_type op t) b.held.to (b.held.to + 1) free into (result_type op t)) (computing_is arguments op t into a.held.register b.held.register)
+                  (given code arguments layout home i (result_type op t) b.held.to (b.held.to + 1) free into (omega arith) m (is_register code arguments layout b.lists into f) last.0);
             };
       }
 
   -- a value in this very register: it came there, or it is moved
-  pub settled_emits : (home : Option ℕ) (A : Option ℕ → Coded) (from into free : ℕ) (l : Lists) (e : Emitted) → Emits (A home) from free l e → (Emits (A None) from free l e ⊎ (e.held.register ≡ into)) → MayTake home free into →
-      (t : Scalar) → Emits (λ from to free r t'. BranchCode code layout home A from to free into t) from free l (settled into e)
-  settled_emits home A from into free l e h o m t = by (e.held.register == into) refl
+  pub settled_emits : (home : Option ℕ) (e' : Expr) (A : Option ℕ → Coded) (t : Scalar) (from into free : ℕ) (l : Lists) (e : Emitted) → Emits (λ from to free r x. TypedCode code layout home e' (A home) t from to free r) from free l e →
+      (Emits (λ from to free r x. TypedCode code layout None e' (A None) t from to free r) from free l e ⊎ (e.held.register ≡ into)) → MayTake home free into →
+      Emits (λ from to free r x. BranchCode code layout home e' A from to free into t) from free l (settled into e)
+  settled_emits home e' A t from into free l e h o m = by (e.held.register == into) refl
     where
-      there : e.held.register ≡ into → Emits (λ from to free r t'. BranchCode code layout home A from to free into t) from free l e
+      there : e.held.register ≡ into → Emits (λ from to free r x. BranchCode code layout home e' A from to free into t) from free l e
       there same = record {
         to_is = h.to_is;
         grows = h.grows;
-        stands = λ f st. inl (record { mid = e.held.to; ra = e.held.register; ta = e.held.of; computes = h.stands f st; converts = (refl, sym same) });
+        stands = λ f st. inl (subst (λ r. TypedCode code layout home e' (A home) t from e.held.to free r) same (h.stands f st));
       }
 
-      moved : Emits (A None) from free l e → Emits (λ from to free r t'. BranchCode code layout home A from to free into t) from free l (then_one e (own.Move into e.held.register) into e.held.of)
+      moved : Emits (λ from to free r x. TypedCode code layout None e' (A None) t from to free r) from free l e → Emits (λ from to free r x. BranchCode code layout home e' A from to free into t) from free l (then_one e (own.Move into e.held.register) into e.held.of)
       moved g =
-          then_emits (A None) (λ from to free r t'. BranchCode code layout home A from to free into t) home (own.Move into e.held.register) e.held.of from free into l e g m
-          (λ a b. inr (record { mid = e.held.to; rc = e.held.register; computes = record { mid = e.held.to; ra = e.held.register; ta = e.held.of; computes = a; converts = (refl, refl) }; moves = record { to_is = b.to_is; takes = b.takes; register = b.register; type_is = refl; instr = b.instr } }))
+          then_emits (λ from to free r x. TypedCode code layout None e' (A None) t from to free r) (λ from to free r x. BranchCode code layout home e' A from to free into t) home (own.Move into e.held.register) e.held.of from free into l e g m
+          (λ a b. inr (record { mid = e.held.to; rc = e.held.register; computes = a; moves = record { to_is = b.to_is; takes = b.takes; register = b.register; type_is = refl; instr = b.instr } }))
 
-      by : (b : Bool) → (e.held.register == into) ≡ b → Emits (λ from to free r t'. BranchCode code layout home A from to free into t) from free l (if b then e else then_one e (own.Move into e.held.register) into e.held.of)
+      by : (b : Bool) → (e.held.register == into) ≡ b → Emits (λ from to free r x. BranchCode code layout home e' A from to free into t) from free l (if b then e else then_one e (own.Move into e.held.register) into e.held.of)
       by true n = there (eqb-true e.held.register into n)
       by false n = ⊎_elim moved (λ same. absurd (eqb-false e.held.register into n same)) o

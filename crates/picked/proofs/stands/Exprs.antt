@@ -1,6 +1,6 @@
 -- What is emitted for an expression of a typed program stands for it, and what is picked for a condition decides it.
-use Rattle.std.proofs.Common.{◌≡◌, refl, sym, ap, subst, ◌∙◌, ℕ, pos, ◌+◌, List, [], ◌∷◌, ◌++◌, append_assoc, length, map, take, drop, arith, Option, Some, None, Bool, true, false, ◌⊎◌, inl, inr, ⊎_elim, not, IsTrue}
-use Rattle.std.specs.Prelude.{if◌then◌else◌, ◌==◌, unwrap_or, option_map, slice_get}
+use Rattle.std.proofs.Common.{◌≡◌, refl, sym, ap, subst, ◌∙◌, ℕ, pos, ◌+◌, List, [], ◌∷◌, ◌++◌, append_assoc, length, map, take, drop, arith, Option, Some, None, ◌⊎◌, inl, inr, ⊎_elim, not, IsTrue}
+use Rattle.std.specs.Prelude.{unwrap_or, slice_get}
 use Rattle.std.specs.Option.{IfSome}
 use Rattle.std.proofs.lemmas.List.{length-append}
 use Rattle.std.proofs.Math.Seq.{drop-append_seam, take-append_seam}
@@ -13,7 +13,7 @@ use Rattle.syntax.specs.declared.tree.LogicalOp.TheVariants.{AndThen, OrElse}
 use Rattle.syntax.specs.Tree.{Name, Expr, Exprs, Variable, Constant, Element, Call, Parenthesized, Cast, Unary, Binary, Logical, Conditional, InTransaction, Stmts, Function, Program}
 use Rattle.syntax.specs.Numbers.{word_of, common, operand_type, result_type}
 use Rattle.syntax.specs.Names.{Local, GlobalCells, newest, global_of, definition_of}
-use Rattle.syntax.specs.Types.{Callable, Scope, number_type, element_type, call_type, common_of, binary_type, type_of, running_scope, known_function}
+use Rattle.syntax.specs.Types.{Callable, Scope, number_type, element_type as element_of_symbol, call_type, common_of, binary_type, type_of, running_scope, known_function}
 use Rattle.syntax.specs.Typing.{may_be_function, gives_nothing}
 use Rattle.syntax.specs.Typing.{IsTypedProgram}
 use Rattle.syntax.specs.ScopeLaws.{Agrees}
@@ -24,15 +24,15 @@ use Rattle.bytecode.specs.declared.instr.Instr.{Instr}
 use Rattle.bytecode.specs.declared.instr.Instr.TheVariants as own
 use Rattle.bytecode.specs.Code.{Code, FunctionCode, Instr as Plain}
 use Rattle.bytecode.specs.Views.{args_of, instr_of}
-use Rattle.lowered.specs.Expressions.{LocalScope, Layout, IsLike, Coded, Branching, MayTake, GivenBy, VariableCode, ElementAt, BothHold, EitherHolds, CallCode, arranged, types_left, OperandCode, ExprCode, OwnTests, ArgsCode, CondCode}
+use Rattle.lowered.specs.Expressions.{LocalScope, Layout, IsLike, Coded, Branching, MayTake, GivenBy, TypedCode, BranchCode, VariableCode, ElementAt, BothHold, EitherHolds, CallCode, arranged, types_left, OperandCode, ExprCode, OwnTests, ArgsCode, CondCode}
 use Rattle.picked.specs.Lists.{Lists, used, holding}
 use Rattle.picked.specs.Names.{Callee, callee_at, callee_of}
-use Rattle.picked.specs.Conditions.{joined}
-use Rattle.picked.specs.Expressions.{Emitted, AllEmitted, above, then_one, ready_from, constant_ready, ready_or, variable, element, called, settled, emitted, own_condition, condition, all_emitted}
-use Rattle.lowered.proofs.Unconverted.{handed_is}
+use Rattle.picked.specs.Conditions.{Condition, joined}
+use Rattle.picked.specs.Expressions.{Emitted, AllEmitted, above, variable, element, called, settled, converting, where_same, in_type, in_first_type, variable_type, element_type, called_type, taken_types, emitted_type, emitted, due, operand, own_condition, condition, all_emitted}
 use Rattle.picked.proofs.stands.Standing.{Stand, front, behind, front_same, front_more, max_left, Grows, grows_same, grows_further, grows_used, Fits, fits_before, is_register, given}
 use Rattle.picked.proofs.stands.Named.{VariableFound, variable_found, array_found, function_found, known_number, known_array, known_callable}
-use Rattle.picked.proofs.stands.Emitting.{above_free, above_it, Emits, one_emits, in_local_emits, element_emits, cast_emits, in_own_emits, negated_emits, complemented_emits, compared_emits, operand_emits, both_emits, settled_emits}
+use Rattle.picked.proofs.stands.Kinds.{in_type_of, emitted_is}
+use Rattle.picked.proofs.stands.Emitting.{above_free, above_it, Emits, one_emits, in_local_emits, element_emits, OwnIs, in_type_emits, in_type_elsewhere, typed_emits, cast_emits, in_first_emits, in_own_emits, negated_emits, complemented_emits, compared_emits, operand_emits, left_emits, both_emits, settled_emits}
 use Rattle.picked.proofs.stands.Conds.{Decides, opposite_decides, and_decides, or_decides, tested_decides, zero_decides, answered_emits, chosen_emits}
 
 -- a callee's number is that of a function of its name
@@ -54,25 +54,22 @@ binary_of : (op : BinaryOp) (s t : Scalar) → binary_type op (Some s) (Some t) 
 binary_of ShiftLeft s t = refl
 binary_of op s t = refl
 
-settled_of : (r : ℕ) (e : Emitted) → (settled r e).held.of ≡ e.held.of
-settled_of r e = by (e.held.register == r)
-  where
-    by : (b : Bool) → (if b then e else then_one e (own.Move r e.held.register) r e.held.of).held.of ≡ e.held.of
-    by true = refl
-    by false = refl
+variable_of : (locals : ℕ) (o : Option (ℕ × Scalar)) (g : Option GlobalCells) (t : Scalar) → VariableFound locals o g t → variable_type o g ≡ t
+variable_of locals (Some x) g t h = h.1
+variable_of locals None (Some g) t h = h
+variable_of locals None None t h = absurd h
 
-variable_of : (locals : ℕ) (o : Option (ℕ × Scalar)) (g : Option GlobalCells) (t : Scalar) → VariableFound locals o g t → (from into : ℕ) (l : Lists) → (variable o g from into l).held.of ≡ t
-variable_of locals (Some x) g t h from into l = h.1
-variable_of locals None (Some g) t h from into l = h
-variable_of locals None None t h from into l = absurd h
+element_of : (g : Option GlobalCells) (t : Scalar) → Found g t → element_type g ≡ t
+element_of None t f = absurd (cc f.1)
+element_of (Some g) t f = let same : g ≡ f.0 = ap (λ o. unwrap_or o g) f.1 in ap (λ (k : GlobalCells). k.global.of) same ∙ f.2
 
-element_of : (g : Option GlobalCells) (t : Scalar) → Found g t → (e : Emitted) (from into : ℕ) (l : Lists) → (element g e from into l).held.of ≡ t
-element_of None t f e from into l = absurd (cc f.1)
-element_of (Some g) t f e from into l = let same : g ≡ f.0 = ap (λ o. unwrap_or o g) f.1 in ap (λ (k : GlobalCells). k.global.of) same ∙ f.2
+called_of : (o : Option Callee) (c : Callee) → o ≡ Some c → called_type o ≡ c.of
+called_of None c e = absurd (cc)
+called_of (Some d) c e = let same : d ≡ c = ap (λ o. unwrap_or o d) e in ap (λ (x : Callee). x.of) same
 
-called_of : (o : Option Callee) (c : Callee) → o ≡ Some c → (args : AllEmitted) (from into : ℕ) (l : Lists) → (called o args from into l).held.of ≡ c.of
-called_of None c e args from into l = absurd (cc)
-called_of (Some d) c e args from into l = let same : d ≡ c = ap (λ o. unwrap_or o d) e in ap (λ (x : Callee). x.of) same
+taken_of : (o : Option Callee) (n : ℕ) (f : Function) → o ≡ Some (callee_at n f) → taken_types o ≡ map (λ q. q.of) f.parameters
+taken_of None n f e = absurd (cc)
+taken_of (Some d) n f e = let same : d ≡ callee_at n f = ap (λ o. unwrap_or o d) e in ap (λ (x : Callee). map (λ q. q.of) x.parameters) same
 
 called_into : (o : Option Callee) (args : AllEmitted) (from into : ℕ) (l : Lists) → (called o args from into l).held.register ≡ into
 called_into None args from into l = refl
@@ -136,49 +133,38 @@ module _ (p : Program) (code : Code) (arguments : List ℕ) (layout : Layout) (t
           result = result_of d.0.0 k.0 k.1 d.2 ∙ sym (ap call_type k.2);
         }
 
-    operand_is : (own : Layout) (b : Expr) (from : ℕ) (l : Lists) (e : Emitted) → type_of known b ≡ Some e.held.of → type_of known b ≡ Some (ready_or (constant_ready own b from) l e).held.of
-    operand_is own (Constant n t at) from l e h = by (ready_from own.writable own.constants (word_of t (pos n)))
-      where
-        by : (o : Option ℕ) → Some t ≡ Some (ready_or (option_map (λ r. record { register = r; of = t; to = from }) o) l e).held.of
-        by None = h
-        by (Some r) = refl
-    operand_is own b from l e h = h
-
     -- the type of what is emitted is the expression's
-    pub type_is : (e : Expr) → TypedExpr known e → Gives known e → (from into free : ℕ) (l : Lists) → type_of known e ≡ Some (emitted p scope e from into free l).held.of
-    type_is (Variable x) h g from into free l =
+    pub type_is : (e : Expr) → TypedExpr known e → Gives known e → type_of known e ≡ Some (emitted_type p scope e)
+    type_is (Variable x) h g =
         let k = known_number (known x.text) h.0 h.1 in
-        ap number_type k.1 ∙ ap Some (sym (variable_of (length scope) (newest scope x.text) (global_of p x.text) k.0 (variable_found p scope x.text k.0 (agrees x.text h.0 ∙ k.1)) from into l))
-    type_is (Element x i at) h g from into free l =
+        ap number_type k.1 ∙ ap Some (sym (variable_of (length scope) (newest scope x.text) (global_of p x.text) k.0 (variable_found p scope x.text k.0 (agrees x.text h.0 ∙ k.1))))
+    type_is (Element x i at) h g =
         let k = known_array (known x.text) h.0 h.2 in
-        ap element_type k.2 ∙ ap Some (sym (element_of (global_of p x.text) k.0 (array_found p scope x.text k.0 k.1 (agrees x.text h.0 ∙ k.2)) (emitted p scope i from free free l) from into l))
-    type_is (Call f es at) h g from into free l =
+        ap element_of_symbol k.2 ∙ ap Some (sym (element_of (global_of p x.text) k.0 (array_found p scope x.text k.0 k.1 (agrees x.text h.0 ∙ k.2))))
+    type_is (Call f es at) h g =
         let c = calls f h.0 h.2 in
         let k = known_callable (known f.text) h.0 h.2 in
         let gives = subst (λ y. IsTrue (not (gives_nothing y))) k.2 g in
         let has : call_type (known f.text) ≡ Some (unwrap_or c.definition.0.result Int) = (ap call_type k.2 ∙ call_gives k.0 k.1 gives ∙ ap (λ o. Some (unwrap_or o Int)) (sym (c.result ∙ ap call_type k.2))) in
-        has ∙ ap Some (sym (called_of (callee_of p f.text) (callee_at c.number c.definition.0) c.callee (all_emitted p scope es from free l) from into l))
-    type_is (Parenthesized e at) h g from into free l = type_is e h g from into free l
-    type_is (Unary Negate e at) h g from into free l = type_is e h.0 h.1 from free free l
-    type_is (Unary Keep e at) h g from into free l = type_is e h.0 h.1 from into free l
-    type_is (Unary Complement e at) h g from into free l = type_is e h.0 h.1 from free free l
-    type_is (Binary op a b at) h g from into free l =
-        let left = emitted p scope a from free free l in
-        let later : ℕ = above free left.held.register in
-        let found = constant_ready left.lists.layout b left.held.to in
-        let computed = emitted p scope b left.held.to later later left.lists in
-        ap (λ o. binary_type op o (type_of known b)) (type_is a h.0 h.1 from free free l)
-        ∙ ap (λ o. binary_type op (Some left.held.of) o) (operand_is left.lists.layout b left.held.to left.lists computed (type_is b h.2 h.3 left.held.to later later left.lists))
-        ∙ binary_of op left.held.of (ready_or found left.lists computed).held.of
-    type_is (Conditional c a b at) h g from into free l =
-        let test = condition p scope c from free l in
-        let x = emitted p scope a (test.to + 1) into free test.lists in
-        let first = settled into x in
-        let y = emitted p scope b (first.held.to + 1) into free first.lists in
-        ap (λ o. common_of o (type_of known b)) (type_is a h.1 h.2 (test.to + 1) into free test.lists ∙ ap Some (sym (settled_of into x)))
-        ∙ ap (λ o. common_of (Some first.held.of) o) (type_is b h.3 h.4 (first.held.to + 1) into free first.lists ∙ ap Some (sym (settled_of into y)))
-    type_is (InTransaction mode keyword e at) h g from into free l = type_is e h.0 h.1 (from + 1) into free l
-    type_is e h g from into free l = refl
+        has ∙ ap Some (sym (called_of (callee_of p f.text) (callee_at c.number c.definition.0) c.callee))
+    type_is (Parenthesized e at) h g = type_is e h g
+    type_is (Unary Negate e at) h g = type_is e h.0 h.1
+    type_is (Unary Keep e at) h g = type_is e h.0 h.1
+    type_is (Unary Complement e at) h g = type_is e h.0 h.1
+    type_is (Binary op a b at) h g =
+        ap (λ o. binary_type op o (type_of known b)) (type_is a h.0 h.1)
+        ∙ ap (λ o. binary_type op (Some (emitted_type p scope a)) o) (type_is b h.2 h.3)
+        ∙ binary_of op (emitted_type p scope a) (emitted_type p scope b)
+    type_is (Conditional c a b at) h g =
+        ap (λ o. common_of o (type_of known b)) (type_is a h.1 h.2)
+        ∙ ap (λ o. common_of (Some (emitted_type p scope a)) o) (type_is b h.3 h.4)
+    type_is (InTransaction mode keyword e at) h g = type_is e h.0 h.1
+    type_is e h g = refl
+
+    -- of a constant it is its own
+    own_is : (e : Expr) → OwnIs code arguments layout e (emitted_type p scope e)
+    own_is (Constant n t at) = refl
+    own_is e = tt
 
     call_emits : (home : Option ℕ) (x : List ℕ) (A : List Scalar → (from to free : ℕ) → List ℕ → Type 0) (c : Calls x) (o : Option Callee) → o ≡ Some (callee_at c.number c.definition.0) → (from into free : ℕ) (l : Lists) (args : AllEmitted) → AllEmits (A (map (λ q. q.of) c.definition.0.parameters)) from free l args → MayTake home free into →
         Emits code arguments layout (CallCode code layout home p x A) from free l (called o args from into l)
@@ -234,14 +220,30 @@ module _ (p : Program) (code : Code) (arguments : List ℕ) (layout : Layout) (t
         by None (Some g) t f = inr refl
         by None None t f = absurd f
     elsewhere (Element x i at) h from into free l = inr (element_into (global_of p x.text) (emitted p scope i from free free l) from into l)
-    elsewhere (Call f es at) h from into free l = inr (called_into (callee_of p f.text) (all_emitted p scope es from free l) from into l)
+    elsewhere (Call f es at) h from into free l = inr (called_into (callee_of p f.text) (all_emitted p scope (taken_types (callee_of p f.text)) es from free l) from into l)
     elsewhere (Parenthesized e at) h from into free l = elsewhere e h from into free l
     elsewhere (Cast t e at) h from into free l =
-        ⊎_elim (λ g. inl (cast_emits code arguments layout None t (ExprCode code layout p None scope e) from free l (emitted p scope e from into free l) g)) (λ g. inr g) (elsewhere e h from into free l)
+        let s = emitted_type p scope e in
+        let x = emitted p scope e from into free l in
+        ⊎_elim (λ g. inl (cast_emits code arguments layout None e (ExprCode code layout p None scope e) s t from free l (in_type s t e x from into l) (in_type_of s t e x from into l) g)) (λ g. inr g)
+        (in_type_elsewhere code arguments layout e (ExprCode code layout p None scope e) s t from free into l x (elsewhere e h from into free l) (emitted_is p scope e from into free l))
     elsewhere (Unary Keep e at) h from into free l = elsewhere e h.0 from into free l
     elsewhere (InTransaction mode keyword e at) h from into free l =
         ⊎_elim (λ g. inl (in_own_emits code arguments layout (ExprCode code layout p None scope e) from free l (emitted p scope e (from + 1) into free l) g)) (λ g. inr g) (elsewhere e h.0 (from + 1) into free l)
     elsewhere e h from into free l = inr refl
+
+    -- a branch's value in the type of both
+    branch_elsewhere : (t : Scalar) (e : Expr) → TypedExpr known e → (from into free : ℕ) (l : Lists) →
+        Emits code arguments layout (λ from to free r x. TypedCode code layout None e (ExprCode code layout p None scope e) t from to free r) from free l (due p scope t e from into free l) ⊎ ((due p scope t e from into free l).held.register ≡ into)
+    branch_elsewhere t e h from into free l =
+        let s = emitted_type p scope e in
+        let x = emitted p scope e from into free l in
+        ⊎_elim (λ g. inl (typed_emits code arguments layout None e (ExprCode code layout p None scope e) s t from free l (in_type s t e x from into l) g)) (λ g. inr g)
+        (in_type_elsewhere code arguments layout e (ExprCode code layout p None scope e) s t from free into l x (elsewhere e h from into free l) (emitted_is p scope e from into free l))
+
+    same_decides : (i : Option (ℕ → ℕ → Instr)) (T : Branching) (from free : ℕ) (l : Lists) (o : Option Condition) → IfSome o (Decides code arguments layout T from free l) → IfSome (where_same i o) (Decides code arguments layout T from free l)
+    same_decides None T from free l o h = h
+    same_decides (Some i) T from free l o h = tt
 
     abbrev Tests : Expr → Branching
     Tests e = CondCode code layout p scope e
@@ -263,9 +265,14 @@ module _ (p : Program) (code : Code) (arguments : List ℕ) (layout : Layout) (t
           (expr_emits None i h.1 from free free l (omega arith)) m
       expr_emits home (Call f es at) h from into free l m =
           let c = calls f h.0 h.2 in
-          call_emits home f.text (λ ts. ArgsCode code layout p scope ts es) c (callee_of p f.text) c.callee from into free l (all_emitted p scope es from free l) (all_emits (map (λ q. q.of) c.definition.0.parameters) es h.1 from free l) m
+          call_emits home f.text (λ ts. ArgsCode code layout p scope ts es) c (callee_of p f.text) c.callee from into free l (all_emitted p scope (taken_types (callee_of p f.text)) es from free l)
+          (subst (λ ts. AllEmits (ArgsCode code layout p scope ts es) from free l (all_emitted p scope (taken_types (callee_of p f.text)) es from free l)) (taken_of (callee_of p f.text) c.number c.definition.0 c.callee) (all_emits (taken_types (callee_of p f.text)) es h.1 from free l)) m
       expr_emits home (Parenthesized e at) h from into free l m = expr_emits home e h from into free l m
-      expr_emits home (Cast t e at) h from into free l m = cast_emits code arguments layout home t (ExprCode code layout p home scope e) from free l (emitted p scope e from into free l) (expr_emits home e h from into free l m)
+      expr_emits home (Cast t e at) h from into free l m =
+          let s = emitted_type p scope e in
+          let x = emitted p scope e from into free l in
+          cast_emits code arguments layout home e (ExprCode code layout p home scope e) s t from free l (in_type s t e x from into l) (in_type_of s t e x from into l)
+          (in_type_emits code arguments layout home e (ExprCode code layout p home scope e) s t from free into l x (expr_emits home e h from into free l m) (emitted_is p scope e from into free l) (own_is e) m)
       expr_emits home (Unary Negate e at) h from into free l m =
           negated_emits code arguments layout home (ExprCode code layout p None scope e) from free into l (emitted p scope e from free free l) (expr_emits None e h.0 from free free l (omega arith)) m
       expr_emits home (Unary Keep e at) h from into free l m = expr_emits home e h.0 from into free l m
@@ -274,12 +281,17 @@ module _ (p : Program) (code : Code) (arguments : List ℕ) (layout : Layout) (t
       expr_emits home (Unary Complement e at) h from into free l m =
           complemented_emits code arguments layout home (ExprCode code layout p None scope e) from free into l (emitted p scope e from free free l) (expr_emits None e h.0 from free free l (omega arith)) m
       expr_emits home (Binary op a b at) h from into free l m =
-          let left = emitted p scope a from free free l in
+          let ta = emitted_type p scope a in
+          let tb = emitted_type p scope b in
+          let t = operand_type op ta tb in
+          let u = operand_type op tb ta in
+          let x = emitted p scope a from free free l in
+          let left = in_type ta t a x from free l in
           let later : ℕ = above free left.held.register in
-          let computed = emitted p scope b left.held.to later later left.lists in
-          both_emits code arguments layout home op (ExprCode code layout p None scope a) (OperandCode code layout b (ExprCode code layout p None scope b)) from free into l left (ready_or (constant_ready left.lists.layout b left.held.to) left.lists computed)
-          (expr_emits None a h.0 from free free l (omega arith))
-          (operand_emits code arguments layout b (ExprCode code layout p None scope b) left.held.to later left.lists computed (expr_emits None b h.2 left.held.to later later left.lists (omega arith))) m
+          let y = emitted p scope b left.held.to later later left.lists in
+          both_emits code arguments layout home op (OperandCode code layout a (ExprCode code layout p None scope a)) (OperandCode code layout b (ExprCode code layout p None scope b)) ta tb from free into l left (operand p scope u b left.held.to later left.lists)
+          (left_emits code arguments layout a (ExprCode code layout p None scope a) ta t from free l x (expr_emits None a h.0 from free free l (omega arith)) (emitted_is p scope a from free free l) (own_is a))
+          (operand_emits code arguments layout b (ExprCode code layout p None scope b) tb u left.held.to later left.lists y (expr_emits None b h.2 left.held.to later later left.lists (omega arith)) (emitted_is p scope b left.held.to later later left.lists) (own_is b)) m
       expr_emits home (Logical AndThen a b at) h from into free l m =
           let first = condition p scope a from free l in
           let second = condition p scope b (first.to + 1) free first.lists in
@@ -296,15 +308,25 @@ module _ (p : Program) (code : Code) (arguments : List ℕ) (layout : Layout) (t
           (by_parts b (first.to + 1) free first.lists (own_decides b h.1 (first.to + 1) free first.lists) (expr_emits None b h.1 (first.to + 1) free free first.lists (omega arith)))) m
       expr_emits home (Conditional c a b at) h from into free l m =
           let test = condition p scope c from free l in
+          let ta = emitted_type p scope a in
+          let tb = emitted_type p scope b in
+          let t : Scalar = common ta tb in
           let x = emitted p scope a (test.to + 1) into free test.lists in
-          let first = settled into x in
+          let x1 = in_type ta t a x (test.to + 1) into test.lists in
+          let first = settled into x1 in
           let y = emitted p scope b (first.held.to + 1) into free first.lists in
-          let second = settled into y in
-          let t : Scalar = common first.held.of second.held.of in
-          let whole = chosen_emits code arguments layout home (Tests c) (λ k. ExprCode code layout p k scope a) (λ k. ExprCode code layout p k scope b) from into free l test first second
+          let y1 = in_type tb t b y (first.held.to + 1) into first.lists in
+          let second = settled into y1 in
+          let A : Option ℕ → Coded = λ k. ExprCode code layout p k scope a in
+          let B : Option ℕ → Coded = λ k. ExprCode code layout p k scope b in
+          let left = typed_emits code arguments layout home a (A home) ta t (test.to + 1) free test.lists x1
+          (in_type_emits code arguments layout home a (A home) ta t (test.to + 1) free into test.lists x (expr_emits home a h.1 (test.to + 1) into free test.lists m) (emitted_is p scope a (test.to + 1) into free test.lists) (own_is a) m) in
+          let right = typed_emits code arguments layout home b (B home) tb t (first.held.to + 1) free first.lists y1
+          (in_type_emits code arguments layout home b (B home) tb t (first.held.to + 1) free into first.lists y (expr_emits home b h.3 (first.held.to + 1) into free first.lists m) (emitted_is p scope b (first.held.to + 1) into free first.lists) (own_is b) m) in
+          let whole = chosen_emits code arguments layout home (Tests c) (BranchCode code layout home a A) (BranchCode code layout home b B) t from into free l test first second
           (by_parts c from free l (own_decides c h.0 from free l) (expr_emits None c h.0 from free free l (omega arith)))
-          (settled_emits code arguments layout home (λ k. ExprCode code layout p k scope a) (test.to + 1) into free test.lists x (expr_emits home a h.1 (test.to + 1) into free test.lists m) (elsewhere a h.1 (test.to + 1) into free test.lists) m t)
-          (settled_emits code arguments layout home (λ k. ExprCode code layout p k scope b) (first.held.to + 1) into free first.lists y (expr_emits home b h.3 (first.held.to + 1) into free first.lists m) (elsewhere b h.3 (first.held.to + 1) into free first.lists) m t) in
+          (settled_emits code arguments layout home a A t (test.to + 1) into free test.lists x1 left (branch_elsewhere t a h.1 (test.to + 1) into free test.lists) m)
+          (settled_emits code arguments layout home b B t (first.held.to + 1) into free first.lists y1 right (branch_elsewhere t b h.3 (first.held.to + 1) into free first.lists) m) in
           record {
             to_is = whole.to_is;
             grows = whole.grows;
@@ -312,7 +334,7 @@ module _ (p : Program) (code : Code) (arguments : List ℕ) (layout : Layout) (t
               whole.stands f st,
               λ ls like.
                   same_type_of known (running_scope p ls) (like_agrees ls like) (Conditional c a b at) h
-                  ∙ type_is (Conditional c a b at) h refl from into free l,
+                  ∙ type_is (Conditional c a b at) h refl,
             );
           }
       expr_emits home (InTransaction mode keyword e at) h from into free l m =
@@ -320,7 +342,7 @@ module _ (p : Program) (code : Code) (arguments : List ℕ) (layout : Layout) (t
 
       own_decides : (e : Expr) → TypedExpr known e → (from free : ℕ) (l : Lists) → IfSome (own_condition p scope e from free l) (Decides code arguments layout (OwnTests code layout p scope e) from free l)
       own_decides (Parenthesized e at) h from free l = own_decides e h from free l
-      own_decides (Cast t e at) h from free l = own_decides e h from free l
+      own_decides (Cast t e at) h from free l = same_decides (converting (emitted_type p scope e) t) (OwnTests code layout p scope e) from free l (own_condition p scope e from free l) (own_decides e h from free l)
       own_decides (Unary Keep e at) h from free l = own_decides e h.0 from free l
       own_decides (Unary Not e at) h from free l =
           opposite_decides code arguments layout (Tests e) (OwnTests code layout p scope (Unary Not e at)) from free l (condition p scope e from free l) (λ met unmet t. t)
@@ -343,33 +365,46 @@ module _ (p : Program) (code : Code) (arguments : List ℕ) (layout : Layout) (t
           (by_parts b (first.to + 1) free first.lists (own_decides b h.1 (first.to + 1) free first.lists) (expr_emits None b h.1 (first.to + 1) free free first.lists (omega arith)))
       own_decides e h from free l = tt
 
-      pub all_emits : (ts : List Scalar) (es : Exprs) → TypedExprs known es → (from free : ℕ) (l : Lists) → AllEmits (ArgsCode code layout p scope ts es) from free l (all_emitted p scope es from free l)
+      pub all_emits : (ts : List Scalar) (es : Exprs) → TypedExprs known es → (from free : ℕ) (l : Lists) → AllEmits (ArgsCode code layout p scope ts es) from free l (all_emitted p scope ts es from free l)
       all_emits ts Exprs.[] h from free l = record { to_is = omega arith; grows = grows_same l; stands = λ f st. (refl, refl) }
       all_emits ts (Exprs.◌∷◌ e es) h from free l =
-          let first = emitted p scope e from free free l in
+          let s = emitted_type p scope e in
+          let x = emitted p scope e from free free l in
+          let first = in_first_type s ts e x from free l in
           let later : ℕ = above free first.held.register in
-          let rest = all_emitted p scope es first.held.to later first.lists in
-          let one = expr_emits None e h.0 from free free l (omega arith) in
+          let rest = all_emitted p scope (types_left ts) es first.held.to later first.lists in
+          let one = in_first_emits code arguments layout ts e (ExprCode code layout p None scope e) s from free l x (expr_emits None e h.0 from free free l (omega arith)) (emitted_is p scope e from free free l) (own_is e) in
           let others = all_emits (types_left ts) es h.1 first.held.to later first.lists in
           record {
             to_is = let a = one.to_is in let b = others.to_is in let u : length (first.code ++ rest.code) ≡ length first.code + length rest.code = length-append first.code rest.code in omega (arith, a, b, u);
             grows = grows_further l first.lists rest.lists one.grows others.grows;
             stands = λ f st. record {
-              mid = first.held.to;
               last = first.held.to;
               later = later;
-              ra = first.held.register;
               r = first.held.register;
-              t = first.held.of;
               others = rest.registers;
               computes = one.stands (fits_before code arguments layout first.lists rest.lists others.grows f) (front code arguments from first.code rest.code st);
-              converts = handed_is code layout ts first.held.of None first.held.register first.held.to free;
               kept = above_free free first.held.register;
               apart = above_it free first.held.register;
               goes_on = others.stands f (behind code arguments from first.held.to first.code rest.code one.to_is st);
               are = refl;
             };
           }
+
+    -- an expression's value in the type that is due
+    pub due_emits : (home : Option ℕ) (u : Scalar) (e : Expr) → TypedExpr known e → (from into free : ℕ) (l : Lists) → MayTake home free into →
+        Emits code arguments layout (λ from to free r x. TypedCode code layout home e (ExprCode code layout p home scope e) u from to free r) from free l (due p scope u e from into free l)
+    due_emits home u e h from into free l m =
+        let s = emitted_type p scope e in
+        typed_emits code arguments layout home e (ExprCode code layout p home scope e) s u from free l (due p scope u e from into free l)
+        (in_type_emits code arguments layout home e (ExprCode code layout p home scope e) s u from free into l (emitted p scope e from into free l) (expr_emits home e h from into free l m) (emitted_is p scope e from into free l) (own_is e) m)
+
+    -- the right side of an operator
+    pub right_emits : (u : Scalar) (e : Expr) → TypedExpr known e → (from free : ℕ) (l : Lists) →
+        Emits code arguments layout (λ from to free r x. OperandCode code layout e (ExprCode code layout p None scope e) u from to free r (emitted_type p scope e)) from free l (operand p scope u e from free l)
+    right_emits u e h from free l =
+        operand_emits code arguments layout e (ExprCode code layout p None scope e) (emitted_type p scope e) u from free l (emitted p scope e from free free l)
+        (expr_emits None e h from free free l (omega arith)) (emitted_is p scope e from free free l) (own_is e)
 
     pub cond_decides : (e : Expr) → TypedExpr known e → (from free : ℕ) (l : Lists) → Decides code arguments layout (CondCode code layout p scope e) from free l (condition p scope e from free l)
     cond_decides e h from free l = by_parts e from free l (own_decides e h from free l) (expr_emits None e h from free free l (omega arith))

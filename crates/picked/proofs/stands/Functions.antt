@@ -166,10 +166,10 @@ module _ (p : Program) (typed : IsTypedProgram p) (cancels : CancelsAreFit p) wh
       let enters = all_enter f.parameters vs (length-replicate n (record { of = Int; word = 0 })) in
       let agrees : Agrees known (running_scope p scope) = agrees_by_shape p known scope (subst (λ m. Agrees known (scope_in p m)) (entered_shapes f.parameters vs enters.0 enters.1 ∙ sym (parameters_are f.parameters)) (shape_agrees p known enters.0 (t.fits vs enters.0 enters.1))) in
       let first : Lists = record l { registers = n; layout = found } in
-      let made = all_written p body no_exits scope from first in
+      let made = all_written p body (no_exits f.result) scope from first in
       let writes : (layout : Layout) → Writes p code final.arguments layout (StmtsCode code layout p (Lowered.no_exits f.result) scope body) from first made = (λ layout.
-      stmts_write p code final.arguments layout typed (callees_stand p) (defined_are_callees p) body known false scope no_exits (Lowered.no_exits f.result) agrees
-      (record { break_to = refl; continue_to = refl; in_loop = refl; in_function = refl; to_outer = refl })
+      stmts_write p code final.arguments layout typed (callees_stand p) (defined_are_callees p) body known false scope (no_exits f.result) (Lowered.no_exits f.result) agrees
+      (record { break_to = refl; continue_to = refl; in_loop = refl; in_function = refl; gives = refl; to_outer = refl })
       (stmts_parts f.result body known (parameter_names f.parameters) false t.body) (cancels f.name.text (f, body) e) from first) in
       let w = writes found in
       record {

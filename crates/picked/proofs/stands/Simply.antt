@@ -4,9 +4,9 @@ use Rattle.std.specs.Option.{IfSome}
 use Rattle.std.proofs.lemmas.List.{length-append, map-append}
 use Rattle.lex.specs.declared.token.Span.{Span}
 use Rattle.lex.specs.declared.token.Scalar.{Scalar}
-use Rattle.lex.specs.declared.token.Scalar.TheVariants.{Int}
 use Rattle.syntax.specs.declared.tree.BinaryOp.{BinaryOp}
 use Rattle.syntax.specs.Tree.{Name, Expr, Variable, Element, Simple, Evaluate, Assign, Adjust, Declarator, Start, Nothing, Declares, Does, Program}
+use Rattle.syntax.specs.Numbers.{operand_type, result_type}
 use Rattle.syntax.specs.Meaning.{op_of}
 use Rattle.syntax.specs.Names.{GlobalCells, cells, newest, global_of}
 use Rattle.syntax.specs.Types.{Scope, with_number, running_scope}
@@ -18,19 +18,19 @@ use Rattle.syntax.proofs.Fits.{scope_in, agrees_by_shape, shape_agrees, one_more
 use Rattle.syntax.proofs.ValueTypes.{Found}
 use Rattle.bytecode.specs.declared.instr.Instr.{Instr}
 use Rattle.bytecode.specs.declared.instr.Instr.TheVariants as own
-use Rattle.bytecode.specs.Code.{Code, Instr as Plain}
-use Rattle.lowered.specs.Expressions.{LocalScope, Coded, Layout, GivenBy, BinaryCode, ExprCode}
-use Rattle.lowered.specs.Statements.{Target, LocalAt, CellAt, ElementOf, home_of, with_local, with_declared, locals_of_start, VariableTarget, CheckedAt, UncheckedAt, TargetCode, ReadTarget, FetchCode, AssignCode, ChangeCode, Operand, OneCode, SimpleCode, FirstValueCode, DeclareCode, StartCode}
+use Rattle.bytecode.specs.Code.{Code}
+use Rattle.lowered.specs.Expressions.{LocalScope, Coded, Due, Layout, ConvertedCode, BinaryCode, ExprCode}
+use Rattle.lowered.specs.Statements.{Target, LocalAt, CellAt, ElementOf, home_of, with_local, with_declared, locals_of_start, VariableTarget, CheckedAt, UncheckedAt, TargetCode, ReadTarget, FetchCode, ExprStored, AssignCode, ChangeCode, Operating, OneCode, SimpleCode, FirstValueCode, DeclareCode, StartCode}
 use Rattle.picked.specs.declared.held.Target.{Target as OwnTarget}
 use Rattle.picked.specs.Lists.{Lists, used}
-use Rattle.picked.specs.Expressions.{Emitted, above, constant, both, emitted}
-use Rattle.picked.specs.Simples.{Written, Aimed, variable_target, element_target, above_target, fetched, home_or, then_stored, behind as aimed_then, aimed, value_or_one, assigned, adjusted, simple_written, first_written, declared_written, start_written}
-use Rattle.lowered.proofs.Unconverted.{stored_is}
+use Rattle.picked.specs.Expressions.{Emitted, above, converting, converted_by, both, emitted_type, emitted}
+use Rattle.picked.specs.Simples.{Written, Aimed, variable_target, element_target, above_target, fetched, home_or, type_at, expr_fitting, then_stored, behind as aimed_then, aimed, value_or_one, type_or_int, changed, assigned, adjusted, simple_written, first_written, declared_written, start_written}
 use Rattle.picked.proofs.stands.Standing.{Stand, front, behind, Grows, grows_same, grows_further, grows_used, Fits, fits_before, is_register}
 use Rattle.picked.proofs.stands.Named.{VariableFound, variable_found, array_found, known_number, known_array}
-use Rattle.picked.proofs.stands.Emitting.{Emits, one_emits, ready_or_emits, operand_emits, both_emits}
-use Rattle.picked.proofs.stands.Exprs.{CalleesStand, DefinedAreCallees, expr_emits}
-use Rattle.picked.proofs.stands.Writing.{own_of, spares, target_above, may_take_home, Writes, nothing_writes, fetched_emits, ValueStored, then_stored_writes}
+use Rattle.picked.proofs.stands.Kinds.{emitted_is}
+use Rattle.picked.proofs.stands.Emitting.{Emits, converted_emits, word_emits, both_emits}
+use Rattle.picked.proofs.stands.Exprs.{CalleesStand, DefinedAreCallees, expr_emits, right_emits}
+use Rattle.picked.proofs.stands.Writing.{own_of, spares, target_above, may_take_home, Writes, nothing_writes, fetched_emits, ValueStored, then_stored_writes, Fitted, fitting_emits, expr_stored}
 
 abbrev with_target : Aimed → OwnTarget → Aimed
 with_target a t = record { code = a.code; lists = a.lists; target = t; to = a.to }
@@ -143,100 +143,105 @@ module _ (p : Program) (code : Code) (arguments : List ℕ) (layout : Layout) (t
 
     assigned_to : (lhs e : Expr) → TypedExpr known e → (from : ℕ) (l : Lists) (a : Aimed) (goal : Target) → a.to ≡ from + length a.code → Grows l a.lists → (Fits code arguments layout a.lists → Stand code arguments from a.code → Goes true lhs from a.to goal) →
         let later : ℕ = above_target (own_of goal) (length scope) in
-        Writes p code arguments layout (AssignCode code layout p scope lhs (λ home. ExprCode code layout p home scope e)) from l
-        (aimed_then (with_target a (own_of goal)) (then_stored (own_of goal) (emitted p scope e a.to (home_or (own_of goal) later) later a.lists)))
+        let home : ℕ = home_or (own_of goal) later in
+        Writes p code arguments layout (AssignCode code layout p scope lhs e) from l
+        (aimed_then (with_target a (own_of goal)) (then_stored (own_of goal) (expr_fitting (own_of goal) (emitted_type p scope e) e (emitted p scope e a.to home later a.lists) a.to home a.lists)))
     assigned_to lhs e h from l a goal to_is grows stands =
         let later : ℕ = above_target (own_of goal) (length scope) in
-        let v = emitted p scope e a.to (home_or (own_of goal) later) later a.lists in
+        let home : ℕ = home_or (own_of goal) later in
+        let s : Scalar = emitted_type p scope e in
+        let v = emitted p scope e a.to home later a.lists in
         aimed_writes true lhs from l (with_target a (own_of goal)) goal to_is grows stands
-        (ValueStored p code arguments layout (ExprCode code layout p (home_of goal) scope e) later goal) (AssignCode code layout p scope lhs (λ home. ExprCode code layout p home scope e)) (then_stored (own_of goal) v)
-        (then_stored_writes p code arguments layout (ExprCode code layout p (home_of goal) scope e) goal a.to later a.lists v
-        (expr_emits p code arguments layout typed stand defined known scope agrees (home_of goal) e h a.to (home_or (own_of goal) later) later a.lists (may_take_home goal later)))
+        (λ from to. ExprStored code layout p scope goal e from to later) (AssignCode code layout p scope lhs e) (then_stored (own_of goal) (expr_fitting (own_of goal) s e v a.to home a.lists))
+        (expr_stored p code arguments layout scope e goal s a.to later a.lists v
+        (expr_emits p code arguments layout typed stand defined known scope agrees (home_of goal) e h a.to home later a.lists (may_take_home goal later)) (emitted_is p scope e a.to home later a.lists))
         (λ g s. record {
           target = goal;
           mid = a.to;
-          last = s.mid;
           later = later;
-          r = s.r;
-          t = s.of;
           goes_to = g;
           room = target_above goal (length scope);
           spares = spares goal (length scope);
-          value = s.value;
-          stores = stored_is code layout p goal s.of s.r s.mid _ later s.stores;
+          stores = s;
         })
 
     assigned_writes : (lhs e : Expr) → TypedTarget known lhs → TypedExpr known e → IsTrue (may_be_assigned known lhs) → (from : ℕ) (l : Lists) → Writes p code arguments layout (SimpleCode code layout p scope (Assign lhs None e)) from l (assigned p scope lhs e from (length scope) l)
     assigned_writes lhs e ht he m from l =
         let a = aimed p scope true lhs from (length scope) l in
         let g = aims true lhs ht m from l in
-        let result : OwnTarget → Type 0 = λ x. Writes p code arguments layout (SimpleCode code layout p scope (Assign lhs None e)) from l (aimed_then (with_target a x) (then_stored x (emitted p scope e a.to (home_or x (above_target x (length scope))) (above_target x (length scope)) a.lists))) in
+        let result : OwnTarget → Type 0 = λ x.
+        let later : ℕ = above_target x (length scope) in
+        let home : ℕ = home_or x later in
+        Writes p code arguments layout (SimpleCode code layout p scope (Assign lhs None e)) from l (aimed_then (with_target a x) (then_stored x (expr_fitting x (emitted_type p scope e) e (emitted p scope e a.to home later a.lists) a.to home a.lists))) in
         subst result (sym g.same) (assigned_to lhs e he from l a g.goal g.to_is g.grows g.stands)
 
-    adjusted_to : (op : BinaryOp) (lhs : Expr) (by : Option Expr) (B : Coded) → ((from free : ℕ) (l : Lists) → Emits code arguments layout B from free l (value_or_one p scope by from free l)) → (from : ℕ) (l : Lists) (a : Aimed) (goal : Target) → a.to ≡ from + length a.code → Grows l a.lists → (Fits code arguments layout a.lists → Stand code arguments from a.code → Goes false lhs from a.to goal) →
-        let later : ℕ = above_target (own_of goal) (length scope) in
-        let old = fetched (own_of goal) a.to later a.lists in
+    -- the right side of an operator
+    abbrev RightEmits : Option Expr → Due → Type 0
+    RightEmits by B = (u : Scalar) (from free : ℕ) (l : Lists) → Emits code arguments layout (λ from to free r x. B u from to free r (type_or_int p scope by)) from free l (value_or_one p scope u by from free l)
+
+    fetched_of : (t : Target) (from free : ℕ) (l : Lists) → (fetched (own_of t) from free l).held.of ≡ type_at (own_of t)
+    fetched_of (LocalAt x) from free l = refl
+    fetched_of (CellAt g) from free l = refl
+    fetched_of (ElementOf g ri) from free l = refl
+
+    changed_emits : (op : BinaryOp) (by : Option Expr) (B : Due) → RightEmits by B → (goal : Target) (from free : ℕ) (l : Lists) →
+        Emits code arguments layout (λ from to free r x. Fitted p code arguments layout (BinaryCode code layout (home_of goal) op (ConvertedCode code layout None (FetchCode code layout p goal)) B) goal (result_type op (operand_type op (type_at (own_of goal)) (type_or_int p scope by))) from to free r)
+        from free l (changed p scope op by (own_of goal) from free l)
+    changed_emits op by B other goal from free l =
+        let s : Scalar = type_at (own_of goal) in
+        let t : Scalar = type_or_int p scope by in
+        let u : Scalar = operand_type op s t in
+        let first = fetched (own_of goal) from free l in
+        let old = converted_by (converting s u) u first free in
+        let v = value_or_one p scope (operand_type op t s) by old.held.to (above free old.held.register) old.lists in
+        let home : ℕ = home_or (own_of goal) free in
+        fitting_emits p code arguments layout goal (BinaryCode code layout (home_of goal) op (ConvertedCode code layout None (FetchCode code layout p goal)) B) (result_type op u) from free l (both op u old v home)
+        (both_emits code arguments layout (home_of goal) op (ConvertedCode code layout None (FetchCode code layout p goal)) B s t from free home l old v
+        (converted_emits code arguments layout None (FetchCode code layout p goal) s u from free free l first (fetched_emits p code arguments layout goal from free l) (fetched_of goal from free l) (omega arith))
+        (other (operand_type op t s) old.held.to (above free old.held.register) old.lists) (may_take_home goal free)) refl
+
+    adjusted_to : (op : BinaryOp) (lhs : Expr) (by : Option Expr) (B : Due) → RightEmits by B → (from : ℕ) (l : Lists) (a : Aimed) (goal : Target) → a.to ≡ from + length a.code → Grows l a.lists → (Fits code arguments layout a.lists → Stand code arguments from a.code → Goes false lhs from a.to goal) →
         Writes p code arguments layout (ChangeCode code layout p scope lhs op B) from l
-        (aimed_then (with_target a (own_of goal)) (then_stored (own_of goal) (both op old (value_or_one p scope by old.held.to (above later old.held.register) old.lists) (home_or (own_of goal) later))))
+        (aimed_then (with_target a (own_of goal)) (then_stored (own_of goal) (changed p scope op by (own_of goal) a.to (above_target (own_of goal) (length scope)) a.lists)))
     adjusted_to op lhs by B other from l a goal to_is grows stands =
         let later : ℕ = above_target (own_of goal) (length scope) in
-        let old = fetched (own_of goal) a.to later a.lists in
-        let after : ℕ = above later old.held.register in
-        let v = value_or_one p scope by old.held.to after old.lists in
-        let whole = both op old v (home_or (own_of goal) later) in
+        let t : Scalar = result_type op (operand_type op (type_at (own_of goal)) (type_or_int p scope by)) in
+        let A : Coded = BinaryCode code layout (home_of goal) op (ConvertedCode code layout None (FetchCode code layout p goal)) B in
+        let whole = changed p scope op by (own_of goal) a.to later a.lists in
         aimed_writes false lhs from l (with_target a (own_of goal)) goal to_is grows stands
-        (ValueStored p code arguments layout (BinaryCode code layout (home_of goal) op (FetchCode code layout p goal) B) later goal) (ChangeCode code layout p scope lhs op B) (then_stored (own_of goal) whole)
-        (then_stored_writes p code arguments layout (BinaryCode code layout (home_of goal) op (FetchCode code layout p goal) B) goal a.to later a.lists whole
-        (both_emits code arguments layout (home_of goal) op (FetchCode code layout p goal) B a.to later (home_or (own_of goal) later) a.lists old v
-        (fetched_emits p code arguments layout goal a.to later a.lists) (other old.held.to after old.lists) (may_take_home goal later)))
-        (λ g s.
-        let b = s.value in
-        record {
+        (ValueStored p code arguments layout (λ from to free r x. Fitted p code arguments layout A goal t from to free r) later goal) (ChangeCode code layout p scope lhs op B) (then_stored (own_of goal) whole)
+        (then_stored_writes p code arguments layout (λ from to free r x. Fitted p code arguments layout A goal t from to free r) goal a.to later a.lists whole (changed_emits op by B other goal a.to later a.lists))
+        (λ g s. record {
           target = goal;
           mid = a.to;
-          fetched = b.mid;
-          last = b.last;
+          done = s.value.mid;
           later = later;
-          after = b.later;
-          ro = b.ra;
-          rb = b.rb;
-          r = s.r;
-          of = b.ta;
-          tb = b.tb;
-          t = s.of;
+          r = s.value.ra;
+          t = t;
           goes_to = g;
           room = target_above goal (length scope);
           spares = spares goal (length scope);
-          fetches = b.left;
-          kept = b.kept;
-          apart = b.apart;
-          changes = b.right;
-          done = s.mid;
-          operates = b.operates;
-          stores = stored_is code layout p goal s.of s.r s.mid _ later s.stores;
+          operates = s.value.value;
+          stores = record { mid = s.mid; r = s.r; converts = s.value.converts; stores = s.stores };
         })
 
-    adjusted_writes : (op : BinaryOp) (lhs : Expr) (by : Option Expr) (B : Coded) → ((from free : ℕ) (l : Lists) → Emits code arguments layout B from free l (value_or_one p scope by from free l)) → TypedTarget known lhs → IsTrue (may_be_assigned known lhs) → (from : ℕ) (l : Lists) →
+    adjusted_writes : (op : BinaryOp) (lhs : Expr) (by : Option Expr) (B : Due) → RightEmits by B → TypedTarget known lhs → IsTrue (may_be_assigned known lhs) → (from : ℕ) (l : Lists) →
         Writes p code arguments layout (ChangeCode code layout p scope lhs op B) from l (adjusted p scope op lhs by from (length scope) l)
     adjusted_writes op lhs by B other ht m from l =
         let a = aimed p scope false lhs from (length scope) l in
         let g = aims false lhs ht m from l in
         let result : OwnTarget → Type 0 = λ x.
-        let later : ℕ = above_target x (length scope) in
-        let old = fetched x a.to later a.lists in
         Writes p code arguments layout (ChangeCode code layout p scope lhs op B) from l
-        (aimed_then (with_target a x) (then_stored x (both op old (value_or_one p scope by old.held.to (above later old.held.register) old.lists) (home_or x later)))) in
+        (aimed_then (with_target a x) (then_stored x (changed p scope op by x a.to (above_target x (length scope)) a.lists))) in
         subst result (sym g.same) (adjusted_to op lhs by B other from l a g.goal g.to_is g.grows g.stands)
 
-    one_is_emitted : (from free : ℕ) (l : Lists) → Emits code arguments layout (OneCode code layout p) from free l (value_or_one p scope None from free l)
-    one_is_emitted from free l =
-        let A : Coded = λ from to free r t. GivenBy code layout None (Plain.Constant r 1) Int from to free r t in
-        ready_or_emits code arguments layout 1 Int A from free l (constant 1 Int from free l) (one_emits code arguments layout None (λ r. Plain.Constant r 1) (own.Constant free 1) Int from free free l refl (omega arith))
+    one_is_emitted : RightEmits None (OneCode code layout p)
+    one_is_emitted u from free l =
+        let g = word_emits code arguments layout 1 u from free l in
+        record { to_is = g.to_is; grows = g.grows; stands = λ f st. (refl, g.stands f st) }
 
-    value_is_emitted : (e : Expr) → TypedExpr known e → (from free : ℕ) (l : Lists) → Emits code arguments layout (Operand code layout p scope e) from free l (value_or_one p scope (Some e) from free l)
-    value_is_emitted e h from free l =
-        operand_emits code arguments layout e (ExprCode code layout p None scope e) from free l (emitted p scope e from free free l)
-        (expr_emits p code arguments layout typed stand defined known scope agrees None e h from free free l (omega arith))
+    value_is_emitted : (e : Expr) → TypedExpr known e → RightEmits (Some e) (Operating code layout p scope e)
+    value_is_emitted e h u from free l = right_emits p code arguments layout typed stand defined known scope agrees u e h from free l
 
     pub simple_writes : (s : Simple) → TypedSimple known s → (from : ℕ) (l : Lists) → Writes p code arguments layout (SimpleCode code layout p scope s) from l (simple_written p scope s from (length scope) l)
     simple_writes (Evaluate e) h from l =
@@ -248,7 +253,7 @@ module _ (p : Program) (code : Code) (arguments : List ℕ) (layout : Layout) (t
           stands = λ f st. (v.held.register, record { free = length scope; room = omega arith; t = v.held.of; computes = g.stands f st });
         }
     simple_writes (Assign lhs None e) h from l = assigned_writes lhs e h.0 h.1 h.2 from l
-    simple_writes (Assign lhs (Some op) e) h from l = adjusted_writes op lhs (Some e) (Operand code layout p scope e) (value_is_emitted e h.1) h.0 h.2 from l
+    simple_writes (Assign lhs (Some op) e) h from l = adjusted_writes op lhs (Some e) (Operating code layout p scope e) (value_is_emitted e h.1) h.0 h.2 from l
     simple_writes (Adjust lhs by) h from l = adjusted_writes (op_of by) lhs None (OneCode code layout p) one_is_emitted h.0 h.1 from l
 
   one_longer : (scope : LocalScope) (x : List ℕ) (t : Scalar) → length (with_local scope x t) ≡ suc (length scope)
@@ -259,14 +264,12 @@ module _ (p : Program) (code : Code) (arguments : List ℕ) (layout : Layout) (t
   first_writes known scope agrees i t None n h from l = nothing_writes p code arguments layout from l
   first_writes known scope agrees i t (Some e) n h from l =
       let v = emitted p scope e from i (suc i) l in
-      let w = then_stored_writes p code arguments layout (ExprCode code layout p (Some i) scope e) (LocalAt (i, t)) from (suc i) l v
-      (expr_emits p code arguments layout typed stand defined known scope agrees (Some i) e h from i (suc i) l (inr refl)) in
+      let w = expr_stored p code arguments layout scope e (LocalAt (i, t)) (emitted_type p scope e) from (suc i) l v
+      (expr_emits p code arguments layout typed stand defined known scope agrees (Some i) e h from i (suc i) l (inr refl)) (emitted_is p scope e from i (suc i) l) in
       record {
         to_is = w.to_is;
         grows = w.grows;
-        stands = λ f st.
-            let s = w.stands f st in
-            record { mid = s.mid; r = s.r; value = record { free = suc i; room = omega (arith, n); t = s.of; computes = s.value }; stores = stored_is code layout p _ s.of s.r s.mid _ (suc i) s.stores };
+        stands = λ f st. record { free = suc i; room = omega (arith, n); stores = w.stands f st };
       }
 
   pub declared_writes : (t : Scalar) (ds : List Declarator) (known : Scope) (scope : LocalScope) → Agrees known (running_scope p scope) → TypedDeclarators known t ds → (from : ℕ) (l : Lists) →

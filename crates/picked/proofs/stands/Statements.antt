@@ -4,7 +4,7 @@ use Rattle.std.specs.Prelude.{slice_get, ◌==◌}
 use Rattle.std.specs.Option.{IfSome}
 use Rattle.std.proofs.lemmas.List.{length-append, length-replicate}
 use Rattle.lex.specs.declared.token.Scalar.{Scalar}
-use Rattle.lex.specs.declared.token.Scalar.TheVariants.{Int, Unsigned}
+use Rattle.lex.specs.declared.token.Scalar.TheVariants.{Int, Unsigned, LongLong}
 use Rattle.syntax.specs.declared.tree.Mode.{Mode}
 use Rattle.syntax.specs.declared.tree.Mode.TheVariants.{Atomic}
 use Rattle.syntax.specs.declared.tree.Kind.{Kind}
@@ -21,18 +21,18 @@ use Rattle.bytecode.specs.declared.instr.Instr.{Instr}
 use Rattle.bytecode.specs.declared.instr.Instr.TheVariants as own
 use Rattle.bytecode.specs.Code.{Code, Instr as Plain}
 use Rattle.bytecode.specs.Views.{instr_of}
-use Rattle.lowered.specs.Expressions.{LocalScope, Layout, At, ExprCode, CondCode, ArgsCode}
+use Rattle.lowered.specs.Expressions.{LocalScope, Coded, Layout, At, TypedCode, types_left, ExprCode, CondCode, ArgsCode}
 use Rattle.lowered.specs.Statements as Lowered
 use Rattle.lowered.specs.Statements.{StartCode, IfCode, IfElseCode, WhileCode, DoWhileCode, ForCode, PrintCode, TransactionCode, OuterCancelCode, Exits, with_level, in_transaction, cancelling, looping, locals_of_start, locals_after, Leaves, ResultCode, TestCode, HoldsCode, SteppedCode, PiecesCode, StmtCode, StmtsCode}
 use Rattle.picked.specs.declared.held.Exits.{Exits as OwnExits}
 use Rattle.picked.specs.Lists.{Lists}
-use Rattle.picked.specs.Expressions.{above, emitted, all_emitted, condition}
+use Rattle.picked.specs.Expressions.{above, in_first_type, emitted_type, emitted, due, all_emitted, condition}
 use Rattle.picked.specs.Conditions.{Condition, test_in, going_on}
 use Rattle.picked.specs.Simples.{Written, one_written, evaluated, start_written}
 use Rattle.picked.specs.Statements as Own
 use Rattle.picked.specs.Statements.{left_by, branched, branched_twice, tested_back, while_written, do_written, for_written, transacted, returned, printing, pieces_written, print_written, for_test, for_step, written, all_written}
 use Rattle.picked.proofs.stands.Standing.{Stand, front, behind, front_same, front_more, Grows, grows_same, grows_further, Fits, fits_before}
-use Rattle.picked.proofs.stands.Exprs.{CalleesStand, DefinedAreCallees, expr_emits, all_emits, cond_decides}
+use Rattle.picked.proofs.stands.Exprs.{CalleesStand, DefinedAreCallees, all_emits, due_emits, cond_decides}
 use Rattle.picked.proofs.stands.Conds.{Decides, on_is, goes_on, back_is, goes_back}
 use Rattle.picked.proofs.stands.Writing.{Writes, nothing_writes, one_writes, then_writes, evaluated_writes}
 use Rattle.picked.proofs.stands.Simply.{simple_writes, declared_agrees, declared_writes, start_agrees, start_writes}
@@ -91,6 +91,7 @@ pub record SameExits (x : OwnExits) (y : Exits) : Type 0 where
   pub continue_to : y.continue_to ≡ x.continue_to
   pub in_loop : y.in_loop ≡ x.in_loop
   pub in_function : y.in_function ≡ x.in_function
+  pub gives : y.gives ≡ x.gives
   pub to_outer : x.to_outer ≡ level_of y.in_outer
 
 same_in_transaction : (kind : Kind) (x : OwnExits) (y : Exits) → SameExits x y → SameExits (Own.in_transaction kind x) (in_transaction kind y)
@@ -99,18 +100,19 @@ same_in_transaction kind x y h = record {
   continue_to = h.continue_to;
   in_loop = let a = h.in_loop in omega (arith, a);
   in_function = let a = h.in_function in omega (arith, a);
+  gives = h.gives;
   to_outer = ap (Own.level_in kind) h.to_outer ∙ level_inside kind y.in_outer;
 }
 
 same_looping : (x : OwnExits) (y : Exits) (b c : ℕ) → SameExits x y → SameExits (Own.looping x b c) (looping y b c)
-same_looping x y b c h = record { break_to = refl; continue_to = refl; in_loop = refl; in_function = h.in_function; to_outer = h.to_outer }
+same_looping x y b c h = record { break_to = refl; continue_to = refl; in_loop = refl; in_function = h.in_function; gives = h.gives; to_outer = h.to_outer }
 
 -- as many registers as arguments
-pub registers_are : (p : Program) (scope : LocalScope) (es : Exprs) (from free : ℕ) (l : Lists) → length (all_emitted p scope es from free l).registers ≡ count es
-registers_are p scope Exprs.[] from free l = refl
-registers_are p scope (Exprs.◌∷◌ e es) from free l =
-    let first = emitted p scope e from free free l in
-    let h = registers_are p scope es first.held.to (above free first.held.register) first.lists in
+pub registers_are : (p : Program) (scope : LocalScope) (ts : List Scalar) (es : Exprs) (from free : ℕ) (l : Lists) → length (all_emitted p scope ts es from free l).registers ≡ count es
+registers_are p scope ts Exprs.[] from free l = refl
+registers_are p scope ts (Exprs.◌∷◌ e es) from free l =
+    let first = in_first_type (emitted_type p scope e) ts e (emitted p scope e from free free l) from free l in
+    let h = registers_are p scope (types_left ts) es first.held.to (above free first.held.register) first.lists in
     omega (arith, h)
 
 module _ (p : Program) where
@@ -152,6 +154,7 @@ module _ (p : Program) (code : Code) (arguments : List ℕ) (layout : Layout) wh
   printing_is : (t : Scalar) (r : ℕ) → instr_of arguments (printing t r) ≡ Plain.PrintNumber t r
   printing_is Int r = refl
   printing_is Unsigned r = refl
+  printing_is LongLong r = refl
 
   at_length : (xs ys : List (List ℕ)) (x : List ℕ) → slice_get ((xs ++ x ∷ []) ++ ys) (length xs) ≡ Some x
   at_length [] ys x = refl
@@ -386,25 +389,26 @@ module _ (p : Program) (code : Code) (arguments : List ℕ) (layout : Layout) (t
   test_writes known scope agrees None h there from l = one_writes p code arguments layout (λ from' to. HoldsCode code layout p scope None from' there to) (own.Jump there) from l (λ at. at)
   test_writes known scope agrees (Some c) h there from l = back_writes known scope agrees c h there from l
 
-  return_writes : (known : Scope) (scope : LocalScope) → Agrees known (running_scope p scope) → (e : Expr) → TypedExpr known e → (u : Scalar) (n m from : ℕ) → m ≡ n → (l : Lists) →
-      Writes p code arguments layout (λ from to. (mid : ℕ) × (r : ℕ) × ResultCode code layout p scope u (ExprCode code layout p None scope e) from mid r × Leaves code layout p mid m (Plain.Return (Some r))) from l
-      (returned n (emitted p scope e from (length scope) (length scope) l))
-  return_writes known scope agrees e h u n m from same l =
-      let v = emitted p scope e from (length scope) (length scope) l in
-      let i : Instr = own.ReturnValue v.held.register in
-      then_writes p code arguments layout (λ from to. ExprCode code layout p None scope e from to (length scope) v.held.register v.held.of) (λ from to. Leaves code layout p from n (Plain.Return (Some v.held.register)))
-      (λ from to. (mid : ℕ) × (r : ℕ) × ResultCode code layout p scope u (ExprCode code layout p None scope e) from mid r × Leaves code layout p mid m (Plain.Return (Some r))) from l (evaluated v) (left_by n i v.held.to v.lists)
-      (evaluated_writes p code arguments layout (ExprCode code layout p None scope e) from (length scope) l v (expr_emits p code arguments layout typed stand defined known scope agrees None e h from (length scope) (length scope) l (omega arith)))
-      (left_writes p code arguments layout n i v.held.to v.lists)
-      (λ a b. (v.held.to, v.held.register, record { mid = v.held.to; ra = v.held.register; value = record { free = length scope; room = omega arith; t = v.held.of; computes = a }; converts = (refl, refl) }, subst (λ k. Leaves code layout p v.held.to k (Plain.Return (Some v.held.register))) (sym same) b))
+  return_writes : (known : Scope) (scope : LocalScope) → Agrees known (running_scope p scope) → (e : Expr) → TypedExpr known e → (u v : Scalar) (n m from : ℕ) → u ≡ v → m ≡ n → (l : Lists) →
+      Writes p code arguments layout (λ from to. (mid : ℕ) × (r : ℕ) × ResultCode code layout p scope u e from mid r × Leaves code layout p mid m (Plain.Return (Some r))) from l
+      (returned n (due p scope v e from (length scope) (length scope) l))
+  return_writes known scope agrees e h u v n m from gives same l =
+      let x = due p scope v e from (length scope) (length scope) l in
+      let i : Instr = own.ReturnValue x.held.register in
+      let A : Coded = λ from to free r t. TypedCode code layout None e (ExprCode code layout p None scope e) v from to free r in
+      then_writes p code arguments layout (λ from to. A from to (length scope) x.held.register x.held.of) (λ from to. Leaves code layout p from n (Plain.Return (Some x.held.register)))
+      (λ from to. (mid : ℕ) × (r : ℕ) × ResultCode code layout p scope u e from mid r × Leaves code layout p mid m (Plain.Return (Some r))) from l (evaluated x) (left_by n i x.held.to x.lists)
+      (evaluated_writes p code arguments layout A from (length scope) l x (due_emits p code arguments layout typed stand defined known scope agrees None v e h from (length scope) (length scope) l (omega arith)))
+      (left_writes p code arguments layout n i x.held.to x.lists)
+      (λ a b. (x.held.to, x.held.register, record { free = length scope; room = omega arith; computes = subst (λ t. TypedCode code layout None e (ExprCode code layout p None scope e) t from x.held.to (length scope) x.held.register) (sym gives) a }, subst (λ k. Leaves code layout p x.held.to k (Plain.Return (Some x.held.register))) (sym same) b))
 
   print_writes : (known : Scope) (scope : LocalScope) → Agrees known (running_scope p scope) → (format : List ℕ) (es : Exprs) → TypedExprs known es → IsTrue (length (figures (pieces format)) == count es) → (from : ℕ) (l : Lists) →
-      Writes p code arguments layout (PrintCode code layout p scope format es) from l (print_written (all_emitted p scope es (from + 1) (length scope) l) (pieces format))
+      Writes p code arguments layout (PrintCode code layout p scope format es) from l (print_written (all_emitted p scope [] es (from + 1) (length scope) l) (pieces format))
   print_writes known scope agrees format es h n from l =
-      let args = all_emitted p scope es (from + 1) (length scope) l in
+      let args = all_emitted p scope [] es (from + 1) (length scope) l in
       let g = all_emits p code arguments layout typed stand defined known scope agrees [] es h (from + 1) (length scope) l in
       let number : length (figures (pieces format)) ≡ count es = eqb-true (length (figures (pieces format))) (count es) n in
-      let many = registers_are p scope es (from + 1) (length scope) l in
+      let many = registers_are p scope [] es (from + 1) (length scope) l in
       let w = pieces_write p code arguments layout (pieces format) args.registers (omega (arith, number, many)) args.to args.lists in
       let rest = pieces_written (pieces format) args.registers args.to args.lists in
       let head : List Instr = own.Irrevocable ∷ args.code in
@@ -508,7 +512,7 @@ module _ (p : Program) (code : Code) (arguments : List ℕ) (layout : Layout) (t
     stmt_writes (Return None at) known looping scope x y agrees same h c from l =
         subst (λ n. Writes p code arguments layout (λ from to. Leaves code layout p from n (Plain.Return None)) from l (left_by x.in_function own.Return from l)) (sym same.in_function)
         (left_writes p code arguments layout x.in_function own.Return from l)
-    stmt_writes (Return (Some e) at) known looping scope x y agrees same h c from l = return_writes known scope agrees e h y.gives x.in_function y.in_function from same.in_function l
+    stmt_writes (Return (Some e) at) known looping scope x y agrees same h c from l = return_writes known scope agrees e h y.gives x.gives x.in_function y.in_function from same.gives same.in_function l
     stmt_writes (Transaction kind ss at) known looping scope x y agrees same h c from l =
         transaction_writes kind y (λ z. StmtsCode code layout p z scope ss) from l (all_written p ss (Own.in_transaction kind x) scope (from + 1) l)
         (stmts_write ss known looping scope (Own.in_transaction kind x) (Lowered.in_transaction kind y) agrees (same_in_transaction kind x y same) h c (from + 1) l)

@@ -1,23 +1,24 @@
 -- What is picked for an assignment goes to its target, part by part.
-use Rattle.std.proofs.Common.{◌≡◌, refl, sym, ap, ℕ, suc, ◌+◌, ◌≤◌, List, ◌++◌, length, arith, Some, None, Bool, true, false, inl, inr, eqb-true}
+use Rattle.std.proofs.Common.{◌≡◌, refl, sym, ap, subst, ℕ, suc, ◌+◌, ◌≤◌, List, ◌++◌, length, arith, Some, None, Bool, true, false, inl, inr, eqb-true}
 use Rattle.std.specs.Prelude.{if◌then◌else◌, ◌==◌}
 use Rattle.std.proofs.lemmas.List.{length-append}
 use Rattle.lex.specs.declared.token.Scalar.{Scalar}
-use Rattle.syntax.specs.Tree.{Program}
+use Rattle.lex.specs.declared.token.Scalar.TheVariants.{Int, LongLong}
+use Rattle.syntax.specs.Tree.{Expr, Constant, Program}
 use Rattle.syntax.specs.Names.{cells}
 use Rattle.bytecode.specs.declared.instr.Instr.{Instr}
 use Rattle.bytecode.specs.declared.instr.Instr.TheVariants as own
 use Rattle.bytecode.specs.Code.{Code, Instr as Plain}
 use Rattle.bytecode.specs.Views.{instr_of}
-use Rattle.lowered.specs.Expressions.{Coded, Layout, At, MayTake}
-use Rattle.lowered.specs.Statements.{Target, LocalAt, CellAt, ElementOf, home_of, Spares, FetchCode, StoreCode}
+use Rattle.lowered.specs.Expressions.{LocalScope, Coded, Layout, At, MayTake, constant_in, widening as lowered_widening, GivenBy, ConvertedBy, ExprCode}
+use Rattle.lowered.specs.Statements.{Target, LocalAt, CellAt, ElementOf, home_of, target_type, due as due_at, Spares, FetchCode, StoreCode, WordStored, ExprStored}
 use Rattle.picked.specs.declared.held.Target.{Target as OwnTarget}
 use Rattle.picked.specs.declared.held.Target.TheVariants as target
 use Rattle.picked.specs.Lists.{Lists}
-use Rattle.picked.specs.Expressions.{Emitted}
-use Rattle.picked.specs.Simples.{Written, nothing_written, above_target, fetched, home_or, one_written, stored, and_then, evaluated, then_stored}
+use Rattle.picked.specs.Expressions.{Emitted, constant, converted_by}
+use Rattle.picked.specs.Simples.{Written, nothing_written, above_target, fetched, home_or, one_written, stored, widening, fitting, expr_fitting, and_then, evaluated, then_stored}
 use Rattle.picked.proofs.stands.Standing.{Stand, front, behind, Grows, grows_same, grows_further, Fits, fits_before}
-use Rattle.picked.proofs.stands.Emitting.{above_free, above_it, Emits, one_emits, in_local_emits}
+use Rattle.picked.proofs.stands.Emitting.{above_free, above_it, Emits, one_emits, then_emits, converted_emits, in_local_emits}
 
 -- a target as the generator keeps it
 abbrev pub own_of : Target → OwnTarget
@@ -52,6 +53,9 @@ module _ (p : Program) (code : Code) (arguments : List ℕ) (layout : Layout) wh
 
   pub one_writes : (A : ℕ → ℕ → Type 0) (i : Instr) (from : ℕ) (l : Lists) → (At code from (instr_of arguments i) → A from (from + 1)) → Writes A from l (one_written i from l)
   one_writes A i from l make = record { to_is = omega arith; grows = grows_same l; stands = λ f st. make st.0 }
+
+  pub writes_as : (A B : ℕ → ℕ → Type 0) (from : ℕ) (l : Lists) (w : Written) → Writes A from l w → (A from w.to → B from w.to) → Writes B from l w
+  writes_as A B from l w h make = record { to_is = h.to_is; grows = h.grows; stands = λ f st. make (h.stands f st) }
 
   -- one part behind another
   pub then_writes : (A B C : ℕ → ℕ → Type 0) (from : ℕ) (l : Lists) (a b : Written) → Writes A from l a → Writes B a.to a.lists b → (A from a.to → B a.to b.to → C from b.to) → Writes C from l (and_then a b)
@@ -98,3 +102,72 @@ module _ (p : Program) (code : Code) (arguments : List ℕ) (layout : Layout) wh
       then_writes (λ from to. A from to free e.held.register e.held.of) (λ from to. StoreCode code layout p t e.held.register from to) (ValueStored A free t) from l (evaluated e) (stored (own_of t) e.held.register e.held.to e.lists)
       (evaluated_writes A from free l e h) (stored_writes t e.held.register e.held.to e.lists)
       (λ v s. record { mid = e.held.to; r = e.held.register; of = e.held.of; value = v; stores = s })
+
+  -- a value in the type of its target
+  pub record Fitted (A : Coded) (t : Target) (s : Scalar) (from to free r : ℕ) : Type 0 where
+    pub mid : ℕ
+    pub ra : ℕ
+    pub value : A from mid free ra s
+    pub converts : ConvertedBy code layout (due_at t s) (home_of t) (target_type t) ra mid to free r
+
+  record Widened (A : Coded) (s u : Scalar) (from to free r : ℕ) : Type 0 where
+    mid : ℕ
+    ra : ℕ
+    value : A from mid free ra s
+    converts : ConvertedBy code layout (lowered_widening s u) None u ra mid to free r
+
+  widened_emits : (A : Coded) (s u : Scalar) (from free into : ℕ) (l : Lists) (e : Emitted) → Emits code arguments layout A from free l e → e.held.of ≡ s → free ≤ into →
+      Emits code arguments layout (λ from to free r x. Widened A s u from to free r) from free l (converted_by (widening s u) u e into)
+  widened_emits A Int LongLong from free into l e h q m =
+      then_emits code arguments layout A (λ from to free r x. Widened A Int LongLong from to free r) None (own.Extend into e.held.register) LongLong from free into l e h m
+      (λ a b. record { mid = e.held.to; ra = e.held.register; value = subst (λ x. A from e.held.to free e.held.register x) q a; converts = b })
+  widened_emits A s u from free into l e h q m = record {
+    to_is = h.to_is;
+    grows = h.grows;
+    stands = λ f st. record { mid = e.held.to; ra = e.held.register; value = subst (λ x. A from e.held.to free e.held.register x) q (h.stands f st); converts = (refl, refl) };
+  }
+
+  pub fitting_emits : (t : Target) (A : Coded) (s : Scalar) (from free : ℕ) (l : Lists) (e : Emitted) → Emits code arguments layout A from free l e → e.held.of ≡ s →
+      Emits code arguments layout (λ from to free r x. Fitted A t s from to free r) from free l (fitting (own_of t) s e (home_or (own_of t) free))
+  fitting_emits (LocalAt y) A s from free l e h q =
+      let g = converted_emits code arguments layout (Some y.0) A s y.1 from free y.0 l e h q (inr refl) in
+      record { to_is = g.to_is; grows = g.grows; stands = λ f st. (let c = g.stands f st in record { mid = c.mid; ra = c.ra; value = c.computes; converts = c.converts }) }
+  fitting_emits (CellAt y) A s from free l e h q =
+      let g = widened_emits A s y.global.of from free free l e h q (omega arith) in
+      record { to_is = g.to_is; grows = g.grows; stands = λ f st. (let c = g.stands f st in record { mid = c.mid; ra = c.ra; value = c.value; converts = c.converts }) }
+  fitting_emits (ElementOf y ri) A s from free l e h q =
+      let g = widened_emits A s y.global.of from free free l e h q (omega arith) in
+      record { to_is = g.to_is; grows = g.grows; stands = λ f st. (let c = g.stands f st in record { mid = c.mid; ra = c.ra; value = c.value; converts = c.converts }) }
+
+  -- a constant that is set in the type of its target, and goes there
+  word_stored : (t : Target) (w : ℕ) (u : Scalar) → u ≡ target_type t → (from free : ℕ) (l : Lists) → Writes (λ from to. WordStored code layout p t w from to free) from l (then_stored (own_of t) (constant w u from (home_or (own_of t) free) l))
+  word_stored t w u same from free l =
+      let A : Coded = λ from to free r x. GivenBy code layout (home_of t) (Plain.Constant r w) u from to free r x in
+      let made = constant w u from (home_or (own_of t) free) l in
+      writes_as (ValueStored A free t) (λ from to. WordStored code layout p t w from to free) from l (then_stored (own_of t) made)
+      (then_stored_writes A t from free l made (one_emits code arguments layout (home_of t) (λ r. Plain.Constant r w) (own.Constant (home_or (own_of t) free) w) u from free (home_or (own_of t) free) l refl (may_take_home t free)))
+      (λ v. record {
+        mid = v.mid;
+        r = v.r;
+        sets = record { to_is = v.value.to_is; takes = v.value.takes; register = v.value.register; type_is = refl; instr = v.value.instr };
+        stores = v.stores;
+      })
+
+  -- an expression's value goes to its target
+  pub expr_stored : (scope : LocalScope) (e : Expr) (t : Target) (s : Scalar) (from free : ℕ) (l : Lists) (x : Emitted) → Emits code arguments layout (ExprCode code layout p (home_of t) scope e) from free l x → x.held.of ≡ s →
+      Writes (λ from to. ExprStored code layout p scope t e from to free) from l (then_stored (own_of t) (expr_fitting (own_of t) s e x from (home_or (own_of t) free) l))
+  expr_stored scope (Constant n k at) (LocalAt y) s from free l x h q = word_stored (LocalAt y) (constant_in y.1 k n) y.1 refl from free l
+  expr_stored scope (Constant n k at) (CellAt y) s from free l x h q = word_stored (CellAt y) (constant_in y.global.of k n) y.global.of refl from free l
+  expr_stored scope (Constant n k at) (ElementOf y ri) s from free l x h q = word_stored (ElementOf y ri) (constant_in y.global.of k n) y.global.of refl from free l
+  expr_stored scope e t s from free l x h q =
+      let A : Coded = ExprCode code layout p (home_of t) scope e in
+      let made = fitting (own_of t) s x (home_or (own_of t) free) in
+      writes_as (ValueStored (λ from to free r z. Fitted A t s from to free r) free t) (λ from to. ExprStored code layout p scope t e from to free) from l (then_stored (own_of t) made)
+      (then_stored_writes (λ from to free r z. Fitted A t s from to free r) t from free l made (fitting_emits t A s from free l x h q))
+      (λ v. record {
+        mid = v.value.mid;
+        r = v.value.ra;
+        t = s;
+        value = v.value.value;
+        stores = record { mid = v.mid; r = v.r; converts = v.value.converts; stores = v.stores };
+      })

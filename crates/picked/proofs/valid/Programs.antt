@@ -139,9 +139,9 @@ module _ (p : Program) (typed : IsTypedProgram p) (cancels : CancelsAreFit p) (c
       let enters = all_enter f.parameters vs (length-replicate n (record { of = Int; word = 0 })) in
       let agrees : Agrees known (running_scope p scope) = agrees_by_shape p known scope (subst (λ m. Agrees known (scope_in p m)) (entered_shapes f.parameters vs enters.0 enters.1 ∙ sym (parameters_are f.parameters)) (shape_agrees p known enters.0 (t.fits vs enters.0 enters.1))) in
       let first : Lists = record l { registers = n; layout = layout } in
-      let made = all_written p body no_exits scope from first in
+      let made = all_written p body (no_exits f.result) scope from first in
       let end : ℕ = made.to + 1 in
-      let part = stmts_part code arguments g end p typed takes (defined_are_callees p) shares body known false scope no_exits not_enclosed agrees
+      let part = stmts_part code arguments g end p typed takes (defined_are_callees p) shares body known false scope (no_exits f.result) not_enclosed agrees
       (stmts_parts f.result body known (parameter_names f.parameters) false t.body) (cancels f.name.text (f, body) e) [] from first in
       let a = part.to_is in
       let b = part.many in
@@ -157,7 +157,7 @@ module _ (p : Program) (typed : IsTypedProgram p) (cancels : CancelsAreFit p) (c
         enters = λ o are. part.enters o (are_front o from part.opens last_list are) (are_behind o from made.to part.opens last_list opens_is are).0;
         goods = λ o are low few ready handed texts st.
             let at_end = (are_behind o from made.to part.opens last_list opens_is are).0 in
-            let exits : Exiting code arguments g end [] no_exits false not_enclosed o = (record { in_function = refl; in_loop = λ t. absurd (cc); breaks = λ t. absurd (cc); continues = λ t. absurd (cc); cancels = λ t. absurd (cc); to_outer = refl; outer_cancels = tt }) in
+            let exits : Exiting code arguments g end [] (no_exits f.result) false not_enclosed o = (record { in_function = refl; in_loop = λ t. absurd (cc); breaks = λ t. absurd (cc); continues = λ t. absurd (cc); cancels = λ t. absurd (cc); to_outer = refl; outer_cancels = tt }) in
             let fits : Fits code arguments g.registers made.lists = (record { arguments = handed; texts = texts; registers = few; ready = subst (AreFoundBelow g.registers) (sym part.grows.layout) ready }) in
             good_append code arguments g end o from made.to made.code (own.Return ∷ []) a
             (part.goods o fits (front code arguments from made.code (own.Return ∷ []) st) low (omega arith) (are_front o from part.opens last_list are) at_end exits)

@@ -1,12 +1,13 @@
 -- What is picked for assignments and declarations of a typed program is in order.
-use Rattle.std.proofs.Common.{◌≡◌, refl, ℕ, suc, ◌+◌, ◌≤◌, ◌<◌, List, [], ◌∷◌, ◌++◌, length, arith, Option, Some, None, Bool, true, false, IsTrue}
+use Rattle.std.proofs.Common.{◌≡◌, refl, ℕ, suc, pos, ◌+◌, ◌≤◌, ◌<◌, List, [], ◌∷◌, ◌++◌, length, arith, Option, Some, None, Bool, true, false, IsTrue}
 use Rattle.std.specs.Prelude.{if◌then◌else◌, ◌==◌}
 use Rattle.std.specs.Option.{IfSome}
 use Rattle.std.proofs.lemmas.List.{length-append}
 use Rattle.lex.specs.declared.token.Scalar.{Scalar}
 use Rattle.lex.specs.declared.token.Scalar.TheVariants.{Int}
 use Rattle.syntax.specs.declared.tree.BinaryOp.{BinaryOp}
-use Rattle.syntax.specs.Tree.{Expr, Variable, Element, Simple, Evaluate, Assign, Adjust, Declarator, Start, Nothing, Declares, Does, Program}
+use Rattle.syntax.specs.Numbers.{number, word_of, operand_type, result_type}
+use Rattle.syntax.specs.Tree.{Expr, Variable, Constant, Element, Simple, Evaluate, Assign, Adjust, Declarator, Start, Nothing, Declares, Does, Program}
 use Rattle.syntax.specs.Meaning.{op_of}
 use Rattle.syntax.specs.Names.{GlobalCells, cells, newest, global_of, globals}
 use Rattle.syntax.specs.Types.{Scope, with_number, running_scope}
@@ -23,8 +24,8 @@ use Rattle.lowered.specs.Statements.{with_local}
 use Rattle.picked.specs.declared.held.Target.{Target}
 use Rattle.picked.specs.declared.held.Target.TheVariants as target
 use Rattle.picked.specs.Lists.{Lists, used}
-use Rattle.picked.specs.Expressions.{Emitted, above, constant, both, emitted}
-use Rattle.picked.specs.Simples.{Written, Aimed, aimed_at, variable_target, element_target, above_target, fetched, home_or, one_written, stored, and_then, evaluated, then_stored, behind as aimed_then, aimed, value_or_one, adjusted, simple_written, nothing_written, first_written, declarator_written, declared_written, start_written}
+use Rattle.picked.specs.Expressions.{Emitted, above, constant, converting, converted_by, both, emitted_type, emitted}
+use Rattle.picked.specs.Simples.{Written, Aimed, aimed_at, variable_target, element_target, above_target, fetched, home_or, one_written, stored, type_at, fitting, expr_fitting, and_then, evaluated, then_stored, behind as aimed_then, aimed, value_or_one, type_or_int, changed, adjusted, simple_written, nothing_written, first_written, declarator_written, declared_written, start_written}
 use Rattle.picked.proofs.stands.Standing.{Grows, grows_same, grows_further, grows_used, max_right}
 use Rattle.picked.proofs.stands.Named.{known_number}
 use Rattle.picked.proofs.stands.Exprs.{DefinedAreCallees}
@@ -32,7 +33,7 @@ use Rattle.picked.proofs.stands.Simply.{one_more_agrees}
 use Rattle.picked.proofs.valid.Fitting.{Fits, fits_before, is_register}
 use Rattle.picked.proofs.valid.Begins.{IsBalanced, balanced_append}
 use Rattle.picked.proofs.valid.Goods.{GoesOn, AreGood, balanced_one, Runs, good_parts, good_on}
-use Rattle.picked.proofs.valid.Sounds.{Sound, OperandSound, in_size, one_sound, in_local_sound, ready_or_sound, operand_sound, both_sound}
+use Rattle.picked.proofs.valid.Sounds.{Sound, OperandSound, in_size, one_sound, in_local_sound, constant_sound, converted_sound, widened_sound, ready_or_sound, operand_sound, both_sound}
 use Rattle.picked.proofs.valid.Expressions.{CalleesTake, cells_are, cell_is, expr_sound}
 
 module _ (code : Code) (arguments : List ℕ) (f : FunctionCode) (end : ℕ) where
@@ -102,6 +103,17 @@ module _ (code : Code) (arguments : List ℕ) (f : FunctionCode) (end : ℕ) whe
   then_stored_flat t from l e h i =
       then_flat from l (evaluated e) (stored t e.held.register e.held.to e.lists) (evaluated_flat from l e h)
       (stored_flat t e.held.register e.held.to e.lists h.held (in_more l.registers e.lists.registers t h.grows.registers i))
+
+  -- a value on its way to a target
+  fitting_sound : (t : Target) (s : Scalar) (into from : ℕ) (l : Lists) (e : Emitted) → Sound code arguments f end from l e → Sound code arguments f end from l (fitting t s e into)
+  fitting_sound (target.Local i t) s into from l e h = converted_sound code arguments f end s t into from l e h
+  fitting_sound (target.Cell c t) s into from l e h = widened_sound code arguments f end s t into from l e h
+  fitting_sound (target.Element i c n t) s into from l e h = widened_sound code arguments f end s t into from l e h
+  fitting_sound target.Nowhere s into from l e h = converted_sound code arguments f end Int Int into from l e h
+
+  expr_fitting_sound : (t : Target) (s : Scalar) (e' : Expr) (e : Emitted) (from into : ℕ) (l : Lists) → Sound code arguments f end from l e → Sound code arguments f end from l (expr_fitting t s e' e from into l)
+  expr_fitting_sound t s (Constant n x at) e from into l h = constant_sound code arguments f end (number x (word_of x (pos n))) (type_at t) from into l
+  expr_fitting_sound t s e' e from into l h = fitting_sound t s into from l e h
 
   -- what finds a target
   record Aims (from : ℕ) (l : Lists) (a : Aimed) : Type 0 where
@@ -174,22 +186,32 @@ module _ (code : Code) (arguments : List ℕ) (f : FunctionCode) (end : ℕ) whe
           element_aims check (global_of p x.text) (cells_are p code arguments f end typed takes defined shares x.text) from l (emitted p scope i from (length scope) (length scope) l) (sound i h.1 from (length scope) (length scope) l)
       aims check lhs h m from l = nowhere_aims from l
 
-      value_or_one_sound : (by : Option Expr) → IfSome by (TypedExpr known) → (from free : ℕ) (l : Lists) → OperandSound code arguments f end from l (value_or_one p scope by from free l)
-      value_or_one_sound None h from free l =
-          ready_or_sound code arguments f end 1 Int from l (constant 1 Int from free l) (one_sound code arguments f end (own.Constant free 1) from free Int l (λ q bs. (refl, tt)) (λ r s. (r, omega arith)))
-      value_or_one_sound (Some e) h from free l = operand_sound code arguments f end e from l (emitted p scope e from free free l) (sound e h from free free l)
+      value_or_one_sound : (u : Scalar) (by : Option Expr) → IfSome by (TypedExpr known) → (from free : ℕ) (l : Lists) → OperandSound code arguments f end from l (value_or_one p scope u by from free l)
+      value_or_one_sound u None h from free l =
+          ready_or_sound code arguments f end 1 u from l (constant 1 u from free l) (one_sound code arguments f end (own.Constant free 1) from free u l (λ q bs. (refl, tt)) (λ r s. (r, omega arith)))
+      value_or_one_sound u (Some e) h from free l = operand_sound code arguments f end e (emitted_type p scope e) u from free l (emitted p scope e from free free l) (sound e h from free free l)
+
+      changed_sound : (op : BinaryOp) (by : Option Expr) → IfSome by (TypedExpr known) → (t : Target) (from free : ℕ) (l : Lists) → IsIn l.registers t → Sound code arguments f end from l (changed p scope op by t from free l)
+      changed_sound op by hb t from free l i =
+          let s = type_at t in
+          let u = operand_type op s (type_or_int p scope by) in
+          let first = fetched t from free l in
+          let old = converted_by (converting s u) u first free in
+          let v = operand_type op (type_or_int p scope by) s in
+          let other = value_or_one p scope v by old.held.to (above free old.held.register) old.lists in
+          let home : ℕ = home_or t free in
+          fitting_sound t (result_type op u) home from l (both op u old other home)
+          (both_sound code arguments f end op u home from l old other (converted_sound code arguments f end s u free from l first (fetched_sound t from free l i))
+          (value_or_one_sound v by hb old.held.to (above free old.held.register) old.lists))
 
       adjusted_flat : (op : BinaryOp) (lhs : Expr) (by : Option Expr) → TypedTarget known lhs → IfSome by (TypedExpr known) → IsTrue (may_be_assigned known lhs) → (from : ℕ) (l : Lists) → Flat from l (adjusted p scope op lhs by from (length scope) l)
       adjusted_flat op lhs by ht hb m from l =
           let a = aimed p scope false lhs from (length scope) l in
           let g = aims false lhs ht m from l in
           let later : ℕ = above_target a.target (length scope) in
-          let old = fetched a.target a.to later a.lists in
-          let other = value_or_one p scope by old.held.to (above later old.held.register) old.lists in
-          let into : ℕ = home_or a.target later in
-          aimed_flat from l a (then_stored a.target (both op old other into)) g
-          (then_stored_flat a.target a.to a.lists (both op old other into)
-          (both_sound code arguments f end op into a.to a.lists old other (fetched_sound a.target a.to later a.lists g.aim) (value_or_one_sound by hb old.held.to (above later old.held.register) old.lists)) g.aim)
+          let whole = changed p scope op by a.target a.to later a.lists in
+          aimed_flat from l a (then_stored a.target whole) g
+          (then_stored_flat a.target a.to a.lists whole (changed_sound op by hb a.target a.to later a.lists g.aim) g.aim)
 
       pub simple_flat : (s : Simple) → TypedSimple known s → (from : ℕ) (l : Lists) → Flat from l (simple_written p scope s from (length scope) l)
       simple_flat (Evaluate e) h from l = evaluated_flat from l (emitted p scope e from (length scope) (length scope) l) (sound e h from (length scope) (length scope) l)
@@ -197,14 +219,22 @@ module _ (code : Code) (arguments : List ℕ) (f : FunctionCode) (end : ℕ) whe
           let a = aimed p scope true lhs from (length scope) l in
           let g = aims true lhs h.0 h.2 from l in
           let later : ℕ = above_target a.target (length scope) in
-          let v = emitted p scope e a.to (home_or a.target later) later a.lists in
-          aimed_flat from l a (then_stored a.target v) g (then_stored_flat a.target a.to a.lists v (sound e h.1 a.to (home_or a.target later) later a.lists) g.aim)
+          let home : ℕ = home_or a.target later in
+          let s : Scalar = emitted_type p scope e in
+          let v = emitted p scope e a.to home later a.lists in
+          let w = expr_fitting a.target s e v a.to home a.lists in
+          aimed_flat from l a (then_stored a.target w) g
+          (then_stored_flat a.target a.to a.lists w (expr_fitting_sound a.target s e v a.to home a.lists (sound e h.1 a.to home later a.lists)) g.aim)
       simple_flat (Assign lhs (Some op) e) h from l = adjusted_flat op lhs (Some e) h.0 h.1 h.2 from l
       simple_flat (Adjust lhs by) h from l = adjusted_flat (op_of by) lhs None h.0 tt h.1 from l
 
     first_flat : (known : Scope) (scope : LocalScope) → Agrees known (running_scope p scope) → (i : ℕ) (t : Scalar) (first : Option Expr) → IfSome first (TypedExpr known) → (from : ℕ) (l : Lists) → i < l.registers → Flat from l (first_written p scope i t first from l)
     first_flat known scope agrees i t None h from l k = nothing_flat from l
-    first_flat known scope agrees i t (Some e) h from l k = then_stored_flat (target.Local i t) from l (emitted p scope e from i (suc i) l) (sound known scope agrees e h from i (suc i) l) k
+    first_flat known scope agrees i t (Some e) h from l k =
+        let s : Scalar = emitted_type p scope e in
+        let v = emitted p scope e from i (suc i) l in
+        then_stored_flat (target.Local i t) from l (expr_fitting (target.Local i t) s e v from i l)
+        (expr_fitting_sound (target.Local i t) s e v from i l (sound known scope agrees e h from i (suc i) l)) k
 
     pub declared_flat : (t : Scalar) (ds : List Declarator) (known : Scope) (scope : LocalScope) → Agrees known (running_scope p scope) → TypedDeclarators known t ds → (from : ℕ) (l : Lists) → Flat from l (declared_written p t ds scope from l)
     declared_flat t [] known scope agrees h from l = nothing_flat from l

@@ -1,29 +1,31 @@
 -- The parts of an expression, as they are picked, are in order.
-use Rattle.std.proofs.Common.{◌≡◌, refl, sym, ap, subst, ◌∙◌, ℕ, suc, pos, ◌+◌, ◌≤◌, ◌<◌, List, [], ◌∷◌, ◌++◌, length, map, drop, arith, Option, Some, None, Bool, true, false, eqb-true}
-use Rattle.std.specs.Prelude.{if◌then◌else◌, ◌==◌, is_some, option_map}
+use Rattle.std.proofs.Common.{◌≡◌, refl, sym, ap, subst, ◌∙◌, ℕ, suc, pos, ◌+◌, ◌≤◌, ◌<◌, ◌^◌, List, [], ◌∷◌, ◌++◌, length, map, drop, arith, Option, Some, None, Bool, true, false, eqb-true}
+use Rattle.std.specs.Prelude.{ℤ, if◌then◌else◌, ◌==◌, is_some, option_map}
 use Rattle.std.specs.List.{AllByRecursion}
 use Rattle.std.specs.Option.{IfSome}
 use Rattle.std.proofs.lemmas.List.{length-append, length-map, map-append}
 use Rattle.lex.specs.declared.token.Scalar.{Scalar}
-use Rattle.lex.specs.declared.token.Scalar.TheVariants.{Int, Unsigned}
+use Rattle.lex.specs.declared.token.Scalar.TheVariants.{Int, Unsigned, LongLong}
 use Rattle.syntax.specs.declared.tree.BinaryOp.{BinaryOp}
 use Rattle.syntax.specs.declared.tree.BinaryOp.TheVariants.{Greater, GreaterEqual}
 use Rattle.syntax.specs.declared.tree.LogicalOp.{LogicalOp}
 use Rattle.syntax.specs.declared.tree.LogicalOp.TheVariants.{AndThen, OrElse}
 use Rattle.syntax.specs.Tree.{Parameter, Expr, Constant}
-use Rattle.syntax.specs.Numbers.{word_of, operand_type}
+use Rattle.syntax.specs.Numbers.{number, word_of}
+use Rattle.syntax.proofs.Words.{word_below}
 use Rattle.bytecode.specs.declared.instr.Instr.{Instr}
 use Rattle.bytecode.specs.declared.instr.Instr.TheVariants as own
 use Rattle.bytecode.specs.Code.{Code, FunctionCode, Instr as Plain}
 use Rattle.bytecode.specs.Valid.{IsWritten, Takes}
 use Rattle.bytecode.specs.Views.{instr_of}
 use Rattle.lowered.specs.Expressions as Lowered
-use Rattle.lowered.specs.Expressions.{named_ones, nameless_ones, arranged}
+use Rattle.lowered.specs.Expressions.{constant_in, named_ones, nameless_ones, arranged}
 use Rattle.picked.specs.Lists.{Lists, used, holding}
 use Rattle.picked.specs.Names.{Callee}
 use Rattle.picked.specs.declared.draft.Draft.TheVariants as draft
 use Rattle.picked.specs.Conditions.{Condition, test_in, jump_if, jump_if_not, completed, turned, going_on, going_back, by_value, opposite, first_of, joined, zero_tested}
-use Rattle.picked.specs.Expressions.{computing, negating, Emitted, AllEmitted, above, one, then_one, ready_from, ready, constant_ready, ready_or, in_local, converted_to, in_own_transaction, negated, complemented, compared, both, answered, tested, settled, chosen, followed, called}
+use Rattle.picked.specs.Simples.{widening}
+use Rattle.picked.specs.Expressions.{computing, negating, complementing, Emitted, AllEmitted, above, one, then_one, ready_from, ready, constant_ready, ready_or, in_local, converting, converted_by, in_type, in_first_type, constant, in_own_transaction, negated, complemented, compared, both, answered, tested, settled, chosen, followed, called}
 use Rattle.picked.proofs.Drafted.{whole_are, turned_are, first_and, first_or, completed_length, on_length, back_length, first_length}
 use Rattle.picked.proofs.stands.Standing.{front_same, front_more, Grows, grows_same, grows_further, grows_used, max_left, max_right}
 use Rattle.picked.proofs.stands.Emitting.{computing_is}
@@ -77,6 +79,12 @@ split_length (q ∷ qs) (r ∷ rs) e = by (is_some q.name) (split_length qs rs (
 
 arranged_length : (qs : List Parameter) (rs : List ℕ) → length rs ≡ length qs → length (arranged qs rs) ≡ length qs
 arranged_length qs rs e = length-append (named_ones qs rs) (nameless_ones qs rs) ∙ split_length qs rs e
+
+-- a word is one that an instruction may set
+pub word_fits : (t : Scalar) (z : ℤ) → word_of t z < 2 ^ 64
+word_fits Int z = let h = word_below Int z in omega (arith, h)
+word_fits Unsigned z = let h = word_below Unsigned z in omega (arith, h)
+word_fits LongLong z = word_below LongLong z
 
 pub settled_into : (r : ℕ) (e : Emitted) → (settled r e).held.register ≡ r
 settled_into r e = by (e.held.register == r) refl
@@ -146,8 +154,32 @@ module _ (code : Code) (arguments : List ℕ) (f : FunctionCode) (end : ℕ) whe
         (λ g. (good_on code arguments f end o e.held.to bs i [] way (w (is_register code arguments f.registers e.lists r k) (in_size e.held.register e.lists h.held inner)) g, tt));
   }
 
-  pub cast_sound : (t : Scalar) (from : ℕ) (l : Lists) (e : Emitted) → Sound from l e → Sound from l (converted_to t e)
-  cast_sound t from l e h = record { to_is = h.to_is; grows = h.grows; held = h.held; balanced = h.balanced; goods = h.goods }
+  remains_sound : (u : Scalar) (into from : ℕ) (l : Lists) (e : Emitted) → Sound from l e → Sound from l (converted_by None u e into)
+  remains_sound u into from l e h = record { to_is = h.to_is; grows = h.grows; held = h.held; balanced = h.balanced; goods = h.goods }
+
+  -- a value by a conversion, and on its way to a cell
+  pub converted_sound : (s u : Scalar) (into from : ℕ) (l : Lists) (e : Emitted) → Sound from l e → Sound from l (converted_by (converting s u) u e into)
+  converted_sound Int LongLong into from l e h = then_sound (own.Extend into e.held.register) into LongLong from l e h (λ q bs. (refl, tt)) (λ x y. (x, y))
+  converted_sound LongLong Int into from l e h = then_sound (own.Low into e.held.register) into Int from l e h (λ q bs. (refl, tt)) (λ x y. (x, y))
+  converted_sound LongLong Unsigned into from l e h = then_sound (own.Low into e.held.register) into Unsigned from l e h (λ q bs. (refl, tt)) (λ x y. (x, y))
+  converted_sound s u into from l e h = remains_sound u into from l e h
+
+  pub widened_sound : (s u : Scalar) (into from : ℕ) (l : Lists) (e : Emitted) → Sound from l e → Sound from l (converted_by (widening s u) u e into)
+  widened_sound Int LongLong into from l e h = then_sound (own.Extend into e.held.register) into LongLong from l e h (λ q bs. (refl, tt)) (λ x y. (x, y))
+  widened_sound s u into from l e h = remains_sound u into from l e h
+
+  -- a constant in some type
+  pub constant_sound : (z : ℤ) (u : Scalar) (from into : ℕ) (l : Lists) → Sound from l (constant (word_of u z) u from into l)
+  constant_sound z u from into l = one_sound (own.Constant into (word_of u z)) from into u l (λ q bs. (refl, tt)) (λ r s. (r, word_fits u z))
+
+  -- an expression's value in some type
+  pub in_type_sound : (s u : Scalar) (e' : Expr) (e : Emitted) (from into : ℕ) (l : Lists) → Sound from l e → Sound from l (in_type s u e' e from into l)
+  in_type_sound s u (Constant n t at) e from into l h = constant_sound (number t (word_of t (pos n))) u from into l
+  in_type_sound s u e' e from into l h = converted_sound s u into from l e h
+
+  pub in_first_sound : (s : Scalar) (ts : List Scalar) (e' : Expr) (e : Emitted) (from into : ℕ) (l : Lists) → Sound from l e → Sound from l (in_first_type s ts e' e from into l)
+  in_first_sound s [] e' e from into l h = h
+  in_first_sound s (u ∷ us) e' e from into l h = in_type_sound s u e' e from into l h
 
   balanced_within : (to : ℕ) (a : List Instr) → IsBalanced arguments a → IsBalanced arguments (own.Begin to ∷ a ++ own.Commit ∷ [])
   balanced_within to a h = λ q bs. left_append arguments (suc q) (q ∷ bs) a (own.Commit ∷ []) ∙ ap (λ xs. drop 1 xs) (h (suc q) (q ∷ bs))
@@ -187,9 +219,15 @@ module _ (code : Code) (arguments : List ℕ) (f : FunctionCode) (end : ℕ) whe
       by : (t : Scalar) → Sound from l (then_one e (negating t into e.held.register) into e.held.of)
       by Int = then_sound (own.NegateSigned into e.held.register) into e.held.of from l e h (λ q bs. (refl, tt)) (λ x y. (x, y))
       by Unsigned = then_sound (own.NegateUnsigned into e.held.register) into e.held.of from l e h (λ q bs. (refl, tt)) (λ x y. (x, y))
+      by LongLong = then_sound (own.NegateLong into e.held.register) into e.held.of from l e h (λ q bs. (refl, tt)) (λ x y. (x, y))
 
   pub complemented_sound : (into from : ℕ) (l : Lists) (e : Emitted) → Sound from l e → Sound from l (complemented e into)
-  complemented_sound into from l e h = then_sound (own.Complement into e.held.register) into e.held.of from l e h (λ q bs. (refl, tt)) (λ x y. (x, y))
+  complemented_sound into from l e h = by e.held.of
+    where
+      by : (t : Scalar) → Sound from l (then_one e (complementing t into e.held.register) into e.held.of)
+      by Int = then_sound (own.Complement into e.held.register) into e.held.of from l e h (λ q bs. (refl, tt)) (λ x y. (x, y))
+      by Unsigned = then_sound (own.Complement into e.held.register) into e.held.of from l e h (λ q bs. (refl, tt)) (λ x y. (x, y))
+      by LongLong = then_sound (own.ComplementLong into e.held.register) into e.held.of from l e h (λ q bs. (refl, tt)) (λ x y. (x, y))
 
   pub compared_sound : (into free from : ℕ) (l : Lists) (e : Emitted) → Sound from l e → Sound from l (compared e into free)
   compared_sound into free from l e h =
@@ -236,12 +274,13 @@ module _ (code : Code) (arguments : List ℕ) (f : FunctionCode) (end : ℕ) whe
       by None n = computed_sound from l e h
       by (Some r) n = record { to_is = omega arith; grows = grows_same l; held = λ k. k.ready w r n; balanced = λ q bs. refl; goods = λ o bs k run. tt }
 
-  pub operand_sound : (b : Expr) (from : ℕ) (l : Lists) (e : Emitted) → Sound from l e → OperandSound from l (ready_or (constant_ready l.layout b from) l e)
-  operand_sound (Constant n t at) from l e h = ready_or_sound (word_of t (pos n)) t from l e h
-  operand_sound b from l e h = computed_sound from l e h
+  pub operand_sound : (b : Expr) (s u : Scalar) (from free : ℕ) (l : Lists) (e : Emitted) → Sound from l e → OperandSound from l (ready_or (constant_ready l.layout u b from) l (in_type s u b e from free l))
+  operand_sound (Constant n t at) s u from free l e h =
+      ready_or_sound (constant_in u t n) u from l (constant (constant_in u t n) u from free l) (constant_sound (number t (word_of t (pos n))) u from free l)
+  operand_sound b s u from free l e h = computed_sound from l (converted_by (converting s u) u e free) (converted_sound s u free from l e h)
 
-  pub both_sound : (op : BinaryOp) (into from : ℕ) (l : Lists) (a b : Emitted) → Sound from l a → OperandSound a.held.to a.lists b → Sound from l (both op a b into)
-  both_sound op into from l a b h g =
+  pub both_sound : (op : BinaryOp) (t : Scalar) (into from : ℕ) (l : Lists) (a b : Emitted) → Sound from l a → OperandSound a.held.to a.lists b → Sound from l (both op t a b into)
+  both_sound op t into from l a b h g =
       let i : Instr = computing op t into a.held.register b.held.register in
       let two : length (a.code ++ b.code) ≡ length a.code + length b.code = length-append a.code b.code in
       let x = h.to_is in
@@ -261,9 +300,6 @@ module _ (code : Code) (arguments : List ℕ) (f : FunctionCode) (end : ℕ) whe
             (λ r. (good_on code arguments f end o b.held.to bs i [] way there r, tt));
       }
     where
-      t : Scalar
-      t = operand_type op a.held.of b.held.of
-
       way : GoesOn code arguments f end (instr_of arguments (computing op t into a.held.register b.held.register))
       way = computing_goes op t into a.held.register b.held.register
 
@@ -427,8 +463,8 @@ module _ (code : Code) (arguments : List ℕ) (f : FunctionCode) (end : ℕ) whe
       by true = h
       by false = then_sound (own.Move r e.held.register) r e.held.of from l e h (λ q bs. (refl, tt)) (λ x y. (x, y))
 
-  pub chosen_sound : (into from : ℕ) (l : Lists) (c : Condition) (a b : Emitted) → TestSound from l c → Sound (c.to + 1) c.lists a → Sound (a.held.to + 1) a.lists b → b.held.register ≡ into → Sound from l (chosen c a b into)
-  chosen_sound into from l c a b h g w same =
+  pub chosen_sound : (t : Scalar) (into from : ℕ) (l : Lists) (c : Condition) (a b : Emitted) → TestSound from l c → Sound (c.to + 1) c.lists a → Sound (a.held.to + 1) a.lists b → b.held.register ≡ into → Sound from l (chosen t c a b into)
+  chosen_sound t into from l c a b h g w same =
       let test : List Instr = going_on c.code (test_in c) (a.held.to + 1) in
       let skip : Instr = own.Jump b.held.to in
       let head : List Instr = test ++ a.code in

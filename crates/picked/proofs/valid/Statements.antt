@@ -3,7 +3,7 @@ use Rattle.std.proofs.Common.{◌≡◌, refl, ap, subst, ◌∙◌, ℕ, zero, 
 use Rattle.std.specs.Option.{IfSome}
 use Rattle.std.proofs.lemmas.List.{length-append}
 use Rattle.lex.specs.declared.token.Scalar.{Scalar}
-use Rattle.lex.specs.declared.token.Scalar.TheVariants.{Int, Unsigned}
+use Rattle.lex.specs.declared.token.Scalar.TheVariants.{Int, Unsigned, LongLong}
 use Rattle.syntax.specs.Tree.{Expr, Exprs, Simple, Stmt, Stmts, Empty, Declare, Do, Block, Print, If, IfElse, While, DoWhile, For, Break, Continue, Return, Transaction, Cancel, CancelOuter, Program}
 use Rattle.syntax.specs.Formats.{Piece, Literal, Figure, pieces}
 use Rattle.syntax.specs.Names.{globals}
@@ -19,7 +19,7 @@ use Rattle.lowered.specs.Expressions.{LocalScope}
 use Rattle.lowered.specs.Statements.{locals_of_start, locals_after}
 use Rattle.picked.specs.declared.held.Exits.{Exits}
 use Rattle.picked.specs.Lists.{Lists}
-use Rattle.picked.specs.Expressions.{AllEmitted, emitted, condition, all_emitted}
+use Rattle.picked.specs.Expressions.{AllEmitted, due, condition, all_emitted}
 use Rattle.picked.specs.Conditions.{Condition, test_in, going_on}
 use Rattle.picked.specs.Simples.{Written, nothing_written, one_written, and_then, evaluated, start_written}
 use Rattle.picked.specs.Statements.{in_transaction, looping, left_by, branched, branched_twice, tested_back, while_written, do_written, for_written, returned, printing, and_one, pieces_written, print_written, for_test, for_step, written, all_written}
@@ -30,8 +30,8 @@ use Rattle.picked.proofs.stands.Statements.{Enclosing, enclosed_in, CancelsFit, 
 use Rattle.picked.proofs.valid.Fitting.{fits_before}
 use Rattle.picked.proofs.valid.Begins.{Are, are_front, are_behind, balanced_append}
 use Rattle.picked.proofs.valid.Goods.{Meets, good_parts, good_on}
-use Rattle.picked.proofs.valid.Sounds.{Sound, TestSound, AreBelow, in_size, test_on_is, test_back_is, going_on_good, going_back_good}
-use Rattle.picked.proofs.valid.Expressions.{CalleesTake, expr_sound, all_sound, test_sound}
+use Rattle.picked.proofs.valid.Sounds.{TestSound, AreBelow, in_size, test_on_is, test_back_is, going_on_good, going_back_good}
+use Rattle.picked.proofs.valid.Expressions.{CalleesTake, due_sound, all_sound, test_sound}
 use Rattle.picked.proofs.valid.Simples.{Flat, nothing_flat, one_flat, then_flat, evaluated_flat, simple_flat, declared_flat, start_flat}
 use Rattle.picked.proofs.valid.Parts.{Exiting, Part, along_part, flat_part, knowing, given, then_part, jump_part, left_part, cancel_part, outer_cancel_part, transaction_part}
 
@@ -80,6 +80,7 @@ module _ (code : Code) (arguments : List ℕ) (f : FunctionCode) (end : ℕ) whe
       by : (t : Scalar) → Flat code arguments f end (from + 1) l (pieces_written ps rs (from + 1) l) → Flat code arguments f end from l (and_one (printing t r) (pieces_written ps rs (from + 1) l))
       by Int g = then_flat code arguments f end from l (one_written (own.PrintSigned r) from l) (pieces_written ps rs (from + 1) l) (one_flat code arguments f end (own.PrintSigned r) from l (λ q bs. (refl, tt)) (λ k. in_size code arguments f end r l h.0 k)) g
       by Unsigned g = then_flat code arguments f end from l (one_written (own.PrintUnsigned r) from l) (pieces_written ps rs (from + 1) l) (one_flat code arguments f end (own.PrintUnsigned r) from l (λ q bs. (refl, tt)) (λ k. in_size code arguments f end r l h.0 k)) g
+      by LongLong g = then_flat code arguments f end from l (one_written (own.PrintLong r) from l) (pieces_written ps rs (from + 1) l) (one_flat code arguments f end (own.PrintLong r) from l (λ q bs. (refl, tt)) (λ k. in_size code arguments f end r l h.0 k)) g
 
   -- a condition with its jump
   leading_part : (P : (ℕ → List ℕ) → Type 0) (bs : List ℕ) (there from : ℕ) (l : Lists) (c : Condition) → TestSound code arguments f end from l c → ((open_at : ℕ → List ℕ) → P open_at → Open bs there open_at) → Part code arguments f end P bs from l (leading c there)
@@ -268,9 +269,6 @@ module _ (code : Code) (arguments : List ℕ) (f : FunctionCode) (end : ℕ) whe
 
   module _ (p : Program) (typed : IsTypedProgram p) (takes : CalleesTake p code) (defined : DefinedAreCallees p) (shares : code.globals ≡ globals p) where
     module _ (known : Scope) (scope : LocalScope) (agrees : Agrees known (running_scope p scope)) where
-      sound : (e : Expr) → TypedExpr known e → (from free : ℕ) (l : Lists) → Sound code arguments f end from l (emitted p scope e from free free l)
-      sound e h from free l = expr_sound p code arguments f end typed takes defined shares known scope agrees e h from free free l
-
       test : (c : Expr) → TypedExpr known c → (from : ℕ) (l : Lists) → TestSound code arguments f end from l (condition p scope c from (length scope) l)
       test c h from l = test_sound p code arguments f end typed takes defined shares known scope agrees c h from (length scope) l
 
@@ -285,20 +283,20 @@ module _ (code : Code) (arguments : List ℕ) (f : FunctionCode) (end : ℕ) whe
       step_flat None h from l = nothing_flat code arguments f end from l
       step_flat (Some s) h from l = simple_flat code arguments f end p typed takes defined shares known scope agrees s h from l
 
-      print_flat : (format : List ℕ) (es : Exprs) → TypedExprs known es → (from : ℕ) (l : Lists) → Flat code arguments f end from l (print_written (all_emitted p scope es (from + 1) (length scope) l) (pieces format))
+      print_flat : (format : List ℕ) (es : Exprs) → TypedExprs known es → (from : ℕ) (l : Lists) → Flat code arguments f end from l (print_written (all_emitted p scope [] es (from + 1) (length scope) l) (pieces format))
       print_flat format es h from l =
-          let args = all_emitted p scope es (from + 1) (length scope) l in
-          let g = all_sound p code arguments f end typed takes defined shares known scope agrees es h (from + 1) (length scope) l in
+          let args = all_emitted p scope [] es (from + 1) (length scope) l in
+          let g = all_sound p code arguments f end typed takes defined shares known scope agrees [] es h (from + 1) (length scope) l in
           let first = one_written own.Irrevocable from l in
           then_flat code arguments f end from l (and_then first (handed args)) (pieces_written (pieces format) args.registers args.to args.lists)
           (then_flat code arguments f end from l first (handed args) (one_flat code arguments f end own.Irrevocable from l (λ q bs. (refl, tt)) (λ k. tt)) (record { to_is = g.to_is; grows = g.grows; balanced = g.balanced; goods = g.goods }))
           (pieces_flat (pieces format) args.registers args.to args.lists g.held)
 
       return_part : (bs : List ℕ) (x : Exits) (loops : Bool) (m : Enclosing) (e : Expr) → TypedExpr known e → (from : ℕ) (l : Lists) →
-          Part code arguments f end (Exiting code arguments f end bs x loops m) bs from l (returned x.in_function (emitted p scope e from (length scope) (length scope) l))
+          Part code arguments f end (Exiting code arguments f end bs x loops m) bs from l (returned x.in_function (due p scope x.gives e from (length scope) (length scope) l))
       return_part bs x loops m e h from l =
-          let v = emitted p scope e from (length scope) (length scope) l in
-          let s = sound e h from (length scope) l in
+          let v = due p scope x.gives e from (length scope) (length scope) l in
+          let s = due_sound p code arguments f end typed takes defined shares known scope agrees x.gives e h from (length scope) (length scope) l in
           let P : (ℕ → List ℕ) → Type 0 = Exiting code arguments f end bs x loops m in
           then_part code arguments f end P bs from v.held.to l (evaluated v) (left_by x.in_function (own.ReturnValue v.held.register) v.held.to v.lists) refl
           (flat_part code arguments f end P bs from l (evaluated v) (evaluated_flat code arguments f end from l v s))
