@@ -1,8 +1,6 @@
--- look-ups among locals, and tables of names
+-- look-ups among locals, and in a file
 mod Lookup
-mod Placing
 pub mod Files
-mod CellsFit
 -- stretches of code one behind the other
 pub mod Adding
 -- expressions by their parts: arguments, values one after another, nodes, and parts of a whole
@@ -11,6 +9,8 @@ mod Rows
 mod Nodes
 mod Conditional
 mod Within
+mod Operating
 -- assignments and declarations
 mod Assigning
+mod Changing
 mod Declared

@@ -1,6 +1,8 @@
 -- The clean tree of a node by the parts that are read of it, and what is picked for it there.
-use Rattle.std.proofs.Common.{◌≡◌, ℕ, List, Option, Some, None, Result, refl, sym, ap, subst, ◌∙◌}
+use Rattle.std.proofs.Common.{◌≡◌, ℕ, List, Option, Some, None, true, false, Result, Ok, pos, ◌≤◌, arith, refl, sym, ap, subst, ◌∙◌, append-nil}
+use Rattle.std.specs.Prelude.{is_some, unwrap_or}
 use Rattle.lex.specs.declared.token.Scalar.{Scalar}
+use Rattle.lex.specs.declared.token.Scalar.TheVariants.{Int, Unsigned, LongLong}
 use Rattle.lex.specs.declared.token.Span.{Span}
 use Rattle.syntax.specs.declared.tree.UnaryOp.{UnaryOp}
 use Rattle.syntax.specs.declared.tree.BinaryOp.{BinaryOp}
@@ -13,18 +15,25 @@ use Rattle.syntax.specs.declared.tree.Expr.TheFolds.{fold-roll-Expr}
 use Rattle.syntax.specs.declared.tree.Expr.TheVariants as EV
 use Rattle.syntax.specs.Tree as Tree
 use Rattle.syntax.specs.Tree.{Program}
+use Rattle.syntax.specs.Numbers.{word_of}
+use Rattle.syntax.proofs.Words.{word_below}
 use Rattle.syntax.specs.Views.{name_of, expr_step, expr_of, exprs_of}
 use Rattle.syntax.proofs.Seen.{expr_of_variable, expr_of_call, expr_of_element, expr_of_parenthesized, expr_of_cast, expr_of_unary, expr_of_binary, expr_of_logical, expr_of_conditional, expr_of_in_transaction}
 use Rattle.bytecode.specs.declared.instr.Instr.{Instr}
-use Rattle.lowered.specs.Expressions.{LocalScope}
+use Rattle.lowered.specs.Expressions.{LocalScope, constant_in, converting as lowered_converting}
+use Rattle.lowered.proofs.Conversions.{IsNone, unconverted}
 use Rattle.picked.specs.declared.draft.Draft.{Draft}
 use Rattle.picked.specs.declared.held.Held.{Held}
 use Rattle.picked.specs.declared.held.Tested.{Tested}
 use Rattle.picked.specs.Lists.{Lists}
 use Rattle.picked.specs.Conditions.{Condition}
-use Rattle.picked.specs.Expressions.{Emitted, emitted, converted_to, own_condition, condition, tested}
+use Rattle.picked.specs.Expressions.{Emitted, constant, converting, converted_by, constant_of, where_same, emitted_type, emitted, due, own_condition, condition, tested}
+use Rattle.picked.proofs.Growing.{converted_more}
+use Rattle.picked.proofs.stands.Kinds.{emitted_is}
 use Rattle.expression_code.specs.declared.fault.Failure.{Failure}
 use Rattle.expression_code.specs.Stretches.{Adds, of_value, of_test}
+use Rattle.expression_code.specs.inner.Stretches.{in_place}
+use Rattle.expression_code.proofs.Adding.{behind, same, in_turn}
 
 module _ {A : Type 0} where
   pub variable_is : {e : E.Expr A} {x : N.Name A} → e ≡ E.Variable x → expr_of e ≡ Tree.Variable (name_of x)
@@ -75,11 +84,69 @@ module _ (p : Program) (scope : LocalScope) {e x : Tree.Expr} (from : ℕ) where
   value_test_there free l {old = old} {new = new} {m = m} {r = r} is none k =
       subst (λ o. Adds (of_test (tested o (emitted p scope e from free free l))) old new m r) (sym (ap (λ y. own_condition p scope y from free l) is ∙ none)) k
 
--- the instructions of a cast are those of its operand, so that it is tested as that is
-cast_tested : (o : Option Condition) (t : Scalar) (v : Emitted) → tested o v ≡ tested o (converted_to t v)
-cast_tested None t v = refl
-cast_tested (Some c) t v = refl
+-- what is due, of a constant and of another expression
+pub due_constant : (p : Program) (scope : LocalScope) (u : Scalar) (e : Tree.Expr) (n : ℕ) (t : Scalar) (from into free : ℕ) (l : Lists) → constant_of e ≡ Some (n, t) → due p scope u e from into free l ≡ constant (constant_in u t n) u from into l
+due_constant p scope u (Tree.Constant m s at) n t from into free l e =
+    let same : (m, s) ≡ (n, t) = ap (λ o. unwrap_or o (m, s)) e in
+    ap (λ (k : ℕ × Scalar). constant (constant_in u k.1 k.0) u from into l) same
+due_constant p scope u e n t from into free l k = absurd (cc)
 
-pub cast_test_there : (p : Program) (scope : LocalScope) {e a : Tree.Expr} {t : Scalar} {at : Span} (from free : ℕ) (l : Lists) {old new : List Draft} {m : Lists} {r : Result Tested Failure} → e ≡ Tree.Cast t a at → Adds (of_test (condition p scope a from free l)) old new m r → Adds (of_test (condition p scope e from free l)) old new m r
-cast_test_there p scope {a = a} {t = t} from free l {old = old} {new = new} {m = m} {r = r} is k =
-    test_there p scope from free l is (subst (λ c. Adds (of_test c) old new m r) (cast_tested (own_condition p scope a from free l) t (emitted p scope a from free free l)) k)
+pub due_other : (p : Program) (scope : LocalScope) (u : Scalar) (e : Tree.Expr) (from into free : ℕ) (l : Lists) → constant_of e ≡ None → due p scope u e from into free l ≡ converted_by (converting (emitted_type p scope e) u) u (emitted p scope e from into free l) into
+due_other p scope u (Tree.Constant m s at) from into free l k = absurd (cc)
+due_other p scope u e from into free l k = refl
+
+-- a value that is converted behind its instructions is converted with them
+pub converted_behind : (o : Option (ℕ → ℕ → Instr)) (u : Scalar) (e : Emitted) (into : ℕ) → behind (of_value e) (of_value (converted_by o u (in_place e.held e.lists) into)) ≡ of_value (converted_by o u e into)
+converted_behind None u e into = λ j. record { code = append-nil e.code j; lists = e.lists; end = record { register = e.held.register; of = u; to = e.held.to } }
+converted_behind (Some i) u e into = refl
+
+-- of a value that stands there already its type is the expression's
+pub due_there : (p : Program) (scope : LocalScope) (u : Scalar) (e : Tree.Expr) (from into free : ℕ) (l : Lists) → constant_of e ≡ None → {old mid new : List Instr} {l1 l2 : Lists} {h : Held} {r : Result Held Failure} → Adds (of_value (emitted p scope e from into free l)) old mid l1 (Ok h) → Adds (of_value (converted_by (converting h.of u) u (in_place h l1) into)) mid new l2 r → Adds (of_value (due p scope u e from into free l)) old new l2 r
+due_there p scope u e from into free l none {new = new} {l2 = l2} {r = r} k m =
+    let own = emitted_is p scope e from into free l in
+    let whole = in_turn k (λ j. of_value (converted_by (converting ((ap (λ (x : Held). x.of) k.end ∙ own) j) u) u (in_place (k.end j) (k.lists j)) into)) m in
+    same (converted_behind (converting (emitted_type p scope e) u) u (emitted p scope e from into free l) into ∙ ap of_value (sym (due_other p scope u e from into free l none))) whole
+
+no_instruction : (s u : Scalar) → is_some (converting s u) ≡ false → IsNone (lowered_converting s u)
+no_instruction Int LongLong none = absurd (cc)
+no_instruction LongLong Int none = absurd (cc)
+no_instruction LongLong Unsigned none = absurd (cc)
+no_instruction Int Int none = tt
+no_instruction Int Unsigned none = tt
+no_instruction Unsigned Int none = tt
+no_instruction Unsigned Unsigned none = tt
+no_instruction Unsigned LongLong none = tt
+no_instruction LongLong LongLong none = tt
+
+where_none : (i : Option (ℕ → ℕ → Instr)) → where_same i None ≡ None
+where_none None = refl
+where_none (Some i) = refl
+
+pub due_within : (p : Program) (scope : LocalScope) (u : Scalar) (e : Tree.Expr) (from into free : ℕ) (l : Lists) → constant_of e ≡ None → (emitted p scope e from into free l).lists.registers ≤ (due p scope u e from into free l).lists.registers
+due_within p scope u e from into free l none =
+    let x = converted_more (converting (emitted_type p scope e) u) u (emitted p scope e from into free l) into in
+    let y = ap (λ (w : Emitted). w.lists.registers) (due_other p scope u e from into free l none) in
+    omega (arith, x, y)
+
+-- a cast that is no instruction is tested as its operand is
+cast_tested : (p : Program) (scope : LocalScope) (u : Scalar) (a : Tree.Expr) (at : Span) (from free : ℕ) (l : Lists) → is_some (converting (emitted_type p scope a) u) ≡ false → condition p scope a from free l ≡ condition p scope (Tree.Cast u a at) from free l
+cast_tested p scope u (Tree.Constant n t at') at from free l none =
+    ap (λ w. tested None (constant w t from free l)) (sym (unconverted t u (word_of t (pos n)) (word_below t (pos n)) (no_instruction t u none)))
+    ∙ ap (λ o. tested o (constant (constant_in u t n) u from free l)) (sym (where_none (converting t u)))
+cast_tested p scope u a at from free l none = by (converting (emitted_type p scope a) u) none (own_condition p scope a from free l)
+  where
+    by : (i : Option (ℕ → ℕ → Instr)) → is_some i ≡ false → (o : Option Condition) → tested o (emitted p scope a from free free l) ≡ tested (where_same i o) (converted_by i u (emitted p scope a from free free l) free)
+    by None none (Some c) = refl
+    by None none None = refl
+    by (Some i) none o = absurd (cc)
+
+pub cast_test_there : (p : Program) (scope : LocalScope) {e a : Tree.Expr} {t : Scalar} {at : Span} (from free : ℕ) (l : Lists) {old new : List Draft} {m : Lists} {r : Result Tested Failure} → e ≡ Tree.Cast t a at → is_some (converting (emitted_type p scope a) t) ≡ false → Adds (of_test (condition p scope a from free l)) old new m r → Adds (of_test (condition p scope e from free l)) old new m r
+cast_test_there p scope {a = a} {t = t} {at = at} from free l is none k = test_there p scope from free l is (same (ap of_test (cast_tested p scope t a at from free l none)) k)
+
+-- and one that is an instruction by its value
+pub cast_by_value : (p : Program) (scope : LocalScope) (a : Tree.Expr) (t : Scalar) (at : Span) (from free : ℕ) (l : Lists) → is_some (converting (emitted_type p scope a) t) ≡ true → own_condition p scope (Tree.Cast t a at) from free l ≡ None
+cast_by_value p scope a t at from free l some = by (converting (emitted_type p scope a) t) some (own_condition p scope a from free l)
+  where
+    by : (i : Option (ℕ → ℕ → Instr)) → is_some i ≡ true → (o : Option Condition) → where_same i o ≡ None
+    by None some o = absurd (cc)
+    by (Some i) some o = refl

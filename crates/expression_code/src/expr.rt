@@ -1,6 +1,6 @@
 //! The instructions of expressions and conditions.
 
-ghost use Rattle.std.specs.Prelude.{◌≡◌, [], ◌∷◌, ◌++◌, ◌+◌, ◌≤◌, length, map, pos, OnOk, IfOk, IfErr};
+ghost use Rattle.std.specs.Prelude.{◌≡◌, [], ◌∷◌, ◌++◌, ◌+◌, ◌≤◌, length, map, drop, pos, OnOk, IfOk, IfErr};
 ghost use Rattle.syntax.specs.declared.tree.Expr as tree;
 ghost use Rattle.syntax.specs.Names as Source;
 ghost use Rattle.syntax.specs.Numbers.{word_of};
@@ -10,34 +10,39 @@ ghost use Rattle.lowered.specs.Expressions.{arranged, named_ones, nameless_ones}
 ghost use Rattle.picked.specs.Lists.{Lists as Plain, holding};
 ghost use Rattle.picked.specs.Conditions as conditions;
 ghost use Rattle.picked.specs.Expressions.{one, constant, variable, element, settled, answered, called};
-ghost use Rattle.picked.specs.Expressions.{in_own_transaction, tested, emitted, operand, condition};
-ghost use Rattle.picked.specs.Expressions.{both_conditions, conditional, all_emitted};
+ghost use Rattle.picked.specs.Expressions.{in_own_transaction, tested, taken_types, emitted, due, handed, operand};
+ghost use Rattle.picked.specs.Expressions.{condition, both_conditions, conditional, types_of, all_emitted};
 ghost use Rattle.expression_code.specs.Limits.{NeedsMore};
 ghost use Rattle.expression_code.specs.Lists.{lists_of};
 ghost use Rattle.expression_code.specs.Stretches.{AddsValue, AddsTest, AddsValues};
 ghost use Rattle.expression_code.specs.inner.Stretches.{in_place, all_in_place, AddsFirst};
-ghost use Rattle.expression_code.specs.inner.Tables.{callee_in, shared_in};
+ghost use Rattle.global_tables.specs.Tables.{shared_in};
+ghost use Rattle.expression_code.specs.inner.Tables.{callee_in};
 ghost use Rattle.expression_code.specs.Views.{program_in, scope_in};
 
 use crate::cond::{opposite, zero_test};
+use crate::convert::{constant_in, converts, put_converted};
 use crate::draft::{keep, put_first, turn};
 use crate::fault::Failure;
 use crate::lists::Lists;
-use crate::names::{Callee, Shared, called, global};
+use crate::names::{Callee, called, global};
 use crate::program::Names;
 use crate::put::{
     above, after, put, put_answers, put_both, put_chosen, put_compared, put_complemented,
     put_constant, put_in_transaction, put_negated, settle, take,
 };
-use crate::ready::{constant_ready, constant_word};
+use crate::ready::{constant_of, constant_ready, constant_word};
 use crate::scope::Scope;
+use crate::value_type::value_type;
 use bytecode::Instr;
+use global_tables::Shared;
 use lex::token::{Scalar, Span};
 use picked::draft::Draft;
 use picked::held::{Held, Tested};
 use smallvec::SmallVec;
 use std::alloc::{AllocError, Allocator};
 use syntax::tree::{Expr, LogicalOp, Parameter, UnaryOp};
+use syntax::types::{common_type, operand_type};
 
 /// A constant of the program.
 fn put_number<A: Allocator>(
@@ -324,12 +329,7 @@ pub fn lower_expr<A: Allocator + Copy>(
             lower_expr(names, scope, lists, code, e.get(), from, into, free)
         }
         Expr::Cast(of, e, _) => {
-            let held = lower_expr(names, scope, lists, code, e.get(), from, into, free)?;
-            Ok(Held {
-                register: held.register,
-                of: *of,
-                to: held.to,
-            })
+            lower_due(names, scope, lists, code, e.get(), *of, from, into, free)
         }
         Expr::Unary(op, e, _) => match op {
             UnaryOp::Keep => lower_expr(names, scope, lists, code, e.get(), from, into, free),
@@ -347,10 +347,14 @@ pub fn lower_expr<A: Allocator + Copy>(
             }
         },
         Expr::Binary(op, left, right, _) => {
-            let a = lower_expr(names, scope, lists, code, left.get(), from, free, free)?;
+            let own = value_type(names, scope, left.get());
+            let other = value_type(names, scope, right.get());
+            let of = operand_type(*op, own, other);
+            let due = operand_type(*op, other, own);
+            let a = lower_due(names, scope, lists, code, left.get(), of, from, free, free)?;
             let later = above(free, a.register);
-            let b = lower_operand(names, scope, lists, code, right.get(), a.to, later)?;
-            put_both(lists, code, *op, a, b, into)
+            let b = lower_operand(names, scope, lists, code, right.get(), due, a.to, later)?;
+            put_both(lists, code, *op, of, a, b, into)
         }
         Expr::Logical(op, left, right, at) => {
             let mut test = Vec::new(names.alloc);
@@ -398,7 +402,34 @@ pub fn lower_expr<A: Allocator + Copy>(
     }
 }
 
-/// The right side of an operator: it is computed, or it is a constant that lies ready.
+/// An expression's value in the type that is due: it is converted, and a constant is set as what it is converted to.
+#[cycle(lower_expr)]
+pub fn lower_due<A: Allocator + Copy>(
+    names: &Names<'_, A>,
+    scope: &Scope<'_, A>,
+    lists: &mut Lists<A>,
+    code: &mut Vec<Instr, A>,
+    e: &Expr<A>,
+    of: Scalar,
+    from: u32,
+    into: usize,
+    free: usize,
+) -> Result<Held, Failure>
+    ensures { AddsValue (due (program_in names.now) (scope_in scope.now) of (expr_of e.now) from into free
+        (lists_of lists.old)) code.old code.new lists.new result }
+{
+    match constant_of(e) {
+        Some((value, own)) => {
+            put_constant(lists, code, constant_in(of, own, value), of, from, into)
+        }
+        None => {
+            let a = lower_expr(names, scope, lists, code, e, from, into, free)?;
+            put_converted(lists, code, a, a.of, of, into)
+        }
+    }
+}
+
+/// The right side of an operator in the type that is due: it is computed, or it is a constant that lies ready.
 #[cycle(lower_expr)]
 pub(crate) fn lower_operand<A: Allocator + Copy>(
     names: &Names<'_, A>,
@@ -406,15 +437,16 @@ pub(crate) fn lower_operand<A: Allocator + Copy>(
     lists: &mut Lists<A>,
     code: &mut Vec<Instr, A>,
     e: &Expr<A>,
+    of: Scalar,
     from: u32,
     free: usize,
 ) -> Result<Held, Failure>
-    ensures { AddsValue (operand (program_in names.now) (scope_in scope.now) (expr_of e.now) from free
+    ensures { AddsValue (operand (program_in names.now) (scope_in scope.now) of (expr_of e.now) from free
         (lists_of lists.old)) code.old code.new lists.new result }
 {
-    match constant_ready(lists, e, from) {
+    match constant_ready(lists, of, e, from) {
         Some(held) => Ok(held),
-        None => lower_expr(names, scope, lists, code, e, from, free, free),
+        None => lower_due(names, scope, lists, code, e, of, from, free, free),
     }
 }
 
@@ -434,10 +466,21 @@ fn lower_call<A: Allocator + Copy>(
 ) -> Result<Held, Failure>
     requires { registers.old.items ≡ [] }
     ensures { AddsValue (called (Some (callee_in f.entry))
-        (all_emitted (program_in names.now) (scope_in scope.now) (exprs_of all.now) from free (lists_of lists.old))
+        (all_emitted (program_in names.now) (scope_in scope.now) (taken_types (Some (callee_in f.entry)))
+        (exprs_of all.now) from free (lists_of lists.old))
         from into (lists_of lists.old)) code.old code.new lists.new result }
 {
-    let to = lower_all(names, scope, lists, code, registers, all, from, free)?;
+    let to = lower_all(
+        names,
+        scope,
+        lists,
+        code,
+        registers,
+        f.parameters,
+        all,
+        from,
+        free,
+    )?;
     put_call(lists, code, f, registers.as_slice(), to, into)
 }
 
@@ -502,15 +545,18 @@ fn lower_conditional<A: Allocator + Copy>(
 {
     let _whole = e;
     let _at = at;
+    let own = value_type(names, scope, left);
+    let another = value_type(names, scope, right);
+    let of = common_type(own, another);
     let t = lower_condition(names, scope, lists, test, c, from, free)?;
     let next = after(t.to, 1)?;
-    let a = lower_settled(names, scope, lists, first, left, next, into, free)?;
+    let a = lower_settled(names, scope, lists, first, left, of, next, into, free)?;
     let other = after(a.to, 1)?;
-    let b = lower_settled(names, scope, lists, second, right, other, into, free)?;
-    put_chosen(code, test.as_slice(), t, first, a, second, b)
+    let b = lower_settled(names, scope, lists, second, right, of, other, into, free)?;
+    put_chosen(code, of, test.as_slice(), t, first, a, second, b)
 }
 
-/// An expression's value in this very register.
+/// An expression's value in this type and in this very register.
 #[cycle(lower_expr)]
 fn lower_settled<A: Allocator + Copy>(
     names: &Names<'_, A>,
@@ -518,16 +564,17 @@ fn lower_settled<A: Allocator + Copy>(
     lists: &mut Lists<A>,
     code: &mut Vec<Instr, A>,
     e: &Expr<A>,
+    of: Scalar,
     from: u32,
     into: usize,
     free: usize,
 ) -> Result<Held, Failure>
     ensures code { AddsValue (settled into
-        (emitted (program_in names.now) (scope_in scope.now) (expr_of e.now) from into free (lists_of lists.old)))
+        (due (program_in names.now) (scope_in scope.now) of (expr_of e.now) from into free (lists_of lists.old)))
         code.old code.new lists.new result }
     ensures register { IfOk result (λ held. held.register ≡ into) }
 {
-    let held = lower_expr(names, scope, lists, code, e, from, into, free)?;
+    let held = lower_due(names, scope, lists, code, e, of, from, into, free)?;
     settle(lists, code, held, into)
 }
 
@@ -639,7 +686,14 @@ pub fn lower_condition<A: Allocator + Copy>(
         Expr::Parenthesized(e, _) => {
             lower_condition(names, scope, lists, drafts, e.get(), from, free)
         }
-        Expr::Cast(_, e, _) => lower_condition(names, scope, lists, drafts, e.get(), from, free),
+        Expr::Cast(of, a, _) => {
+            let own = value_type(names, scope, a.get());
+            if converts(own, *of) {
+                lower_value(names, scope, lists, drafts, e, from, free)
+            } else {
+                lower_condition(names, scope, lists, drafts, a.get(), from, free)
+            }
+        }
         Expr::Unary(op, a, _) => match op {
             UnaryOp::Keep => lower_condition(names, scope, lists, drafts, a.get(), from, free),
             UnaryOp::Not => lower_opposite(names, scope, lists, drafts, a.get(), from, free),
@@ -664,7 +718,33 @@ pub fn lower_condition<A: Allocator + Copy>(
     }
 }
 
-/// Values from left to right, each in a register of its own, which is added to `registers`; the place behind them.
+/// One of several values, in the type of the parameter of its number, if there is one.
+#[cycle(lower_expr)]
+fn lower_handed<A: Allocator + Copy>(
+    names: &Names<'_, A>,
+    scope: &Scope<'_, A>,
+    lists: &mut Lists<A>,
+    code: &mut Vec<Instr, A>,
+    parameters: &[Parameter<A>],
+    number: usize,
+    e: &Expr<A>,
+    from: u32,
+    free: usize,
+) -> Result<Held, Failure>
+    ensures { AddsValue (handed (program_in names.now) (scope_in scope.now)
+        (drop number (types_of (map parameter_of parameters.now))) (expr_of e.now) from free (lists_of lists.old))
+        code.old code.new lists.new result }
+{
+    if number < parameters.len() {
+        let of = parameters[number].of;
+        lower_due(names, scope, lists, code, e, of, from, free, free)
+    } else {
+        lower_expr(names, scope, lists, code, e, from, free, free)
+    }
+}
+
+/// Values from left to right in the types of these parameters, each in a register of its own, which is added to
+/// `registers`; the place behind them.
 #[cycle(lower_expr)]
 pub fn lower_all<A: Allocator + Copy>(
     names: &Names<'_, A>,
@@ -672,23 +752,29 @@ pub fn lower_all<A: Allocator + Copy>(
     lists: &mut Lists<A>,
     code: &mut Vec<Instr, A>,
     registers: &mut SmallVec<u16, 4, &A>,
+    parameters: &[Parameter<A>],
     all: &[Expr<A>],
     from: u32,
     free: usize,
 ) -> Result<u32, Failure>
     ensures registers { OnOk result (registers.new.items ≡ registers.old.items
-        ++ (all_emitted (program_in names.now) (scope_in scope.now) (exprs_of all.now) from free
-        (lists_of lists.old)).registers) }
-    ensures code { AddsValues (all_emitted (program_in names.now) (scope_in scope.now) (exprs_of all.now) from free
-        (lists_of lists.old)) code.old code.new lists.new result }
+        ++ (all_emitted (program_in names.now) (scope_in scope.now) (types_of (map parameter_of parameters.now))
+        (exprs_of all.now) from free (lists_of lists.old)).registers) }
+    ensures code { AddsValues (all_emitted (program_in names.now) (scope_in scope.now)
+        (types_of (map parameter_of parameters.now)) (exprs_of all.now) from free (lists_of lists.old))
+        code.old code.new lists.new result }
 {
     let mut to = from;
     let mut later = free;
+    let mut number = 0;
     'each: for one in all {
-        let held = lower_expr(names, scope, lists, code, one, to, later, later)?;
+        let held = lower_handed(
+            names, scope, lists, code, parameters, number, one, to, later,
+        )?;
         add_operand(registers, held.register)?;
         later = above(later, held.register);
         to = held.to;
+        number += 1;
     }
     Ok(to)
 }

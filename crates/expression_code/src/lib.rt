@@ -6,6 +6,7 @@
 
 mod aim;
 mod cond;
+mod convert;
 pub mod draft;
 pub mod expr;
 pub mod fault;
@@ -17,3 +18,4 @@ pub mod ready;
 pub mod scope;
 pub mod simple;
 pub mod tables;
+mod value_type;

@@ -3,20 +3,15 @@
 ghost use Rattle.std.specs.Prelude.{◌≡◌, ◌+◌, ◌≤◌, option_map, IfSome};
 ghost use Rattle.syntax.specs.Names as Source;
 ghost use Rattle.picked.specs.Names as Named;
-ghost use Rattle.expression_code.specs.inner.Tables.{shared_in, callee_in};
+ghost use Rattle.global_tables.specs.Tables.{shared_in};
+ghost use Rattle.expression_code.specs.inner.Tables.{callee_in};
 ghost use Rattle.expression_code.specs.Views.{program_in};
 
 use crate::program::Names;
+use global_tables::Shared;
 use lex::token::Scalar;
 use std::alloc::Allocator;
-use syntax::tree::{Global, Parameter};
-
-/// A global, with its first cell.
-#[derive(Clone, Copy)]
-pub(crate) struct Shared<'p, A: Allocator> {
-    pub(crate) cell: usize,
-    pub(crate) global: &'p Global<A>,
-}
+use syntax::tree::Parameter;
 
 /// A function that may be called: its number among the code's functions, the type of its value, and its parameters.
 #[derive(Clone, Copy)]

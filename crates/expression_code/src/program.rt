@@ -5,15 +5,14 @@ ghost use Rattle.std.proofs.Props.{props};
 ghost use mathlib.Core.Sum.{⊎_set};
 ghost use Rattle.syntax.specs.Names as Source;
 ghost use Rattle.syntax.specs.Views.{program_of};
-ghost use Rattle.expression_code.specs.inner.Tables.{total_cells, AreGlobals, AreCallees};
+ghost use Rattle.global_tables.specs.Tables.{total_cells, AreGlobals};
+ghost use Rattle.expression_code.specs.inner.Tables.{AreCallees};
 
-use crate::names::{Callee, Shared};
+use crate::names::Callee;
+use global_tables::Globals;
 use name_tables::Table;
 use std::alloc::Allocator;
 use syntax::tree::Unit;
-
-/// Each global, with its first cell.
-pub(crate) type Globals<'p, A> = Table<'p, Shared<'p, A>, A>;
 
 /// Each function that is defined.
 pub(crate) type Callees<'p, A> = Table<'p, Callee<'p, A>, A>;

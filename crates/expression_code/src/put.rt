@@ -1,7 +1,6 @@
 //! Single instructions: which one an operator is, and how one is put behind the others.
 
 ghost use Rattle.std.specs.Prelude.{◌≡◌, [], ◌∷◌, ◌++◌, ◌<◌, ◌≤◌, ◌+◌, OnOk, IfOk, IfErr};
-ghost use Rattle.syntax.specs.Numbers as numbers;
 ghost use Rattle.picked.specs.Lists.{Lists as Plain, used};
 ghost use Rattle.picked.specs.Expressions as expressions;
 ghost use Rattle.expression_code.specs.Limits.{NeedsMore};
@@ -18,6 +17,7 @@ use picked::draft::Draft;
 use picked::held::{Held, Tested};
 use std::alloc::{AllocError, Allocator};
 use syntax::tree::BinaryOp;
+use syntax::types::result_type;
 
 /// The registers of a function have numbers below this one.
 const MOST_REGISTERS: usize = 65_535;
@@ -121,40 +121,6 @@ pub(crate) fn settle<A: Allocator>(
     })
 }
 
-fn common(left: Scalar, right: Scalar) -> Scalar
-    ensures { result ≡ numbers.common left right }
-{
-    match (left, right) {
-        (Scalar::Int, Scalar::Int) => Scalar::Int,
-        _ => Scalar::Unsigned,
-    }
-}
-
-/// What an operand is converted to.
-pub(crate) fn operand_type(op: BinaryOp, own: Scalar, other: Scalar) -> Scalar
-    ensures { result ≡ numbers.operand_type op own other }
-{
-    match op {
-        BinaryOp::ShiftLeft | BinaryOp::ShiftRight => own,
-        _ => common(own, other),
-    }
-}
-
-/// The type of an operator's result.
-pub(crate) fn result_type(op: BinaryOp, of: Scalar) -> Scalar
-    ensures { result ≡ numbers.result_type op of }
-{
-    match op {
-        BinaryOp::Equal
-        | BinaryOp::NotEqual
-        | BinaryOp::Less
-        | BinaryOp::Greater
-        | BinaryOp::LessEqual
-        | BinaryOp::GreaterEqual => Scalar::Int,
-        _ => of,
-    }
-}
-
 fn computing_signed(op: BinaryOp, d: u16, a: u16, b: u16) -> Instr
     ensures { result ≡ expressions.computing op (Scalar.Int) d a b }
 {
@@ -201,29 +167,53 @@ fn computing_unsigned(op: BinaryOp, d: u16, a: u16, b: u16) -> Instr
     }
 }
 
+fn computing_long(op: BinaryOp, d: u16, a: u16, b: u16) -> Instr
+    ensures { result ≡ expressions.computing op (Scalar.LongLong) d a b }
+{
+    match op {
+        BinaryOp::Add => Instr::AddLong(d, a, b),
+        BinaryOp::Subtract => Instr::SubtractLong(d, a, b),
+        BinaryOp::Multiply => Instr::MultiplyLong(d, a, b),
+        BinaryOp::Divide => Instr::DivideLong(d, a, b),
+        BinaryOp::Remainder => Instr::RemainderLong(d, a, b),
+        BinaryOp::ShiftLeft => Instr::ShiftLeftLong(d, a, b),
+        BinaryOp::ShiftRight => Instr::ShiftRightLong(d, a, b),
+        BinaryOp::And => Instr::And(d, a, b),
+        BinaryOp::Or => Instr::Or(d, a, b),
+        BinaryOp::Xor => Instr::Xor(d, a, b),
+        BinaryOp::Equal => Instr::Equal(d, a, b),
+        BinaryOp::NotEqual => Instr::NotEqual(d, a, b),
+        BinaryOp::Less => Instr::LessLong(d, a, b),
+        BinaryOp::Greater => Instr::LessLong(d, b, a),
+        BinaryOp::LessEqual => Instr::LessEqualLong(d, a, b),
+        BinaryOp::GreaterEqual => Instr::LessEqualLong(d, b, a),
+    }
+}
+
 fn computing(op: BinaryOp, of: Scalar, d: u16, a: u16, b: u16) -> Instr
     ensures { result ≡ expressions.computing op of d a b }
 {
     match of {
         Scalar::Int => computing_signed(op, d, a, b),
         Scalar::Unsigned => computing_unsigned(op, d, a, b),
+        Scalar::LongLong => computing_long(op, d, a, b),
     }
 }
 
-/// An operator on two values, whose instructions stand there.
+/// An operator on two values, whose instructions stand there; it computes in this type.
 pub(crate) fn put_both<A: Allocator>(
     lists: &mut Lists<A>,
     code: &mut Vec<Instr, A>,
     op: BinaryOp,
+    of: Scalar,
     a: Held,
     b: Held,
     into: usize,
 ) -> Result<Held, Failure>
-    ensures { AddsValue (expressions.both op (in_place a (lists_of lists.old)) (in_place b (lists_of lists.old)) into)
-        code.old code.new lists.new result }
+    ensures { AddsValue (expressions.both op of (in_place a (lists_of lists.old)) (in_place b (lists_of lists.old))
+        into) code.old code.new lists.new result }
 {
     let register = take(lists, into)?;
-    let of = operand_type(op, a.of, b.of);
     put(code, computing(op, of, register, a.register, b.register))?;
     let to = after(b.to, 1)?;
     Ok(Held {
@@ -239,6 +229,16 @@ fn negating(of: Scalar, d: u16, a: u16) -> Instr
     match of {
         Scalar::Int => Instr::NegateSigned(d, a),
         Scalar::Unsigned => Instr::NegateUnsigned(d, a),
+        Scalar::LongLong => Instr::NegateLong(d, a),
+    }
+}
+
+fn complementing(of: Scalar, d: u16, a: u16) -> Instr
+    ensures { result ≡ expressions.complementing of d a }
+{
+    match of {
+        Scalar::Int | Scalar::Unsigned => Instr::Complement(d, a),
+        Scalar::LongLong => Instr::ComplementLong(d, a),
     }
 }
 
@@ -273,7 +273,7 @@ pub(crate) fn put_complemented<A: Allocator>(
         code.old code.new lists.new result }
 {
     let register = take(lists, into)?;
-    put(code, Instr::Complement(register, a.register))?;
+    put(code, complementing(a.of, register, a.register))?;
     let to = after(a.to, 1)?;
     Ok(Held {
         register,
@@ -330,9 +330,10 @@ pub(crate) fn put_answers<A: Allocator>(
     })
 }
 
-/// A condition, and behind it two values in one register.
+/// A condition, and behind it two values of this type in one register.
 pub(crate) fn put_chosen<A: Allocator>(
     code: &mut Vec<Instr, A>,
+    of: Scalar,
     test: &[Draft],
     t: Tested,
     first: &mut Vec<Instr, A>,
@@ -340,7 +341,7 @@ pub(crate) fn put_chosen<A: Allocator>(
     second: &mut Vec<Instr, A>,
     b: Held,
 ) -> Result<Held, Failure>
-    ensures { (l : Plain) → Adds (of_value (expressions.chosen (test_in_place test.now t l)
+    ensures { (l : Plain) → Adds (of_value (expressions.chosen of (test_in_place test.now t l)
         (standing first.old.items a l) (standing second.old.items b l) b.register)) code.old.items code.new.items l
         result }
 {
@@ -351,7 +352,7 @@ pub(crate) fn put_chosen<A: Allocator>(
     append(code, second)?;
     Ok(Held {
         register: b.register,
-        of: common(a.of, b.of),
+        of,
         to: b.to,
     })
 }

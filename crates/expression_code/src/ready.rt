@@ -7,12 +7,14 @@ ghost use Rattle.picked.specs.Expressions as expressions;
 ghost use Rattle.picked.specs.Programs as programs;
 ghost use Rattle.expression_code.specs.Lists.{lists_of};
 
+use crate::convert::constant_in;
 use crate::lists::Lists;
 use crate::put::put;
 use bytecode::Instr;
 use lex::token::Scalar;
 use picked::held::Held;
 use std::alloc::{AllocError, Allocator};
+use syntax::number::word_of;
 use syntax::tree::Expr;
 
 /// A word that lies ready: its value, which no instruction gives.
@@ -45,17 +47,30 @@ pub(crate) fn ready<A: Allocator>(
 pub(crate) fn constant_word(of: Scalar, value: u64) -> u64
     ensures { result ≡ word_of of (pos value) }
 {
-    match of {
-        Scalar::Int | Scalar::Unsigned => value % 4_294_967_296,
+    word_of(of, i128::from(value))
+}
+
+/// The value and the type of a constant.
+pub(crate) fn constant_of<A: Allocator>(e: &Expr<A>) -> Option<(u64, Scalar)>
+    ensures { result ≡ expressions.constant_of (expr_of e.now) }
+{
+    match e {
+        Expr::Constant(value, own, _) => Some((*value, *own)),
+        _ => None,
     }
 }
 
-/// A constant that lies ready, as the right side of an operator.
-pub(crate) fn constant_ready<A: Allocator>(lists: &Lists<A>, e: &Expr<A>, from: u32) -> Option<Held>
-    ensures { result ≡ expressions.constant_ready (lists_of lists.now).layout (expr_of e.now) from }
+/// A constant that lies ready in this type, as the right side of an operator.
+pub(crate) fn constant_ready<A: Allocator>(
+    lists: &Lists<A>,
+    of: Scalar,
+    e: &Expr<A>,
+    from: u32,
+) -> Option<Held>
+    ensures { result ≡ expressions.constant_ready (lists_of lists.now).layout of (expr_of e.now) from }
 {
     match e {
-        Expr::Constant(value, of, _) => ready(lists, constant_word(*of, *value), *of, from),
+        Expr::Constant(value, own, _) => ready(lists, constant_in(of, *own, *value), of, from),
         _ => None,
     }
 }

@@ -4,34 +4,37 @@ ghost use Rattle.std.specs.Prelude.{◌≡◌, ◌+◌, ◌≤◌, List, map, op
 ghost use Rattle.std.specs.Option.{option_copied};
 ghost use Rattle.syntax.specs.Names as Source;
 ghost use Rattle.syntax.specs.Views.{expr_of, simple_of, declarator_of, global_of, start_of};
-ghost use Rattle.syntax.specs.Meaning.{op_of};
 ghost use Rattle.bytecode.specs.declared.instr.Instr.{Instr};
 ghost use Rattle.lowered.specs.Statements.{with_local, with_declared, locals_of_start};
 ghost use Rattle.picked.specs.Lists.{Lists as Plain};
 ghost use Rattle.picked.specs.Simples as simples;
 ghost use Rattle.picked.specs.Simples.{emitted_one, value_or_one, aimed, variable_target, element_target, fetched};
-ghost use Rattle.picked.specs.Simples.{stored, assigned, adjusted, simple_written, first_written};
+ghost use Rattle.picked.specs.Simples.{stored, assigned, changed, adjusted, simple_written, first_written};
 ghost use Rattle.picked.specs.Simples.{declarator_written, declared_written, start_written};
 ghost use Rattle.expression_code.specs.Lists.{lists_of};
 ghost use Rattle.expression_code.specs.Stretches.{Adds, AddsValue, Writes, of_written};
 ghost use Rattle.expression_code.specs.inner.Stretches.{in_place, of_aim, Aims};
-ghost use Rattle.expression_code.specs.inner.Tables.{shared_in};
+ghost use Rattle.global_tables.specs.Tables.{shared_in};
 ghost use Rattle.expression_code.specs.Views.{program_in, scope_in};
 
 use crate::aim::Aim;
+use crate::convert::{constant_in, put_converted, put_widened};
 use crate::expr::{lower_expr, lower_operand};
 use crate::fault::Failure;
 use crate::lists::Lists;
-use crate::names::{Shared, global};
+use crate::names::global;
 use crate::program::Names;
 use crate::put::{above, after, put, put_both, put_constant, take};
-use crate::ready::ready;
+use crate::ready::{constant_of, ready};
 use crate::scope::Scope;
+use crate::value_type::value_type;
 use bytecode::Instr;
+use global_tables::Shared;
 use lex::token::Scalar;
 use picked::held::{Held, Target};
 use std::alloc::Allocator;
-use syntax::tree::{BinaryOp, Declarator, Expr, IncDec, Simple, Start};
+use syntax::tree::{BinaryOp, Declarator, Expr, Simple, Start};
+use syntax::types::{operand_type, result_type};
 
 fn aim_at(target: Target, to: u32) -> Aim
     ensures { result ≡ record { target = target; to = to } }
@@ -190,6 +193,68 @@ fn store<A: Allocator>(
     Ok(after(from, 1)?)
 }
 
+/// The type of what lies at a target.
+fn type_at(target: Target) -> Scalar
+    ensures { result ≡ simples.type_at target }
+{
+    match target {
+        Target::Local(_, of) | Target::Cell(_, of) | Target::Element(_, _, _, of) => of,
+        Target::Nowhere => Scalar::Int,
+    }
+}
+
+/// A value of a type `own` on its way to a target.
+fn put_fitting<A: Allocator>(
+    lists: &mut Lists<A>,
+    code: &mut Vec<Instr, A>,
+    target: Target,
+    own: Scalar,
+    a: Held,
+    into: usize,
+) -> Result<Held, Failure>
+    ensures { AddsValue (simples.fitting target own (in_place a (lists_of lists.old)) into)
+        code.old code.new lists.new result }
+{
+    match target {
+        Target::Local(_, of) => put_converted(lists, code, a, own, of, into),
+        Target::Cell(_, of) | Target::Element(_, _, _, of) => {
+            put_widened(lists, code, a, own, of, into)
+        }
+        Target::Nowhere => Ok(Held {
+            register: a.register,
+            of: Scalar::Int,
+            to: a.to,
+        }),
+    }
+}
+
+/// An expression's value on its way to a target.
+fn lower_fitting<A: Allocator + Copy>(
+    names: &Names<'_, A>,
+    scope: &Scope<'_, A>,
+    lists: &mut Lists<A>,
+    code: &mut Vec<Instr, A>,
+    target: Target,
+    e: &Expr<A>,
+    from: u32,
+    home: usize,
+    free: usize,
+) -> Result<Held, Failure>
+    ensures { AddsValue (simples.placed (program_in names.now) (scope_in scope.now) target (expr_of e.now) from home
+        free (lists_of lists.old)) code.old code.new lists.new result }
+{
+    match constant_of(e) {
+        Some((value, own)) => {
+            let of = type_at(target);
+            put_constant(lists, code, constant_in(of, own, value), of, from, home)
+        }
+        None => {
+            let a = lower_expr(names, scope, lists, code, e, from, home, free)?;
+            put_fitting(lists, code, target, a.of, a, home)
+        }
+    }
+}
+
 /// `to = value`
 fn lower_assign<A: Allocator + Copy>(
     names: &Names<'_, A>,
@@ -207,43 +272,91 @@ fn lower_assign<A: Allocator + Copy>(
     let aim = aim(names, scope, lists, code, true, to, from, free)?;
     let later = above_target(aim.target, free);
     let home = home_or(aim.target, later);
-    let held = lower_expr(names, scope, lists, code, value, aim.to, home, later)?;
+    let held = lower_fitting(
+        names, scope, lists, code, aim.target, value, aim.to, home, later,
+    )?;
     store(code, aim.target, held.register, held.to)
 }
 
-/// The 1 that is added or subtracted.
+/// The 1 that is added or subtracted, in this type.
 fn lower_one<A: Allocator>(
     lists: &mut Lists<A>,
     code: &mut Vec<Instr, A>,
+    of: Scalar,
     from: u32,
     free: usize,
 ) -> Result<Held, Failure>
-    ensures { AddsValue (emitted_one from free (lists_of lists.old)) code.old code.new lists.new result }
+    ensures { AddsValue (emitted_one of from free (lists_of lists.old)) code.old code.new lists.new result }
 {
-    match ready(lists, 1, Scalar::Int, from) {
+    match ready(lists, 1, of, from) {
         Some(held) => Ok(held),
-        None => put_constant(lists, code, 1, Scalar::Int, from, free),
+        None => put_constant(lists, code, 1, of, from, free),
     }
 }
 
-/// The right side of an operator: a value, or else the 1 that is added or subtracted.
+/// The type of the right side of an operator.
+fn type_or_int<A: Allocator + Copy>(
+    names: &Names<'_, A>,
+    scope: &Scope<'_, A>,
+    by: Option<&Expr<A>>,
+) -> Scalar
+    ensures { result ≡ simples.type_or_int (program_in names.now) (scope_in scope.now)
+        (option_map expr_of (option_copied by.entry)) }
+{
+    match by {
+        Some(e) => value_type(names, scope, e),
+        None => Scalar::Int,
+    }
+}
+
+/// The right side of an operator in this type: a value, or else the 1 that is added or subtracted.
 fn lower_by<A: Allocator + Copy>(
     names: &Names<'_, A>,
     scope: &Scope<'_, A>,
     lists: &mut Lists<A>,
     code: &mut Vec<Instr, A>,
+    of: Scalar,
     by: Option<&Expr<A>>,
     from: u32,
     free: usize,
 ) -> Result<Held, Failure>
-    ensures { AddsValue (value_or_one (program_in names.now) (scope_in scope.now)
+    ensures { AddsValue (value_or_one (program_in names.now) (scope_in scope.now) of
         (option_map expr_of (option_copied by.entry)) from free (lists_of lists.old))
         code.old code.new lists.new result }
 {
     match by {
-        Some(e) => lower_operand(names, scope, lists, code, e, from, free),
-        None => lower_one(lists, code, from, free),
+        Some(e) => lower_operand(names, scope, lists, code, e, of, from, free),
+        None => lower_one(lists, code, of, from, free),
     }
+}
+
+/// The old value, another one, and the operator on both, as it goes to the target.
+fn lower_changed<'e, A: Allocator + Copy>(
+    names: &Names<'_, A>,
+    scope: &Scope<'_, A>,
+    lists: &mut Lists<A>,
+    code: &mut Vec<Instr, A>,
+    op: BinaryOp,
+    by: Option<&'e Expr<A>>,
+    target: Target,
+    from: u32,
+    free: usize,
+) -> Result<Held, Failure>
+    ensures { AddsValue (changed (program_in names.now) (scope_in scope.now) op
+        (option_map expr_of (option_copied by.entry)) target from free (lists_of lists.old))
+        code.old code.new lists.new result }
+{
+    let own = type_at(target);
+    let other = type_or_int(names, scope, by);
+    let of = operand_type(op, own, other);
+    let due = operand_type(op, other, own);
+    let first = fetch(lists, code, target, from, free)?;
+    let old = put_converted(lists, code, first, own, of, free)?;
+    let behind = above(free, old.register);
+    let right = lower_by(names, scope, lists, code, due, by, old.to, behind)?;
+    let home = home_or(target, free);
+    let held = put_both(lists, code, op, of, old, right, home)?;
+    put_fitting(lists, code, target, result_type(op, of), held, home)
 }
 
 /// `to op= by`; with no `by`, `to++` or `to--`
@@ -264,20 +377,8 @@ fn lower_adjust<'e, A: Allocator + Copy>(
 {
     let aim = aim(names, scope, lists, code, false, to, from, free)?;
     let later = above_target(aim.target, free);
-    let old = fetch(lists, code, aim.target, aim.to, later)?;
-    let behind = above(later, old.register);
-    let other = lower_by(names, scope, lists, code, by, old.to, behind)?;
-    let held = put_both(lists, code, op, old, other, home_or(aim.target, later))?;
+    let held = lower_changed(names, scope, lists, code, op, by, aim.target, aim.to, later)?;
     store(code, aim.target, held.register, held.to)
-}
-
-fn op_of(by: IncDec) -> BinaryOp
-    ensures { result ≡ op_of by }
-{
-    match by {
-        IncDec::Increment => BinaryOp::Add,
-        IncDec::Decrement => BinaryOp::Subtract,
-    }
 }
 
 /// An expression that stands as a statement, or an assignment.
@@ -305,7 +406,17 @@ pub fn lower_simple<A: Allocator + Copy>(
             }
         },
         Simple::Adjust(to, by) => {
-            lower_adjust(names, scope, lists, code, op_of(*by), to, None, from, free)
+            lower_adjust(
+                names,
+                scope,
+                lists,
+                code,
+                by.operator(),
+                to,
+                None,
+                from,
+                free,
+            )
         }
     }
 }
@@ -327,8 +438,9 @@ fn lower_first<A: Allocator + Copy>(
     match first {
         Some(e) => {
             let i = register as usize;
-            let held = lower_expr(names, scope, lists, code, e, from, i, i + 1)?;
-            store(code, Target::Local(register, of), held.register, held.to)
+            let target = Target::Local(register, of);
+            let held = lower_fitting(names, scope, lists, code, target, e, from, i, i + 1)?;
+            store(code, target, held.register, held.to)
         }
         None => Ok(from),
     }

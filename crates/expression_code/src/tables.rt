@@ -1,77 +1,20 @@
 //! The tables of a program's names, which are made once.
 
-ghost use Rattle.std.specs.Prelude.{◌≡◌, ◌+◌, ◌≤◌, ◌++◌, List, ℕ, Option, Some, map, if◌then◌else◌, bytes_eq};
+ghost use Rattle.std.specs.Prelude.{◌≡◌, List, ℕ, Option, Some, map, if◌then◌else◌, bytes_eq};
 ghost use Rattle.std.specs.Prelude.{IfOk, OnOk};
 ghost use Rattle.std.specs.Option.{option_or};
-ghost use Rattle.syntax.specs.Tree as tree;
-ghost use Rattle.syntax.specs.Names as Source;
-ghost use Rattle.syntax.specs.Names.{GlobalCells, globals};
-ghost use Rattle.syntax.specs.Views.{global_of, function_of, item_of};
+ghost use Rattle.syntax.specs.Views.{function_of, item_of};
 ghost use Rattle.picked.specs.Names as Named;
-ghost use Rattle.expression_code.specs.inner.Tables.{total_cells, shared_at, callee_in, called_at};
-ghost use Rattle.expression_code.specs.inner.Tables.{AreGlobals, AreCallees};
+ghost use Rattle.expression_code.specs.inner.Tables.{callee_in, called_at, AreCallees};
 
-use crate::names::{Callee, Shared};
-use crate::program::{Callees, Globals, Names};
+use crate::names::Callee;
+use crate::program::{Callees, Names};
+use global_tables::place_globals;
 use lex::token::Scalar;
 use name_tables::Table;
 use std::alloc::{AllocError, Allocator};
-use syntax::tree::{Function, Global, Item};
+use syntax::tree::{Function, Item};
 use types::Typed;
-
-/// Adds a global with this first cell, unless there is one of its name.
-fn add_global<'p, A: Allocator + Copy>(
-    table: &mut Globals<'p, A>,
-    cell: usize,
-    g: &'p Global<A>,
-) -> Result<(), AllocError>
-    ensures { OnOk result ((x : List ℕ) (rest : Option GlobalCells) → option_or (shared_at table.new x) rest
-        ≡ option_or (shared_at table.old x)
-        (if bytes_eq g.now.name.text x then Some (record { global = global_of g.now; cell = cell }) else rest)) }
-{
-    table.declare(g.name.text.as_str(), Shared { cell, global: g })?;
-    Ok(())
-}
-
-/// Adds the globals of a declaration, from this cell on; the cell behind them.
-fn add_globals<'p, A: Allocator + Copy>(
-    table: &mut Globals<'p, A>,
-    first: usize,
-    gs: &'p [Global<A>],
-) -> Result<usize, AllocError>
-    requires { first + total_cells (map global_of gs.now) ≤ 4096 }
-    ensures value { IfOk result (λ next. (x : List ℕ) (rest : List tree.Global) →
-        option_or (shared_at table.new x) (Source.global_from next rest x)
-        ≡ option_or (shared_at table.old x) (Source.global_from first (map global_of gs.now ++ rest) x)) }
-    ensures next { IfOk result (λ next. next ≡ first + total_cells (map global_of gs.now)) }
-{
-    let mut cell = first;
-    'globals: for g in gs {
-        add_global(table, cell, g)?;
-        cell += g.cell_count();
-    }
-    Ok(cell)
-}
-
-/// Each global, with its first cell: the first one of its name.
-fn place_globals<'p, A: Allocator + Copy>(
-    alloc: A,
-    key: u64,
-    items: &'p [Item<A>],
-) -> Result<Globals<'p, A>, AllocError>
-    requires { total_cells (globals (map item_of items.now)) ≤ 4096 }
-    ensures { IfOk result (AreGlobals (map item_of items.now)) }
-{
-    let mut table = Table::new(alloc, key);
-    let mut cell = 0;
-    'items: for item in items {
-        match item {
-            Item::Function(_) => {}
-            Item::Globals(gs) => cell = add_globals(&mut table, cell, gs.as_slice())?,
-        }
-    }
-    Ok(table)
-}
 
 /// A function with this number.
 fn callee_at<'p, A: Allocator + Copy>(number: usize, f: &'p Function<A>) -> Callee<'p, A>

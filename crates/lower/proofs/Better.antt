@@ -38,7 +38,7 @@ module _ (p : Program) (f : Function) (body : Stmts) (from : ℕ) (l : Lists) wh
   Plain = body_with nothing_ready p f body from l
 
   goes_on : Grows (record l { registers = length f.parameters; layout = nothing_ready }) Plain.lists
-  goes_on = stmts_longer p body no_exits (parameter_locals f.parameters) from (record l { registers = length f.parameters; layout = nothing_ready })
+  goes_on = stmts_longer p body (no_exits f.result) (parameter_locals f.parameters) from (record l { registers = length f.parameters; layout = nothing_ready })
 
   -- what stood in the lists before is still there
   pub arguments_fit : length l.arguments ≤ length (body_with nothing_ready p f body from l).lists.arguments

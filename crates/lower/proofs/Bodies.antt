@@ -7,19 +7,24 @@ use Rattle.syntax.specs.declared.tree.Item.{Item as OwnItem}
 use Rattle.syntax.specs.declared.tree.Item.TheVariants as own
 use Rattle.syntax.specs.declared.tree.Function.{Function as OwnFunction}
 use Rattle.syntax.specs.declared.tree.Stmt.{Stmt as OwnStmt}
+use Rattle.lex.specs.declared.token.Scalar.{Scalar}
 use Rattle.syntax.specs.Tree.{Function, Stmts, Item, Defines, Shares, Program}
 use Rattle.syntax.specs.Views.{item_of, function_of, stmts_of}
 use Rattle.bytecode.specs.Code.{FunctionCode}
 use Rattle.lowered.specs.Expressions.{LocalScope}
 use Rattle.picked.specs.Lists.{Lists}
+use Rattle.picked.specs.declared.held.Exits.{Exits}
 use Rattle.picked.specs.Statements.{all_written}
-use Rattle.picked.specs.Programs.{no_exits, body_written, Made, nothing_made, function_code, put_before, made_first, all_made, made_for}
+use Rattle.picked.specs.Programs.{body_written, Made, nothing_made, function_code, put_before, made_first, all_made, made_for}
 use Rattle.lower.specs.inner.Parts.{made_behind}
 
+abbrev pub exits_of : Scalar → Exits
+exits_of u = record { break_to = 0; continue_to = 0; in_loop = 0; in_function = 0; to_outer = 0; gives = u }
+
 -- a body in equal scopes, with equal numbers of registers
-pub same_body : (p : Program) (body : Stmts) (from : ℕ) (l : Lists) (scope scope' : LocalScope) (n n' : ℕ) → scope ≡ scope' → n ≡ n' →
-    all_written p body no_exits scope from (record l { registers = n }) ≡ all_written p body no_exits scope' from (record l { registers = n' })
-same_body p body from l scope scope' n n' s e = λ j. all_written p body no_exits (s j) from (record l { registers = e j })
+pub same_body : (p : Program) (body : Stmts) (from : ℕ) (l : Lists) (u u' : Scalar) (scope scope' : LocalScope) (n n' : ℕ) → u ≡ u' → scope ≡ scope' → n ≡ n' →
+    all_written p body (exits_of u) scope from (record l { registers = n }) ≡ all_written p body (exits_of u') scope' from (record l { registers = n' })
+same_body p body from l u u' scope scope' n n' t s e = λ j. all_written p body (exits_of (t j)) (s j) from (record l { registers = e j })
 
 -- an item alone
 pub definition_made : {A : Type 0} (p : Program) (item : OwnItem A) (f : OwnFunction A) (body : List (OwnStmt A)) (from : ℕ) (l : Lists) → item ≡ own.Function f → f.body ≡ Some body →

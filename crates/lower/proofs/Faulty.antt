@@ -26,12 +26,12 @@ use Rattle.lower.specs.Faults.{IsFaultOf}
 use Rattle.lower.specs.inner.Parts.{made_behind, IsOfDefinition, IsOfItem, IsOfCode}
 use Rattle.lower.proofs.Better.{body_more}
 use Rattle.lower.proofs.Bodies.{definition_made, front_and_rest, front_more, one_more}
-use Rattle.expression_code.proofs.Files.{items_more}
+use Rattle.syntax.proofs.Items.{items_more}
 
 -- a function needs its parameters' registers at least
 pub parameters_fit : (p : Program) (f : Function) (body : Stmts) (from : ℕ) (l : Lists) → length f.parameters ≤ (body_written p f body from l).lists.registers
 parameters_fit p f body from l =
-    let a = stmts_more p body no_exits (parameter_locals f.parameters) from (record l { registers = length f.parameters; layout = nothing_ready }) in
+    let a = stmts_more p body (no_exits f.result) (parameter_locals f.parameters) from (record l { registers = length f.parameters; layout = nothing_ready }) in
     let b = body_more p f body from l in
     omega (arith, a, b)
 

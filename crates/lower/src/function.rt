@@ -1,7 +1,7 @@
 //! The code of functions.
 
 ghost use Rattle.std.specs.Prelude.{◌≡◌, ◌++◌, ◌∷◌, [], ◌+◌, ◌≤◌, not, ◌&&◌, ◌==◌, nat_le, map, length, take, drop};
-ghost use Rattle.std.specs.Prelude.{OnOk, IfOk, IfErr};
+ghost use Rattle.std.specs.Prelude.{unwrap_or, OnOk, IfOk, IfErr};
 ghost use Rattle.syntax.specs.Views.{function_of, stmts_of, parameter_of};
 ghost use Rattle.lowered.specs.Programs.{parameter_locals};
 ghost use Rattle.picked.specs.Loops as loops;
@@ -20,6 +20,7 @@ use expression_code::program::Names;
 use expression_code::put::{after, put};
 use expression_code::ready::set_all;
 use expression_code::scope::Scope;
+use lex::token::Scalar;
 use picked::held::Exits;
 use std::alloc::{AllocError, Allocator};
 use syntax::tree::{Function, Parameter, Stmt};
@@ -52,6 +53,16 @@ fn parameter_locals<'p, A: Allocator + Copy>(
     Ok(scope)
 }
 
+/// The type of what a function returns, or that of the 0 that a call of it is worth.
+fn given_type(given: Option<Scalar>) -> Scalar
+    ensures { result ≡ unwrap_or given (Scalar.Int) }
+{
+    match given {
+        Some(of) => of,
+        None => Scalar::Int,
+    }
+}
+
 /// A function's body with the constants that lie ready, and a return where that runs off its end; the place behind
 /// them.
 fn lower_body<'p, A: Allocator + Copy>(
@@ -75,6 +86,7 @@ fn lower_body<'p, A: Allocator + Copy>(
         in_loop: 0,
         in_function: 0,
         to_outer: 0,
+        gives: given_type(f.result),
     };
     let last = lower_stmts(names, &mut scope, lists, code, body, exits, from)?;
     put(code, Instr::Return)?;

@@ -24,54 +24,9 @@ struct Looped<A: Allocator> {
 fn operands_of(instr: Instr) -> Option<(u16, u16)>
     ensures { result ≡ loops.operands_of (instr_of [] instr) }
 {
-    match instr {
-        Instr::AddSigned(_, a, b)
-        | Instr::AddUnsigned(_, a, b)
-        | Instr::SubtractSigned(_, a, b)
-        | Instr::SubtractUnsigned(_, a, b)
-        | Instr::MultiplySigned(_, a, b)
-        | Instr::MultiplyUnsigned(_, a, b)
-        | Instr::DivideSigned(_, a, b)
-        | Instr::DivideUnsigned(_, a, b)
-        | Instr::RemainderSigned(_, a, b)
-        | Instr::RemainderUnsigned(_, a, b)
-        | Instr::ShiftLeftSigned(_, a, b)
-        | Instr::ShiftLeftUnsigned(_, a, b)
-        | Instr::ShiftRightSigned(_, a, b)
-        | Instr::ShiftRightUnsigned(_, a, b)
-        | Instr::And(_, a, b)
-        | Instr::Or(_, a, b)
-        | Instr::Xor(_, a, b)
-        | Instr::Equal(_, a, b)
-        | Instr::NotEqual(_, a, b)
-        | Instr::LessSigned(_, a, b)
-        | Instr::LessUnsigned(_, a, b)
-        | Instr::LessEqualSigned(_, a, b)
-        | Instr::LessEqualUnsigned(_, a, b) => Some((a, b)),
-        Instr::Constant(_, _)
-        | Instr::Move(_, _)
-        | Instr::Complement(_, _)
-        | Instr::Jump(_)
-        | Instr::JumpZero(_, _)
-        | Instr::JumpNonzero(_, _)
-        | Instr::Check(_, _)
-        | Instr::Read(_, _)
-        | Instr::ReadAt(_, _, _, _)
-        | Instr::Write(_, _)
-        | Instr::WriteAt(_, _, _, _)
-        | Instr::Begin(_)
-        | Instr::Commit
-        | Instr::Cancel
-        | Instr::CancelOuter(_)
-        | Instr::Irrevocable
-        | Instr::Call(_, _, _, _)
-        | Instr::Return
-        | Instr::ReturnValue(_)
-        | Instr::PrintText(_)
-        | Instr::PrintSigned(_)
-        | Instr::PrintUnsigned(_)
-        | Instr::NegateSigned(_, _)
-        | Instr::NegateUnsigned(_, _) => None,
+    match instr.operator() {
+        Some((_, _, _, a, b)) => Some((a, b)),
+        None => None,
     }
 }
 

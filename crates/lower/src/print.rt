@@ -24,6 +24,7 @@ fn printing(of: Scalar, r: u16) -> Instr
     match of {
         Scalar::Int => Instr::PrintSigned(r),
         Scalar::Unsigned => Instr::PrintUnsigned(r),
+        Scalar::LongLong => Instr::PrintLong(r),
     }
 }
 

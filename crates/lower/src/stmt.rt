@@ -22,7 +22,7 @@ ghost use Rattle.expression_code.specs.Views.{program_in, scope_in};
 use crate::print::put_pieces;
 use bytecode::Instr;
 use expression_code::draft::{put_back, put_test};
-use expression_code::expr::{lower_all, lower_condition, lower_expr};
+use expression_code::expr::{lower_all, lower_condition, lower_due};
 use expression_code::fault::Failure;
 use expression_code::lists::Lists;
 use expression_code::program::Names;
@@ -33,7 +33,7 @@ use picked::draft::Draft;
 use picked::held::{Exits, Tested};
 use smallvec::SmallVec;
 use std::alloc::{AllocError, Allocator};
-use syntax::tree::{Expr, ForHead, Kind, Simple, Stmt};
+use syntax::tree::{Expr, ForHead, Kind, Parameter, Simple, Stmt};
 
 /// So many commits, and then an instruction; the place behind.
 fn leave<A: Allocator>(
@@ -89,6 +89,7 @@ fn entered(kind: Kind, exits: Exits) -> Result<Exits, AllocError>
         in_loop: exits.in_loop + 1,
         in_function: exits.in_function + 1,
         to_outer: level_in(kind, exits.to_outer)?,
+        gives: exits.gives,
     })
 }
 
@@ -101,6 +102,7 @@ fn looping(exits: Exits, break_to: u32, continue_to: u32) -> Exits
         in_loop: 0,
         in_function: exits.in_function,
         to_outer: exits.to_outer,
+        gives: exits.gives,
     }
 }
 
@@ -282,15 +284,26 @@ fn lower_print<A: Allocator + Copy>(
     from: u32,
 ) -> Result<u32, Failure>
     ensures { Writes (print_written
-        (all_emitted (program_in names.now) (scope_in scope.now) (exprs_of args.now) (from + 1)
+        (all_emitted (program_in names.now) (scope_in scope.now) [] (exprs_of args.now) (from + 1)
         (length (scope_in scope.now)) (lists_of lists.old))
         (pieces format.now)) code.old code.new lists.new result }
 {
     put(code, Instr::Irrevocable)?;
     let next = after(from, 1)?;
     let mut registers = SmallVec::<u16, 4, &A>::new(&names.alloc);
+    let parameters: [Parameter<A>; 0] = [];
     let free = scope.len();
-    let to = lower_all(names, scope, lists, code, &mut registers, args, next, free)?;
+    let to = lower_all(
+        names,
+        scope,
+        lists,
+        code,
+        &mut registers,
+        &parameters,
+        args,
+        next,
+        free,
+    )?;
     put_pieces(
         names.alloc,
         lists,
@@ -308,19 +321,20 @@ fn lower_return<A: Allocator + Copy>(
     lists: &mut Lists<A>,
     code: &mut Vec<Instr, A>,
     e: &Option<Expr<A>>,
-    commits: u32,
+    exits: Exits,
     from: u32,
 ) -> Result<u32, Failure>
-    ensures { Writes (return_written (program_in names.now) (scope_in scope.now) (option_map expr_of e.now) commits from
+    ensures { Writes (return_written (program_in names.now) (scope_in scope.now) (option_map expr_of e.now) exits from
         (lists_of lists.old)) code.old code.new lists.new result }
 {
     match e {
         Some(e) => {
             let free = scope.len();
-            let held = lower_expr(names, scope, lists, code, e, from, free, free)?;
-            leave(code, commits, Instr::ReturnValue(held.register), held.to)
+            let held = lower_due(names, scope, lists, code, e, exits.gives, from, free, free)?;
+            let instr = Instr::ReturnValue(held.register);
+            leave(code, exits.in_function, instr, held.to)
         }
-        None => leave(code, commits, Instr::Return, from),
+        None => leave(code, exits.in_function, Instr::Return, from),
     }
 }
 
@@ -447,9 +461,7 @@ pub(crate) fn lower_stmt<'p, A: Allocator + Copy>(
         }
         Stmt::Break(_) => leave(code, exits.in_loop, Instr::Jump(exits.break_to), from),
         Stmt::Continue(_) => leave(code, exits.in_loop, Instr::Jump(exits.continue_to), from),
-        Stmt::Return(e, _) => {
-            lower_return(names, scope, lists, code, e, exits.in_function, from)
-        }
+        Stmt::Return(e, _) => { lower_return(names, scope, lists, code, e, exits, from) }
         Stmt::Transaction(kind, body, _) => {
             let mut inner = Vec::new(names.alloc);
             let all = body.as_slice();

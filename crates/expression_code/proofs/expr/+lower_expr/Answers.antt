@@ -1,25 +1,27 @@
-use Rattle.std.proofs.Common.{◌+◌, ◌++◌, Some, option_map, ap, sym, ◌∙◌, arith, refl}
+use Rattle.std.proofs.Common.{◌+◌, ◌++◌, Some, option_map, map, drop, is_some, ap, sym, ◌∙◌, arith, refl}
 use denote.Param.Weighed.{most, at_most}
 use Rattle.syntax.specs.declared.tree.Expr as own_expr
 use Rattle.syntax.specs.declared.tree.Expr.{the_lemmas}
 use Rattle.syntax.proofs.tree.Expr.TheLaws.{the_size}
 use Rattle.syntax.specs.Names.{global_of, newest}
-use Rattle.syntax.specs.Views.{expr_of, exprs_of}
-use Rattle.picked.specs.declared.held.Held.{Held}
+use Rattle.syntax.specs.Numbers.{common}
+use Rattle.syntax.specs.Views.{name_of, parameter_of, expr_of, exprs_of}
 use Rattle.picked.specs.Names.{callee_of}
 use Rattle.picked.specs.Conditions.{zero_tested}
-use Rattle.picked.specs.Expressions.{AllEmitted, above, in_own_transaction, negated, complemented, compared, both, variable, element, answered, called, settled, emitted, operand, condition, all_emitted}
+use Rattle.picked.specs.Expressions.{AllEmitted, in_own_transaction, negated, complemented, compared, constant, converting, variable, element, answered, called, settled, types_of, taken_types, emitted_type, emitted, due, handed, condition, all_emitted}
 use Rattle.picked.proofs.Growing.{used_more, compared_more, condition_more}
 use Rattle.expression_code.specs.Lists.{lists_of}
 use Rattle.expression_code.specs.Views.{program_in, scope_in}
 use Rattle.expression_code.specs.Stretches.{of_value, of_test}
 use Rattle.expression_code.specs.inner.Stretches.{in_place, all_in_place}
-use Rattle.expression_code.specs.inner.Tables.{callee_in, shared_in}
+use Rattle.global_tables.specs.Tables.{shared_in}
+use Rattle.expression_code.specs.inner.Tables.{callee_in}
 use Rattle.expression_code.proofs.Adding.{same, in_turn, gathered, value_alone, stops, no_less}
-use Rattle.expression_code.proofs.Nodes.{variable_is, constant_is, call_is, element_is, parenthesized_is, cast_is, unary_is, binary_is, logical_is, conditional_is, in_transaction_is, value_there, test_there, cast_test_there, value_test_there}
+use Rattle.expression_code.proofs.Nodes.{variable_is, constant_is, call_is, element_is, parenthesized_is, cast_is, unary_is, binary_is, logical_is, conditional_is, in_transaction_is, value_there, test_there, value_test_there, due_constant, due_there, due_within, cast_test_there, cast_by_value}
 use Rattle.expression_code.proofs.Conditional.{settled_behind, condition_within, second_within, one_is, two_is, chosen_there}
-use Rattle.expression_code.proofs.Within.{left_within, logical_within, arguments_within}
-use Rattle.expression_code.proofs.Rows.{next_value, first_within, no_more_values}
+use Rattle.expression_code.proofs.Operating.{left_within, right_within, left_there, right_there, whole_there}
+use Rattle.expression_code.proofs.Within.{logical_within, arguments_within}
+use Rattle.expression_code.proofs.Rows.{type_there, no_type, next_value, first_within, no_more_values}
 use Rattle.expression_code.proofs.expr.+lower_expr.Goals as goal
 
 pub lower_expr-returns-in-Parenthesized : goal.lower_expr-returns-in-Parenthesized
@@ -77,24 +79,13 @@ lower_expr-returns-in_err-i-in-Some g t c =
 pub lower_expr-returns-in-None-called : goal.lower_expr-returns-in-None-called
 lower_expr-returns-in-None-called g t c =
     let found = sym (ap (option_map callee_in) c.in-None-called.is) ∙ c.called.ensures ∙ ap (callee_of (program_in c.args.names.now)) c.as_str-in-Call.ensures in
-    let args = all_emitted (program_in c.args.names.now) (scope_in c.args.scope.now) (exprs_of c.in-Call.args) c.args.from c.args.free (lists_of c.args.lists.now) in
+    let args = all_emitted (program_in c.args.names.now) (scope_in c.args.scope.now) (taken_types (callee_of (program_in c.args.names.now) (name_of c.in-Call.f).text)) (exprs_of c.in-Call.args) c.args.from c.args.free (lists_of c.args.lists.now) in
     value_there (program_in c.args.names.now) (scope_in c.args.scope.now) c.args.from c.args.into c.args.free (lists_of c.args.lists.now) (call_is c.in-Call.is refl) (same (ap (λ o. of_value (called o args c.args.from c.args.into (lists_of c.args.lists.now))) found) c.put_constant-in-None-called.ensures)
 
 pub lower_expr-returns-in-Some-called : goal.lower_expr-returns-in-Some-called
 lower_expr-returns-in-Some-called g t c =
     let found = c.in-Some-called.ensures ∙ ap (callee_of (program_in c.args.names.now)) c.as_str-in-Call.ensures in
-    let args = all_emitted (program_in c.args.names.now) (scope_in c.args.scope.now) (exprs_of c.as_slice-all.result.now) c.args.from c.args.free (lists_of c.args.lists.now) in
-    value_there (program_in c.args.names.now) (scope_in c.args.scope.now) c.args.from c.args.into c.args.free (lists_of c.args.lists.now) (call_is c.in-Call.is c.as_slice-all.ensures) (same (ap (λ o. of_value (called o args c.args.from c.args.into (lists_of c.args.lists.now))) found) c.lower_call.ensures)
-
-pub lower_expr-returns-in_ok-held-in-Cast : goal.lower_expr-returns-in_ok-held-in-Cast
-lower_expr-returns-in_ok-held-in-Cast g t c =
-    let k = c.in_ok-held-in-Cast.ensures in
-    value_there (program_in c.args.names.now) (scope_in c.args.scope.now) c.args.from c.args.into c.args.free (lists_of c.args.lists.now) (cast_is c.in-Cast.is c.get-in-Cast.ensures)
-    (record { code = k.code; lists = k.lists; end = ap (λ (h : Held). record { register = h.register; of = c.in-Cast.of; to = h.to }) k.end; fails = tt })
-
-pub lower_expr-returns-in_err-held-in-Cast : goal.lower_expr-returns-in_err-held-in-Cast
-lower_expr-returns-in_err-held-in-Cast g t c =
-    value_there (program_in c.args.names.now) (scope_in c.args.scope.now) c.args.from c.args.into c.args.free (lists_of c.args.lists.now) (cast_is c.in-Cast.is c.get-in-Cast.ensures) (stops c.lower_expr-in-Cast.ensures c.in_err-held-in-Cast.was c.from_residual-in_err-held-in-Cast.ensures (no_less _))
+    value_there (program_in c.args.names.now) (scope_in c.args.scope.now) c.args.from c.args.into c.args.free (lists_of c.args.lists.now) (call_is c.in-Call.is c.as_slice-all.ensures) (same (ap (λ o. of_value (called o (all_emitted (program_in c.args.names.now) (scope_in c.args.scope.now) (taken_types o) (exprs_of c.as_slice-all.result.now) c.args.from c.args.free (lists_of c.args.lists.now)) c.args.from c.args.into (lists_of c.args.lists.now))) found) c.lower_call.ensures)
 
 pub lower_expr-returns-in_ok-a-in-Negate : goal.lower_expr-returns-in_ok-a-in-Negate
 lower_expr-returns-in_ok-a-in-Negate g t c =
@@ -126,37 +117,15 @@ lower_expr-returns-in_err-a-in-Not g t c =
     value_there (program_in c.args.names.now) (scope_in c.args.scope.now) c.args.from c.args.into c.args.free (lists_of c.args.lists.now) (unary_is c.in-Unary.is c.in-Not.is c.get-in-Not.ensures)
     (stops c.lower_expr-in-Not.ensures c.in_err-a-in-Not.was c.from_residual-in_err-a-in-Not.ensures (compared_more (emitted (program_in c.args.names.now) (scope_in c.args.scope.now) (expr_of c.get-in-Not.result.now) c.args.from c.args.free c.args.free (lists_of c.args.lists.now)) c.args.into c.args.free))
 
-pub lower_expr-returns-in_ok-b-in-Binary : goal.lower_expr-returns-in_ok-b-in-Binary
-lower_expr-returns-in_ok-b-in-Binary g t c =
-    let a = c.in_ok-a-in-Binary.ensures in
-    let later = c.above-later.ensures ∙ ap (λ (h : Held). above c.args.free h.register) a.end in
-    let b = in_turn a (λ j. of_value (operand (program_in c.args.names.now) (scope_in c.args.scope.now) (expr_of c.get-in-Binary-2.result.now) (a.end j).to (later j) (a.lists j))) c.in_ok-b-in-Binary.ensures in
-    value_there (program_in c.args.names.now) (scope_in c.args.scope.now) c.args.from c.args.into c.args.free (lists_of c.args.lists.now) (binary_is c.in-Binary.is c.get-in-Binary.ensures c.get-in-Binary-2.ensures)
-    (in_turn b (λ j. of_value (both c.in-Binary.op (in_place (a.end j) (b.lists j)) (in_place (b.end j) (b.lists j)) c.args.into)) c.put_both.ensures)
-
-pub lower_expr-returns-in_err-b-in-Binary : goal.lower_expr-returns-in_err-b-in-Binary
-lower_expr-returns-in_err-b-in-Binary g t c =
-    let left = emitted (program_in c.args.names.now) (scope_in c.args.scope.now) (expr_of c.get-in-Binary.result.now) c.args.from c.args.free c.args.free (lists_of c.args.lists.now) in
-    let right = operand (program_in c.args.names.now) (scope_in c.args.scope.now) (expr_of c.get-in-Binary-2.result.now) left.held.to (above c.args.free left.held.register) left.lists in
-    let a = c.in_ok-a-in-Binary.ensures in
-    let later = c.above-later.ensures ∙ ap (λ (h : Held). above c.args.free h.register) a.end in
-    value_there (program_in c.args.names.now) (scope_in c.args.scope.now) c.args.from c.args.into c.args.free (lists_of c.args.lists.now) (binary_is c.in-Binary.is c.get-in-Binary.ensures c.get-in-Binary-2.ensures)
-    (stops (in_turn a (λ j. of_value (operand (program_in c.args.names.now) (scope_in c.args.scope.now) (expr_of c.get-in-Binary-2.result.now) (a.end j).to (later j) (a.lists j))) c.lower_operand.ensures) c.in_err-b-in-Binary.was c.from_residual-in_err-b-in-Binary.ensures (used_more c.args.into right.lists))
-
-pub lower_expr-returns-in_err-a-in-Binary : goal.lower_expr-returns-in_err-a-in-Binary
-lower_expr-returns-in_err-a-in-Binary g t c =
-    value_there (program_in c.args.names.now) (scope_in c.args.scope.now) c.args.from c.args.into c.args.free (lists_of c.args.lists.now) (binary_is c.in-Binary.is c.get-in-Binary.ensures refl)
-    (stops c.lower_expr-in-Binary.ensures c.in_err-a-in-Binary.was c.from_residual-in_err-a-in-Binary.ensures (left_within (program_in c.args.names.now) (scope_in c.args.scope.now) (expr_of c.get-in-Binary.result.now) (expr_of c.in-Binary.right) c.args.from c.args.into c.args.free (lists_of c.args.lists.now)))
-
 pub lower_call-returns : goal.lower_call-returns
 lower_call-returns g t c =
     let k = c.in_ok-to.ensures in
-    let rs = c.as_slice.ensures ∙ k.registers ∙ ap (λ xs. xs ++ (all_emitted (program_in c.args.names.now) (scope_in c.args.scope.now) (exprs_of c.args.all.now) c.args.from c.args.free (lists_of c.args.lists.now)).registers) c.requires in
+    let rs = c.as_slice.ensures ∙ k.registers ∙ ap (λ xs. xs ++ (all_emitted (program_in c.args.names.now) (scope_in c.args.scope.now) (taken_types (Some (callee_in c.args.f))) (exprs_of c.args.all.now) c.args.from c.args.free (lists_of c.args.lists.now)).registers) c.requires in
     in_turn k.code (λ j. of_value (called (Some (callee_in c.args.f)) (all_in_place (rs j) (k.code.end j) (k.code.lists j)) (k.code.end j) c.args.into (k.code.lists j))) c.put_call.ensures
 
 pub lower_call-returns-in_err-to : goal.lower_call-returns-in_err-to
 lower_call-returns-in_err-to g t c =
-    stops c.lower_all.ensures.code c.in_err-to.was c.from_residual.ensures (arguments_within (callee_in c.args.f) (all_emitted (program_in c.args.names.now) (scope_in c.args.scope.now) (exprs_of c.args.all.now) c.args.from c.args.free (lists_of c.args.lists.now)) c.args.from c.args.into (lists_of c.args.lists.now))
+    stops c.lower_all.ensures.code c.in_err-to.was c.from_residual.ensures (arguments_within (callee_in c.args.f) (all_emitted (program_in c.args.names.now) (scope_in c.args.scope.now) (taken_types (Some (callee_in c.args.f))) (exprs_of c.args.all.now) c.args.from c.args.free (lists_of c.args.lists.now)) c.args.from c.args.into (lists_of c.args.lists.now))
 
 pub lower_logical-returns : goal.lower_logical-returns
 lower_logical-returns g t c =
@@ -175,34 +144,14 @@ lower_logical-returns-in_err-t g t c =
     let a = c.in_ok-next.ensures in
     stops (in_turn a (λ j. of_test (condition (program_in c.args.names.now) (scope_in c.args.scope.now) (expr_of c.args.right.now) (a.end j) c.args.free (a.lists j))) c.lower_condition.ensures) c.in_err-t.was c.from_residual-in_err-t.ensures (used_more c.args.into second.lists)
 
-pub lower_conditional-returns : goal.lower_conditional-returns
-lower_conditional-returns g t c =
-    let one = ap of_value (one_is (program_in c.args.names.now) (scope_in c.args.scope.now) (expr_of c.args.c.now) (expr_of c.args.left.now) (expr_of c.args.right.now) c.args.from c.args.into c.args.free (lists_of c.args.lists.now) c.in_ok-t.ensures c.in_ok-next.ensures) in
-    let a = same one c.in_ok-a.ensures.code in
-    let two = ap of_value (two_is (program_in c.args.names.now) (scope_in c.args.scope.now) (expr_of c.args.c.now) (expr_of c.args.left.now) (expr_of c.args.right.now) c.args.from c.args.into c.args.free (lists_of c.args.lists.now) c.in_ok-t.ensures c.in_ok-next.ensures a c.in_ok-other.ensures) in
-    let chosen = chosen_there (program_in c.args.names.now) (scope_in c.args.scope.now) (expr_of c.args.c.now) (expr_of c.args.left.now) (expr_of c.args.right.now) c.args.from c.args.into c.args.free (lists_of c.args.lists.now) c.in_ok-t.ensures c.in_ok-next.ensures a c.in_ok-other.ensures (same two c.in_ok-b.ensures.code) c.requires.test c.requires.first c.requires.second c.as_slice.ensures.value c.in_ok-b.ensures.register in
-    same (ap of_value chosen) (c.put_chosen.ensures (lists_of c.lower_settled-2.new.lists))
-
 pub lower_conditional-returns-in_err-t : goal.lower_conditional-returns-in_err-t
 lower_conditional-returns-in_err-t g t c =
     stops c.lower_condition.ensures c.in_err-t.was c.from_residual.ensures (condition_within (program_in c.args.names.now) (scope_in c.args.scope.now) (expr_of c.args.c.now) (expr_of c.args.left.now) (expr_of c.args.right.now) c.args.from c.args.into c.args.free (lists_of c.args.lists.now))
 
-pub lower_conditional-returns-in_err-a : goal.lower_conditional-returns-in_err-a
-lower_conditional-returns-in_err-a g t c =
-    let one = ap of_value (one_is (program_in c.args.names.now) (scope_in c.args.scope.now) (expr_of c.args.c.now) (expr_of c.args.left.now) (expr_of c.args.right.now) c.args.from c.args.into c.args.free (lists_of c.args.lists.now) c.in_ok-t.ensures c.in_ok-next.ensures) in
-    stops (same one c.lower_settled.ensures.code) c.in_err-a.was c.from_residual-in_err-a.ensures (second_within (program_in c.args.names.now) (scope_in c.args.scope.now) (expr_of c.args.c.now) (expr_of c.args.left.now) (expr_of c.args.right.now) c.args.from c.args.into c.args.free (lists_of c.args.lists.now))
-
-pub lower_conditional-returns-in_err-b : goal.lower_conditional-returns-in_err-b
-lower_conditional-returns-in_err-b g t c =
-    let one = ap of_value (one_is (program_in c.args.names.now) (scope_in c.args.scope.now) (expr_of c.args.c.now) (expr_of c.args.left.now) (expr_of c.args.right.now) c.args.from c.args.into c.args.free (lists_of c.args.lists.now) c.in_ok-t.ensures c.in_ok-next.ensures) in
-    let a = same one c.in_ok-a.ensures.code in
-    let two = ap of_value (two_is (program_in c.args.names.now) (scope_in c.args.scope.now) (expr_of c.args.c.now) (expr_of c.args.left.now) (expr_of c.args.right.now) c.args.from c.args.into c.args.free (lists_of c.args.lists.now) c.in_ok-t.ensures c.in_ok-next.ensures a c.in_ok-other.ensures) in
-    stops (same two c.lower_settled-2.ensures.code) c.in_err-b.was c.from_residual-in_err-b.ensures (no_less _)
-
 pub lower_settled-returns-clause-code : goal.lower_settled-returns-clause-code
 lower_settled-returns-clause-code g t c =
     let k = c.in_ok-held.ensures in
-    same (settled_behind c.args.into (emitted (program_in c.args.names.now) (scope_in c.args.scope.now) (expr_of c.args.e.now) c.args.from c.args.into c.args.free (lists_of c.args.lists.now)))
+    same (settled_behind c.args.into (due (program_in c.args.names.now) (scope_in c.args.scope.now) c.args.of (expr_of c.args.e.now) c.args.from c.args.into c.args.free (lists_of c.args.lists.now)))
     (in_turn k (λ j. of_value (settled c.args.into (in_place (k.end j) (k.lists j)))) c.settle.ensures.code)
 
 pub lower_in_transaction-returns : goal.lower_in_transaction-returns
@@ -214,10 +163,6 @@ lower_in_transaction-returns g t c =
 pub lower_condition-returns-in-Parenthesized : goal.lower_condition-returns-in-Parenthesized
 lower_condition-returns-in-Parenthesized g t c =
     test_there (program_in c.args.names.now) (scope_in c.args.scope.now) c.args.from c.args.free (lists_of c.args.lists.now) (parenthesized_is c.in-Parenthesized.is c.get.ensures) c.lower_condition.ensures
-
-pub lower_condition-returns-in-Cast : goal.lower_condition-returns-in-Cast
-lower_condition-returns-in-Cast g t c =
-    cast_test_there (program_in c.args.names.now) (scope_in c.args.scope.now) c.args.from c.args.free (lists_of c.args.lists.now) (cast_is c.in-Cast.is c.get-in-Cast.ensures) c.lower_condition-in-Cast.ensures
 
 pub lower_condition-returns-in-Keep : goal.lower_condition-returns-in-Keep
 lower_condition-returns-in-Keep g t c =
@@ -240,7 +185,7 @@ lower_condition-returns-in_err-next-in-Logical g t c =
 
 pub lower_condition-returns-in-Negate : goal.lower_condition-returns-in-Negate
 lower_condition-returns-in-Negate g t c =
-    value_test_there (program_in c.args.names.now) (scope_in c.args.scope.now) c.args.from c.args.free (lists_of c.args.lists.now) (unary_is c.in-Unary.is c.in-Negate.is refl) refl c.lower_value.ensures
+    value_test_there (program_in c.args.names.now) (scope_in c.args.scope.now) c.args.from c.args.free (lists_of c.args.lists.now) (unary_is c.in-Unary.is c.in-Negate.is refl) refl c.lower_value-in-Negate.ensures
 
 pub lower_condition-returns-in-Complement : goal.lower_condition-returns-in-Complement
 lower_condition-returns-in-Complement g t c =
@@ -275,23 +220,6 @@ lower_condition-returns-in-None g t c =
     let own = condition (program_in c.args.names.now) (scope_in c.args.scope.now) (expr_of c.in-Binary.a) c.args.from c.args.free (lists_of c.args.lists.now) in
     value_test_there (program_in c.args.names.now) (scope_in c.args.scope.now) c.args.from c.args.free (lists_of c.args.lists.now) (binary_is c.in-Binary.is refl c.get-in-Binary.ensures) (ap (λ o. zero_tested o own) (sym c.zero_test.ensures ∙ c.in-None.is)) c.lower_value-in-None.ensures
 
-pub lower_all-each-preserved : goal.lower_all-each-preserved
-lower_all-each-preserved g t c =
-    next_value (program_in c.args.names.now) (scope_in c.args.scope.now) c.args.all.now c.each.one-index c.each.to c.each.later (lists_of c.each.lists) c.each.code.items c.each.registers.items _ c.one-item.result c.each-test.true c.one-item.is c.each.invariant _ _ _ c.in_ok-held.held _ c.in_ok-held.ensures c.in_ok-add_operand.ensures c.above-later.ensures
-
-pub lower_all-returns-in_err-held-clause-code : goal.lower_all-returns-in_err-held-clause-code
-lower_all-returns-in_err-held-clause-code g t c =
-    stops c.lower_expr.ensures c.in_err-held.was c.from_residual.ensures (first_within (program_in c.args.names.now) (scope_in c.args.scope.now) c.args.all.now c.each.one-index c.each.to c.each.later (lists_of c.each.lists) c.each.code.items c.each.registers.items _ c.one-item.result c.each-test.true c.one-item.is c.each.invariant)
-
-pub lower_all-returns-clause-code : goal.lower_all-returns-clause-code
-lower_all-returns-clause-code g t c =
-    let all = no_more_values (program_in c.args.names.now) (scope_in c.args.scope.now) c.args.all.now c.each.one-index c.each.to c.each.later (lists_of c.each.lists) c.each.code.items c.each.registers.items _ c.each-test.false c.each.invariant in
-    record { code = ap (λ (w : AllEmitted). w.code) all; lists = ap (λ (w : AllEmitted). w.lists) all; end = ap (λ (w : AllEmitted). w.to) all; fails = tt }
-
-pub lower_all-returns-clause-registers : goal.lower_all-returns-clause-registers
-lower_all-returns-clause-registers g t c =
-    ap (λ (w : AllEmitted). w.registers) (no_more_values (program_in c.args.names.now) (scope_in c.args.scope.now) c.args.all.now c.each.one-index c.each.to c.each.later (lists_of c.each.lists) c.each.code.items c.each.registers.items _ c.each-test.false c.each.invariant)
-
 pub lower_expr-lower_call-requires : goal.lower_expr-lower_call-requires
 lower_expr-lower_call-requires g t c κs within =
     let size = simp the_lemmas at (ap (the_size g.row.A g.A.Allocator g.A.laws) c.in-Call.is) in
@@ -308,12 +236,6 @@ pub lower_expr-lower_expr-requires-in-Parenthesized : goal.lower_expr-lower_expr
 lower_expr-lower_expr-requires-in-Parenthesized g t c κs within =
     let size = simp the_lemmas at (ap (the_size g.row.A g.A.Allocator g.A.laws) c.in-Parenthesized.is) in
     let here = ap (the_size g.row.A g.A.Allocator g.A.laws) c.get-in-Parenthesized.ensures in
-    (omega (arith, size, here, c.decreases), within)
-
-pub lower_expr-lower_expr-requires-in-Cast : goal.lower_expr-lower_expr-requires-in-Cast
-lower_expr-lower_expr-requires-in-Cast g t c κs within =
-    let size = simp the_lemmas at (ap (the_size g.row.A g.A.Allocator g.A.laws) c.in-Cast.is) in
-    let here = ap (the_size g.row.A g.A.Allocator g.A.laws) c.get-in-Cast.ensures in
     (omega (arith, size, here, c.decreases), within)
 
 pub lower_expr-lower_expr-requires-in-Keep : goal.lower_expr-lower_expr-requires-in-Keep
@@ -340,18 +262,6 @@ lower_expr-lower_expr-requires-in-Complement g t c κs within =
     let here = ap (the_size g.row.A g.A.Allocator g.A.laws) c.get-in-Complement.ensures in
     (omega (arith, size, here, c.decreases), within)
 
-pub lower_expr-lower_expr-requires-in-Binary : goal.lower_expr-lower_expr-requires-in-Binary
-lower_expr-lower_expr-requires-in-Binary g t c κs within =
-    let size = simp the_lemmas at (ap (the_size g.row.A g.A.Allocator g.A.laws) c.in-Binary.is) in
-    let here = ap (the_size g.row.A g.A.Allocator g.A.laws) c.get-in-Binary.ensures in
-    (omega (arith, size, here, c.decreases), within)
-
-pub lower_expr-lower_operand-requires : goal.lower_expr-lower_operand-requires
-lower_expr-lower_operand-requires g t c κs within =
-    let size = simp the_lemmas at (ap (the_size g.row.A g.A.Allocator g.A.laws) c.in-Binary.is) in
-    let here = ap (the_size g.row.A g.A.Allocator g.A.laws) c.get-in-Binary-2.ensures in
-    (omega (arith, size, here, c.decreases), within)
-
 pub lower_expr-lower_logical-requires : goal.lower_expr-lower_logical-requires
 lower_expr-lower_logical-requires g t c κs within =
     let parts = c.in-Logical.is ∙ (λ j. own_expr.Logical c.in-Logical.op (sym c.get-in-Logical.ensures j) (sym c.get-in-Logical-2.ensures j) c.in-Logical.at) in
@@ -368,14 +278,8 @@ lower_expr-lower_in_transaction-requires g t c κs within =
     let here = ap (the_size g.row.A g.A.Allocator g.A.laws) c.get-in-InTransaction.ensures in
     (omega (arith, size, here, c.decreases), within)
 
-pub lower_operand-lower_expr-requires : goal.lower_operand-lower_expr-requires
-lower_operand-lower_expr-requires g t c κs within = (omega (arith, c.decreases), within)
-
 pub lower_call-lower_all-requires : goal.lower_call-lower_all-requires
 lower_call-lower_all-requires g t c κs within = (omega (arith, c.decreases), (within, omega arith))
-
-pub lower_settled-lower_expr-requires : goal.lower_settled-lower_expr-requires
-lower_settled-lower_expr-requires g t c κs within = (omega (arith, c.decreases), within)
 
 pub lower_in_transaction-lower_expr-requires : goal.lower_in_transaction-lower_expr-requires
 lower_in_transaction-lower_expr-requires g t c κs within = (omega (arith, c.decreases), within)
@@ -420,12 +324,6 @@ lower_condition-lower_condition-requires g t c κs within =
     let here = ap (the_size g.row.A g.A.Allocator g.A.laws) c.get.ensures in
     (omega (arith, size, here, c.decreases), within)
 
-pub lower_condition-lower_condition-requires-in-Cast : goal.lower_condition-lower_condition-requires-in-Cast
-lower_condition-lower_condition-requires-in-Cast g t c κs within =
-    let size = simp the_lemmas at (ap (the_size g.row.A g.A.Allocator g.A.laws) c.in-Cast.is) in
-    let here = ap (the_size g.row.A g.A.Allocator g.A.laws) c.get-in-Cast.ensures in
-    (omega (arith, size, here, c.decreases), within)
-
 pub lower_condition-lower_condition-requires-in-Keep : goal.lower_condition-lower_condition-requires-in-Keep
 lower_condition-lower_condition-requires-in-Keep g t c κs within =
     let size = simp the_lemmas at (ap (the_size g.row.A g.A.Allocator g.A.laws) c.in-Unary.is) in
@@ -462,8 +360,8 @@ lower_condition-lower_first-requires g t c κs within =
     let here = ap (the_size g.row.A g.A.Allocator g.A.laws) c.get-in-Logical.ensures in
     (omega (arith, size, here, c.decreases), within)
 
-pub lower_condition-lower_value-requires : goal.lower_condition-lower_value-requires
-lower_condition-lower_value-requires g t c κs within = (omega (arith, c.decreases), within)
+pub lower_condition-lower_value-requires-in-Negate : goal.lower_condition-lower_value-requires-in-Negate
+lower_condition-lower_value-requires-in-Negate g t c κs within = (omega (arith, c.decreases), within)
 
 pub lower_condition-lower_value-requires-in-Complement : goal.lower_condition-lower_value-requires-in-Complement
 lower_condition-lower_value-requires-in-Complement g t c κs within = (omega (arith, c.decreases), within)
@@ -489,8 +387,154 @@ lower_condition-lower_value-requires-in-Conditional g t c κs within = (omega (a
 pub lower_condition-lower_value-requires-in-InTransaction : goal.lower_condition-lower_value-requires-in-InTransaction
 lower_condition-lower_value-requires-in-InTransaction g t c κs within = (omega (arith, c.decreases), within)
 
-pub lower_all-lower_expr-requires : goal.lower_all-lower_expr-requires
-lower_all-lower_expr-requires g t c κs within =
+pub lower_expr-returns-in-Cast : goal.lower_expr-returns-in-Cast
+lower_expr-returns-in-Cast g t c =
+    value_there (program_in c.args.names.now) (scope_in c.args.scope.now) c.args.from c.args.into c.args.free (lists_of c.args.lists.now) (cast_is c.in-Cast.is c.get-in-Cast.ensures) c.lower_due.ensures
+
+pub lower_expr-returns-in_ok-b-in-Binary : goal.lower_expr-returns-in_ok-b-in-Binary
+lower_expr-returns-in_ok-b-in-Binary g t c =
+    let eo = c.value_type-own.ensures ∙ ap (λ x. emitted_type (program_in c.args.names.now) (scope_in c.args.scope.now) (expr_of x)) (c.get-in-Binary.ensures ∙ sym c.get-in-Binary-3.ensures) in
+    let et = c.value_type-other.ensures ∙ ap (λ x. emitted_type (program_in c.args.names.now) (scope_in c.args.scope.now) (expr_of x)) (c.get-in-Binary-2.ensures ∙ sym c.get-in-Binary-4.ensures) in
+    let a = left_there (program_in c.args.names.now) (scope_in c.args.scope.now) c.in-Binary.op (expr_of c.get-in-Binary-3.result.now) (expr_of c.get-in-Binary-4.result.now) c.in-Binary.field-3 c.args.from c.args.into c.args.free (lists_of c.args.lists.now) eo et c.operand_type-of.ensures c.operand_type-due.ensures c.in_ok-a-in-Binary.ensures in
+    let b = right_there (program_in c.args.names.now) (scope_in c.args.scope.now) c.in-Binary.op (expr_of c.get-in-Binary-3.result.now) (expr_of c.get-in-Binary-4.result.now) c.in-Binary.field-3 c.args.from c.args.into c.args.free (lists_of c.args.lists.now) eo et c.operand_type-of.ensures c.operand_type-due.ensures a c.above-later.ensures c.in_ok-b-in-Binary.ensures in
+    value_there (program_in c.args.names.now) (scope_in c.args.scope.now) c.args.from c.args.into c.args.free (lists_of c.args.lists.now) (binary_is c.in-Binary.is c.get-in-Binary-3.ensures c.get-in-Binary-4.ensures)
+    (whole_there (program_in c.args.names.now) (scope_in c.args.scope.now) c.in-Binary.op (expr_of c.get-in-Binary-3.result.now) (expr_of c.get-in-Binary-4.result.now) c.in-Binary.field-3 c.args.from c.args.into c.args.free (lists_of c.args.lists.now) eo et c.operand_type-of.ensures c.operand_type-due.ensures a c.above-later.ensures b c.put_both.ensures)
+
+pub lower_expr-returns-in_err-b-in-Binary : goal.lower_expr-returns-in_err-b-in-Binary
+lower_expr-returns-in_err-b-in-Binary g t c =
+    let eo = c.value_type-own.ensures ∙ ap (λ x. emitted_type (program_in c.args.names.now) (scope_in c.args.scope.now) (expr_of x)) (c.get-in-Binary.ensures ∙ sym c.get-in-Binary-3.ensures) in
+    let et = c.value_type-other.ensures ∙ ap (λ x. emitted_type (program_in c.args.names.now) (scope_in c.args.scope.now) (expr_of x)) (c.get-in-Binary-2.ensures ∙ sym c.get-in-Binary-4.ensures) in
+    let a = left_there (program_in c.args.names.now) (scope_in c.args.scope.now) c.in-Binary.op (expr_of c.get-in-Binary-3.result.now) (expr_of c.get-in-Binary-4.result.now) c.in-Binary.field-3 c.args.from c.args.into c.args.free (lists_of c.args.lists.now) eo et c.operand_type-of.ensures c.operand_type-due.ensures c.in_ok-a-in-Binary.ensures in
+    value_there (program_in c.args.names.now) (scope_in c.args.scope.now) c.args.from c.args.into c.args.free (lists_of c.args.lists.now) (binary_is c.in-Binary.is c.get-in-Binary-3.ensures c.get-in-Binary-4.ensures)
+    (stops (right_there (program_in c.args.names.now) (scope_in c.args.scope.now) c.in-Binary.op (expr_of c.get-in-Binary-3.result.now) (expr_of c.get-in-Binary-4.result.now) c.in-Binary.field-3 c.args.from c.args.into c.args.free (lists_of c.args.lists.now) eo et c.operand_type-of.ensures c.operand_type-due.ensures a c.above-later.ensures c.lower_operand.ensures) c.in_err-b-in-Binary.was c.from_residual-in_err-b-in-Binary.ensures (right_within (program_in c.args.names.now) (scope_in c.args.scope.now) c.in-Binary.op (expr_of c.get-in-Binary-3.result.now) (expr_of c.get-in-Binary-4.result.now) c.in-Binary.field-3 c.args.from c.args.into c.args.free (lists_of c.args.lists.now)))
+
+pub lower_expr-returns-in_err-a-in-Binary : goal.lower_expr-returns-in_err-a-in-Binary
+lower_expr-returns-in_err-a-in-Binary g t c =
+    let eo = c.value_type-own.ensures ∙ ap (λ x. emitted_type (program_in c.args.names.now) (scope_in c.args.scope.now) (expr_of x)) (c.get-in-Binary.ensures ∙ sym c.get-in-Binary-3.ensures) in
+    let et = c.value_type-other.ensures in
+    value_there (program_in c.args.names.now) (scope_in c.args.scope.now) c.args.from c.args.into c.args.free (lists_of c.args.lists.now) (binary_is c.in-Binary.is c.get-in-Binary-3.ensures c.get-in-Binary-2.ensures)
+    (stops (left_there (program_in c.args.names.now) (scope_in c.args.scope.now) c.in-Binary.op (expr_of c.get-in-Binary-3.result.now) (expr_of c.get-in-Binary-2.result.now) c.in-Binary.field-3 c.args.from c.args.into c.args.free (lists_of c.args.lists.now) eo et c.operand_type-of.ensures c.operand_type-due.ensures c.lower_due-in-Binary.ensures) c.in_err-a-in-Binary.was c.from_residual-in_err-a-in-Binary.ensures (left_within (program_in c.args.names.now) (scope_in c.args.scope.now) c.in-Binary.op (expr_of c.get-in-Binary-3.result.now) (expr_of c.get-in-Binary-2.result.now) c.in-Binary.field-3 c.args.from c.args.into c.args.free (lists_of c.args.lists.now)))
+
+pub lower_conditional-returns : goal.lower_conditional-returns
+lower_conditional-returns g t c =
+    let of = c.common_type-of.ensures ∙ (λ j. common (c.value_type-own.ensures j) (c.value_type-another.ensures j)) in
+    let one = ap of_value (one_is (program_in c.args.names.now) (scope_in c.args.scope.now) (expr_of c.args.c.now) (expr_of c.args.left.now) (expr_of c.args.right.now) c.args.from c.args.into c.args.free (lists_of c.args.lists.now) c.in_ok-t.ensures c.in_ok-next.ensures of) in
+    let a = same one c.in_ok-a.ensures.code in
+    let two = ap of_value (two_is (program_in c.args.names.now) (scope_in c.args.scope.now) (expr_of c.args.c.now) (expr_of c.args.left.now) (expr_of c.args.right.now) c.args.from c.args.into c.args.free (lists_of c.args.lists.now) c.in_ok-t.ensures c.in_ok-next.ensures of a c.in_ok-other.ensures) in
+    let chosen = chosen_there (program_in c.args.names.now) (scope_in c.args.scope.now) (expr_of c.args.c.now) (expr_of c.args.left.now) (expr_of c.args.right.now) c.args.from c.args.into c.args.free (lists_of c.args.lists.now) c.in_ok-t.ensures c.in_ok-next.ensures of a c.in_ok-other.ensures (same two c.in_ok-b.ensures.code) c.requires.test c.requires.first c.requires.second c.as_slice.ensures.value c.in_ok-b.ensures.register in
+    same (ap of_value chosen) (c.put_chosen.ensures (lists_of c.lower_settled-2.new.lists))
+
+pub lower_conditional-returns-in_err-a : goal.lower_conditional-returns-in_err-a
+lower_conditional-returns-in_err-a g t c =
+    let of = c.common_type-of.ensures ∙ (λ j. common (c.value_type-own.ensures j) (c.value_type-another.ensures j)) in
+    let one = ap of_value (one_is (program_in c.args.names.now) (scope_in c.args.scope.now) (expr_of c.args.c.now) (expr_of c.args.left.now) (expr_of c.args.right.now) c.args.from c.args.into c.args.free (lists_of c.args.lists.now) c.in_ok-t.ensures c.in_ok-next.ensures of) in
+    stops (same one c.lower_settled.ensures.code) c.in_err-a.was c.from_residual-in_err-a.ensures (second_within (program_in c.args.names.now) (scope_in c.args.scope.now) (expr_of c.args.c.now) (expr_of c.args.left.now) (expr_of c.args.right.now) c.args.from c.args.into c.args.free (lists_of c.args.lists.now))
+
+pub lower_conditional-returns-in_err-b : goal.lower_conditional-returns-in_err-b
+lower_conditional-returns-in_err-b g t c =
+    let of = c.common_type-of.ensures ∙ (λ j. common (c.value_type-own.ensures j) (c.value_type-another.ensures j)) in
+    let one = ap of_value (one_is (program_in c.args.names.now) (scope_in c.args.scope.now) (expr_of c.args.c.now) (expr_of c.args.left.now) (expr_of c.args.right.now) c.args.from c.args.into c.args.free (lists_of c.args.lists.now) c.in_ok-t.ensures c.in_ok-next.ensures of) in
+    let a = same one c.in_ok-a.ensures.code in
+    let two = ap of_value (two_is (program_in c.args.names.now) (scope_in c.args.scope.now) (expr_of c.args.c.now) (expr_of c.args.left.now) (expr_of c.args.right.now) c.args.from c.args.into c.args.free (lists_of c.args.lists.now) c.in_ok-t.ensures c.in_ok-next.ensures of a c.in_ok-other.ensures) in
+    stops (same two c.lower_settled-2.ensures.code) c.in_err-b.was c.from_residual-in_err-b.ensures (no_less _)
+
+pub lower_expr-lower_due-requires : goal.lower_expr-lower_due-requires
+lower_expr-lower_due-requires g t c κs within =
+    let size = simp the_lemmas at (ap (the_size g.row.A g.A.Allocator g.A.laws) c.in-Cast.is) in
+    let here = ap (the_size g.row.A g.A.Allocator g.A.laws) c.get-in-Cast.ensures in
+    (omega (arith, size, here, c.decreases), within)
+
+pub lower_expr-lower_due-requires-in-Binary : goal.lower_expr-lower_due-requires-in-Binary
+lower_expr-lower_due-requires-in-Binary g t c κs within =
+    let size = simp the_lemmas at (ap (the_size g.row.A g.A.Allocator g.A.laws) c.in-Binary.is) in
+    let here = ap (the_size g.row.A g.A.Allocator g.A.laws) c.get-in-Binary-3.ensures in
+    (omega (arith, size, here, c.decreases), within)
+
+pub lower_expr-lower_operand-requires : goal.lower_expr-lower_operand-requires
+lower_expr-lower_operand-requires g t c κs within =
+    let size = simp the_lemmas at (ap (the_size g.row.A g.A.Allocator g.A.laws) c.in-Binary.is) in
+    let here = ap (the_size g.row.A g.A.Allocator g.A.laws) c.get-in-Binary-4.ensures in
+    (omega (arith, size, here, c.decreases), within)
+
+pub lower_due-returns-in-Some : goal.lower_due-returns-in-Some
+lower_due-returns-in-Some g t c =
+    same (ap of_value (sym (due_constant (program_in c.args.names.now) (scope_in c.args.scope.now) c.args.of (expr_of c.args.e.now) c.in-Some.value c.in-Some.own c.args.from c.args.into c.args.free (lists_of c.args.lists.now) (sym c.in-Some.ensures))))
+    (same (ap (λ w. of_value (constant w c.args.of c.args.from c.args.into (lists_of c.args.lists.now))) c.constant_in.ensures) c.put_constant.ensures)
+
+pub lower_due-returns-in_ok-a-in-None : goal.lower_due-returns-in_ok-a-in-None
+lower_due-returns-in_ok-a-in-None g t c = due_there (program_in c.args.names.now) (scope_in c.args.scope.now) c.args.of (expr_of c.args.e.now) c.args.from c.args.into c.args.free (lists_of c.args.lists.now) (sym c.constant_of.ensures ∙ c.in-None.is) c.in_ok-a-in-None.ensures c.put_converted.ensures
+
+pub lower_due-returns-in_err-a-in-None : goal.lower_due-returns-in_err-a-in-None
+lower_due-returns-in_err-a-in-None g t c =
+    stops c.lower_expr.ensures c.in_err-a-in-None.was c.from_residual.ensures (due_within (program_in c.args.names.now) (scope_in c.args.scope.now) c.args.of (expr_of c.args.e.now) c.args.from c.args.into c.args.free (lists_of c.args.lists.now) (sym c.constant_of.ensures ∙ c.in-None.is))
+
+pub lower_condition-returns-then-converts : goal.lower_condition-returns-then-converts
+lower_condition-returns-then-converts g t c =
+    let own = c.value_type-own.ensures ∙ ap (λ x. emitted_type (program_in c.args.names.now) (scope_in c.args.scope.now) (expr_of x)) c.get-in-Cast.ensures in
+    let some = ap (λ s. is_some (converting s c.in-Cast.of)) (sym own) ∙ sym c.converts.ensures ∙ c.if-converts.true in
+    value_test_there (program_in c.args.names.now) (scope_in c.args.scope.now) c.args.from c.args.free (lists_of c.args.lists.now) (cast_is c.in-Cast.is refl) (cast_by_value (program_in c.args.names.now) (scope_in c.args.scope.now) (expr_of c.in-Cast.a) c.in-Cast.of c.in-Cast.field-2 c.args.from c.args.free (lists_of c.args.lists.now) some) c.lower_value.ensures
+
+pub lower_condition-returns-else-converts : goal.lower_condition-returns-else-converts
+lower_condition-returns-else-converts g t c =
+    let own = c.value_type-own.ensures ∙ ap (λ x. emitted_type (program_in c.args.names.now) (scope_in c.args.scope.now) (expr_of x)) (c.get-in-Cast.ensures ∙ sym c.get-else-converts.ensures) in
+    let none = ap (λ s. is_some (converting s c.in-Cast.of)) (sym own) ∙ sym c.converts.ensures ∙ c.if-converts.false in
+    cast_test_there (program_in c.args.names.now) (scope_in c.args.scope.now) c.args.from c.args.free (lists_of c.args.lists.now) (cast_is c.in-Cast.is c.get-else-converts.ensures) none c.lower_condition-else-converts.ensures
+
+pub lower_all-each-preserved : goal.lower_all-each-preserved
+lower_all-each-preserved g t c =
+    let here = ap (λ n. of_value (handed (program_in c.args.names.now) (scope_in c.args.scope.now) (drop n (types_of (map parameter_of c.args.parameters.now))) (expr_of c.one-item.result) c.each.to c.each.later (lists_of c.each.lists))) c.each.invariant.0 in
+    (ap (λ n. n + 1) c.each.invariant.0, next_value (program_in c.args.names.now) (scope_in c.args.scope.now) (types_of (map parameter_of c.args.parameters.now)) c.args.all.now c.each.one-index c.each.to c.each.later (lists_of c.each.lists) c.each.code.items c.each.registers.items _ c.one-item.result c.each-test.true c.one-item.is c.each.invariant.1 _ _ _ c.in_ok-held.held _ (same here c.in_ok-held.ensures) c.in_ok-add_operand.ensures c.above-later.ensures)
+
+pub lower_all-returns-in_err-held-clause-code : goal.lower_all-returns-in_err-held-clause-code
+lower_all-returns-in_err-held-clause-code g t c =
+    let here = ap (λ n. of_value (handed (program_in c.args.names.now) (scope_in c.args.scope.now) (drop n (types_of (map parameter_of c.args.parameters.now))) (expr_of c.one-item.result) c.each.to c.each.later (lists_of c.each.lists))) c.each.invariant.0 in
+    stops (same here c.lower_handed.ensures) c.in_err-held.was c.from_residual.ensures (first_within (program_in c.args.names.now) (scope_in c.args.scope.now) (types_of (map parameter_of c.args.parameters.now)) c.args.all.now c.each.one-index c.each.to c.each.later (lists_of c.each.lists) c.each.code.items c.each.registers.items _ c.one-item.result c.each-test.true c.one-item.is c.each.invariant.1)
+
+pub lower_all-returns-clause-code : goal.lower_all-returns-clause-code
+lower_all-returns-clause-code g t c =
+    let all = no_more_values (program_in c.args.names.now) (scope_in c.args.scope.now) (types_of (map parameter_of c.args.parameters.now)) c.args.all.now c.each.one-index c.each.to c.each.later (lists_of c.each.lists) c.each.code.items c.each.registers.items _ c.each-test.false c.each.invariant.1 in
+    record { code = ap (λ (w : AllEmitted). w.code) all; lists = ap (λ (w : AllEmitted). w.lists) all; end = ap (λ (w : AllEmitted). w.to) all; fails = tt }
+
+pub lower_all-returns-clause-registers : goal.lower_all-returns-clause-registers
+lower_all-returns-clause-registers g t c = ap (λ (w : AllEmitted). w.registers) (no_more_values (program_in c.args.names.now) (scope_in c.args.scope.now) (types_of (map parameter_of c.args.parameters.now)) c.args.all.now c.each.one-index c.each.to c.each.later (lists_of c.each.lists) c.each.code.items c.each.registers.items _ c.each-test.false c.each.invariant.1)
+
+pub lower_handed-returns-then-number-parameters : goal.lower_handed-returns-then-number-parameters
+lower_handed-returns-then-number-parameters g t c =
+    let there = type_there c.args.parameters.now c.args.number c.index-parameters-number.result c.if-number-parameters.true c.index-parameters-number.is in
+    let own = ap (λ x. x.of) c.index-parameters-number.is in
+    same (ap (λ u. of_value (due (program_in c.args.names.now) (scope_in c.args.scope.now) u (expr_of c.args.e.now) c.args.from c.args.free c.args.free (lists_of c.args.lists.now))) (sym own) ∙ ap (λ us. of_value (handed (program_in c.args.names.now) (scope_in c.args.scope.now) us (expr_of c.args.e.now) c.args.from c.args.free (lists_of c.args.lists.now))) (sym there)) c.lower_due.ensures
+
+pub lower_handed-returns-else-number-parameters : goal.lower_handed-returns-else-number-parameters
+lower_handed-returns-else-number-parameters g t c =
+    let there = no_type c.args.parameters.now c.args.number (omega (arith, c.if-number-parameters.false)) in
+    same (ap (λ us. of_value (handed (program_in c.args.names.now) (scope_in c.args.scope.now) us (expr_of c.args.e.now) c.args.from c.args.free (lists_of c.args.lists.now))) (sym there)) c.lower_expr.ensures
+
+pub lower_due-lower_expr-requires : goal.lower_due-lower_expr-requires
+lower_due-lower_expr-requires g t c κs within = (omega (arith, c.decreases), within)
+
+pub lower_operand-lower_due-requires : goal.lower_operand-lower_due-requires
+lower_operand-lower_due-requires g t c κs within = (omega (arith, c.decreases), within)
+
+pub lower_settled-lower_due-requires : goal.lower_settled-lower_due-requires
+lower_settled-lower_due-requires g t c κs within = (omega (arith, c.decreases), within)
+
+pub lower_handed-lower_due-requires : goal.lower_handed-lower_due-requires
+lower_handed-lower_due-requires g t c κs within = (omega (arith, c.decreases), within)
+
+pub lower_handed-lower_expr-requires : goal.lower_handed-lower_expr-requires
+lower_handed-lower_expr-requires g t c κs within = (omega (arith, c.decreases), within)
+
+pub lower_condition-lower_value-requires : goal.lower_condition-lower_value-requires
+lower_condition-lower_value-requires g t c κs within = (omega (arith, c.decreases), within)
+
+pub lower_condition-lower_condition-requires-else-converts : goal.lower_condition-lower_condition-requires-else-converts
+lower_condition-lower_condition-requires-else-converts g t c κs within =
+    let size = simp the_lemmas at (ap (the_size g.row.A g.A.Allocator g.A.laws) c.in-Cast.is) in
+    let here = ap (the_size g.row.A g.A.Allocator g.A.laws) c.get-else-converts.ensures in
+    (omega (arith, size, here, c.decreases), within)
+
+pub lower_all-lower_handed-requires : goal.lower_all-lower_handed-requires
+lower_all-lower_handed-requires g t c κs within =
     let size = the_size g.row.A g.A.Allocator g.A.laws in
     let below = at_most size c.args.all.now c.each.one-index c.one-item.result c.each-test.true in
     let here = ap size c.one-item.is in

@@ -1,6 +1,6 @@
-use Rattle.std.proofs.Common.{◌≡◌, drop}
-use Rattle.syntax.specs.Views.{exprs_of}
-use Rattle.picked.specs.Expressions.{all_emitted}
+use Rattle.std.proofs.Common.{◌≡◌, drop, map}
+use Rattle.syntax.specs.Views.{exprs_of, parameter_of}
+use Rattle.picked.specs.Expressions.{types_of, all_emitted}
 use Rattle.expression_code.specs.Lists.{lists_of}
 use Rattle.expression_code.specs.Views.{program_in, scope_in}
 use Rattle.expression_code.proofs.Rows.{values_behind}
@@ -9,7 +9,8 @@ use Rattle.expression_code.proofs.expr.+lower_expr.Given as goal
 -- what is made and what is to come are the whole
 abbrev pub invariant-lower_all-each : goal.invariant-lower_all-each
 invariant-lower_all-each g l =
-    values_behind l.code.items l.registers.items
-    (all_emitted (program_in l.names) (scope_in l.scope) (exprs_of (drop l.one-index l.all)) l.to l.later (lists_of l.lists))
+    (l.number ≡ l.one-index)
+    × (values_behind l.code.items l.registers.items
+    (all_emitted (program_in l.names) (scope_in l.scope) (drop l.one-index (types_of (map parameter_of l.parameters))) (exprs_of (drop l.one-index l.all)) l.to l.later (lists_of l.lists))
     ≡ values_behind l.fn.code.items l.fn.registers.items
-    (all_emitted (program_in l.names) (scope_in l.scope) (exprs_of l.all) l.from l.free (lists_of l.fn.lists))
+    (all_emitted (program_in l.names) (scope_in l.scope) (types_of (map parameter_of l.parameters)) (exprs_of l.all) l.from l.free (lists_of l.fn.lists)))

@@ -1,8 +1,8 @@
 use Rattle.std.proofs.Common.{◌∙◌, option_map, sym, ap, arith}
 use Rattle.syntax.specs.Names.{globals}
 use Rattle.syntax.specs.Views.{program_of}
-use Rattle.expression_code.specs.inner.Tables.{shared_in}
-use Rattle.expression_code.proofs.Placing.{cells_among}
+use Rattle.global_tables.specs.Tables.{shared_in}
+use Rattle.global_tables.proofs.Placing.{cells_among}
 use Rattle.expression_code.proofs.names.global.Goals as goal
 
 pub returns-in-Some-clause-low : goal.returns-in-Some-clause-low

@@ -6,7 +6,7 @@ use Rattle.picked.specs.Simples.{aimed, element_target, variable_target}
 use Rattle.expression_code.specs.Lists.{lists_of}
 use Rattle.expression_code.specs.Views.{program_in, scope_in}
 use Rattle.expression_code.specs.inner.Stretches.{in_place, of_aim}
-use Rattle.expression_code.specs.inner.Tables.{shared_in}
+use Rattle.global_tables.specs.Tables.{shared_in}
 use Rattle.expression_code.proofs.Adding.{same, in_turn, no_less, stops}
 use Rattle.expression_code.proofs.Nodes.{variable_is, element_is}
 use Rattle.expression_code.proofs.simple.aim.Goals as goal

@@ -2,7 +2,7 @@ use Rattle.std.proofs.Common.{Some, ◌∙◌, ap, bytes_eq, if◌then◌else◌
 use Rattle.std.specs.Option.{option_or}
 use Rattle.name_tables.specs.Known.{entries_in}
 use Rattle.expression_code.specs.inner.Tables.{callee_in, called_at}
-use Rattle.expression_code.proofs.Placing.{one_more}
+use Rattle.global_tables.proofs.Placing.{one_more}
 use Rattle.expression_code.proofs.tables.add_callee.Goals as goal
 
 pub returns : goal.returns

@@ -3,8 +3,8 @@ use Rattle.syntax.specs.Names.{globals, global_of}
 use Rattle.syntax.specs.Typing.{IsTypedProgram}
 use Rattle.syntax.specs.Views.{item_of, program_of}
 use Rattle.picked.specs.Names.{callee_of}
-use Rattle.expression_code.specs.inner.Tables.{total_cells}
-use Rattle.expression_code.proofs.CellsFit.{cells_few}
+use Rattle.global_tables.specs.Tables.{total_cells}
+use Rattle.global_tables.proofs.CellsFit.{cells_few}
 use Rattle.expression_code.proofs.tables.names.Goals as goal
 
 pub place_globals-requires : goal.place_globals-requires

@@ -4,8 +4,9 @@ use Rattle.std.proofs.lemmas.List.{at_drop_all}
 use Rattle.syntax.specs.Views.{item_of}
 use Rattle.picked.specs.Names.{callee_from}
 use Rattle.expression_code.specs.inner.Tables.{called_at}
-use Rattle.expression_code.proofs.Placing.{or_none}
-use Rattle.expression_code.proofs.Files.{items_more, defined_here, not_defined_here}
+use Rattle.global_tables.proofs.Placing.{or_none}
+use Rattle.syntax.proofs.Items.{items_more}
+use Rattle.expression_code.proofs.Files.{defined_here, not_defined_here}
 use Rattle.expression_code.proofs.tables.number_callees.Goals as goal
 use Rattle.expression_code.proofs.tables.number_callees.Goals.{in-Function+then-is_some+in_ok-add_callee-in-Function, in-Function+else-is_some, in-Globals}
 

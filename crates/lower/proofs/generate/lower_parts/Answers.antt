@@ -9,7 +9,7 @@ use Rattle.picked.specs.Programs.{Made, all_made}
 use Rattle.lower.specs.inner.Parts.{made_in, IsOfItem, IsOfCode}
 use Rattle.expression_code.specs.Views.{program_in}
 use Rattle.lower.proofs.Bodies.{front_more, front_last}
-use Rattle.expression_code.proofs.Files.{items_more}
+use Rattle.syntax.proofs.Items.{items_more}
 use Rattle.lower.proofs.Faulty.{item_fault, handed_on}
 use Rattle.lower.proofs.generate.lower_parts.Goals as goal
 
