@@ -1,6 +1,5 @@
 -- Look-ups in a file, from one item to the next.
-use Rattle.std.proofs.Common.{◌≡◌, ℕ, ◌+◌, ◌<◌, List, ◌∷◌, ◌++◌, length, map, drop, get_or, Option, Some, option_map, sym, ap, ◌∙◌}
-use Rattle.std.proofs.lemmas.List.{drop_more}
+use Rattle.std.proofs.Common.{◌≡◌, ℕ, List, ◌∷◌, Option, Some, option_map, sym, ap, ◌∙◌}
 use Rattle.syntax.specs.declared.tree.Item.{Item as OwnItem}
 use Rattle.syntax.specs.declared.tree.Item.TheVariants as own
 use Rattle.syntax.specs.declared.tree.Function.{Function as OwnFunction}
@@ -10,23 +9,10 @@ use Rattle.syntax.specs.Tree.{Item, Function, Stmts}
 use Rattle.std.proofs.Common.{true, Bool}
 use Rattle.std.specs.Prelude.{bytes_eq, if◌then◌else◌}
 use Rattle.syntax.specs.Names.{definition_of, defined}
-use Rattle.syntax.specs.Tree.{Global}
-use Rattle.meaning.specs.inner.Cells.{total_cells}
-use Rattle.std.proofs.Common.{arith, []}
-
--- a function of the items that are left, opened at the first of them
-pub items_more : {A Y : Type 0} (F : List Item → Y) (items : List (OwnItem A)) (i : ℕ) (item : OwnItem A) → i < length items → item ≡ get_or items i item → F (map item_of (drop i items)) ≡ F (item_of item ∷ map item_of (drop (i + 1) items))
-items_more F items i item h is =
-    ap (λ xs. F (map item_of xs)) (drop_more items i item h) ∙ ap (λ x. F (item_of x ∷ map item_of (drop (i + 1) items))) (sym is)
 
 -- a definition that is found
 pub defined_here : (f : Function) (body : Stmts) (x : List ℕ) (rest : Option (Function × Stmts)) → bytes_eq f.name.text x ≡ true → defined f x (Some body) rest ≡ Some (f, body)
 defined_here f body x rest h = ap (λ (b : Bool). if b then Some (f, body) else rest) h
-
--- the cells of two lists of globals
-pub total_append : (gs hs : List Global) → total_cells (gs ++ hs) ≡ total_cells gs + total_cells hs
-total_append [] hs = omega arith
-total_append (g ∷ gs) hs = omega (arith, total_append gs hs)
 
 pub definition_here : {A : Type 0} (item : OwnItem A) (f : OwnFunction A) (body lent : List (OwnStmt A)) (x shown : List ℕ) (rest : List Item) →
     item ≡ own.Function f → f.body ≡ Some body → lent ≡ body → shown ≡ f.name.text → bytes_eq shown x ≡ true → definition_of (item_of item ∷ rest) x ≡ Some (function_of f, stmts_of lent)

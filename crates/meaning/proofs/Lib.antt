@@ -1,5 +1,4 @@
 pub mod Bodies
-pub mod CellsFit
 pub mod Deeper
 pub mod Elements
 pub mod Entering

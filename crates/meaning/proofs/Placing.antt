@@ -1,22 +1,15 @@
 -- What the tables of names say, as they are made and as they are read.
-use Rattle.std.proofs.Common.{◌≡◌, ℕ, suc, ◌+◌, ◌<◌, ◌≤◌, List, [], ◌∷◌, length, map, get_or, Option, Some, None, option_map, Bool, true, false, refl, sym, ap, ◌∙◌, arith, is_some, ◌&&◌, bytes_eq, if◌then◌else◌}
+use Rattle.std.proofs.Common.{◌≡◌, ℕ, suc, ◌+◌, ◌<◌, List, [], ◌∷◌, length, map, get_or, Option, Some, None, option_map, Bool, true, false, refl, sym, ap, ◌∙◌, arith, is_some, ◌&&◌, bytes_eq, if◌then◌else◌}
 use Rattle.std.specs.Option.{option_or}
 use Rattle.syntax.specs.declared.tree.Item.{Item as OwnItem}
 use Rattle.syntax.specs.declared.tree.Item.TheVariants as own
 use Rattle.syntax.specs.declared.tree.Function.{Function as OwnFunction}
-use Rattle.syntax.specs.Tree.{Item, Defines, Shares, Function, Stmts, Global}
+use Rattle.syntax.specs.Tree.{Item, Defines, Shares, Function, Stmts}
 use Rattle.syntax.specs.Views.{item_of, function_of, stmts_of}
-use Rattle.syntax.specs.Names.{GlobalCells, defined, definition_of, global_from, cells}
+use Rattle.syntax.specs.Names.{defined, definition_of}
 use Rattle.name_tables.specs.Named.{first, declared}
 use Rattle.name_tables.proofs.Firsts.{first_declared}
-use Rattle.meaning.specs.declared.names.Shared.{Shared}
-use Rattle.meaning.specs.inner.Cells.{total_cells}
-use Rattle.meaning.specs.inner.File.{shared_in}
 use Rattle.meaning.specs.inner.Tables.{number_from}
-
-pub or_none : {T : Type 0} (o : Option T) → option_or o None ≡ o
-or_none None = refl
-or_none (Some x) = refl
 
 some_map : {X Y : Type 0} (f : X → Y) (o : Option X) → is_some (option_map f o) ≡ is_some o
 some_map f None = refl
@@ -91,31 +84,3 @@ module _ {A : Type 0} where
 
   pub number_same : (i : ℕ) (items : List (OwnItem A)) (x : List ℕ) (d : OwnItem A) → number_from 0 (map item_of items) x ≡ Some i → definition_of (map item_of items) x ≡ definition_of (item_of (get_or items i d) ∷ []) x
   number_same i items x d h = let k = numbered 0 i items x h in let e : k.place ≡ i = (let f = k.is in omega (arith, f)) in k.same d ∙ ap (λ j. definition_of (item_of (get_or items j d) ∷ []) x) e
-
-  -- one more global
-  put_last : (b : Bool) (g : Shared A) (o : Option (Shared A)) (rest : Option GlobalCells) →
-      option_or (option_map shared_in (option_or o (if b then Some g else None))) rest ≡ option_or (option_map shared_in o) (if b then Some (shared_in g) else rest)
-  put_last true g None rest = refl
-  put_last false g None rest = refl
-  put_last b g (Some h) rest = refl
-
-  pub global_more : (old new : List (List ℕ × Shared A)) (name : List ℕ) (g : Shared A) (y : List ℕ) → new ≡ declared old name g → name ≡ y →
-      (x : List ℕ) (rest : Option GlobalCells) → option_or (option_map shared_in (first new x)) rest ≡ option_or (option_map shared_in (first old x)) (if bytes_eq y x then Some (shared_in g) else rest)
-  global_more old new name g y more same x rest =
-      ap (λ es. option_or (option_map shared_in (first es x)) rest) more
-      ∙ ap (λ o. option_or (option_map shared_in o) rest) (first_declared old name g x)
-      ∙ put_last (bytes_eq name x) g (first old x) rest
-      ∙ ap (λ z. option_or (option_map shared_in (first old x)) (if bytes_eq z x then Some (shared_in g) else rest)) same
-
--- a global's cells are among the cells
-cell_step : (b : Bool) (g : Global) (c : ℕ) (gs : List Global) (x : List ℕ) (v : GlobalCells) → (if b then Some (record { global = g; cell = c }) else global_from (c + cells g) gs x) ≡ Some v → (global_from (c + cells g) gs x ≡ Some v → v.cell + cells v.global ≤ c + cells g + total_cells gs) → v.cell + cells v.global ≤ c + total_cells (g ∷ gs)
-cell_step true g c gs x v h e = let k : c + cells g ≡ v.cell + cells v.global = ap (λ o. end_or o) h in omega (arith, k)
-  where
-    end_or : Option GlobalCells → ℕ
-    end_or None = 0
-    end_or (Some w) = w.cell + cells w.global
-cell_step false g c gs x v h e = let k = e h in omega (arith, k)
-
-pub cell_few : (c : ℕ) (gs : List Global) (x : List ℕ) (v : GlobalCells) → global_from c gs x ≡ Some v → v.cell + cells v.global ≤ c + total_cells gs
-cell_few c [] x v h = absurd cc
-cell_few c (g ∷ gs) x v h = cell_step (bytes_eq g.name.text x) g c gs x v h (cell_few (c + cells g) gs x v)

@@ -1,20 +1,22 @@
 -- Parts of a tree one after another, and turns of a loop one after another.
-use Rattle.std.proofs.Common.{◌≡◌, ℕ, zero, suc, ◌+◌, ◌<◌, ◌≤◌, List, [], ◌∷◌, ◌++◌, length, map, take, drop, get_or, Option, Some, None, option_map, refl, sym, ap, ◌∙◌, append_assoc}
+use Rattle.std.proofs.Common.{◌≡◌, ℕ, zero, suc, ◌+◌, ◌<◌, ◌≤◌, List, [], ◌∷◌, ◌++◌, length, map, take, drop, get_or, Option, Some, None, option_map, Bool, true, false, refl, sym, ap, ◌∙◌, append_assoc}
+use Rattle.std.specs.Prelude.{if◌then◌else◌}
 use Rattle.std.proofs.lemmas.List.{at_drop_more, at_drop_all, length-map, append-nil}
 use Rattle.syntax.specs.declared.tree.Expr as E
 use Rattle.syntax.specs.declared.tree.Stmt as S
 use Rattle.syntax.specs.declared.tree.Declarator as R
 use Rattle.syntax.specs.declared.numbers.Value.{Value}
 use Rattle.syntax.specs.declared.numbers.Halt.{Halt}
-use Rattle.syntax.specs.Tree.{Program, Scalar}
+use Rattle.syntax.specs.Numbers.{is_zero}
+use Rattle.syntax.specs.Tree.{Program, Scalar, Expr, Stmt}
 use Rattle.syntax.specs.Views.{expr_of, exprs_of, stmt_of, stmts_of, declarator_of}
 use Rattle.syntax.specs.Names.{Local}
 use Rattle.syntax.specs.Actions.{State, Answer, Gives, Stops, Action, pure, go_on, tick, ◌>>=◌}
-use Rattle.syntax.specs.Meaning.{Caller, End, Next, expr, exprs, stmt, stmts, declare, scoped, on_next, after_turn, turns}
+use Rattle.syntax.specs.Meaning.{Caller, End, Next, expr, exprs, stmt, stmts, declare, scoped, on_next, after_body, after_turn, turns}
 use Rattle.meaning.specs.declared.machine.End.{End as OwnEnd}
 use Rattle.meaning.specs.declared.machine.End.TheVariants as end
 use Rattle.meaning.specs.inner.Machine.{end_of}
-use Rattle.meaning.specs.inner.Does.{declared_one, joined_to}
+use Rattle.meaning.specs.inner.Does.{declared_one, joined_to, left_or, tested, while_turn}
 
 -- a part that gives something, and one that stops
 pub after : {X Y : Type 0} (r : Answer X) (rest : X → Action Y) (x : X) (s : State) → r ≡ Gives x s → go_on r rest ≡ rest x s
@@ -147,3 +149,46 @@ module _ (turn : Action (Option End)) (n k : ℕ) (s now : State) (whole : Answe
 
     pub turns_ended : (o : Option OwnEnd) (e : OwnEnd) → turn then_ ≡ Gives (option_map end_of o) now → o ≡ Some e → whole ≡ Gives (end_of e) now
     turns_ended o e d some = ticked ∙ after _ (after_turn (turns k turn)) (option_map end_of o) now d ∙ ap (λ x. after_turn (turns k turn) (option_map end_of x) now) some
+
+-- a test before a body: it ends the loop, or the body runs
+abbrev or_body : Action (Option End) → Option End → Action (Option End)
+or_body body None = body
+or_body body (Some e) = pure (Some e)
+
+tested_here : (body : Action (Option End)) (z : Bool) (s : State) → (if z then pure (Some Next) else body) s ≡ or_body body (if z then Some Next else None) s
+tested_here body true s = refl
+tested_here body false s = refl
+
+tested_first : (body : Action (Option End)) (r : Answer Value) → go_on r (λ v. if is_zero v then pure (Some Next) else body) ≡ go_on (go_on r (λ v. pure (if is_zero v then Some Next else None))) (or_body body)
+tested_first body (Gives v s) = tested_here body (is_zero v) s
+tested_first body (Stops why s) = refl
+
+left_behind : (o : Option OwnEnd) (s : State) → left_or (pure None) o s ≡ Gives (option_map end_of o) s
+left_behind None s = refl
+left_behind (Some e) s = refl
+
+module _ (p : Program) (call : Caller) (c : Expr) (a : Stmt) (s now : State) where
+  abbrev body_turn : Action (Option End)
+  body_turn = scoped (stmt p call a) >>= after_body (pure None)
+
+  pub while_stops : (why : Halt) → tested p call c s ≡ Stops why now → while_turn p call c a s ≡ Stops why now
+  while_stops why d = tested_first body_turn (expr p call c s) ∙ halts (tested p call c s) (or_body body_turn) why now d
+
+  while_tested : (o : Option OwnEnd) → tested p call c s ≡ Gives (option_map end_of o) now → while_turn p call c a s ≡ or_body body_turn (option_map end_of o) now
+  while_tested o d = tested_first body_turn (expr p call c s) ∙ after (tested p call c s) (or_body body_turn) (option_map end_of o) now d
+
+  module _ (o : Option OwnEnd) (d : tested p call c s ≡ Gives (option_map end_of o) now) where
+    pub while_ends : (e : OwnEnd) → o ≡ Some e → while_turn p call c a s ≡ Gives (Some (end_of e)) now
+    while_ends e some = while_tested o d ∙ ap (λ x. or_body body_turn (option_map end_of x) now) some
+
+    module _ (then_ : State) (none : o ≡ None) where
+      while_runs : while_turn p call c a s ≡ body_turn now
+      while_runs = while_tested o d ∙ ap (λ x. or_body body_turn (option_map end_of x) now) none
+
+      pub while_halts : (why : Halt) → scoped (stmt p call a) now ≡ Stops why then_ → while_turn p call c a s ≡ Stops why then_
+      while_halts why h = while_runs ∙ halts (scoped (stmt p call a) now) (after_body (pure None)) why then_ h
+
+      pub while_goes : (e : OwnEnd) (r : Option OwnEnd) → scoped (stmt p call a) now ≡ Gives (end_of e) then_ → after_body (pure None) (end_of e) then_ ≡ left_or (pure None) r then_ →
+          while_turn p call c a s ≡ Gives (option_map end_of r) then_
+      while_goes e r h left =
+          while_runs ∙ after (scoped (stmt p call a) now) (after_body (pure None)) (end_of e) then_ h ∙ left ∙ left_behind r then_

@@ -1,10 +1,9 @@
 -- What private functions say; no public contract cites it.
--- the cells of globals, and what look-ups in a file give
-pub mod Cells
+-- what look-ups in a file give
 pub mod File
 -- the tables of a program's names
 pub mod Tables
--- the value that a register stands for
+-- the value that two registers stand for
 pub mod Word
 -- the state that a machine holds, and what answers say
 pub mod Machine

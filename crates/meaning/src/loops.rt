@@ -87,15 +87,14 @@ fn turn_while<'p, A: Allocator + Copy>(
 ) -> Result<Option<End>, Halted>
     ensures { MeansTurn result (while_turn (program_in source.now) (called source.now frames) (expr_of c.now) (stmt_of a.now) (state_in m.old)) m.new }
 {
-    let v = eval(source, frames, c, m)?;
-    if is_zero(v) {
-        return Ok(Some(End::Next));
+    if let Some(end) = tested(source, frames, c, m)? {
+        return Ok(Some(end));
     }
     let end = scoped(source, frames, a, m)?;
     Ok(left_by_body(end))
 }
 
-/// The test behind a body.
+/// A test before or behind a body.
 #[cycle(run)]
 pub(crate) fn tested<'p, A: Allocator + Copy>(
     source: &Source<'p, A>,

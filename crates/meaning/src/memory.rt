@@ -1,47 +1,12 @@
 //! The memory in which a program begins.
 
-ghost use Rattle.std.specs.Prelude.{◌≡◌, ◌++◌, ◌-◌, ◌∷◌, [], map, replicate, length, IfOk, OnOk};
+ghost use Rattle.std.specs.Prelude.{◌≡◌, ◌++◌, map, IfOk, OnOk};
 ghost use Rattle.syntax.specs.Views.{program_of, item_of, global_of};
-ghost use Rattle.syntax.specs.Names.{globals, first_word, first_words, initial_from, initial_memory as initial_memory_of};
+ghost use Rattle.syntax.specs.Names.{globals, initial_from, initial_memory as initial_memory_of};
 
-use lex::token::Scalar;
 use std::alloc::{AllocError, Allocator};
-use syntax::tree::{First, Global, Item, Unit};
-
-/// Adds the words that are given for cells of this type.
-fn push_firsts<A: Allocator>(
-    memory: &mut Vec<u64, A>,
-    of: Scalar,
-    firsts: &[First],
-) -> Result<(), AllocError>
-    ensures { OnOk result (memory.new.items ≡ memory.old.items ++ map (first_word of) firsts.now) }
-{
-    'firsts: for first in firsts {
-        memory.push(first.word(of))?;
-    }
-    Ok(())
-}
-
-/// Adds the words of a global, one for each cell: those that are given, and else 0.
-fn push_global<A: Allocator>(memory: &mut Vec<u64, A>, global: &Global<A>) -> Result<(), AllocError>
-    ensures { OnOk result (memory.new.items ≡ memory.old.items ++ first_words (global_of global.now)) }
-{
-    let firsts = global.first.as_slice();
-    let cells = global.cell_count();
-    let given = cells.min(firsts.len());
-    push_firsts(memory, global.of, &firsts[..given])?;
-    push_zeros(memory, cells.saturating_sub(firsts.len()))
-}
-
-/// Adds cells that hold 0.
-fn push_zeros<A: Allocator>(memory: &mut Vec<u64, A>, count: usize) -> Result<(), AllocError>
-    ensures { OnOk result (memory.new.items ≡ memory.old.items ++ replicate count 0) }
-{
-    'zeros: for _ in 0..count {
-        memory.push(0)?;
-    }
-    Ok(())
-}
+use syntax::initial::push_global;
+use syntax::tree::{Global, Item, Unit};
 
 /// Adds the words of globals.
 fn push_globals<A: Allocator>(memory: &mut Vec<u64, A>, all: &[Global<A>]) -> Result<(), AllocError>

@@ -5,24 +5,19 @@ ghost use Rattle.std.specs.Option.{option_or};
 ghost use Rattle.syntax.specs.Tree as tree;
 ghost use Rattle.syntax.specs.Names as Names;
 ghost use Rattle.syntax.specs.Types as Types;
-ghost use Rattle.syntax.specs.Types.{common_of, running_scope, file_scope};
+ghost use Rattle.syntax.specs.Types.{running_scope, file_scope};
 ghost use Rattle.syntax.specs.Views.{expr_of, global_of, item_of};
 ghost use Rattle.meaning.specs.inner.Machine.{local_in, program_in};
-ghost use Rattle.meaning.specs.inner.File.{shared_in, defined_in, known_of};
+ghost use Rattle.meaning.specs.inner.File.{defined_in, known_of};
+ghost use Rattle.global_tables.specs.Tables.{shared_in};
 
 use crate::machine::{Local, newest};
 use crate::program::Source;
+use global_tables::Shared;
 use lex::token::Scalar;
 use std::alloc::Allocator;
-use syntax::tree::{BinaryOp, Expr, Function, Global, Item, Name, Stmt, UnaryOp};
-use syntax::types::common_type;
-
-/// A global, with its first cell.
-#[derive(Drop)]
-pub(crate) struct Shared<'p, A: Allocator> {
-    pub cell: usize,
-    pub global: &'p Global<A>,
-}
+use syntax::tree::{Expr, Function, Global, Item, Name, Stmt};
+use syntax::types::{binary_type, common_of, unary_type};
 
 /// A function's definition, with its body.
 #[derive(Drop)]
@@ -150,48 +145,6 @@ fn call_type<A: Allocator>(s: &Symbol<A>) -> Option<Scalar>
     }
 }
 
-/// The type to which two operands are converted, where both have one.
-pub(crate) fn common_if_both(s: Option<Scalar>, t: Option<Scalar>) -> Option<Scalar>
-    ensures { result ≡ common_of s t }
-{
-    match s {
-        None => None,
-        Some(s) => match t {
-            None => None,
-            Some(t) => Some(common_type(s, t)),
-        },
-    }
-}
-
-/// The type of a binary operator's result.
-fn binary_type(op: BinaryOp, s: Option<Scalar>, t: Option<Scalar>) -> Option<Scalar>
-    ensures { result ≡ Types.binary_type op s t }
-{
-    match op {
-        BinaryOp::ShiftLeft | BinaryOp::ShiftRight => s,
-        BinaryOp::Equal
-        | BinaryOp::NotEqual
-        | BinaryOp::Less
-        | BinaryOp::Greater
-        | BinaryOp::LessEqual
-        | BinaryOp::GreaterEqual => match common_if_both(s, t) {
-            None => None,
-            Some(_) => Some(Scalar::Int),
-        },
-        _ => common_if_both(s, t),
-    }
-}
-
-/// The type of a unary operator's result.
-fn unary_type(op: UnaryOp, t: Option<Scalar>) -> Option<Scalar>
-    ensures { result ≡ Types.unary_type op t }
-{
-    match op {
-        UnaryOp::Not => Some(Scalar::Int),
-        _ => t,
-    }
-}
-
 /// The type of a name that stands as a variable.
 fn variable_type<A: Allocator + Copy>(
     source: &Source<A>,
@@ -256,7 +209,7 @@ pub(crate) fn type_of<A: Allocator + Copy>(
             type_of(source, locals, b.get()),
         ),
         Expr::Logical(_, _, _, _) => Some(Scalar::Int),
-        Expr::Conditional(_, a, b, _) => common_if_both(
+        Expr::Conditional(_, a, b, _) => common_of(
             type_of(source, locals, a.get()),
             type_of(source, locals, b.get()),
         ),

@@ -12,12 +12,13 @@ ghost use Rattle.meaning.specs.inner.Does.{called};
 ghost use Rattle.meaning.specs.inner.Word.{value_of};
 
 use crate::machine::{Halted, Machine, Spot, fetch, newest, spot_trap};
-use crate::names::{common_if_both, global, type_of};
+use crate::names::{global, type_of};
 use crate::program::Source;
 use crate::word::{Word, convert_word, unpack};
 use std::alloc::Allocator;
 use syntax::numbers::{Halt, Trap};
 use syntax::tree::{Expr, Name};
+use syntax::types::common_of;
 
 /// Where the value of a name stands.
 pub(crate) fn named<'p, A: Allocator + Copy>(
@@ -86,7 +87,7 @@ pub(crate) fn joined<'p, A: Allocator + Copy>(
 {
     let of = type_of(source, m.locals.as_slice(), a);
     let other = type_of(source, m.locals.as_slice(), b);
-    match common_if_both(of, other) {
+    match common_of(of, other) {
         Some(t) => Ok(convert_word(t, w)),
         None => {
             m.why = Some(Halt::Astray);

@@ -5,19 +5,17 @@ ghost use Rattle.std.proofs.Props.{props};
 ghost use mathlib.Core.Sum.{⊎_set};
 ghost use Rattle.syntax.specs.Names as Names;
 ghost use Rattle.syntax.specs.Views.{program_of};
-ghost use Rattle.meaning.specs.inner.Cells.{total_cells};
-ghost use Rattle.meaning.specs.inner.Tables.{AreNumbers, AreGlobals, AreSymbols};
+ghost use Rattle.global_tables.specs.Tables.{total_cells, AreGlobals};
+ghost use Rattle.meaning.specs.inner.Tables.{AreNumbers, AreSymbols};
 
-use crate::names::{Shared, Symbol};
+use crate::names::Symbol;
+use global_tables::Globals;
 use name_tables::Table;
 use std::alloc::Allocator;
 use syntax::tree::Unit;
 
 /// The number of the item that defines each function.
 pub(crate) type Definitions<'p, A> = Table<'p, usize, A>;
-
-/// Each global, with its first cell.
-pub(crate) type Globals<'p, A> = Table<'p, Shared<'p, A>, A>;
 
 /// What each name of the file is first declared as.
 pub(crate) type Symbols<'p, A> = Table<'p, Symbol<'p, A>, A>;

@@ -18,17 +18,7 @@ use crate::word::{Word, flag};
 use lex::token::Scalar;
 use std::alloc::Allocator;
 use syntax::numbers::Halt;
-use syntax::tree::{BinaryOp, Declarator, Expr, IncDec, Simple};
-
-/// The operator that adds one or takes one away.
-fn operator(by: IncDec) -> BinaryOp
-    ensures { result ≡ meaning.op_of by }
-{
-    match by {
-        IncDec::Increment => BinaryOp::Add,
-        IncDec::Decrement => BinaryOp::Subtract,
-    }
-}
+use syntax::tree::{BinaryOp, Declarator, Expr, Simple};
 
 /// Writes what an operator gives of an old value and another one in the old one's place.
 fn rewrite<A: Allocator>(
@@ -122,7 +112,7 @@ pub(crate) fn simple<'p, A: Allocator + Copy>(
         Simple::Adjust(to, by) => {
             let at = target(source, frames, to, m)?;
             let old = fetch(m, at)?;
-            rewrite(m, at, operator(*by), old, flag(true))
+            rewrite(m, at, by.operator(), old, flag(true))
         }
     }
 }

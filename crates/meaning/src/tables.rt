@@ -1,20 +1,18 @@
 //! The tables of a program's names, which are made once.
 
-ghost use Rattle.std.specs.Prelude.{◌≡◌, ◌+◌, ◌≤◌, ◌^◌, ◌++◌, ◌∷◌, List, ℕ, Option, Some, map, if◌then◌else◌, bytes_eq, IfOk, OnOk};
+ghost use Rattle.std.specs.Prelude.{◌≡◌, ◌+◌, ◌∷◌, List, ℕ, map, if◌then◌else◌, bytes_eq, IfOk, OnOk};
 ghost use Rattle.std.specs.Option.{option_or};
 ghost use Rattle.syntax.specs.Tree as tree;
-ghost use Rattle.syntax.specs.Names as Names;
-ghost use Rattle.syntax.specs.Names.{GlobalCells, globals};
 ghost use Rattle.syntax.specs.Types.{Known, Scope, known_among, file_scope};
 ghost use Rattle.syntax.specs.Views.{global_of, item_of};
-ghost use Rattle.meaning.specs.inner.Cells.{total_cells};
 ghost use Rattle.meaning.specs.inner.File.{known_of, known_or};
-ghost use Rattle.meaning.specs.inner.Tables.{AreNumbers, AreGlobals, AreSymbols, number_from, shared_at};
+ghost use Rattle.meaning.specs.inner.Tables.{AreNumbers, AreSymbols, number_from};
 ghost use Rattle.name_tables.specs.Known.{entries_in};
 ghost use Rattle.name_tables.specs.Named.{first};
 
-use crate::names::{Shared, Symbol};
-use crate::program::{Definitions, Globals, Source, Symbols};
+use crate::names::Symbol;
+use crate::program::{Definitions, Source, Symbols};
+use global_tables::place_globals;
 use name_tables::Table;
 use std::alloc::{AllocError, Allocator};
 use syntax::tree::{Global, Item};
@@ -48,56 +46,6 @@ fn number_definitions<'p, A: Allocator + Copy>(
     let mut table = Table::new(alloc, key);
     'items: for i in 0..items.len() {
         add_definition(&mut table, i, &items[i])?;
-    }
-    Ok(table)
-}
-
-/// Adds a global with this first cell, unless there is one of its name.
-fn add_global<'p, A: Allocator + Copy>(
-    table: &mut Globals<'p, A>,
-    cell: usize,
-    g: &'p Global<A>,
-) -> Result<(), AllocError>
-    ensures { OnOk result ((x : List ℕ) (rest : Option GlobalCells) → option_or (shared_at table.new x) rest ≡ option_or (shared_at table.old x) (if bytes_eq g.now.name.text x then Some (record { global = global_of g.now; cell = cell }) else rest)) }
-{
-    table.declare(g.name.text.as_str(), Shared { cell, global: g })?;
-    Ok(())
-}
-
-/// Adds the globals of a declaration, from this cell on; the cell behind them.
-fn add_globals<'p, A: Allocator + Copy>(
-    table: &mut Globals<'p, A>,
-    first: usize,
-    gs: &'p [Global<A>],
-) -> Result<usize, AllocError>
-    requires { first + total_cells (map global_of gs.now) ≤ 2 ^ 32 }
-    ensures value { IfOk result (λ next. (x : List ℕ) (rest : List tree.Global) → option_or (shared_at table.new x) (Names.global_from next rest x) ≡ option_or (shared_at table.old x) (Names.global_from first (map global_of gs.now ++ rest) x)) }
-    ensures next { IfOk result (λ next. next ≡ first + total_cells (map global_of gs.now)) }
-{
-    let mut cell = first;
-    'globals: for g in gs {
-        add_global(table, cell, g)?;
-        cell += g.cell_count();
-    }
-    Ok(cell)
-}
-
-/// Each global, with its first cell: the first one of its name.
-fn place_globals<'p, A: Allocator + Copy>(
-    alloc: A,
-    key: u64,
-    items: &'p [Item<A>],
-) -> Result<Globals<'p, A>, AllocError>
-    requires { total_cells (globals (map item_of items.now)) ≤ 2 ^ 32 }
-    ensures { IfOk result (AreGlobals (map item_of items.now)) }
-{
-    let mut table = Table::new(alloc, key);
-    let mut cell = 0;
-    'items: for item in items {
-        match item {
-            Item::Function(_) => {}
-            Item::Globals(gs) => cell = add_globals(&mut table, cell, gs.as_slice())?,
-        }
     }
     Ok(table)
 }

@@ -4,11 +4,12 @@ ghost use Rattle.std.specs.Prelude.{◌≡◌, pos};
 ghost use Rattle.syntax.specs.Numbers.{converted, flag as flag_due, is_zero as is_zero_due, word_of};
 ghost use Rattle.meaning.specs.inner.Word.{value_of};
 
-use crate::arithmetic::{convert, word};
+use crate::arithmetic::convert;
 use lex::token::Scalar;
+use syntax::number::word_of;
 use syntax::numbers::Value;
 
-/// A value in 128 bits without a gap: its word, and above it its type: 0 is `int` and 1 `unsigned`.
+/// A value in 128 bits without a gap: its word, and above it 0 for `int`, 1 for `unsigned` and 2 for `long long`.
 #[derive(Clone, Copy)]
 pub(crate) struct Word {
     bits: u128,
@@ -26,6 +27,9 @@ pub(crate) fn pack(of: Scalar, word: u64) -> Word
         Scalar::Unsigned => Word {
             bits: low + 18446744073709551616,
         },
+        Scalar::LongLong => Word {
+            bits: low + 36893488147419103232,
+        },
     }
 }
 
@@ -37,15 +41,20 @@ pub(crate) fn unpack(w: Word) -> Value
 {
     let word = (w.bits % 18446744073709551616) as u64;
     if w.bits < 18446744073709551616 {
-        Value {
+        return Value {
             of: Scalar::Int,
             word,
-        }
-    } else {
-        Value {
+        };
+    }
+    if w.bits < 36893488147419103232 {
+        return Value {
             of: Scalar::Unsigned,
             word,
-        }
+        };
+    }
+    Value {
+        of: Scalar::LongLong,
+        word,
     }
 }
 
@@ -62,7 +71,7 @@ pub(crate) fn packed(v: Value) -> Word
 pub(crate) fn constant(n: u64, of: Scalar) -> Word
     ensures { value_of result ≡ record { of = of; word = word_of of (pos n) } }
 {
-    pack(of, word(of, i128::from(n)))
+    pack(of, word_of(of, i128::from(n)))
 }
 
 /// Whether a value is 0.

@@ -1,6 +1,6 @@
 -- Words of cells fit registers.
 use Rattle.std.proofs.Common.{◌<◌, ◌≤◌, ◌^◌, ℕ, zero, suc, List, [], ◌∷◌, map, slice_index, arith}
-use Rattle.syntax.specs.Tree.{Scalar, Int, Unsigned}
+use Rattle.syntax.specs.Tree.{Scalar, Int, Unsigned, LongLong}
 use Rattle.syntax.specs.Numbers.{modulus}
 use Rattle.syntax.specs.Names.{cell_types}
 use Rattle.bytecode.specs.Code.{Code}
@@ -18,6 +18,7 @@ FitsRegister _ _ = Unit {0}
 type_fits : (t : Scalar) → modulus t ≤ 2 ^ 64
 type_fits Int = omega arith
 type_fits Unsigned = omega arith
+type_fits LongLong = omega arith
 
 bound_fits : (ts : List Scalar) (a : ℕ) → slice_index (map modulus ts) a ≤ 2 ^ 64
 bound_fits [] a = omega arith

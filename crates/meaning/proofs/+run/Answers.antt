@@ -1,4 +1,4 @@
-use Rattle.std.proofs.Common.{◌≡◌, ◌∙◌, ◌+◌, ◌-◌, ◌++◌, ◌∷◌, [], Err, suc, refl, sym, ap, map, option_map, take, drop, length, Bool, arith}
+use Rattle.std.proofs.Common.{◌≡◌, ◌∙◌, ◌+◌, ◌-◌, ◌++◌, ◌∷◌, [], None, Err, suc, refl, sym, ap, map, option_map, take, drop, length, Bool, arith}
 use Rattle.std.specs.Prelude.{if◌then◌else◌, true, false}
 use Rattle.syntax.specs.Numbers as numbers
 use Rattle.syntax.specs.Numbers.{converted, is_zero}
@@ -18,7 +18,7 @@ use Rattle.meaning.proofs.Stops.{err_of, stops_as}
 use Rattle.meaning.proofs.Bodies.{weight_less}
 use Rattle.meaning.proofs.Deeper.{block_deep, do_deep, if_deep, transaction_deep, argument_deep, statement_deep, declarator_deep}
 use Rattle.meaning.proofs.Parts.{call_is, element_is, parenthesized_is, cast_is, unary_is, binary_is, logical_is, conditional_is, in_transaction_is, declare_is, block_is, print_is, if_is, while_is, do_while_is, for_is, return_is, transaction_is}
-use Rattle.meaning.proofs.Sequences.{after, halts, twice, stmts_next, stmts_left, stmts_halt, stmts_end, values_next, values_halt, values_end, values_start, declare_next, declare_halt, scoped_gives, scoped_stops, truncated, turns_spent, turns_next, turns_ended}
+use Rattle.meaning.proofs.Sequences.{after, halts, twice, stmts_next, stmts_left, stmts_halt, stmts_end, values_next, values_halt, values_end, values_start, declare_next, declare_halt, scoped_gives, scoped_stops, truncated, turns_spent, turns_next, turns_ended, while_stops, while_ends, while_halts, while_goes}
 use Rattle.meaning.proofs.Steps.{ticks_then, spent_first, changed_gives, adjusted_gives, print_until, call_gives, call_stops, transaction_at, outermost_none, outermost_gives, outermost_stops, nested_astray, nested_gives, nested_stops, value_unbegun, value_gives, value_stops, found_none, found_first, conditional_gives, branch_gives}
 use Rattle.meaning.proofs.+run.Goals as goal
 use Rattle.meaning.proofs.+run.Goals.{expr::conditional-then-is_zero+in_ok-w, expr::conditional-else-is_zero+in_ok-w-2}
@@ -217,6 +217,24 @@ loops::repeat-returns-in_err-tick g t c =
 pub loops::repeat-turns-preserved : goal.loops::repeat-turns-preserved
 loops::repeat-turns-preserved g t c =
     turns_next (does_turn c.args.source.now c.args.frames c.args.which.now) (c.args.m.now.ticks - c.turns.counter) (c.args.m.now.ticks - (c.turns.counter + 1)) (state_in c.turns.m) (state_in c.turn.new.m) (turns c.args.m.now.ticks (does_turn c.args.source.now c.args.frames c.args.which.now) (state_in c.args.m.now)) _ (state_in c.tick.new.m) c.turns.invariant (omega (arith, c.turns-test.true)) (c.in_ok-tick.ensures tt) _ (c.in_ok-end.ensures tt) c.in_default.is
+
+pub loops::turn_while-returns : goal.loops::turn_while-returns
+loops::turn_while-returns g t c done =
+    while_goes (program_in c.args.source.now) (called c.args.source.now c.args.frames) (expr_of c.args.c.now) (stmt_of c.args.a.now) (state_in c.args.m.now) (state_in c.tested.new.m) _ (c.in_ok-end.ensures tt) (state_in c.scoped.new.m) c.in_default.is _ _ (c.in_ok-end-2.ensures tt) (c.left_by_body.ensures (act.pure None) (state_in c.scoped.new.m))
+
+pub loops::turn_while-returns-in-Some : goal.loops::turn_while-returns-in-Some
+loops::turn_while-returns-in-Some g t c done =
+    while_ends (program_in c.args.source.now) (called c.args.source.now c.args.frames) (expr_of c.args.c.now) (stmt_of c.args.a.now) (state_in c.args.m.now) (state_in c.tested.new.m) _ (c.in_ok-end.ensures tt) c.in-Some.end c.in-Some.is
+
+pub loops::turn_while-returns-in_err-end : goal.loops::turn_while-returns-in_err-end
+loops::turn_while-returns-in_err-end g t c =
+    let is : c.from_residual.result ≡ Err c.in_err-end.field-0.0 = err_of c.from_residual.result c.in_err-end.field-0.0 c.from_residual.ensures.1 in
+    stops_as (option_map end_of) c.from_residual.result c.in_err-end.field-0.0 _ c.tested.new.m is (λ d. while_stops (program_in c.args.source.now) (called c.args.source.now c.args.frames) (expr_of c.args.c.now) (stmt_of c.args.a.now) (state_in c.args.m.now) (state_in c.tested.new.m) _ (c.in_err-end.ensures d))
+
+pub loops::turn_while-returns-in_err-end-2 : goal.loops::turn_while-returns-in_err-end-2
+loops::turn_while-returns-in_err-end-2 g t c =
+    let is : c.from_residual-in_err-end-2.result ≡ Err c.in_err-end-2.field-0.0 = err_of c.from_residual-in_err-end-2.result c.in_err-end-2.field-0.0 c.from_residual-in_err-end-2.ensures.1 in
+    stops_as (option_map end_of) c.from_residual-in_err-end-2.result c.in_err-end-2.field-0.0 _ c.scoped.new.m is (λ d. while_halts (program_in c.args.source.now) (called c.args.source.now c.args.frames) (expr_of c.args.c.now) (stmt_of c.args.a.now) (state_in c.args.m.now) (state_in c.tested.new.m) _ (c.in_ok-end.ensures tt) (state_in c.scoped.new.m) c.in_default.is _ (c.in_err-end-2.ensures d))
 
 pub stmt::scoped-returns : goal.stmt::scoped-returns
 stmt::scoped-returns g t c done =
@@ -558,8 +576,8 @@ pub loops::turn-turn_for-requires : goal.loops::turn-turn_for-requires
 loops::turn-turn_for-requires g t c κs within =
     (omega (arith, ap loop_depth c.in-For.is, c.decreases), within)
 
-pub loops::turn_while-eval-requires : goal.loops::turn_while-eval-requires
-loops::turn_while-eval-requires g t c κs within =
+pub loops::turn_while-tested-requires : goal.loops::turn_while-tested-requires
+loops::turn_while-tested-requires g t c κs within =
     (omega (arith, c.decreases), within)
 
 pub loops::turn_while-scoped-requires : goal.loops::turn_while-scoped-requires

@@ -1,18 +1,13 @@
 -- What the look-ups in a file give.
 use Rattle.std.specs.Prelude.{Option, Some, None}
 use Rattle.syntax.specs.Tree.{Function, Stmts}
-use Rattle.syntax.specs.Names.{GlobalCells}
 use Rattle.syntax.specs.Types.{Known, Unknown, known_global, known_function}
 use Rattle.syntax.specs.Views.{global_of, function_of, stmts_of}
-use Rattle.meaning.specs.declared.names.Shared.{Shared}
 use Rattle.meaning.specs.declared.names.Defined.{Defined}
 use Rattle.meaning.specs.declared.names.Symbol.{Symbol}
 use Rattle.meaning.specs.declared.names.Symbol.TheVariants as symbol
 
 module _ {A : Type 0} where
-  abbrev pub shared_in : Shared A → GlobalCells
-  shared_in g = record { global = global_of g.global.now; cell = g.cell }
-
   abbrev pub defined_in : Defined A → Function × Stmts
   defined_in d = (function_of d.function.now, stmts_of d.body.now)
 

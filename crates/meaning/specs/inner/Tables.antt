@@ -1,14 +1,12 @@
 -- The tables of a program's names.
-use Rattle.std.specs.Prelude.{◌≡◌, ℕ, ◌+◌, ◌&&◌, List, [], ◌∷◌, is_some, Option, Some, None, option_map, bytes_eq, if◌then◌else◌}
+use Rattle.std.specs.Prelude.{◌≡◌, ℕ, ◌+◌, ◌&&◌, List, [], ◌∷◌, is_some, Option, Some, None, bytes_eq, if◌then◌else◌}
 use Rattle.name_tables.specs.declared.kept.Table.{Table}
 use Rattle.name_tables.specs.Known.{entries_in}
 use Rattle.name_tables.specs.Named.{first}
 use Rattle.syntax.specs.Tree.{Item, Defines, Shares, Program}
-use Rattle.syntax.specs.Names.{GlobalCells, global_of}
 use Rattle.syntax.specs.Types.{Unknown, file_scope}
-use Rattle.meaning.specs.declared.names.Shared.{Shared}
 use Rattle.meaning.specs.declared.names.Symbol.{Symbol}
-use Rattle.meaning.specs.inner.File.{shared_in, known_or}
+use Rattle.meaning.specs.inner.File.{known_or}
 
 -- the number of the item that defines a function, where the first of these items has this number
 abbrev pub number_from : ℕ → List Item → List ℕ → Option ℕ
@@ -21,14 +19,6 @@ module _ {A : Type 0} where
   -- these are the numbers of the functions that a program defines
   abbrev pub AreNumbers : Program → Table ℕ A → Type 0
   AreNumbers p t = (x : List ℕ) → first (entries_in t) x ≡ number_from 0 p x
-
-  -- the global that a table has at a text, with its first cell
-  abbrev pub shared_at : Table (Shared A) A → List ℕ → Option GlobalCells
-  shared_at t x = option_map shared_in (first (entries_in t) x)
-
-  -- these are the globals of a program
-  abbrev pub AreGlobals : Program → Table (Shared A) A → Type 0
-  AreGlobals p t = (x : List ℕ) → shared_at t x ≡ global_of p x
 
   -- each name of a program is first declared as this
   abbrev pub AreSymbols : Program → Table (Symbol A) A → Type 0

@@ -1,9 +1,12 @@
--- The value that a register of 128 bits stands for.
+-- The value that a number of 128 bits stands for, which two registers hold.
 use Rattle.std.specs.Prelude.{◌^◌, ◌%◌, nat_lt, if◌then◌else◌}
-use Rattle.syntax.specs.Tree.{Int, Unsigned}
+use Rattle.syntax.specs.Tree.{Int, Unsigned, LongLong}
 use Rattle.syntax.specs.declared.numbers.Value.{Value}
 use Rattle.meaning.specs.declared.word.Word.{Word}
 
 -- its word stands below, and above it its type
 unfoldable pub value_of : Word → Value
-value_of w = record { of = if nat_lt w.bits (2 ^ 64) then Int else Unsigned; word = w.bits % 2 ^ 64 }
+value_of w = record {
+  of = if nat_lt w.bits (2 ^ 64) then Int else (if nat_lt w.bits (2 ^ 65) then Unsigned else LongLong);
+  word = w.bits % 2 ^ 64;
+}

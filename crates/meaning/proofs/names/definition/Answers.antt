@@ -2,7 +2,8 @@ use Rattle.std.proofs.Common.{◌∙◌, ◌∷◌, [], length, get_or, option_m
 use Rattle.syntax.specs.Names.{definition_of}
 use Rattle.syntax.specs.Views.{item_of, program_of}
 use Rattle.meaning.specs.inner.File.{defined_in}
-use Rattle.meaning.proofs.Placing.{or_none, no_number, number_less, number_same}
+use Rattle.global_tables.proofs.Placing.{or_none}
+use Rattle.meaning.proofs.Placing.{no_number, number_less, number_same}
 use Rattle.meaning.proofs.names.definition.Goals as goal
 
 pub offset_bounds-items-i : goal.offset_bounds-items-i

@@ -3,7 +3,7 @@ use Rattle.std.proofs.lemmas.Bool.{le-ltb}
 use Rattle.std.specs.Prelude.{nat_lt}
 use Rattle.syntax.specs.Names.{cells, global_of as global_of_program}
 use Rattle.meaning.specs.inner.Machine.{program_in, state_in}
-use Rattle.meaning.specs.inner.File.{shared_in}
+use Rattle.global_tables.specs.Tables.{shared_in}
 use Rattle.meaning.specs.inner.Does.{called}
 use Rattle.meaning.specs.inner.Word.{value_of}
 use Rattle.meaning.proofs.Elements.{element_traps}

@@ -3,9 +3,9 @@ use Rattle.syntax.specs.Names.{globals, global_of}
 use Rattle.syntax.specs.Types.{file_scope}
 use Rattle.syntax.specs.Typing.{IsTypedProgram}
 use Rattle.syntax.specs.Views.{item_of, program_of}
-use Rattle.meaning.specs.inner.Cells.{total_cells}
+use Rattle.global_tables.specs.Tables.{total_cells}
 use Rattle.meaning.specs.inner.Tables.{number_from}
-use Rattle.meaning.proofs.CellsFit.{cells_few}
+use Rattle.global_tables.proofs.CellsFit.{cells_few}
 use Rattle.meaning.proofs.tables.source.Goals as goal
 
 pub place_globals-requires : goal.place_globals-requires
