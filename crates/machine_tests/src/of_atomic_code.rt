@@ -7,3 +7,4 @@ mod pieces;
 mod programs;
 mod transactions;
 mod wholes;
+mod wide;

@@ -2,8 +2,6 @@
 
 ghost use Rattle.norec_core.specs.Accesses.{IsAnswerTo};
 ghost use Rattle.std.specs.Prelude.{◌≡◌, ◌+◌, ◌<◌, ◌≤◌, ◌^◌, true, IfSome, slice_index};
-ghost use Rattle.lex.specs.declared.token.Scalar.TheVariants.{Unsigned};
-ghost use Rattle.syntax.specs.Numbers.{modulus};
 ghost use Rattle.bytecode.specs.Code.{bounds_of};
 ghost use Rattle.machine.specs.Standing.{IsThreadOf};
 ghost use Rattle.machine.specs.States.{IsWordOf};
@@ -28,7 +26,7 @@ const LAST: u64 = u64::MAX - 1;
 
 // Whether this is a cell of the code's first global.
 fn is_in_first<A: Allocator>(code: &Code<A>, cell: u32) -> bool
-    ensures { result ≡ true → slice_index (bounds_of code.now) cell ≡ modulus Unsigned }
+    ensures { result ≡ true → 2 ^ 32 ≤ slice_index (bounds_of code.now) cell }
 {
     match code.globals().first() {
         Some(global) => (cell as usize) < global.cell_count(),

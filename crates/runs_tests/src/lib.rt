@@ -21,4 +21,6 @@ mod tables;
 #[cfg(test)]
 mod wanted;
 #[cfg(test)]
+mod wide;
+#[cfg(test)]
 mod worlds;

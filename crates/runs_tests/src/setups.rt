@@ -1,6 +1,7 @@
 //! A code to open a table for.
 
 use bytecode::{Code, Instr};
+use lex::token::Scalar;
 use seats::Setup;
 use std::alloc::Allocator;
 use written_codes::{WrittenCode, WrittenVariable, code_of, worker};
@@ -8,6 +9,7 @@ use written_codes::{WrittenCode, WrittenVariable, code_of, worker};
 // A variable that begins with this value.
 fn variable(value: u32) -> WrittenVariable<'static> {
     WrittenVariable {
+        of: Scalar::Int,
         name: "x",
         value: Some(value),
     }

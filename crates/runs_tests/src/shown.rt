@@ -68,12 +68,17 @@ const THREADS: [Thread; 2] = [
     (End::Trapped(Trap::ShiftCount), b"go\n"),
 ];
 
-const GLOBALS: [Words; 2] = [
+const GLOBALS: [Words; 3] = [
     ("a", Scalar::Unsigned, &[1, 4294967295]),
     ("b", Scalar::Int, &[4294967295]),
+    (
+        "c",
+        Scalar::LongLong,
+        &[4294967295, 9223372036854775808, 18446744073709551615],
+    ),
 ];
 
-/// A replay of two threads, with globals of both types.
+/// A replay of two threads, with globals of each type.
 fn replayed<A: Allocator + Copy>(alloc: A, holder: Option<u32>) -> Result<Printed<A>, AllocError> {
     let events = Items::from_vec(Vec::from_slice(alloc, EVENTS.as_slice())?);
     let threads = threads(alloc, THREADS.as_slice())?;
@@ -101,7 +106,7 @@ fn is_text(text: Result<Vec<u8>, AllocError>, wanted: &[u8]) -> bool {
 }
 
 const REPLAYED: &[u8] =
-    b"== events\n7 0 commit\n13 1 abort\n13 1 cancel\n19 1 trap 5\n== thread 0: running\none\ntwo\n== thread 1: trap 5\ngo\n== memory\na = 1 4294967295\nb = -1\n";
+    b"== events\n7 0 commit\n13 1 abort\n13 1 cancel\n19 1 trap 5\n== thread 0: running\none\ntwo\n== thread 1: trap 5\ngo\n== memory\na = 1 4294967295\nb = -1\nc = 4294967295 -9223372036854775808 -1\n";
 
 const HELD: &[u8] =
     b"== events\n7 0 commit\n13 1 abort\n13 1 cancel\n19 1 trap 5\n== thread 0: running\none\ntwo\n== thread 1: trap 5\ngo\n== memory: lock held by thread 1\n";

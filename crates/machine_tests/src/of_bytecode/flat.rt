@@ -2,10 +2,11 @@
 
 use crate::asserted::{assert_none, assert_that};
 use crate::of_bytecode::built::{Function, TEXTS, WORKER, code_of_parts};
-use crate::of_bytecode::listed::{BITS, COMPUTES, LEADS, LOOPING, OTHER_SUMS, SUMMED, TURN};
+use crate::of_bytecode::listed::{BITS, COMPUTES, LEADS, LONGS, LOOPING, OTHER_SUMS, SUMMED, TURN};
 use bytecode::{Code, Instr, InstrView, kinds};
 use lex::token::Scalar;
 use std::alloc::Global;
+use written_codes::code_over_both;
 
 /// What a row is called; functions and instructions; their words, and the first word of each instruction.
 type Row = (
@@ -51,6 +52,13 @@ const BITS_WORDS: [u32; 53] = [
 
 const BITS_FIRSTS: [u32; 14] = [0, 4, 8, 12, 16, 20, 24, 28, 32, 36, 40, 44, 48, 52];
 
+const LONGS_WORDS: [u32; 51] = [
+    818, 1, 0, 1, 819, 1, 0, 1, 820, 1, 0, 1, 821, 1, 0, 1, 822, 1, 0, 1, 823, 1, 0, 1, 824, 1, 0,
+    1, 825, 1, 0, 1, 826, 1, 0, 1, 571, 1, 0, 572, 1, 0, 573, 1, 0, 574, 1, 0, 319, 1, 42,
+];
+
+const LONGS_FIRSTS: [u32; 15] = [0, 4, 8, 12, 16, 20, 24, 28, 32, 36, 39, 42, 45, 48, 50];
+
 const LEADS_WORDS: [u32; 49] = [
     284, 1, 541, 0, 2, 542, 0, 3, 543, 0, 7, 292, 13, 292, 12, 544, 1, 0, 1057, 1, 0, 1, 0, 546, 0,
     1, 1059, 0, 1, 0, 1, 38, 295, 2, 37, 40, 300, 1, 301, 0, 302, 1, 809, 1, 1, 0, 42, 299, 0,
@@ -74,7 +82,7 @@ const OTHER_SUMS_FIRSTS: [u32; 5] = [0, 4, 8, 12, 16];
 
 // The rows stand in a function, so that no proof but its own looks at them.
 fn rows() -> &'static [Row] {
-    static ROWS: [Row; 6] = [
+    static ROWS: [Row; 7] = [
         (
             "computes",
             &[WORKER],
@@ -83,6 +91,7 @@ fn rows() -> &'static [Row] {
             &COMPUTES_FIRSTS,
         ),
         ("bits", &[WORKER], &BITS, &BITS_WORDS, &BITS_FIRSTS),
+        ("long long", &[WORKER], &LONGS, &LONGS_WORDS, &LONGS_FIRSTS),
         (
             "leads",
             &[WORKER, ("f", 19, 1, 1)],
@@ -128,6 +137,30 @@ fn told_otherwise(alloc: Global) -> Option<&'static str> {
 #[test]
 fn every_instruction_has_its_words(rt: HostRuntime) {
     assert_none(&rt, told_otherwise(rt.alloc()));
+}
+
+// Writes over a variable of 32 bits and one of 64.
+const WRITES: [Instr; 6] = [
+    Instr::Write(1, 0),
+    Instr::Write(1, 1),
+    Instr::WriteAt(0, 1, 0, 1),
+    Instr::WriteAt(0, 1, 1, 1),
+    Instr::WriteAt(0, 1, 0, 2),
+    Instr::Return,
+];
+
+const WRITES_WORDS: [u32; 22] = [
+    546, 0, 1, 576, 1, 1, 1059, 0, 1, 0, 1, 1089, 1, 1, 0, 1, 1090, 0, 2, 0, 1, 42,
+];
+
+const WRITES_FIRSTS: [u32; 6] = [0, 3, 6, 11, 16, 21];
+
+#[test]
+fn writes_tell_how_many_bits_their_cells_have(rt: HostRuntime) {
+    match code_over_both(rt.alloc(), &WRITES, None) {
+        Some(code) => assert_that(&rt, is_flat(&code, &WRITES_WORDS, &WRITES_FIRSTS)),
+        None => assert_that(&rt, false),
+    }
 }
 
 // Whether the instruction at a place is read as one of this kind with these operands.

@@ -105,3 +105,26 @@ fn tells(refusing: &Refusing<Global>, nth: u64) -> bool {
 fn each_cell_has_its_first_word(rt: HostRuntime) {
     assert_that(&rt, growths(rt.alloc(), 20, tells).ok() >= Some(1));
 }
+
+// A worker over a variable and an array of three cells of type `long long`, with the first words -1 and 7.
+fn over_a_long_array<A: Allocator + Copy>(alloc: A) -> Result<Parts<A>, AllocError> {
+    let mut array = array(alloc, 3)?;
+    array.of = Scalar::LongLong;
+    parts_over(alloc, array)
+}
+
+// Whether the first words of that array's code are -1 in 64 bits and 7, and 0 in the other cells.
+fn is_long(alloc: Global) -> Option<bool> {
+    match over_a_long_array(alloc) {
+        Ok(parts) => match code_of(alloc, parts) {
+            Some(code) => begins_with(alloc, &code, &[0, 18446744073709551615, 7, 0]),
+            None => None,
+        },
+        Err(_) => None,
+    }
+}
+
+#[test]
+fn first_words_of_long_long_have_64_bits(rt: HostRuntime) {
+    assert_that(&rt, is_long(rt.alloc()) == Some(true));
+}

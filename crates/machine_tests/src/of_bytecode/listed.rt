@@ -185,6 +185,43 @@ const BITS_LISTED: &str = "function worker registers 2
 13 ret
 ";
 
+/// Instructions of `long long`, and what makes one type's words of the other's.
+pub const LONGS: [Instr; 15] = [
+    Instr::AddLong(1, 0, 1),
+    Instr::SubtractLong(1, 0, 1),
+    Instr::MultiplyLong(1, 0, 1),
+    Instr::DivideLong(1, 0, 1),
+    Instr::RemainderLong(1, 0, 1),
+    Instr::ShiftLeftLong(1, 0, 1),
+    Instr::ShiftRightLong(1, 0, 1),
+    Instr::LessLong(1, 0, 1),
+    Instr::LessEqualLong(1, 0, 1),
+    Instr::NegateLong(1, 0),
+    Instr::ComplementLong(1, 0),
+    Instr::Extend(1, 0),
+    Instr::Low(1, 0),
+    Instr::PrintLong(1),
+    Instr::Return,
+];
+
+const LONGS_LISTED: &str = "function worker registers 2
+0 add.l r1 r0 r1
+1 sub.l r1 r0 r1
+2 mul.l r1 r0 r1
+3 div.l r1 r0 r1
+4 rem.l r1 r0 r1
+5 shl.l r1 r0 r1
+6 shr.l r1 r0 r1
+7 lt.l r1 r0 r1
+8 le.l r1 r0 r1
+9 neg.l r1 r0
+10 not.l r1 r0
+11 ext r1 r0
+12 low r1 r0
+13 print.l r1
+14 ret
+";
+
 /// Instructions that lead elsewhere, that access cells, and that print.
 pub const LEADS: [Instr; 20] = [
     Instr::Jump(1),
@@ -236,9 +273,10 @@ text 1 \"\\\\\\n\"
 ";
 
 fn instructions() -> &'static [Row] {
-    static ROWS: [Row; 3] = [
+    static ROWS: [Row; 4] = [
         (&[WORKER], &COMPUTES, &[], COMPUTES_LISTED, (1, 18, 0, 1)),
         (&[WORKER], &BITS, &[], BITS_LISTED, (1, 14, 0, 1)),
+        (&[WORKER], &LONGS, &[], LONGS_LISTED, (1, 15, 0, 1)),
         (
             &[WORKER, ("f", 19, 1, 1)],
             &LEADS,

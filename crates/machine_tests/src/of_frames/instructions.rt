@@ -227,6 +227,61 @@ fn bits() -> &'static [Computed] {
     &ROWS
 }
 
+// Instructions of narrow types see what lies in a register modulo 2^32, but a shift's count whole.
+fn narrow_of_wide() -> &'static [Computed] {
+    static ROWS: [Computed; 13] = [
+        (4294967301, 1, Instr::AddSigned(1, 2, 3), Ok(6)),
+        (4294967296, 1, Instr::LessUnsigned(1, 2, 3), Ok(1)),
+        (
+            7,
+            4294967296,
+            Instr::DivideSigned(1, 2, 3),
+            Err(Trap::ZeroDivisor),
+        ),
+        (
+            1,
+            4294967297,
+            Instr::ShiftLeftSigned(1, 2, 3),
+            Err(Trap::ShiftCount),
+        ),
+        (1099511627776, 0, Instr::Complement(1, 2), Ok(4294967295)),
+        (
+            6442450944,
+            0,
+            Instr::NegateSigned(1, 2),
+            Err(Trap::OutOfRange),
+        ),
+        (
+            4294967303,
+            8589934596,
+            Instr::RemainderUnsigned(1, 2, 3),
+            Ok(3),
+        ),
+        (
+            4294967296,
+            1,
+            Instr::SubtractUnsigned(1, 2, 3),
+            Ok(4294967295),
+        ),
+        (1, 4294967297, Instr::Equal(1, 2, 3), Ok(0)),
+        (6442450944, 0, Instr::Extend(1, 2), Ok(18446744071562067968)),
+        (6442450944, 0, Instr::Low(1, 2), Ok(2147483648)),
+        (
+            9223372036854775808,
+            18446744073709551615,
+            Instr::MultiplyLong(1, 2, 3),
+            Err(Trap::OutOfRange),
+        ),
+        (5, 0, Instr::ComplementLong(1, 2), Ok(18446744073709551610)),
+    ];
+    &ROWS
+}
+
+#[test]
+fn narrow_instructions_see_32_bits(rt: HostRuntime) {
+    assert_that(&rt, are_computed(rt.alloc(), narrow_of_wide()));
+}
+
 fn comparisons() -> &'static [Computed] {
     static ROWS: [Computed; 6] = [
         (12, 12, Instr::Equal(1, 2, 3), Ok(1)),

@@ -1,6 +1,7 @@
 //! The programs that are run, by their codes: each is the code of the source that stands above it.
 
 use bytecode::{Code, Instr};
+use lex::token::Scalar;
 use std::alloc::Allocator;
 use written_codes::{WrittenCode, WrittenVariable, worker};
 
@@ -129,6 +130,7 @@ pub fn reads_again(word: u32) -> [Instr; 14] {
 pub fn code_of<A: Allocator + Copy>(alloc: A, program: Program) -> Option<Code<A>> {
     let (registers, value, instructions) = program;
     let x = WrittenVariable {
+        of: Scalar::Int,
         name: "x",
         value: Some(value),
     };
