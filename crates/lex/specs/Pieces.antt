@@ -1,13 +1,15 @@
 -- How a text is cut into tokens: at each place the longest piece that has a shape, and what it says. The shapes are
 -- those of C11 6.4, as far as this language has them.
-use Rattle.std.specs.Prelude.{◌≡◌, ◌≢◌, ℕ, ◌+◌, ◌-◌, ◌*◌, ◌^◌, ◌<◌, ◌≤◌, Bool, true, false, not, ◌&&◌, ◌||◌, ◌⊎◌, nat_lt, if◌then◌else◌, List, [], ◌∷◌, ◌++◌, length, take, drop, slice_index, codes, Option, Some, None}
+use Rattle.std.specs.Prelude.{◌≡◌, ◌≢◌, ℕ, ◌+◌, ◌-◌, ◌*◌, ◌^◌, ◌<◌, ◌≤◌, Bool, true, false, ◌⊎◌, nat_lt, if◌then◌else◌, List, [], ◌∷◌, ◌++◌, length, take, drop, slice_index, codes, Option, Some, None}
 use Rattle.std.specs.Char.{digit_value}
 use Rattle.lex.specs.declared.constant.Base.{Base}
 use Rattle.lex.specs.declared.constant.Base.TheVariants.{Decimal, Octal, Hexadecimal}
+use Rattle.lex.specs.declared.constant.Suffix.{Suffix}
+use Rattle.lex.specs.declared.constant.Suffix.TheVariants as suffix
 use Rattle.lex.specs.declared.lexer.TheConstants.{MOST_BYTES}
 use Rattle.lex.specs.declared.token.Fixed.{Fixed}
 use Rattle.lex.specs.declared.token.Scalar.{Scalar}
-use Rattle.lex.specs.declared.token.Scalar.TheVariants.{Int, Unsigned}
+use Rattle.lex.specs.declared.token.Scalar.TheVariants.{Int, Unsigned, LongLong}
 use Rattle.lex.specs.Bytes.{is_white, is_blank, is_digit, is_octal, is_hexadecimal, is_letter, is_part, is_glue, in_line, is_plain, is_escape, Only, starts}
 use Rattle.lex.specs.Spelling.{spelling, Reserved}
 use Rattle.lex.specs.Tokens.{Terminal, Tok}
@@ -91,9 +93,15 @@ IsWritten Decimal before digits = (before ≡ []) × (0 < length digits) × (sli
 IsWritten Octal before digits = before ≡ codes "0"
 IsWritten Hexadecimal before digits = ((before ≡ codes "0x") ⊎ (before ≡ codes "0X")) × (0 < length digits)
 
--- `u`, `U` or nothing
+-- nothing, `u`, `U`, `ll` or `LL`
 abbrev pub IsSuffix : List ℕ → Type 0
-IsSuffix s = (s ≡ []) ⊎ (s ≡ codes "u") ⊎ (s ≡ codes "U")
+IsSuffix s = (s ≡ []) ⊎ (s ≡ codes "u") ⊎ (s ≡ codes "U") ⊎ (s ≡ codes "ll") ⊎ (s ≡ codes "LL")
+
+-- what a suffix asks for: one byte is that of `unsigned`, two are those of `long long`
+abbrev pub suffix_of : List ℕ → Suffix
+suffix_of [] = suffix.Nothing
+suffix_of (b ∷ []) = suffix.Unsigned
+suffix_of (b ∷ c ∷ w) = suffix.LongLong
 
 -- a constant, by its parts
 pub record Constant (w : List ℕ) : Type 0 where
@@ -119,21 +127,30 @@ is_decimal Decimal = true
 is_decimal Octal = false
 is_decimal Hexadecimal = false
 
--- a constant's type, by whether its base is decimal, whether it has a suffix, and its value: `int` if it has no suffix
--- and fits, else `unsigned` if it fits and has a suffix or another base
-abbrev pub type_of : (is_decimal suffixed : Bool) → ℕ → Option Scalar
-type_of is_decimal suffixed n =
-    if not suffixed && nat_lt n (2 ^ 31) then Some Int else
-    (if (suffixed || not is_decimal) && nat_lt n (2 ^ 32) then Some Unsigned else None)
+-- one more than a type's greatest number
+abbrev pub limit : Scalar → ℕ
+limit Int = 2 ^ 31
+limit Unsigned = 2 ^ 32
+limit LongLong = 2 ^ 63
 
--- whether there is a byte
-abbrev pub is_some_byte : List ℕ → Bool
-is_some_byte [] = false
-is_some_byte (b ∷ w) = true
+-- the types that a constant may have, by whether its base is decimal and by its suffix
+abbrev pub candidates : (is_decimal : Bool) → Suffix → List Scalar
+candidates true suffix.Nothing = Int ∷ LongLong ∷ []
+candidates false suffix.Nothing = Int ∷ Unsigned ∷ LongLong ∷ []
+candidates is_decimal suffix.Unsigned = Unsigned ∷ []
+candidates is_decimal suffix.LongLong = LongLong ∷ []
+
+-- the first of these types that holds the value
+abbrev pub first_holding : ℕ → List Scalar → Option Scalar
+first_holding n [] = None
+first_holding n (t ∷ ts) = if nat_lt n (limit t) then Some t else first_holding n ts
+
+abbrev pub type_of : (is_decimal : Bool) → Suffix → ℕ → Option Scalar
+type_of is_decimal s n = first_holding n (candidates is_decimal s)
 
 -- the constant's type, where it has one
 abbrev pub typed : {w : List ℕ} → Constant w → Option Scalar
-typed c = type_of (is_decimal c.base) (is_some_byte c.suffix) (value c)
+typed c = type_of (is_decimal c.base) (suffix_of c.suffix) (value c)
 
 -- ---- the longest piece, and what it says
 

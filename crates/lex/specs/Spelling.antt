@@ -10,6 +10,7 @@ abbrev pub spelling : Fixed → List ℕ
 spelling (Keyword key.Int) = codes "int"
 spelling (Keyword key.Unsigned) = codes "unsigned"
 spelling (Keyword key.Signed) = codes "signed"
+spelling (Keyword key.Long) = codes "long"
 spelling (Keyword key.Void) = codes "void"
 spelling (Keyword key.If) = codes "if"
 spelling (Keyword key.Else) = codes "else"
@@ -81,7 +82,6 @@ pub data Reserved (w : List ℕ) : Type 0 where
   is_float : w ≡ codes "float" → Reserved w
   is_goto : w ≡ codes "goto" → Reserved w
   is_inline : w ≡ codes "inline" → Reserved w
-  is_long : w ≡ codes "long" → Reserved w
   is_register : w ≡ codes "register" → Reserved w
   is_restrict : w ≡ codes "restrict" → Reserved w
   is_short : w ≡ codes "short" → Reserved w

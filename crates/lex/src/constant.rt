@@ -6,7 +6,7 @@ ghost use Rattle.std.specs.Char.{digit_value};
 ghost use Rattle.lex.specs.Pieces as spec;
 ghost use Rattle.lex.specs.Bytes as bytes;
 ghost use Rattle.lex.specs.inner.Answers as answers;
-ghost use Rattle.lex.specs.inner.Constants.{base_at, before_len, suffix_len, GivesNumber, GivesTyped};
+ghost use Rattle.lex.specs.inner.Constants.{base_at, before_len, suffix_at, suffix_size, GivesNumber, GivesTyped};
 
 use crate::bytes::{is_digit, is_glued, is_hexadecimal, is_octal};
 use crate::fault::LexFault;
@@ -74,13 +74,35 @@ fn digits_len(base: Base, rest: &[u8]) -> usize
     rest.iter().take_while(|b| is_digit_of(base, **b)).count()
 }
 
-/// unsigned-suffix: `u` or `U`, or nothing.
-fn suffix_len(rest: &[u8]) -> usize
-    ensures { result ≡ suffix_len rest.now }
+/// What a suffix asks for.
+#[derive(Clone, Copy)]
+pub(crate) enum Suffix {
+    Nothing,
+    /// `u` or `U`
+    Unsigned,
+    /// `ll` or `LL`
+    LongLong,
+}
+
+/// integer-suffix: `u`, `U`, `ll` or `LL`, or nothing.
+fn suffix_at(rest: &[u8]) -> Suffix
+    ensures { result ≡ suffix_at rest.now }
 {
     match rest {
-        [b'u' | b'U', ..] => 1,
-        _ => 0,
+        [b'u' | b'U', ..] => Suffix::Unsigned,
+        [b'l', b'l', ..] | [b'L', b'L', ..] => Suffix::LongLong,
+        _ => Suffix::Nothing,
+    }
+}
+
+/// How many bytes it has.
+fn suffix_size(suffix: Suffix) -> usize
+    ensures { result ≡ suffix_size suffix }
+{
+    match suffix {
+        Suffix::Nothing => 0,
+        Suffix::Unsigned => 1,
+        Suffix::LongLong => 2,
     }
 }
 
@@ -99,19 +121,19 @@ fn digit_value(b: u8) -> u64
     }
 }
 
-/// The digits' number, where it is below 2^32.
+/// The digits' number, where it is below 2^63.
 fn number(base: Base, digits: &[u8]) -> Option<u64>
     requires { bytes.Only (spec.is_digit_of base) digits.now }
     ensures { GivesNumber result (spec.value_from (spec.radix base) 0 digits.now) }
 {
-    let mut n: u64 = 0;
+    let mut n: u128 = 0;
     'digits: for digit in digits {
-        n = n * radix(base) + digit_value(*digit);
-        if n >= 0x1_0000_0000 {
+        n = n * u128::from(radix(base)) + u128::from(digit_value(*digit));
+        if n >= 0x8000_0000_0000_0000 {
             return None;
         }
     }
-    Some(n)
+    Some(n as u64)
 }
 
 /// Whether the base is ten.
@@ -124,33 +146,32 @@ fn is_decimal(base: Base) -> bool
     }
 }
 
-/// The type of a constant of this value.
-fn type_of(is_decimal: bool, is_suffixed: bool, value: u64) -> Option<Scalar>
-    ensures { result ≡ spec.type_of is_decimal is_suffixed value }
+/// The type of a constant of this value (C11 6.4.4.1).
+fn type_of(is_decimal: bool, suffix: Suffix, value: u64) -> Option<Scalar>
+    ensures { result ≡ spec.type_of is_decimal suffix value }
 {
-    if !is_suffixed && value < 0x8000_0000 {
-        Some(Scalar::Int)
-    } else if (is_suffixed || !is_decimal) && value < 0x1_0000_0000 {
-        Some(Scalar::Unsigned)
-    } else {
-        None
+    match suffix {
+        Suffix::Nothing if value < 0x8000_0000 => Some(Scalar::Int),
+        Suffix::Nothing if !is_decimal && value < 0x1_0000_0000 => Some(Scalar::Unsigned),
+        Suffix::Unsigned => (value < 0x1_0000_0000).then_some(Scalar::Unsigned),
+        _ => (value < 0x8000_0000_0000_0000).then_some(Scalar::LongLong),
     }
 }
 
 /// The value and the type of these digits, where there is a type that holds it.
-fn typed(base: Base, is_suffixed: bool, digits: &[u8]) -> Option<(u64, Scalar)>
+fn typed(base: Base, suffix: Suffix, digits: &[u8]) -> Option<(u64, Scalar)>
     requires { bytes.Only (spec.is_digit_of base) digits.now }
-    ensures { GivesTyped result base is_suffixed (spec.value_from (spec.radix base) 0 digits.now) }
+    ensures { GivesTyped result base suffix (spec.value_from (spec.radix base) 0 digits.now) }
 {
     let value = number(base, digits)?;
-    let of = type_of(is_decimal(base), is_suffixed, value)?;
+    let of = type_of(is_decimal(base), suffix, value)?;
     Some((value, of))
 }
 
 /// The constant at the place.
 ///
 /// constant = (nonzero-digit {digit} | "0" {octal-digit} | ("0x" | "0X") hexadecimal-digit {hexadecimal-digit}) ["u" |
-/// "U"] (C11 6.4.4.1)
+/// "U" | "ll" | "LL"] (C11 6.4.4.1)
 pub(crate) fn constant<'a>(text: &'a str, at: usize) -> Result<(Option<Kind<'a>>, usize), LexFault>
     requires within { at < length text.now }
     requires fits { length text.now < 2 ^ 62 }
@@ -161,14 +182,15 @@ pub(crate) fn constant<'a>(text: &'a str, at: usize) -> Result<(Option<Kind<'a>>
     let base = base_at(rest);
     let (_, digits_on) = rest.split_at(before_len(base));
     let (digits, behind) = digits_on.split_at(digits_len(base, digits_on));
-    let suffix = suffix_len(behind);
-    let (_, after) = behind.split_at(suffix);
-    let len = before_len(base) + digits.len() + suffix;
+    let suffix = suffix_at(behind);
+    let size = suffix_size(suffix);
+    let (_, after) = behind.split_at(size);
+    let len = before_len(base) + digits.len() + size;
     let span = Span {
         start: at,
         end: at + len,
     };
-    let Some((value, of)) = typed(base, suffix == 1, digits) else {
+    let Some((value, of)) = typed(base, suffix, digits) else {
         return Err(LexFault::ConstantTooLarge(span));
     };
     if is_glued(after) {

@@ -27,6 +27,7 @@ pub enum Keyword {
     Int,
     Unsigned,
     Signed,
+    Long,
     Void,
     If,
     Else,

@@ -21,6 +21,7 @@ fn keyword(word: &str) -> Option<Fixed>
         "int" => Some(Fixed::Keyword(Keyword::Int)),
         "unsigned" => Some(Fixed::Keyword(Keyword::Unsigned)),
         "signed" => Some(Fixed::Keyword(Keyword::Signed)),
+        "long" => Some(Fixed::Keyword(Keyword::Long)),
         "void" => Some(Fixed::Keyword(Keyword::Void)),
         "if" => Some(Fixed::Keyword(Keyword::If)),
         "else" => Some(Fixed::Keyword(Keyword::Else)),
@@ -56,7 +57,6 @@ fn is_reserved(word: &str) -> bool
             | "float"
             | "goto"
             | "inline"
-            | "long"
             | "register"
             | "restrict"
             | "short"

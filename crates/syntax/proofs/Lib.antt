@@ -12,6 +12,7 @@ mod Steady
 mod TotalRows
 mod TypeRows
 mod ValueRows
+mod WideRows
 mod WordsStay
 pub mod Called
 pub mod Counted

@@ -169,11 +169,10 @@ Groups n a b = (n ≤ level a) × (n < level b)
 
 -- ---- expressions (C11 6.5.1 to 6.5.15)
 
--- a type; no text spells `long long` yet
 abbrev pub scalar : Scalar → Phrase
 scalar Int = Word key.Int ∣ Word key.Signed ∣ Word key.Signed ⨾ Word key.Int
 scalar Unsigned = Word key.Unsigned ∣ Word key.Unsigned ⨾ Word key.Int
-scalar LongLong = never
+scalar LongLong = (Nil ∣ Word key.Signed) ⨾ Word key.Long ⨾ Word key.Long ⨾ (Nil ∣ Word key.Int)
 
 abbrev pub named : Name → Phrase
 named = One the_name
@@ -347,7 +346,7 @@ the_value t = value_in t.terminal
 abbrev pub initialiser : First → Phrase
 initialiser i = spanning i.span (minus i.negative ⨾ One the_value (i.value, i.of))
 
--- a length: a constant of either type, by its value and place
+-- a length: a constant of any type, by its value and place
 abbrev pub length_in : Terminal → Span → Option (ℕ × Span)
 length_in terminal at = option_map (λ v. (v.0, at)) (value_in terminal)
 

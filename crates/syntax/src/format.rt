@@ -18,9 +18,11 @@ fn figure_at(format: &[u8], i: usize) -> Option<(Scalar, usize)>
     ensures is { result ≡ figure_at (drop i format.now) }
     ensures fits { IfSome result (λ f. i + f.1 ≤ length format.now) }
 {
-    match format[i] {
-        b'd' => Some((Scalar::Int, 1)),
-        b'u' => Some((Scalar::Unsigned, 1)),
+    let (_, rest) = format.split_at(i);
+    match rest {
+        [b'd', ..] => Some((Scalar::Int, 1)),
+        [b'u', ..] => Some((Scalar::Unsigned, 1)),
+        [b'l', b'l', b'd', ..] => Some((Scalar::LongLong, 3)),
         _ => None,
     }
 }

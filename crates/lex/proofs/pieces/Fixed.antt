@@ -10,7 +10,7 @@ use Rattle.lex.specs.declared.token.Punctuator.TheVariants as punct
 -- keywords, and then punctuators
 abbrev pub all : List Fixed
 all =
-    Keyword key.Int ∷ Keyword key.Unsigned ∷ Keyword key.Signed ∷ Keyword key.Void ∷ Keyword key.If ∷
+    Keyword key.Int ∷ Keyword key.Unsigned ∷ Keyword key.Signed ∷ Keyword key.Long ∷ Keyword key.Void ∷ Keyword key.If ∷
     Keyword key.Else ∷ Keyword key.While ∷ Keyword key.Do ∷ Keyword key.For ∷ Keyword key.Break ∷
     Keyword key.Continue ∷ Keyword key.Return ∷ Keyword key.Printf ∷ Keyword key.Atomic ∷ Keyword key.Relaxed ∷
     Keyword key.Cancel ∷ Keyword key.Attribute ∷ Punctuator punct.OpenBrace ∷ Punctuator punct.CloseBrace ∷
@@ -53,63 +53,64 @@ pub placed : (k : Fixed) → Placed k
 placed (Keyword key.Int) = record { n = 0; within = omega arith; is = refl }
 placed (Keyword key.Unsigned) = record { n = 1; within = omega arith; is = refl }
 placed (Keyword key.Signed) = record { n = 2; within = omega arith; is = refl }
-placed (Keyword key.Void) = record { n = 3; within = omega arith; is = refl }
-placed (Keyword key.If) = record { n = 4; within = omega arith; is = refl }
-placed (Keyword key.Else) = record { n = 5; within = omega arith; is = refl }
-placed (Keyword key.While) = record { n = 6; within = omega arith; is = refl }
-placed (Keyword key.Do) = record { n = 7; within = omega arith; is = refl }
-placed (Keyword key.For) = record { n = 8; within = omega arith; is = refl }
-placed (Keyword key.Break) = record { n = 9; within = omega arith; is = refl }
-placed (Keyword key.Continue) = record { n = 10; within = omega arith; is = refl }
-placed (Keyword key.Return) = record { n = 11; within = omega arith; is = refl }
-placed (Keyword key.Printf) = record { n = 12; within = omega arith; is = refl }
-placed (Keyword key.Atomic) = record { n = 13; within = omega arith; is = refl }
-placed (Keyword key.Relaxed) = record { n = 14; within = omega arith; is = refl }
-placed (Keyword key.Cancel) = record { n = 15; within = omega arith; is = refl }
-placed (Keyword key.Attribute) = record { n = 16; within = omega arith; is = refl }
-placed (Punctuator punct.OpenBrace) = record { n = 17; within = omega arith; is = refl }
-placed (Punctuator punct.CloseBrace) = record { n = 18; within = omega arith; is = refl }
-placed (Punctuator punct.OpenParen) = record { n = 19; within = omega arith; is = refl }
-placed (Punctuator punct.CloseParen) = record { n = 20; within = omega arith; is = refl }
-placed (Punctuator punct.OpenBracket) = record { n = 21; within = omega arith; is = refl }
-placed (Punctuator punct.CloseBracket) = record { n = 22; within = omega arith; is = refl }
-placed (Punctuator punct.Semicolon) = record { n = 23; within = omega arith; is = refl }
-placed (Punctuator punct.Comma) = record { n = 24; within = omega arith; is = refl }
-placed (Punctuator punct.Question) = record { n = 25; within = omega arith; is = refl }
-placed (Punctuator punct.Colon) = record { n = 26; within = omega arith; is = refl }
-placed (Punctuator punct.Assign) = record { n = 27; within = omega arith; is = refl }
-placed (Punctuator punct.AddAssign) = record { n = 28; within = omega arith; is = refl }
-placed (Punctuator punct.SubtractAssign) = record { n = 29; within = omega arith; is = refl }
-placed (Punctuator punct.MultiplyAssign) = record { n = 30; within = omega arith; is = refl }
-placed (Punctuator punct.DivideAssign) = record { n = 31; within = omega arith; is = refl }
-placed (Punctuator punct.RemainderAssign) = record { n = 32; within = omega arith; is = refl }
-placed (Punctuator punct.ShiftLeftAssign) = record { n = 33; within = omega arith; is = refl }
-placed (Punctuator punct.ShiftRightAssign) = record { n = 34; within = omega arith; is = refl }
-placed (Punctuator punct.AndAssign) = record { n = 35; within = omega arith; is = refl }
-placed (Punctuator punct.OrAssign) = record { n = 36; within = omega arith; is = refl }
-placed (Punctuator punct.XorAssign) = record { n = 37; within = omega arith; is = refl }
-placed (Punctuator punct.Increment) = record { n = 38; within = omega arith; is = refl }
-placed (Punctuator punct.Decrement) = record { n = 39; within = omega arith; is = refl }
-placed (Punctuator punct.LogicalOr) = record { n = 40; within = omega arith; is = refl }
-placed (Punctuator punct.LogicalAnd) = record { n = 41; within = omega arith; is = refl }
-placed (Punctuator punct.Or) = record { n = 42; within = omega arith; is = refl }
-placed (Punctuator punct.Xor) = record { n = 43; within = omega arith; is = refl }
-placed (Punctuator punct.And) = record { n = 44; within = omega arith; is = refl }
-placed (Punctuator punct.Equal) = record { n = 45; within = omega arith; is = refl }
-placed (Punctuator punct.NotEqual) = record { n = 46; within = omega arith; is = refl }
-placed (Punctuator punct.Less) = record { n = 47; within = omega arith; is = refl }
-placed (Punctuator punct.Greater) = record { n = 48; within = omega arith; is = refl }
-placed (Punctuator punct.LessEqual) = record { n = 49; within = omega arith; is = refl }
-placed (Punctuator punct.GreaterEqual) = record { n = 50; within = omega arith; is = refl }
-placed (Punctuator punct.ShiftLeft) = record { n = 51; within = omega arith; is = refl }
-placed (Punctuator punct.ShiftRight) = record { n = 52; within = omega arith; is = refl }
-placed (Punctuator punct.Plus) = record { n = 53; within = omega arith; is = refl }
-placed (Punctuator punct.Minus) = record { n = 54; within = omega arith; is = refl }
-placed (Punctuator punct.Star) = record { n = 55; within = omega arith; is = refl }
-placed (Punctuator punct.Slash) = record { n = 56; within = omega arith; is = refl }
-placed (Punctuator punct.Percent) = record { n = 57; within = omega arith; is = refl }
-placed (Punctuator punct.Not) = record { n = 58; within = omega arith; is = refl }
-placed (Punctuator punct.Complement) = record { n = 59; within = omega arith; is = refl }
+placed (Keyword key.Long) = record { n = 3; within = omega arith; is = refl }
+placed (Keyword key.Void) = record { n = 4; within = omega arith; is = refl }
+placed (Keyword key.If) = record { n = 5; within = omega arith; is = refl }
+placed (Keyword key.Else) = record { n = 6; within = omega arith; is = refl }
+placed (Keyword key.While) = record { n = 7; within = omega arith; is = refl }
+placed (Keyword key.Do) = record { n = 8; within = omega arith; is = refl }
+placed (Keyword key.For) = record { n = 9; within = omega arith; is = refl }
+placed (Keyword key.Break) = record { n = 10; within = omega arith; is = refl }
+placed (Keyword key.Continue) = record { n = 11; within = omega arith; is = refl }
+placed (Keyword key.Return) = record { n = 12; within = omega arith; is = refl }
+placed (Keyword key.Printf) = record { n = 13; within = omega arith; is = refl }
+placed (Keyword key.Atomic) = record { n = 14; within = omega arith; is = refl }
+placed (Keyword key.Relaxed) = record { n = 15; within = omega arith; is = refl }
+placed (Keyword key.Cancel) = record { n = 16; within = omega arith; is = refl }
+placed (Keyword key.Attribute) = record { n = 17; within = omega arith; is = refl }
+placed (Punctuator punct.OpenBrace) = record { n = 18; within = omega arith; is = refl }
+placed (Punctuator punct.CloseBrace) = record { n = 19; within = omega arith; is = refl }
+placed (Punctuator punct.OpenParen) = record { n = 20; within = omega arith; is = refl }
+placed (Punctuator punct.CloseParen) = record { n = 21; within = omega arith; is = refl }
+placed (Punctuator punct.OpenBracket) = record { n = 22; within = omega arith; is = refl }
+placed (Punctuator punct.CloseBracket) = record { n = 23; within = omega arith; is = refl }
+placed (Punctuator punct.Semicolon) = record { n = 24; within = omega arith; is = refl }
+placed (Punctuator punct.Comma) = record { n = 25; within = omega arith; is = refl }
+placed (Punctuator punct.Question) = record { n = 26; within = omega arith; is = refl }
+placed (Punctuator punct.Colon) = record { n = 27; within = omega arith; is = refl }
+placed (Punctuator punct.Assign) = record { n = 28; within = omega arith; is = refl }
+placed (Punctuator punct.AddAssign) = record { n = 29; within = omega arith; is = refl }
+placed (Punctuator punct.SubtractAssign) = record { n = 30; within = omega arith; is = refl }
+placed (Punctuator punct.MultiplyAssign) = record { n = 31; within = omega arith; is = refl }
+placed (Punctuator punct.DivideAssign) = record { n = 32; within = omega arith; is = refl }
+placed (Punctuator punct.RemainderAssign) = record { n = 33; within = omega arith; is = refl }
+placed (Punctuator punct.ShiftLeftAssign) = record { n = 34; within = omega arith; is = refl }
+placed (Punctuator punct.ShiftRightAssign) = record { n = 35; within = omega arith; is = refl }
+placed (Punctuator punct.AndAssign) = record { n = 36; within = omega arith; is = refl }
+placed (Punctuator punct.OrAssign) = record { n = 37; within = omega arith; is = refl }
+placed (Punctuator punct.XorAssign) = record { n = 38; within = omega arith; is = refl }
+placed (Punctuator punct.Increment) = record { n = 39; within = omega arith; is = refl }
+placed (Punctuator punct.Decrement) = record { n = 40; within = omega arith; is = refl }
+placed (Punctuator punct.LogicalOr) = record { n = 41; within = omega arith; is = refl }
+placed (Punctuator punct.LogicalAnd) = record { n = 42; within = omega arith; is = refl }
+placed (Punctuator punct.Or) = record { n = 43; within = omega arith; is = refl }
+placed (Punctuator punct.Xor) = record { n = 44; within = omega arith; is = refl }
+placed (Punctuator punct.And) = record { n = 45; within = omega arith; is = refl }
+placed (Punctuator punct.Equal) = record { n = 46; within = omega arith; is = refl }
+placed (Punctuator punct.NotEqual) = record { n = 47; within = omega arith; is = refl }
+placed (Punctuator punct.Less) = record { n = 48; within = omega arith; is = refl }
+placed (Punctuator punct.Greater) = record { n = 49; within = omega arith; is = refl }
+placed (Punctuator punct.LessEqual) = record { n = 50; within = omega arith; is = refl }
+placed (Punctuator punct.GreaterEqual) = record { n = 51; within = omega arith; is = refl }
+placed (Punctuator punct.ShiftLeft) = record { n = 52; within = omega arith; is = refl }
+placed (Punctuator punct.ShiftRight) = record { n = 53; within = omega arith; is = refl }
+placed (Punctuator punct.Plus) = record { n = 54; within = omega arith; is = refl }
+placed (Punctuator punct.Minus) = record { n = 55; within = omega arith; is = refl }
+placed (Punctuator punct.Star) = record { n = 56; within = omega arith; is = refl }
+placed (Punctuator punct.Slash) = record { n = 57; within = omega arith; is = refl }
+placed (Punctuator punct.Percent) = record { n = 58; within = omega arith; is = refl }
+placed (Punctuator punct.Not) = record { n = 59; within = omega arith; is = refl }
+placed (Punctuator punct.Complement) = record { n = 60; within = omega arith; is = refl }
 
 -- what each of the list has, each token of one spelling has
 pub each : (P : Fixed → Type 0) → Every P all → (k : Fixed) → P k

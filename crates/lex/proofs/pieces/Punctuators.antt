@@ -27,6 +27,7 @@ in_table : (k : Fixed) (more : List ℕ) → InTable k (spelling k ++ more)
 in_table (Keyword key.Int) more = keyword refl
 in_table (Keyword key.Unsigned) more = keyword refl
 in_table (Keyword key.Signed) more = keyword refl
+in_table (Keyword key.Long) more = keyword refl
 in_table (Keyword key.Void) more = keyword refl
 in_table (Keyword key.If) more = keyword refl
 in_table (Keyword key.Else) more = keyword refl

@@ -53,7 +53,7 @@ is_reserved =
     is_one_of
     (
     codes "auto" ∷ codes "char" ∷ codes "const" ∷ codes "default" ∷ codes "case" ∷ codes "double" ∷
-    codes "enum" ∷ codes "extern" ∷ codes "float" ∷ codes "goto" ∷ codes "inline" ∷ codes "long" ∷
+    codes "enum" ∷ codes "extern" ∷ codes "float" ∷ codes "goto" ∷ codes "inline" ∷
     codes "register" ∷ codes "restrict" ∷ codes "short" ∷ codes "sizeof" ∷ codes "static" ∷
     codes "struct" ∷ codes "switch" ∷ codes "typedef" ∷ codes "union" ∷ codes "volatile" ∷ [])
 
@@ -69,7 +69,6 @@ reserved w (words.is_extern e) = ap is_reserved e
 reserved w (words.is_float e) = ap is_reserved e
 reserved w (words.is_goto e) = ap is_reserved e
 reserved w (words.is_inline e) = ap is_reserved e
-reserved w (words.is_long e) = ap is_reserved e
 reserved w (words.is_register e) = ap is_reserved e
 reserved w (words.is_restrict e) = ap is_reserved e
 reserved w (words.is_short e) = ap is_reserved e
@@ -101,7 +100,6 @@ reserved_class w (words.is_extern e) = ap class e
 reserved_class w (words.is_float e) = ap class e
 reserved_class w (words.is_goto e) = ap class e
 reserved_class w (words.is_inline e) = ap class e
-reserved_class w (words.is_long e) = ap class e
 reserved_class w (words.is_register e) = ap class e
 reserved_class w (words.is_restrict e) = ap class e
 reserved_class w (words.is_short e) = ap class e

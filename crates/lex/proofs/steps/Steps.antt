@@ -18,7 +18,8 @@ use Rattle.lex.specs.Faults.{FaultAt, character_len}
 use Rattle.lex.specs.Pieces.{Closes, IsOpen, IsDirective, IsInclude, FirstOnLine, Constant, typed, value, Gap, Says, Parted, Longest, IsGap, IsToken, Inside}
 use Rattle.lex.specs.Pieces as s
 use Rattle.lex.specs.inner.Strings.{Unclosed}
-use Rattle.lex.specs.inner.Constants.{constant_len}
+use Rattle.lex.specs.declared.constant.Suffix.{Suffix}
+use Rattle.lex.specs.inner.Constants.{constant_len, suffix_size}
 use Rattle.lex.proofs.pieces.Constants.{Found, constant_longest, constant_piece, constant_typed, constant_value}
 use Rattle.lex.proofs.pieces.Runs.{rest_byte}
 use Rattle.lex.proofs.pieces.Shapes.{letter_part, word_longest, word_piece, directive_longest, directive_piece, line_longest, line_piece, comment_longest, comment_piece, open_longest, open_piece}
@@ -184,7 +185,7 @@ at_of text rest at len o v e h =
     let k = subst (λ (z : List ℕ). Here z len o v) e h in
     record { long = k.long; constant = k.constant; of = k.of; counts = k.counts }
 
-constant_at : (text rest : List ℕ) (at : ℕ) (base : Base) (start : ℕ) (digits : List ℕ) (suffix : ℕ) (after : List ℕ) (o : Option Scalar) → rest ≡ drop at text → at < length text → is_digit (slice_index text at) ≡ true → Found rest base start digits suffix after → s.type_of (s.is_decimal base) (suffix == 1) (s.value_from (s.radix base) 0 digits) ≡ o → At text at (start + length digits + suffix) o (s.value_from (s.radix base) 0 digits)
+constant_at : (text rest : List ℕ) (at : ℕ) (base : Base) (start : ℕ) (digits : List ℕ) (suffix : Suffix) (after : List ℕ) (o : Option Scalar) → rest ≡ drop at text → at < length text → is_digit (slice_index text at) ≡ true → Found rest base start digits suffix after → s.type_of (s.is_decimal base) suffix (s.value_from (s.radix base) 0 digits) ≡ o → At text at (start + length digits + suffix_size suffix) o (s.value_from (s.radix base) 0 digits)
 constant_at text rest at base start digits suffix after o e lt a f t =
     let size : length rest ≡ length text - at = rest_length text rest at e in
     let some : 0 < length rest = omega arith in
@@ -195,27 +196,27 @@ constant_at text rest at base start digits suffix after o e lt a f t =
       of = constant_typed rest some first ∙ sym f.type_is ∙ t;
       counts = constant_value rest some first ∙ sym f.value_is;
     } in
-    at_of text rest at (start + length digits + suffix) o (s.value_from (s.radix base) 0 digits) e (subst (λ (n : ℕ). Here rest n o (s.value_from (s.radix base) 0 digits)) (sym f.len_is) here)
+    at_of text rest at (start + length digits + suffix_size suffix) o (s.value_from (s.radix base) 0 digits) e (subst (λ (n : ℕ). Here rest n o (s.value_from (s.radix base) 0 digits)) (sym f.len_is) here)
 
-pub large_step : (text rest : List ℕ) (at : ℕ) (base : Base) (start : ℕ) (digits : List ℕ) (suffix : ℕ) (after : List ℕ) → rest ≡ drop at text → at < length text → is_digit (slice_index text at) ≡ true → Found rest base start digits suffix after → s.type_of (s.is_decimal base) (suffix == 1) (s.value_from (s.radix base) 0 digits) ≡ None → FaultAt text at (fault.ConstantTooLarge (record { start = at; «end» = at + (start + length digits + suffix) }))
+pub large_step : (text rest : List ℕ) (at : ℕ) (base : Base) (start : ℕ) (digits : List ℕ) (suffix : Suffix) (after : List ℕ) → rest ≡ drop at text → at < length text → is_digit (slice_index text at) ≡ true → Found rest base start digits suffix after → s.type_of (s.is_decimal base) suffix (s.value_from (s.radix base) 0 digits) ≡ None → FaultAt text at (fault.ConstantTooLarge (record { start = at; «end» = at + (start + length digits + suffix_size suffix) }))
 large_step text rest at base start digits suffix after e lt a f t =
     let k = constant_at text rest at base start digits suffix after None e lt a f t in
-    FaultAt.large (start + length digits + suffix) k.long k.constant k.of
+    FaultAt.large (start + length digits + suffix_size suffix) k.long k.constant k.of
 
 -- what stands behind the constant
-behind_at : (text rest : List ℕ) (at : ℕ) (base : Base) (start : ℕ) (digits : List ℕ) (suffix : ℕ) (after : List ℕ) → rest ≡ drop at text → Found rest base start digits suffix after → after ≡ drop (start + length digits + suffix) (drop at text)
-behind_at text rest at base start digits suffix after e f = f.after_is ∙ ap (λ (n : ℕ). drop n rest) (sym f.len_is) ∙ ap (drop (start + length digits + suffix)) e
+behind_at : (text rest : List ℕ) (at : ℕ) (base : Base) (start : ℕ) (digits : List ℕ) (suffix : Suffix) (after : List ℕ) → rest ≡ drop at text → Found rest base start digits suffix after → after ≡ drop (start + length digits + suffix_size suffix) (drop at text)
+behind_at text rest at base start digits suffix after e f = f.after_is ∙ ap (λ (n : ℕ). drop n rest) (sym f.len_is) ∙ ap (drop (start + length digits + suffix_size suffix)) e
 
-pub glued_step : (text rest : List ℕ) (at : ℕ) (base : Base) (start : ℕ) (digits : List ℕ) (suffix : ℕ) (after : List ℕ) (t : Scalar) → rest ≡ drop at text → at < length text → is_digit (slice_index text at) ≡ true → Found rest base start digits suffix after → s.type_of (s.is_decimal base) (suffix == 1) (s.value_from (s.radix base) 0 digits) ≡ Some t → starts is_glue after ≡ true → FaultAt text at (fault.BadCharacter (record { start = at + (start + length digits + suffix); «end» = at + (start + length digits + suffix) + 1 }))
+pub glued_step : (text rest : List ℕ) (at : ℕ) (base : Base) (start : ℕ) (digits : List ℕ) (suffix : Suffix) (after : List ℕ) (t : Scalar) → rest ≡ drop at text → at < length text → is_digit (slice_index text at) ≡ true → Found rest base start digits suffix after → s.type_of (s.is_decimal base) suffix (s.value_from (s.radix base) 0 digits) ≡ Some t → starts is_glue after ≡ true → FaultAt text at (fault.BadCharacter (record { start = at + (start + length digits + suffix_size suffix); «end» = at + (start + length digits + suffix_size suffix) + 1 }))
 glued_step text rest at base start digits suffix after t e lt a f h g =
     let k = constant_at text rest at base start digits suffix after (Some t) e lt a f h in
-    FaultAt.glued (start + length digits + suffix) t k.long k.constant k.of (ap (starts is_glue) (sym (behind_at text rest at base start digits suffix after e f)) ∙ g)
+    FaultAt.glued (start + length digits + suffix_size suffix) t k.long k.constant k.of (ap (starts is_glue) (sym (behind_at text rest at base start digits suffix after e f)) ∙ g)
 
-pub constant_step : (text rest : List ℕ) (at : ℕ) (base : Base) (start : ℕ) (digits : List ℕ) (suffix : ℕ) (after : List ℕ) (t : Scalar) (v : ℕ) → rest ≡ drop at text → at < length text → is_digit (slice_index text at) ≡ true → Found rest base start digits suffix after → v ≡ s.value_from (s.radix base) 0 digits → s.type_of (s.is_decimal base) (suffix == 1) (s.value_from (s.radix base) 0 digits) ≡ Some t → starts is_glue after ≡ false → IsToken text at (start + length digits + suffix) (tokens.constant v t)
+pub constant_step : (text rest : List ℕ) (at : ℕ) (base : Base) (start : ℕ) (digits : List ℕ) (suffix : Suffix) (after : List ℕ) (t : Scalar) (v : ℕ) → rest ≡ drop at text → at < length text → is_digit (slice_index text at) ≡ true → Found rest base start digits suffix after → v ≡ s.value_from (s.radix base) 0 digits → s.type_of (s.is_decimal base) suffix (s.value_from (s.radix base) 0 digits) ≡ Some t → starts is_glue after ≡ false → IsToken text at (start + length digits + suffix_size suffix) (tokens.constant v t)
 constant_step text rest at base start digits suffix after t v e lt a f w h g =
     let k = constant_at text rest at base start digits suffix after (Some t) e lt a f h in
     record {
       front = k.long;
-      means = subst (λ (n : ℕ). Says (take (start + length digits + suffix) (drop at text)) (tokens.constant n t)) (k.counts ∙ sym w) (Says.constant k.constant t k.of);
+      means = subst (λ (n : ℕ). Says (take (start + length digits + suffix_size suffix) (drop at text)) (tokens.constant n t)) (k.counts ∙ sym w) (Says.constant k.constant t k.of);
       parted = ap (starts is_glue) (sym (behind_at text rest at base start digits suffix after e f)) ∙ g;
     }

@@ -26,13 +26,19 @@ clash b t f = cc
 suffix_stops : (b : Base) (suffix : List ℕ) → IsSuffix suffix → starts (is_digit_of b) suffix ≡ false
 suffix_stops Decimal suffix (inl e) = ap (starts (is_digit_of Decimal)) e
 suffix_stops Decimal suffix (inr (inl e)) = ap (starts (is_digit_of Decimal)) e
-suffix_stops Decimal suffix (inr (inr e)) = ap (starts (is_digit_of Decimal)) e
+suffix_stops Decimal suffix (inr (inr (inl e))) = ap (starts (is_digit_of Decimal)) e
+suffix_stops Decimal suffix (inr (inr (inr (inl e)))) = ap (starts (is_digit_of Decimal)) e
+suffix_stops Decimal suffix (inr (inr (inr (inr e)))) = ap (starts (is_digit_of Decimal)) e
 suffix_stops Octal suffix (inl e) = ap (starts (is_digit_of Octal)) e
 suffix_stops Octal suffix (inr (inl e)) = ap (starts (is_digit_of Octal)) e
-suffix_stops Octal suffix (inr (inr e)) = ap (starts (is_digit_of Octal)) e
+suffix_stops Octal suffix (inr (inr (inl e))) = ap (starts (is_digit_of Octal)) e
+suffix_stops Octal suffix (inr (inr (inr (inl e)))) = ap (starts (is_digit_of Octal)) e
+suffix_stops Octal suffix (inr (inr (inr (inr e)))) = ap (starts (is_digit_of Octal)) e
 suffix_stops Hexadecimal suffix (inl e) = ap (starts (is_digit_of Hexadecimal)) e
 suffix_stops Hexadecimal suffix (inr (inl e)) = ap (starts (is_digit_of Hexadecimal)) e
-suffix_stops Hexadecimal suffix (inr (inr e)) = ap (starts (is_digit_of Hexadecimal)) e
+suffix_stops Hexadecimal suffix (inr (inr (inl e))) = ap (starts (is_digit_of Hexadecimal)) e
+suffix_stops Hexadecimal suffix (inr (inr (inr (inl e)))) = ap (starts (is_digit_of Hexadecimal)) e
+suffix_stops Hexadecimal suffix (inr (inr (inr (inr e)))) = ap (starts (is_digit_of Hexadecimal)) e
 
 record Same (ds es sf tf : List ℕ) : Type 0 where
   digits : ds ≡ es
@@ -71,11 +77,13 @@ record Hexed (w ds sf : List ℕ) : Type 0 where
   none : bytes.is_hexadecimal byte ≡ false
   u : byte ≢ 117
   large : byte ≢ 85
+  long : byte ≢ 108
+  large_long : byte ≢ 76
 
 hexed : (w before ds sf : List ℕ) → Whole w Hexadecimal before ds sf → Hexed w ds sf
 hexed w before ds sf h = elim h.1.0 [
-  | inl e ↦ record { byte = 120; whole = h.0 ∙ ap (λ (z : List ℕ). z ++ (ds ++ sf)) e; not_octal = refl; none = refl; u = λ p. omega arith; large = λ p. omega arith }
-  | inr e ↦ record { byte = 88; whole = h.0 ∙ ap (λ (z : List ℕ). z ++ (ds ++ sf)) e; not_octal = refl; none = refl; u = λ p. omega arith; large = λ p. omega arith }
+  | inl e ↦ record { byte = 120; whole = h.0 ∙ ap (λ (z : List ℕ). z ++ (ds ++ sf)) e; not_octal = refl; none = refl; u = λ p. omega arith; large = λ p. omega arith; long = λ p. omega arith; large_long = λ p. omega arith }
+  | inr e ↦ record { byte = 88; whole = h.0 ∙ ap (λ (z : List ℕ). z ++ (ds ++ sf)) e; not_octal = refl; none = refl; u = λ p. omega arith; large = λ p. omega arith; long = λ p. omega arith; large_long = λ p. omega arith }
 ]
 
 tails : {x y : ℕ} {xs ys : List ℕ} → x ∷ xs ≡ y ∷ ys → (x ≡ y) × (xs ≡ ys)
@@ -88,7 +96,9 @@ octal_hexed w before ds sf es tf h x = go ds sf h.2 h.3 (tails (sym (octal_rest 
     go (d ∷ ds) sf all ended e = clash (is_octal d) (all 0 (omega arith)) (ap is_octal (tails e).0 ∙ x.not_octal)
     go [] sf all (inl n) e = let f : [] ≡ x.byte ∷ (es ++ tf) = sym n ∙ e in cc
     go [] sf all (inr (inl n)) e = x.u (sym (tails (sym n ∙ e)).0)
-    go [] sf all (inr (inr n)) e = x.large (sym (tails (sym n ∙ e)).0)
+    go [] sf all (inr (inr (inl n))) e = x.large (sym (tails (sym n ∙ e)).0)
+    go [] sf all (inr (inr (inr (inl n)))) e = x.long (sym (tails (sym n ∙ e)).0)
+    go [] sf all (inr (inr (inr (inr n)))) e = x.large_long (sym (tails (sym n ∙ e)).0)
 
 agree : (w : List ℕ) (b k : Base) (before after ds es sf tf : List ℕ) → Whole w b before ds sf → Whole w k after es tf → Agree b k ds es sf tf
 agree w Decimal Decimal before after ds es sf tf h j =
@@ -120,7 +130,7 @@ same_value {w} c d =
 pub same_type : {w : List ℕ} (c d : Constant w) → typed c ≡ typed d
 same_type {w} c d =
     let q = alike c d in
-    ap (λ (b : Base). s.type_of (s.is_decimal b) (s.is_some_byte c.suffix) (value c)) q.0 ∙ ap (λ (z : List ℕ). s.type_of (s.is_decimal d.base) (s.is_some_byte z) (value c)) q.2 ∙ ap (s.type_of (s.is_decimal d.base) (s.is_some_byte d.suffix)) (same_value c d)
+    ap (λ (b : Base). s.type_of (s.is_decimal b) (s.suffix_of c.suffix) (value c)) q.0 ∙ ap (λ (z : List ℕ). s.type_of (s.is_decimal d.base) (s.suffix_of z) (value c)) q.2 ∙ ap (s.type_of (s.is_decimal d.base) (s.suffix_of d.suffix)) (same_value c d)
 
 -- ---- a piece says one thing
 
