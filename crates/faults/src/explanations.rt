@@ -7,10 +7,10 @@ pub fn explanation(number: u32) -> Option<&'static str> {
             "fault 00: out of memory\nWhen: a growth was really refused; nothing has changed, and the call may be made again\nSeen as: `txc: out of memory`, exit status 4\n",
         ),
         1 => Some(
-            "fault 01: bad character\nWhen: a character that begins no token; a `#` behind something else on its line; a letter, digit, `_` or `.` right behind a constant\nPlace: the character\nExample: int x$;\nIt is told at: 1:6\n",
+            "fault 01: bad character\nWhen: a character that begins no token; a `#` behind something else on its line; a letter, digit, `_` or `.` right behind a constant and its suffix\nPlace: the character\nExample: int x$;\nIt is told at: 1:6\n",
         ),
         2 => Some(
-            "fault 02: constant too large\nWhen: a constant that neither type holds\nPlace: the constant\nExample: int x = 2147483648;\nIt is told at: 1:9\n",
+            "fault 02: constant too large\nWhen: a constant that none of the types it may have holds\nPlace: the constant\nExample: int x = 9223372036854775808;\nIt is told at: 1:9\n",
         ),
         3 => Some(
             "fault 03: open comment\nWhen: `/*` without its `*/`\nPlace: from `/*`\nExample: void worker(int self) { } /* end\nIt is told at: 1:27\n",
@@ -55,7 +55,7 @@ pub fn explanation(number: u32) -> Option<&'static str> {
             "fault 26: break or continue outside a loop\nWhen: `break` or `continue` in no loop of its function\nPlace: the keyword\nExample: void worker(int self) { break; }\nIt is told at: 1:25\n",
         ),
         27 => Some(
-            "fault 27: bad format\nWhen: a conversion other than `%d`, `%u` and `%%`, or another number of arguments; an argument of another type\nPlace: the string; the argument\nExample: void worker(int self) { printf(\"%x\", 1); }\nIt is told at: 1:32\n",
+            "fault 27: bad format\nWhen: a conversion other than `%d`, `%u`, `%lld` and `%%`, or another number of arguments; an argument of another type\nPlace: the string; the argument\nExample: void worker(int self) { printf(\"%x\", 1); }\nIt is told at: 1:32\n",
         ),
         28 => Some(
             "fault 28: no worker\nWhen: no function `void worker(int)`\nPlace: empty, at the last token's end, or at the beginning where there is none\nExample: int x;\nIt is told at: 1:7\n",

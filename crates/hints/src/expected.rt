@@ -19,7 +19,7 @@ enum Part {
 
 /// Tokens that are told by their spelling, and what each is a part of.
 fn alone() -> &'static [(Candidate, &'static str, Part)] {
-    static ROWS: [(Candidate, &'static str, Part); 15] = [
+    static ROWS: [(Candidate, &'static str, Part); 16] = [
         (
             Kind::Punctuator(Punctuator::Semicolon),
             "';'",
@@ -64,6 +64,7 @@ fn alone() -> &'static [(Candidate, &'static str, Part)] {
         ),
         (Kind::Keyword(Keyword::Else), "'else'", Part::Nothing),
         (Kind::Keyword(Keyword::While), "'while'", Part::Statement),
+        (Kind::Keyword(Keyword::Long), "'long'", Part::Declaration),
         (Kind::Name("x"), "a name", Part::Expression),
         (Kind::Constant(1, Scalar::Int), "a number", Part::Expression),
         (Kind::StringLiteral("x"), "a string", Part::Nothing),

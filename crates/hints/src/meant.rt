@@ -5,8 +5,9 @@ use lex::token::{Keyword, Kind, Punctuator, Token};
 /// What is told of a reserved word of C that has no place in txc's.
 fn of_reserved(word: &[u8]) -> &'static str {
     match word {
-        b"char" | b"short" | b"long" | b"float" | b"double" | b"_Bool" => TYPES,
-        b"struct" | b"union" | b"enum" | b"typedef" => "there are no types but int and unsigned",
+        b"char" | b"short" | b"float" | b"double" | b"_Bool" => TYPES,
+        b"struct" | b"union" | b"enum" | b"typedef" =>
+            "there are no types but int, unsigned and long long",
         b"switch" | b"case" | b"default" => "there is no switch: write if and else",
         b"goto" => "there is no goto: write a loop, break and continue",
         b"sizeof" => "there is no sizeof",
@@ -60,6 +61,7 @@ pub(crate) fn of_token(
 ) -> Option<&'static str> {
     match token.kind {
         Kind::Reserved => return Some(of_reserved(word)),
+        Kind::Keyword(Keyword::Long) => return Some(LONG),
         Kind::Name(name) if is_like_a_type(name) => return Some(TYPES),
         Kind::StringLiteral(_) => return Some("a string stands in printf alone"),
         Kind::Punctuator(Punctuator::And) => return Some("there are no pointers"),
@@ -74,9 +76,13 @@ pub(crate) fn of_token(
             Some("there are no pointers, and no structs")
         }
         (
-            Some(Kind::Keyword(Keyword::Int | Keyword::Unsigned | Keyword::Void)),
+            Some(Kind::Keyword(Keyword::Int | Keyword::Unsigned | Keyword::Long | Keyword::Void)),
             Kind::Punctuator(Punctuator::Star),
         ) => { Some("there are no pointers") }
+        (
+            Some(Kind::Keyword(Keyword::Long)),
+            Kind::Keyword(Keyword::Int | Keyword::Unsigned | Keyword::Signed),
+        ) => Some(LONG),
         (Some(Kind::Name(_)), Kind::Punctuator(Punctuator::OpenBracket)) => Some(
             "arrays are global alone",
         ),
@@ -86,7 +92,9 @@ pub(crate) fn of_token(
     }
 }
 
-const TYPES: &str = "the types are int and unsigned";
+const TYPES: &str = "the types are int, unsigned and long long";
+
+const LONG: &str = "long stands in long long alone, which is signed";
 
 const TRANSACTIONS: &str =
     "the words are __transaction_atomic, __transaction_relaxed and __transaction_cancel";
@@ -123,6 +131,7 @@ pub(crate) fn of_character(byte: u8) -> Option<&'static str> {
     match byte {
         b'\'' => Some("there are no character constants: write the number"),
         b'.' => Some("there are no floating constants, and no structs"),
+        b'l' | b'L' | b'u' | b'U' => Some("a constant's suffix is u or ll"),
         _ => None,
     }
 }
@@ -130,12 +139,10 @@ pub(crate) fn of_character(byte: u8) -> Option<&'static str> {
 /// What is told beside a fault of this number, whatever stands at its place.
 pub(crate) fn of_number(number: u32) -> Option<&'static str> {
     match number {
-        2 => Some(
-            "the greatest int is 2147483647, and with u behind it the greatest number 4294967295",
-        ),
+        2 => Some("the greatest number is 9223372036854775807, and with u behind it 4294967295"),
         6 => Some("there are no macros: #include lines alone are passed over"),
         27 => Some(
-            "%d stands for an int and %u for an unsigned, one argument each; there is no other",
+            "%d stands for an int, %u for an unsigned and %lld for a long long, one argument each; there is no other",
         ),
         50 => Some(
             "write __transaction_atomic { .. } round it, or __transaction_atomic ( .. ) round an expression",

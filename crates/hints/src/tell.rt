@@ -95,7 +95,7 @@ fn is_declared_behind(tokens: &[Token<'_>], name: &str, place: usize) -> bool {
         }
         is_behind_a_type = matches!(
             token.kind,
-            Kind::Keyword(Keyword::Int | Keyword::Unsigned | Keyword::Void)
+            Kind::Keyword(Keyword::Int | Keyword::Unsigned | Keyword::Long | Keyword::Void)
         );
     }
     false

@@ -3,9 +3,9 @@
 ghost use Rattle.std.specs.Prelude.{◌≡◌};
 ghost use Rattle.lex.specs.Tokens.{toks};
 ghost use Rattle.parse.specs.inner.Reading.{Gives, take, head};
-ghost use Rattle.parse.specs.inner.Expressions.{the_type_word, starts_type, scalar};
+ghost use Rattle.parse.specs.inner.Expressions.{the_type_word, starts_type, longer, long_long, type_from, scalar};
 
-use crate::cursor::eat;
+use crate::cursor::{eat, expect};
 use crate::fault::Failure;
 use lex::token::{Fixed, Keyword, Kind, Scalar, Token};
 
@@ -15,39 +15,84 @@ pub fn starts_type(tokens: &[Token]) -> bool
 {
     match tokens {
         [first, ..] => match first.kind {
-            Kind::Keyword(Keyword::Int | Keyword::Signed | Keyword::Unsigned) => true,
+            Kind::Keyword(Keyword::Int | Keyword::Signed | Keyword::Unsigned | Keyword::Long) =>
+                true,
             _ => false,
         },
         [] => false,
     }
 }
 
-/// The word that a type begins with: the type, and whether `int` may stand behind it.
+/// A word that a type begins with.
+#[derive(Clone, Copy)]
+pub enum TypeWord {
+    Int,
+    Signed,
+    Unsigned,
+    Long,
+}
+
+/// The word that a type begins with.
 fn type_word<'t, 'a>(
     tokens: &'t [Token<'a>],
-) -> Result<((Scalar, bool), &'t [Token<'a>]), Failure<'t, 'a>>
+) -> Result<(TypeWord, &'t [Token<'a>]), Failure<'t, 'a>>
     ensures { Gives (λ x. (x.0, toks x.1.now)) result (take the_type_word (toks tokens.now)) }
 {
     match tokens {
         [first, rest @ ..] => match first.kind {
-            Kind::Keyword(Keyword::Int) => Ok(((Scalar::Int, false), rest)),
-            Kind::Keyword(Keyword::Signed) => Ok(((Scalar::Int, true), rest)),
-            Kind::Keyword(Keyword::Unsigned) => Ok(((Scalar::Unsigned, true), rest)),
+            Kind::Keyword(Keyword::Int) => Ok((TypeWord::Int, rest)),
+            Kind::Keyword(Keyword::Signed) => Ok((TypeWord::Signed, rest)),
+            Kind::Keyword(Keyword::Unsigned) => Ok((TypeWord::Unsigned, rest)),
+            Kind::Keyword(Keyword::Long) => Ok((TypeWord::Long, rest)),
             _ => Err(Failure::Wrong(tokens)),
         },
         [] => Err(Failure::Wrong(tokens)),
     }
 }
 
-/// `int | signed [int] | unsigned [int]`
+/// A type, behind which `int` may stand.
+fn longer<'t, 'a>(
+    of: Scalar,
+    tokens: &'t [Token<'a>],
+) -> Result<(Scalar, &'t [Token<'a>]), Failure<'t, 'a>>
+    ensures { Gives (λ x. (x.0, toks x.1.now)) result (longer of (toks tokens.now)) }
+{
+    match eat(tokens, Fixed::Keyword(Keyword::Int)) {
+        Some(rest) => Ok((of, rest)),
+        None => Ok((of, tokens)),
+    }
+}
+
+/// The second word of `long long`, and what stands behind it.
+fn long_long<'t, 'a>(tokens: &'t [Token<'a>]) -> Result<(Scalar, &'t [Token<'a>]), Failure<'t, 'a>>
+    ensures { Gives (λ x. (x.0, toks x.1.now)) result (long_long (toks tokens.now)) }
+{
+    let rest = expect(tokens, Fixed::Keyword(Keyword::Long))?;
+    longer(Scalar::LongLong, rest)
+}
+
+/// What stands behind a type's first word.
+fn type_from<'t, 'a>(
+    word: TypeWord,
+    tokens: &'t [Token<'a>],
+) -> Result<(Scalar, &'t [Token<'a>]), Failure<'t, 'a>>
+    ensures { Gives (λ x. (x.0, toks x.1.now)) result (type_from word (toks tokens.now)) }
+{
+    match word {
+        TypeWord::Int => Ok((Scalar::Int, tokens)),
+        TypeWord::Signed => match eat(tokens, Fixed::Keyword(Keyword::Long)) {
+            Some(rest) => long_long(rest),
+            None => longer(Scalar::Int, tokens),
+        },
+        TypeWord::Unsigned => longer(Scalar::Unsigned, tokens),
+        TypeWord::Long => long_long(tokens),
+    }
+}
+
+/// `int | signed [int] | unsigned [int] | [signed] long long [int]`
 pub fn scalar<'t, 'a>(tokens: &'t [Token<'a>]) -> Result<(Scalar, &'t [Token<'a>]), Failure<'t, 'a>>
     ensures { Gives (λ x. (x.0, toks x.1.now)) result (scalar (toks tokens.now)) }
 {
-    let ((of, longer), rest) = type_word(tokens)?;
-    if longer {
-        if let Some(rest) = eat(rest, Fixed::Keyword(Keyword::Int)) {
-            return Ok((of, rest));
-        }
-    }
-    Ok((of, rest))
+    let (word, rest) = type_word(tokens)?;
+    type_from(word, rest)
 }

@@ -2,8 +2,7 @@
 use Rattle.std.proofs.Common.{◌≡◌, ℕ, suc, ◌+◌, ◌≤◌, true, false, not, max, List, [], ◌∷◌, ◌++◌, Option, Some, None, refl, sym, ap, subst, ◌∙◌, append_assoc, arith, ◌⊎◌, inl, inr, lit≤}
 use Rattle.std.proofs.lemmas.List.{append-nil}
 use Rattle.lex.specs.declared.token.Fixed.{Fixed}
-use Rattle.lex.specs.declared.token.Fixed.TheVariants.{Keyword, Punctuator}
-use Rattle.lex.specs.declared.token.Keyword.TheVariants as key
+use Rattle.lex.specs.declared.token.Fixed.TheVariants.{Punctuator}
 use Rattle.lex.specs.declared.token.Punctuator.TheVariants as punct
 use Rattle.lex.specs.declared.token.Scalar.{Scalar}
 use Rattle.lex.specs.declared.token.Span.{Span}
@@ -35,7 +34,7 @@ use Rattle.parse.proofs.code.Ends.{covers_across, covers_one}
 use Rattle.parse.proofs.combinators.Parts.{seq_left, seq_right, is_here, seq_here, seq_not_here, fixed_place, place_fixed, head_begins, behind_exact, before_exact}
 use Rattle.parse.proofs.combinators.Choices.{kinds_exact, either_exact}
 use Rattle.parse.proofs.combinators.Lists.{Behind, listed_exact}
-use Rattle.parse.proofs.expressions.Scalars.{mark_not_fixed, scalar_exact, scalar_first}
+use Rattle.parse.proofs.expressions.Scalars.{mark_not_fixed, mark_ends, scalar_exact, scalar_first}
 use Rattle.parse.proofs.expressions.Wholes.{Calm, WholeS, closing_follows, lead_kind, seq_heads, first_kind, whole_first, not_fixed, start_not_type, name_covers, expr_covers, TightL, name_tight, whole_begins}
 
 -- ---- values that a parser's are changed to
@@ -366,7 +365,7 @@ module _ (whole tight : ℕ → Parser Expr) (d : ℕ) (EW : Exact whole expr Fi
   cast_exact : (at : Span) → Exact (λ D. cast_from (whole D) (tight D) at) (CastL at) Deeper Calm Calm d
   cast_exact at =
       imaged (CastP at) Deeper Calm Calm
-      (two (before_exact (Punctuator punct.CloseParen) (scalar_exact d) (λ t k is. mark_not_fixed (Punctuator punct.CloseParen) (Keyword key.Int) k refl is)) ET (λ a b p q l h. tt) name_tight)
+      (two (before_exact (Punctuator punct.CloseParen) (scalar_exact d) (λ t k is. mark_ends (Punctuator punct.CloseParen) t k refl refl is)) ET (λ a b p q l h. tt) name_tight)
       (λ x w. (tt, deeper x.1 w)) (λ x w. fitting x.1 w.1) (λ x h s. (none_tight h, s)) (λ x h c. c.1)
     where
       deeper : (e : Expr) → expr_depth e + 1 ≤ suc d → expr_depth e ≤ d

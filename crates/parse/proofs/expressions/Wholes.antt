@@ -236,6 +236,7 @@ start_not_type (Some t) e = go t.terminal e
     at_fixed (Keyword key.Int) e = absurd cc
     at_fixed (Keyword key.Signed) e = absurd cc
     at_fixed (Keyword key.Unsigned) e = absurd cc
+    at_fixed (Keyword key.Long) e = absurd cc
     at_fixed _ e = refl
 
     go : (k : Terminal) → is_operand (operand_terminal k) ≡ true → is_some (by_fixed type_of_fixed k) ≡ false

@@ -22,7 +22,7 @@ use Rattle.parse.proofs.combinators.FixedTokens.{that_fixed, one_begins, one_hea
 use Rattle.parse.proofs.combinators.Parts.{is_here, is_not_here, seq_here, seq_not_here, tail_begins, behind_exact, before_exact}
 use Rattle.parse.proofs.combinators.Lists.{listed_exact}
 use Rattle.parse.proofs.combinators.Starts.{true_not_false}
-use Rattle.parse.proofs.expressions.Scalars.{name_not_fixed, scalar_exact, scalar_begins}
+use Rattle.parse.proofs.expressions.Scalars.{TypeEnds, name_ends, scalar_exact, scalar_begins}
 use Rattle.parse.proofs.statements.Entries.{statements, from_statements}
 use Rattle.parse.proofs.statements.Stmts.{block_exact}
 use Rattle.parse.proofs.items.Headers.{next_not, Next, Parted, parted_not, front_head, one_of, SomeL, some_exact, sign_exact, plain_true, all_shallow, attributes_exact, no_words, scalar_not}
@@ -75,9 +75,9 @@ parameter_exact d =
     (two (scalar_exact d) (maybe_exact d) follow (record { value = None; more = []; spelled = refl }))
     (λ y p l. record { value = (y.of, y.name); same = refl; spelled = l; within = λ w. (tt, tt); stops = λ h s. s }) (λ x p l. l) (λ x w. tt) (λ x h c. tt)
   where
-    follow : (a : Scalar) (b : Option Name) (p q : List Tok) → optional (One the_name) b p → Parted (Punctuator punct.CloseParen) b (head q) → is_next (Keyword key.Int) (head (p ++ q)) ≡ false
-    follow a None p q l h = ap (λ (z : List Tok). is_next (Keyword key.Int) (head (z ++ q))) l ∙ parted_not (Punctuator punct.CloseParen) (Keyword key.Int) a refl refl (head q) h
-    follow a (Some x) p q l h = name_not_fixed (Keyword key.Int) x p q l
+    follow : (a : Scalar) (b : Option Name) (p q : List Tok) → optional (One the_name) b p → Parted (Punctuator punct.CloseParen) b (head q) → TypeEnds a (head (p ++ q))
+    follow a None p q l h = subst (λ (z : List Tok). TypeEnds a (head (z ++ q))) (sym l) (parted_not (Punctuator punct.CloseParen) (Keyword key.Int) a refl refl (head q) h, parted_not (Punctuator punct.CloseParen) (Keyword key.Long) a refl refl (head q) h)
+    follow a (Some x) p q l h = name_ends x p q l
 
 parameter_begins : Begins parameter []
 parameter_begins = let b = scalar_begins in record { value = record { of = b.value; name = None }; more = b.more; spelled = record { front = b.more; back = []; first = b.spelled; second = refl; whole = sym (append-nil b.more) } }

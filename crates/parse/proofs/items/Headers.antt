@@ -21,7 +21,7 @@ use Rattle.parse.proofs.combinators.FixedTokens.{that_fixed, one_begins}
 use Rattle.parse.proofs.combinators.Parts.{seq_map, seq_left, seq_right, is_here, is_not_here, seq_here, seq_not_here, tail_begins, head_begins, behind_exact, before_exact}
 use Rattle.parse.proofs.combinators.Choices.{either_exact}
 use Rattle.parse.proofs.combinators.Lists.{listed_exact, listed_begins}
-use Rattle.parse.proofs.expressions.Scalars.{name_begins, name_not_fixed, scalar_exact, scalar_first, type_not_fixed}
+use Rattle.parse.proofs.expressions.Scalars.{TypeEnds, name_begins, name_ends, scalar_exact, scalar_first, type_not_fixed}
 
 -- ---- what is next
 
@@ -199,21 +199,18 @@ scalar_not j apart t p q l = type_not_fixed j (head (p ++ q)) apart (scalar_firs
 abbrev VoidL : Option Scalar → Phrase
 VoidL x p = (x ≡ None) × Is (Keyword key.Void) p
 
-abbrev NoInt : {A : Type 0} → A → Option Tok → Type 0
-NoInt x h = is_next (Keyword key.Int) h ≡ false
-
 abbrev pub HeaderL : Header → Phrase
 HeaderL = Two attributes (Two result (One the_name))
 
 abbrev pub HeaderW : ℕ → Header → Type 0
 HeaderW d x = Unit {0} × (Unit {0} × Unit {0})
 
-result_exact : (d : ℕ) → Exact (λ D. read.result) result (λ D. Shallow D) NoInt Always d
+result_exact : (d : ℕ) → Exact (λ D. read.result) result (λ D. Shallow D) TypeEnds Always d
 result_exact d =
-    one_of (is_next (Keyword key.Void)) result (sign_exact (Keyword key.Void) None (λ D. Shallow D) NoInt d tt) (some_exact NoInt (scalar_exact d) (λ x h s. s))
+    one_of (is_next (Keyword key.Void)) result (sign_exact (Keyword key.Void) None (λ D. Shallow D) TypeEnds d tt) (some_exact TypeEnds (scalar_exact d) (λ x h s. s))
     (λ x p q l h. is_here (Keyword key.Void) p q l.1) type_here (λ x p l. subst (λ (z : Option Scalar). result z p) (sym l.0) l.1) type_is from
   where
-    type_here : (x : Option Scalar) (p q : List Tok) → SomeL scalar x p → NoInt x (head q) → is_next (Keyword key.Void) (head (p ++ q)) ≡ false
+    type_here : (x : Option Scalar) (p q : List Tok) → SomeL scalar x p → TypeEnds x (head q) → is_next (Keyword key.Void) (head (p ++ q)) ≡ false
     type_here None p q l h = absurd l
     type_here (Some t) p q l h = scalar_not (Keyword key.Void) refl t p q l
 
@@ -231,7 +228,7 @@ result_not j v apart (Some t) p q l = scalar_not j apart t p q l
 
 pub header_exact : (d : ℕ) → Exact (λ D. read.header) HeaderL HeaderW Always Always d
 header_exact d =
-    two (attributes_exact d) (two (result_exact d) (take_exact the_name d) (λ a b p q o h. name_not_fixed (Keyword key.Int) b p q o) name_begins) follow begins
+    two (attributes_exact d) (two (result_exact d) (take_exact the_name d) (λ a b p q o h. name_ends b p q o) name_begins) follow begins
   where
     follow : (a : List Attribute) (b : Option Scalar × Name) (p q : List Tok) → Two result (One the_name) b p → Unit {0} → Plain a (head (p ++ q))
     follow a b p q s h =

@@ -1,7 +1,6 @@
 -- Declarations, and the first part of a loop's head, are read exactly.
 use Rattle.std.proofs.Common.{◌≡◌, ℕ, zero, suc, ◌+◌, ◌≤◌, true, false, List, [], ◌∷◌, ◌++◌, Option, Some, None, Err, refl, sym, ap, append_assoc, arith, ◌⊎◌, inl, inr}
-use Rattle.lex.specs.declared.token.Fixed.TheVariants.{Keyword, Punctuator}
-use Rattle.lex.specs.declared.token.Keyword.TheVariants as key
+use Rattle.lex.specs.declared.token.Fixed.TheVariants.{Punctuator}
 use Rattle.lex.specs.declared.token.Punctuator.TheVariants as punct
 use Rattle.lex.specs.declared.token.Scalar.{Scalar}
 use Rattle.lex.specs.Tokens.{fixed, Tok}
@@ -21,7 +20,7 @@ use Rattle.parse.proofs.combinators.FixedTokens.{that_fixed, one_begins}
 use Rattle.parse.proofs.combinators.Parts.{MaybeW, MaybeS, is_here, seq_here, behind_exact, before_exact, tail_begins, perhaps_exact}
 use Rattle.parse.proofs.combinators.Knot.{knot_exact, base_exact}
 use Rattle.parse.proofs.combinators.Starts.{first_of, stops_exact}
-use Rattle.parse.proofs.expressions.Scalars.{name_begins, name_not_fixed, mark_not_fixed, type_not_fixed, scalar_exact, scalar_first, type_begins}
+use Rattle.parse.proofs.expressions.Scalars.{TypeEnds, name_begins, name_ends, mark_not_fixed, type_not_fixed, scalar_exact, scalar_first, type_begins}
 use Rattle.parse.proofs.expressions.Wholes.{WholeS, whole_begins, closing_follows}
 use Rattle.parse.proofs.expressions.Levels.{whole_exact}
 use Rattle.parse.proofs.statements.Simples.{semicolon_ends, simple_exact, simple_first, simple_not_fixed, simple_not_type}
@@ -94,9 +93,9 @@ declared_exact d =
     comma : (x : Declarator) (t : Tok) → t.terminal ≡ fixed (Punctuator punct.Comma) → DeclaratorS x (Some t)
     comma x t is = comma_value x.first t is
 
-    follow : (a : Scalar) (b : List Declarator) (p q : List Tok) → TailL b p → Unit {0} → is_next (Keyword key.Int) (head (p ++ q)) ≡ false
+    follow : (a : Scalar) (b : List Declarator) (p q : List Tok) → TailL b p → Unit {0} → TypeEnds a (head (p ++ q))
     follow a [] p q l h = absurd l.first
-    follow a (x ∷ xs) p q l h = first_of (λ h. is_next (Keyword key.Int) h ≡ false) p q l (λ r s n. first_of (λ h. is_next (Keyword key.Int) h ≡ false) r s n (λ r s n. first_of (λ h. is_next (Keyword key.Int) h ≡ false) r s n (name_not_fixed (Keyword key.Int) x.name)))
+    follow a (x ∷ xs) p q l h = first_of (λ h. TypeEnds a h) p q l (λ r s n. first_of (λ h. TypeEnds a h) r s n (λ r s n. first_of (λ h. TypeEnds a h) r s n (name_ends x.name)))
 
     fits : (xs : List Declarator) → deepest_value xs ≤ d → ManyFit DeclaratorW d xs
     fits [] w = tt

@@ -75,6 +75,7 @@ not_type (Some t) e = go t.terminal t.span e
     go (fixed (Keyword key.Int)) at e = absurd cc
     go (fixed (Keyword key.Signed)) at e = absurd cc
     go (fixed (Keyword key.Unsigned)) at e = absurd cc
+    go (fixed (Keyword key.Long)) at e = absurd cc
     go (fixed _) at e = refl
     go reserved at e = refl
 

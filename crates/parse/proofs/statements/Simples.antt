@@ -319,6 +319,7 @@ simple_not_type (Some t) e = go t.terminal e
     no_word (Keyword key.Int) e = absurd cc
     no_word (Keyword key.Signed) e = absurd cc
     no_word (Keyword key.Unsigned) e = absurd cc
+    no_word (Keyword key.Long) e = absurd cc
     no_word _ e = refl
 
     go : (k : Terminal) → (if is_some (by_fixed step_of k) then true else is_operand (operand_terminal k)) ≡ true → is_some (by_fixed type_of_fixed k) ≡ false

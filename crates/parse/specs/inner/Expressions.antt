@@ -5,7 +5,7 @@ use Rattle.lex.specs.declared.token.Fixed.TheVariants.{Keyword, Punctuator}
 use Rattle.lex.specs.declared.token.Keyword.TheVariants as key
 use Rattle.lex.specs.declared.token.Punctuator.TheVariants as punct
 use Rattle.lex.specs.declared.token.Scalar.{Scalar}
-use Rattle.lex.specs.declared.token.Scalar.TheVariants.{Int, Unsigned}
+use Rattle.lex.specs.declared.token.Scalar.TheVariants.{Int, Unsigned, LongLong}
 use Rattle.lex.specs.declared.token.Span.{Span}
 use Rattle.lex.specs.Tokens.{Terminal, name, constant, string_literal, fixed, reserved, Tok}
 use Rattle.syntax.specs.declared.tree.BinaryOp.{BinaryOp}
@@ -22,18 +22,21 @@ use Rattle.parse.specs.declared.lead.Infix.{Infix}
 use Rattle.parse.specs.declared.lead.Infix.TheVariants.{Computing, Choosing}
 use Rattle.parse.specs.declared.lead.Operand.{Operand}
 use Rattle.parse.specs.declared.lead.Operand.TheVariants as kind
+use Rattle.parse.specs.declared.scalar.TypeWord.{TypeWord}
+use Rattle.parse.specs.declared.scalar.TypeWord.TheVariants as word
 use Rattle.parse.specs.inner.Reading.{deep, ◌>>=◌, Parser, none, give, chained, seq, mapped, choice, either, sunk, listed, take, expect, spot, is_next, perhaps, behind, before, Operators, climb_loop, across}
 
 -- ---- types
 
--- a word that a type begins with, and whether `int` may stand behind it
-abbrev pub type_of_fixed : Fixed → Option (Scalar × Bool)
-type_of_fixed (Keyword key.Int) = Some (Int, false)
-type_of_fixed (Keyword key.Signed) = Some (Int, true)
-type_of_fixed (Keyword key.Unsigned) = Some (Unsigned, true)
+-- a word that a type begins with
+abbrev pub type_of_fixed : Fixed → Option TypeWord
+type_of_fixed (Keyword key.Int) = Some word.Int
+type_of_fixed (Keyword key.Signed) = Some word.Signed
+type_of_fixed (Keyword key.Unsigned) = Some word.Unsigned
+type_of_fixed (Keyword key.Long) = Some word.Long
 type_of_fixed _ = None
 
-abbrev pub the_type_word : Tok → Option (Scalar × Bool)
+abbrev pub the_type_word : Tok → Option TypeWord
 the_type_word t = by_fixed type_of_fixed t.terminal
 
 -- the first token says something of this kind
@@ -44,12 +47,23 @@ says f (Some t) = is_some (f t)
 abbrev pub starts_type : Option Tok → Bool
 starts_type = says the_type_word
 
-abbrev pub longer_type : Bool → Parser (Option (Unit {0}))
-longer_type true = perhaps (Keyword key.Int) (expect (Keyword key.Int))
-longer_type false = give None
+-- a type, behind which `int` may stand
+abbrev pub longer : Scalar → Parser Scalar
+longer of = mapped (λ x. of) (perhaps (Keyword key.Int) (expect (Keyword key.Int)))
+
+-- behind a first `long`
+abbrev pub long_long : Parser Scalar
+long_long = behind (Keyword key.Long) (longer LongLong)
+
+-- behind a type's first word
+abbrev pub type_from : TypeWord → Parser Scalar
+type_from word.Int = give Int
+type_from word.Signed = either (is_next (Keyword key.Long)) (behind (Keyword key.Long) long_long) (longer Int)
+type_from word.Unsigned = longer Unsigned
+type_from word.Long = long_long
 
 abbrev pub scalar : Parser Scalar
-scalar = mapped (λ x. x.0.0) (chained (take the_type_word) (λ w. longer_type w.1))
+scalar = mapped (λ x. x.1) (chained (take the_type_word) type_from)
 
 -- ---- operators
 
