@@ -154,12 +154,29 @@ fn comments_and_lines_of_include_are_skipped(rt: HostRuntime) {
 }
 
 fn bad() -> &'static [Refused<'static>] {
-    static ROWS: [Refused<'static>; 8] = [
+    static ROWS: [Refused<'static>; 25] = [
         ("int @", 1, 4, 5),
         ("08", 1, 1, 2),
         ("0x", 1, 1, 2),
         ("1ul", 1, 2, 3),
         ("1.5", 1, 1, 2),
+        ("1l", 1, 1, 2),
+        ("1L", 1, 1, 2),
+        ("1lL", 1, 1, 2),
+        ("1Ll", 1, 1, 2),
+        ("1lu", 1, 1, 2),
+        ("1ull", 1, 2, 3),
+        ("1uLL", 1, 2, 3),
+        ("1uu", 1, 2, 3),
+        ("1llu", 1, 3, 4),
+        ("1LLU", 1, 3, 4),
+        ("1lll", 1, 3, 4),
+        ("1ll1", 1, 3, 4),
+        ("1LL.5", 1, 3, 4),
+        ("08ll", 1, 1, 2),
+        ("0xll", 1, 1, 2),
+        ("0x1lLL", 1, 3, 4),
+        ("2147483648l", 1, 10, 11),
         ("\u{feff}int", 1, 0, 3),
         ("/* c */ #include <a>", 1, 8, 9),
         ("x #include", 1, 2, 3),
@@ -173,19 +190,39 @@ fn bad_characters(rt: HostRuntime) {
 }
 
 fn too_large() -> &'static [Refused<'static>] {
-    static ROWS: [Refused<'static>; 4] = [
-        ("x = 2147483648;", 2, 4, 14),
+    static ROWS: [Refused<'static>; 15] = [
+        ("x = 9223372036854775808;", 2, 4, 23),
+        ("18446744073709551616", 2, 0, 20),
+        ("9223372036854775808ll", 2, 0, 21),
+        ("0x8000000000000000", 2, 0, 18),
+        ("0x8000000000000000LL", 2, 0, 20),
+        ("0xffffffffffffffffffffffffffffffffffff", 2, 0, 38),
+        ("01000000000000000000000", 2, 0, 23),
+        ("01000000000000000000000ll", 2, 0, 25),
         ("4294967296u", 2, 0, 11),
-        ("0x100000000", 2, 0, 11),
-        ("99999999999x", 2, 0, 11),
+        ("0x100000000U", 2, 0, 12),
+        ("040000000000u", 2, 0, 13),
+        ("9223372036854775807u", 2, 0, 20),
+        // what is glued to one is no matter
+        ("99999999999999999999x", 2, 0, 20),
+        ("9223372036854775808l", 2, 0, 19),
+        ("4294967296ull", 2, 0, 11),
     ];
     &ROWS
 }
 
 fn largest() -> &'static [Row] {
     static ROWS: [Row; 1] = [(
-        "2147483647 4294967295U 037777777777 0",
-        &[(0, 10), (11, 22), (23, 35), (36, 37)],
+        "2147483647 4294967295U 037777777777 0 9223372036854775807 0x7FFFFFFFFFFFFFFFll 0777777777777777777777LL",
+        &[
+            (0, 10),
+            (11, 22),
+            (23, 35),
+            (36, 37),
+            (38, 57),
+            (58, 78),
+            (79, 103),
+        ],
     )];
     &ROWS
 }
@@ -194,6 +231,100 @@ fn largest() -> &'static [Row] {
 fn constants_too_large(rt: HostRuntime) {
     assert_none(&rt, refused_otherwise(rt.alloc(), too_large()));
     assert_none(&rt, stand_otherwise(rt.alloc(), largest()));
+}
+
+/// A constant, its value and its type.
+type Typed = (&'static str, u64, Scalar);
+
+/// Whether a token is a constant of this value and type.
+fn is_constant(token: &Token, value: u64, of: Scalar) -> bool {
+    match token.kind {
+        Kind::Constant(found, found_of) => found == value && found_of == of,
+        _ => false,
+    }
+}
+
+/// Whether a text is this constant alone.
+fn is_typed(alloc: Global, row: &Typed) -> bool {
+    match lex(alloc, row.0) {
+        Ok(tokens) => match tokens.as_slice() {
+            [token] => is_constant(token, row.1, row.2),
+            _ => false,
+        },
+        Err(_) => false,
+    }
+}
+
+/// The first of these constants that has another value or another type.
+fn typed_otherwise(alloc: Global, rows: &[Typed]) -> Option<&'static str> {
+    for row in rows {
+        if !is_typed(alloc, row) {
+            return Some(row.0);
+        }
+    }
+    None
+}
+
+fn typed() -> &'static [Typed] {
+    static ROWS: [Typed; 35] = [
+        ("0", 0, Scalar::Int),
+        ("0u", 0, Scalar::Unsigned),
+        ("0ll", 0, Scalar::LongLong),
+        ("1LL", 1, Scalar::LongLong),
+        ("2147483647", 2147483647, Scalar::Int),
+        ("2147483648", 2147483648, Scalar::LongLong),
+        ("4294967295", 4294967295, Scalar::LongLong),
+        ("4294967296", 4294967296, Scalar::LongLong),
+        ("9223372036854775807", 9223372036854775807, Scalar::LongLong),
+        ("2147483647u", 2147483647, Scalar::Unsigned),
+        ("2147483648U", 2147483648, Scalar::Unsigned),
+        ("4294967295u", 4294967295, Scalar::Unsigned),
+        ("2147483647ll", 2147483647, Scalar::LongLong),
+        ("2147483648LL", 2147483648, Scalar::LongLong),
+        ("4294967296ll", 4294967296, Scalar::LongLong),
+        (
+            "9223372036854775807LL",
+            9223372036854775807,
+            Scalar::LongLong,
+        ),
+        ("0x7fffffff", 2147483647, Scalar::Int),
+        ("0x80000000", 2147483648, Scalar::Unsigned),
+        ("0XFFFFFFFF", 4294967295, Scalar::Unsigned),
+        ("0x100000000", 4294967296, Scalar::LongLong),
+        ("0x7fffffffffffffff", 9223372036854775807, Scalar::LongLong),
+        ("0x7fffffffu", 2147483647, Scalar::Unsigned),
+        ("0xffffffffU", 4294967295, Scalar::Unsigned),
+        ("0x0ll", 0, Scalar::LongLong),
+        ("0x80000000LL", 2147483648, Scalar::LongLong),
+        (
+            "0X7FFFFFFFFFFFFFFFll",
+            9223372036854775807,
+            Scalar::LongLong,
+        ),
+        ("017777777777", 2147483647, Scalar::Int),
+        ("020000000000", 2147483648, Scalar::Unsigned),
+        ("037777777777", 4294967295, Scalar::Unsigned),
+        ("040000000000", 4294967296, Scalar::LongLong),
+        (
+            "0777777777777777777777",
+            9223372036854775807,
+            Scalar::LongLong,
+        ),
+        ("017777777777u", 2147483647, Scalar::Unsigned),
+        ("037777777777U", 4294967295, Scalar::Unsigned),
+        ("037777777777LL", 4294967295, Scalar::LongLong),
+        (
+            "0777777777777777777777ll",
+            9223372036854775807,
+            Scalar::LongLong,
+        ),
+    ];
+    &ROWS
+}
+
+#[test]
+fn a_constant_has_the_first_type_that_holds_it(rt: HostRuntime) {
+    assert_none(&rt, typed_otherwise(rt.alloc(), typed()));
 }
 
 fn open() -> &'static [Refused<'static>] {

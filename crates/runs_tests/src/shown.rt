@@ -74,7 +74,12 @@ const GLOBALS: [Words; 3] = [
     (
         "c",
         Scalar::LongLong,
-        &[4294967295, 9223372036854775808, 18446744073709551615],
+        &[
+            18446744073709551615,
+            4294967295,
+            9223372036854775807,
+            9223372036854775808,
+        ],
     ),
 ];
 
@@ -106,7 +111,7 @@ fn is_text(text: Result<Vec<u8>, AllocError>, wanted: &[u8]) -> bool {
 }
 
 const REPLAYED: &[u8] =
-    b"== events\n7 0 commit\n13 1 abort\n13 1 cancel\n19 1 trap 5\n== thread 0: running\none\ntwo\n== thread 1: trap 5\ngo\n== memory\na = 1 4294967295\nb = -1\nc = 4294967295 -9223372036854775808 -1\n";
+    b"== events\n7 0 commit\n13 1 abort\n13 1 cancel\n19 1 trap 5\n== thread 0: running\none\ntwo\n== thread 1: trap 5\ngo\n== memory\na = 1 4294967295\nb = -1\nc = -1 4294967295 9223372036854775807 -9223372036854775808\n";
 
 const HELD: &[u8] =
     b"== events\n7 0 commit\n13 1 abort\n13 1 cancel\n19 1 trap 5\n== thread 0: running\none\ntwo\n== thread 1: trap 5\ngo\n== memory: lock held by thread 1\n";

@@ -10,7 +10,7 @@ type Example = (&'static str, &'static [u8], &'static [u8]);
 
 /// The rows stand in a function, so that no proof but its own looks at them.
 fn examples() -> &'static [Example] {
-    static ROWS: [Example; 27] = [
+    static ROWS: [Example; 28] = [
         (
             "examples/booking.c",
             b"// A cancel of an inner transaction undoes the inner one alone: who finds no seat in the train takes one in the bus, and what the\n// outer transaction wrote before stays. Each thread books twice.\nint train = 1, bus = 9, asked, by_train, by_bus;\n\nvoid worker(int self) {\n    int i;\n    for (i = 0; i < 2; i++) {\n        __transaction_atomic {\n            int seated = 0;\n            asked = asked + 1;\n            __transaction_atomic {\n                train = train - 1;\n                by_train = by_train + 1;\n                if (train < 0) __transaction_cancel;\n                seated = 1;\n            }\n            if (!seated) {\n                bus = bus - 1;\n                by_bus = by_bus + 1;\n            }\n        }\n    }\n}\n",
@@ -35,6 +35,11 @@ fn examples() -> &'static [Example] {
             "examples/first.c",
             b"int x = 40, y; void worker(int self) { __transaction_atomic { x = x + 2; y = x - 1; } }\n",
             b"== thread 0: ended\n== memory\nx = 42\ny = 41\n",
+        ),
+        (
+            "examples/fund.c",
+            b"// Cents that no `int` holds: each payment is an eighth of what is left of the fund, and both together stay what they were.\nlong long fund = 1234567890123, paid;\nint payments;\n\nvoid worker(int self) {\n    int i;\n    for (i = 0; i < 3; i++) {\n        long long part;\n        __transaction_atomic {\n            part = fund / 8;\n            fund = fund - part;\n            paid = paid + part;\n            payments++;\n        }\n        printf(\"%lld dollars, %d cents\\n\", part / 100, (int)(part % 100));\n    }\n}\n",
+            b"== thread 0: ended\n1543209862 dollars, 65 cents\n1350308629 dollars, 82 cents\n1181520051 dollars, 9 cents\n== memory\nfund = 827064035767\npaid = 407503854356\npayments = 3\n",
         ),
         (
             "examples/hashset.c",
@@ -177,7 +182,7 @@ fn examples_print_what_they_should(rt: HostRuntime) {
 type Transcript = (&'static str, &'static [u8], &'static [u8], &'static [u8]);
 
 fn transcripts() -> &'static [Transcript] {
-    static ROWS: [Transcript; 39] = [
+    static ROWS: [Transcript; 41] = [
         (
             "txc check examples/queue.c",
             b"// A bounded queue: one transaction puts or takes, and a cancel undoes what does not fit.\nint slots[4], head, count, refused;\n\nint put(int value) {\n    int done = 0;\n    __transaction_atomic {\n        slots[(head + count) % 4] = value;\n        count++;\n        if (count > 4) __transaction_cancel;\n        done = 1;\n    }\n    return done;\n}\n\nvoid worker(int self) {\n    int i;\n    for (i = 1; i <= 6; i++) {\n        if (!put(i * i)) {\n            __transaction_atomic { refused++; }\n        }\n    }\n    __transaction_relaxed {\n        printf(\"%d waiting, %d refused\\n\", count, refused);\n        while (count > 0) {\n            printf(\"%d \", slots[head]);\n            head = (head + 1) % 4;\n            count--;\n        }\n    }\n    printf(\"\\n\");\n}\n",
@@ -207,6 +212,12 @@ fn transcripts() -> &'static [Transcript] {
             b"int head, total;\n\nvoid worker(int self) {\n    while (head < 2) {\n        __transaction_atomic { head++; }\n    }\n}\n",
             b"",
             b"txc: fault 50 at 4:12: shared access outside a transaction\n    while (head < 2) {\n           ^^^^\nwrite __transaction_atomic { .. } round it, or __transaction_atomic ( .. ) round an expression\ntxc explain 50 says more\n",
+        ),
+        (
+            "txc check examples/refused/fund.c",
+            b"long long fund = 1234567890123;\n\nvoid worker(int self) {\n    long long part = __transaction_atomic (fund / 8);\n    printf(\"%d cents\\n\", part);\n}\n",
+            b"",
+            b"txc: fault 27 at 5:26: bad format\n    printf(\"%d cents\\n\", part);\n                         ^^^^\n%d stands for an int, %u for an unsigned and %lld for a long long, one argument each; there is no other\ntxc explain 27 says more\n",
         ),
         (
             "txc check examples/refused/receipt.c",
@@ -369,6 +380,12 @@ fn transcripts() -> &'static [Transcript] {
             b"// Each thread adds one, three times. No addition is lost, whatever the threads do.\nint x;\n\nvoid worker(int self) {\n    int i;\n    for (i = 0; i < 3; i++) {\n        __transaction_atomic { x = x + 1; }\n    }\n}\n",
             b"",
             b"== thread 0: waits\n== thread 1: waits\n== memory\nx = 3\n",
+        ),
+        (
+            "txc source examples/fund.c --threads 2 --order 0,1,1,0,1,0",
+            b"// Cents that no `int` holds: each payment is an eighth of what is left of the fund, and both together stay what they were.\nlong long fund = 1234567890123, paid;\nint payments;\n\nvoid worker(int self) {\n    int i;\n    for (i = 0; i < 3; i++) {\n        long long part;\n        __transaction_atomic {\n            part = fund / 8;\n            fund = fund - part;\n            paid = paid + part;\n            payments++;\n        }\n        printf(\"%lld dollars, %d cents\\n\", part / 100, (int)(part % 100));\n    }\n}\n",
+            b"",
+            b"== thread 0: ended\n1543209862 dollars, 65 cents\n1033830044 dollars, 70 cents\n791526127 dollars, 98 cents\n== thread 1: ended\n1350308629 dollars, 82 cents\n1181520051 dollars, 9 cents\n904601289 dollars, 12 cents\n== memory\nfund = 554068289587\npaid = 680499600536\npayments = 6\n",
         ),
         (
             "txc source examples/hashset.c --threads 2 --order 0,1,0,1,0,1,0,1",

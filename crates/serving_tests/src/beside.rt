@@ -9,7 +9,7 @@ use std::thread::Threads;
 type Row = (&'static str, &'static str);
 
 fn rows() -> &'static [Row] {
-    static ROWS: [Row; 23] = [
+    static ROWS: [Row; 27] = [
         (
             "int x y;",
             "txc: fault 10 at 1:7: unexpected token\nint x y;\n      ^\nexpected ';', ',', '(', '[' or '='\ntxc explain 10 says more\n",
@@ -24,7 +24,7 @@ fn rows() -> &'static [Row] {
         ),
         (
             "char c;",
-            "txc: fault 10 at 1:1: unexpected token\nchar c;\n^^^^\nthe types are int and unsigned\nexpected a declaration\ntxc explain 10 says more\n",
+            "txc: fault 10 at 1:1: unexpected token\nchar c;\n^^^^\nthe types are int, unsigned and long long\nexpected a declaration\ntxc explain 10 says more\n",
         ),
         (
             "int *p;",
@@ -56,7 +56,7 @@ fn rows() -> &'static [Row] {
         ),
         (
             "bool b;",
-            "txc: fault 10 at 1:1: unexpected token\nbool b;\n^^^^\nthe types are int and unsigned\nexpected a declaration\ntxc explain 10 says more\n",
+            "txc: fault 10 at 1:1: unexpected token\nbool b;\n^^^^\nthe types are int, unsigned and long long\nexpected a declaration\ntxc explain 10 says more\n",
         ),
         (
             "void worker(int self) { int a, b; a = b = 1; }",
@@ -84,7 +84,7 @@ fn rows() -> &'static [Row] {
         ),
         (
             "void worker(int self) { printf(\"%x\", self); }",
-            "txc: fault 27 at 1:32: bad format\nvoid worker(int self) { printf(\"%x\", self); }\n                               ^^^^\n%d stands for an int and %u for an unsigned, one argument each; there is no other\ntxc explain 27 says more\n",
+            "txc: fault 27 at 1:32: bad format\nvoid worker(int self) { printf(\"%x\", self); }\n                               ^^^^\n%d stands for an int, %u for an unsigned and %lld for a long long, one argument each; there is no other\ntxc explain 27 says more\n",
         ),
         (
             "int x; void worker(int self) { x = 1; }",
@@ -101,6 +101,22 @@ fn rows() -> &'static [Row] {
         (
             "void worker(void) { }",
             "txc: fault 28 at 1:22: no worker\nvoid worker(void) { }\n                     ^\nthread T runs worker(T), written void worker(int self)\ntxc explain 28 says more\n",
+        ),
+        (
+            "unsigned long long x;",
+            "txc: fault 10 at 1:10: unexpected token\nunsigned long long x;\n         ^^^^\nlong stands in long long alone, which is signed\nexpected a name\ntxc explain 10 says more\n",
+        ),
+        (
+            "long int x;",
+            "txc: fault 10 at 1:6: unexpected token\nlong int x;\n     ^^^\nlong stands in long long alone, which is signed\nexpected 'long'\ntxc explain 10 says more\n",
+        ),
+        (
+            "int x = 1ul;",
+            "txc: fault 01 at 1:11: bad character\nint x = 1ul;\n          ^\na constant's suffix is u or ll\ntxc explain 01 says more\n",
+        ),
+        (
+            "int x = 9223372036854775808;",
+            "txc: fault 02 at 1:9: constant too large\nint x = 9223372036854775808;\n        ^^^^^^^^^^^^^^^^^^^\nthe greatest number is 9223372036854775807, and with u behind it 4294967295\ntxc explain 02 says more\n",
         ),
     ];
     &ROWS

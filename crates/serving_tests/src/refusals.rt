@@ -14,13 +14,17 @@ type Told = (&'static str, u32, &'static str);
 
 /// The faults of sources, each with a short source that has it.
 fn told() -> &'static [Told] {
-    static TOLD: [Told; 36] = [
+    static TOLD: [Told; 41] = [
         ("int x$;", 1, "1:6: bad character"),
-        ("int x = 2147483648;", 2, "1:9: constant too large"),
+        ("long long x = 1ull;", 1, "1:17: bad character"),
+        ("int x = 9223372036854775808;", 2, "1:9: constant too large"),
+        ("unsigned x = 4294967296u;", 2, "1:14: constant too large"),
         ("void worker(int self) { } /* end", 3, "1:27: open comment"),
         ("void worker(int self) { printf(\"a", 4, "1:32: bad string"),
         ("#define A 1", 6, "1:1: directive"),
         ("int x y;", 10, "1:7: unexpected token"),
+        ("unsigned long long x;", 10, "1:10: unexpected token"),
+        ("long int x;", 10, "1:6: unexpected token"),
         ("void worker(int self) {", 12, "1:24: unexpected end"),
         (
             "void worker(int self) { __transaction_atomic { z = 1; } }",
@@ -72,6 +76,11 @@ fn told() -> &'static [Told] {
             "void worker(int self) { printf(\"%x\", 1); }",
             27,
             "1:32: bad format",
+        ),
+        (
+            "void worker(int self) { printf(\"%d\", 1LL); }",
+            27,
+            "1:38: bad format",
         ),
         ("int x;", 28, "1:7: no worker"),
         ("", 28, "1:1: no worker"),

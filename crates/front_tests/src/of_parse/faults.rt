@@ -5,7 +5,7 @@ use crate::stages::{Row, Stage, has_another};
 
 /// The rows stand in a function, so that no proof but its own looks at them.
 fn rows() -> &'static [Row] {
-    static ROWS: [Row; 56] = [
+    static ROWS: [Row; 85] = [
         // what stands where no program goes on
         ("int x = ;", 10, 8, 9),
         ("int = 3;", 10, 4, 5),
@@ -34,6 +34,36 @@ fn rows() -> &'static [Row] {
         ("void f(void) { f(,); }", 10, 17, 18),
         ("void f(void) { for (int a;;) ; ) }", 10, 31, 32),
         ("void f(void) { printf(a); }", 10, 22, 23),
+        // `long` stands twice, and neither alone nor beside `unsigned`
+        ("unsigned long x;", 10, 9, 13),
+        ("unsigned long long x;", 10, 9, 13),
+        ("long int x;", 10, 5, 8),
+        ("long x;", 10, 5, 6),
+        ("int long x;", 10, 4, 8),
+        ("int long long x;", 10, 4, 8),
+        ("long long unsigned x;", 10, 10, 18),
+        ("long long long x;", 10, 10, 14),
+        ("long long int int x;", 10, 14, 17),
+        ("signed int long long x;", 10, 11, 15),
+        ("signed long x;", 10, 12, 13),
+        ("signed long int x;", 10, 12, 15),
+        ("long signed long x;", 10, 5, 11),
+        ("signed unsigned long long x;", 10, 7, 15),
+        ("long long signed x;", 10, 10, 16),
+        ("long;", 10, 4, 5),
+        ("int x = long;", 10, 8, 12),
+        ("void f(unsigned long long a);", 10, 16, 20),
+        ("void f(long);", 10, 11, 12),
+        ("void f(void) { long v; }", 10, 20, 21),
+        ("void f(void) { int v = (long) 1; }", 10, 28, 29),
+        ("void f(void) { int v = (long int) 1; }", 10, 29, 32),
+        ("void f(void) { long = 1; }", 10, 20, 21),
+        ("void f(void) { long long; }", 10, 24, 25),
+        ("long", 12, 4, 4),
+        ("signed long", 12, 11, 11),
+        ("long long", 12, 9, 9),
+        ("signed long long int", 12, 20, 20),
+        ("void f(void) { (long", 12, 20, 20),
         // a transaction is a block, or an operand in parentheses
         ("void f(void) { __transaction_atomic a; }", 10, 36, 37),
         ("void f(void) { __transaction_relaxed ; }", 10, 37, 38),

@@ -5,7 +5,7 @@ use crate::stages::{Stage, faulty};
 
 /// The rows stand in a function, so that no proof but its own looks at them.
 fn items() -> &'static [&'static str] {
-    static ROWS: [&str; 27] = [
+    static ROWS: [&str; 34] = [
         // a program without an item
         "",
         // globals: each type's spellings, one and several, with and without a first value
@@ -17,6 +17,13 @@ fn items() -> &'static [&'static str] {
         "int a, b = 1, c;",
         "int a = -1;",
         "unsigned a = 4294967295u;",
+        "long long a;",
+        "long long int a;",
+        "signed long long a;",
+        "signed long long int a;",
+        "long long a = -9223372036854775807, b[2] = {0x7fffffffffffffffLL, 1u}, c = 0ll;",
+        "int a[3LL];",
+        "long long f(long long, signed long long int b);",
         // arrays
         "int a[3];",
         "int a[3u] = {1};",
@@ -44,7 +51,7 @@ fn items() -> &'static [&'static str] {
 }
 
 fn statements() -> &'static [&'static str] {
-    static ROWS: [&str; 65] = [
+    static ROWS: [&str; 69] = [
         // statements in a function: the empty one, blocks, declarations
         "void f() { ; }",
         "void f() { { } }",
@@ -103,6 +110,11 @@ fn statements() -> &'static [&'static str] {
         "void f() { a = b && c || d; }",
         "void f() { a = b ? c : d ? e : f; }",
         "void f() { a = b ? c ? d : e : f; }",
+        // `long long`
+        "void f() { long long a; signed long long b = 1LL, c; }",
+        "void f() { for (long long int a = 1; a < 2; ++a) ; }",
+        "void f() { a = (long long)b; a = (signed long long)b; a = (long long int)-(b); a = (signed long long int)(int)b; }",
+        "void f(long long int a, signed long long b) { a = 1ll + 1LL; }",
         // transactions that are expressions: as a statement, before an operator, in one another, and where any expression stands
         "void f() { __transaction_atomic (a); }",
         "void f() { __transaction_atomic(a) + 1; }",

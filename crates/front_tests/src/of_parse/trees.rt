@@ -23,6 +23,8 @@ pub enum Shape {
     Declared,
     /// The two declarations of `GLOBALS`.
     Globals,
+    /// One global of this type.
+    Of(Scalar),
 }
 
 /// A program, and the tree that it is to have.
@@ -213,6 +215,17 @@ fn keeps_values(unit: &Unit) -> bool {
     }
 }
 
+// Whether the tree's one item is a global of this type.
+fn is_one_of(unit: &Unit, of: Scalar) -> bool {
+    match unit.items.as_slice() {
+        [Item::Globals(globals)] => match globals.as_slice() {
+            [global] => global.of == of,
+            _ => false,
+        },
+        _ => false,
+    }
+}
+
 // Whether the one function of a tree has so many statements.
 fn has_statements(body: Option<&[Stmt]>, count: usize) -> bool {
     match body {
@@ -230,6 +243,7 @@ fn is_shaped(unit: &Unit, shape: Shape) -> bool {
         Shape::Sum(op, left, right) => grouped(body_of(unit)) == Some((op, left, right)),
         Shape::Declared => keeps_function(unit),
         Shape::Globals => keeps_values(unit),
+        Shape::Of(of) => is_one_of(unit, of),
     }
 }
 
@@ -259,6 +273,26 @@ fn an_else_belongs_to_the_nearest_if(rt: HostRuntime) {
 #[test]
 fn operators_group_by_level_and_to_the_left(rt: HostRuntime) {
     assert_none(&rt, shaped_otherwise(rt.alloc(), sums()));
+}
+
+fn spellings() -> &'static [Row] {
+    static ROWS: [Row; 9] = [
+        ("int a;", Shape::Of(Scalar::Int)),
+        ("signed a;", Shape::Of(Scalar::Int)),
+        ("signed int a;", Shape::Of(Scalar::Int)),
+        ("unsigned a;", Shape::Of(Scalar::Unsigned)),
+        ("unsigned int a;", Shape::Of(Scalar::Unsigned)),
+        ("long long a;", Shape::Of(Scalar::LongLong)),
+        ("long long int a;", Shape::Of(Scalar::LongLong)),
+        ("signed long long a;", Shape::Of(Scalar::LongLong)),
+        ("signed long long int a;", Shape::Of(Scalar::LongLong)),
+    ];
+    &ROWS
+}
+
+#[test]
+fn words_spell_types(rt: HostRuntime) {
+    assert_none(&rt, shaped_otherwise(rt.alloc(), spellings()));
 }
 
 #[test]

@@ -8,7 +8,7 @@ use types::check;
 
 /// The rows stand in a function, so that no proof but its own looks at them.
 fn rows() -> &'static [&'static str] {
-    static ROWS: [&str; 12] = [
+    static ROWS: [&str; 18] = [
         "void worker(int self) { }",
         "void worker(int); void worker(int self) { }",
         // a local is known in its own initialiser, also where it hides a global or a function
@@ -28,6 +28,13 @@ fn rows() -> &'static [&'static str] {
         // a transaction that is an expression has its operand's type
         "unsigned u; void worker(int self) { printf(\"%d%u%d%u\", __transaction_atomic (self), __transaction_atomic (u), __transaction_relaxed (u < 1), __transaction_atomic (self) + __transaction_relaxed (u)); }",
         "unsigned u; int f(int n) { return __transaction_atomic (n); } void worker(int self) { __transaction_atomic (1) + 1; printf(\"%u%d\", __transaction_atomic (u) >> 1, -__transaction_relaxed (f(__transaction_atomic (self ? 1 : 2)))); }",
+        // `long long`: initialisers and lengths, functions, cells and indices, conditions, figures
+        "int a[3LL] = {1, -2ll, 0x100000000}; unsigned b = 4294967296; long long c = -0x80000000, d[4091ll] = {1u, 2, 3LL}; void worker(int self) { }",
+        "long long f(long long); int g(long long a) { return f(a); } long long f(signed long long int b) { return g(b) + b; } void worker(int self) { int v = f(self); long long w = f(1u) + g(v); }",
+        "int a[2]; long long x; void worker(int self) { __transaction_atomic { a[x] = 1LL; a[0x100000000] += x; x <<= a[1LL]; x++; a[x - 1]--; } }",
+        "void worker(int self) { if (1LL) while (0ll) ; for (; 1LL;) break; do ; while (!0LL); self = 1LL && 2 || 3u; self = 1LL ? 2 : 3; }",
+        "void worker(int self) { printf(\"%lld%lld%lld%lldd\", self + 1LL, -(1LL), ~1LL << 1, self ? 1u : 1LL); printf(\"%d%d%d%u\", 1LL == 1, !1LL, self << 1LL, 1u >> 1LL); }",
+        "unsigned u; void worker(int self) { printf(\"%lld%%lld%lld%d\", (long long)self, __transaction_atomic (u) * 1LL, (int)1LL); printf(\"%lld%lld\", 2147483648, __transaction_relaxed (1LL)); }",
     ];
     &ROWS
 }

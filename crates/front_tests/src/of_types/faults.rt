@@ -5,7 +5,7 @@ use crate::stages::{Row, Stage, has_another};
 
 /// The rows stand in a function, so that no proof but its own looks at them.
 fn rows() -> &'static [Row] {
-    static ROWS: [Row; 88] = [
+    static ROWS: [Row; 122] = [
         // a name that is not known
         ("void worker(int self) { x = 1; }", 20, 24, 25),
         ("void worker(int self) { int v = f(1); }", 20, 32, 33),
@@ -184,6 +184,146 @@ fn rows() -> &'static [Row] {
         ),
         ("void worker(int self) {  } int g(void);", 29, 31, 32),
         ("void worker(int k);", 29, 5, 11),
+        // formats, types, lengths and workers of `long long`
+        ("void worker(int self) { printf(\"%l\", 1); }", 27, 31, 35),
+        (
+            "void worker(int self) { printf(\"%ld\", 1LL); }",
+            27,
+            31,
+            36,
+        ),
+        (
+            "void worker(int self) { printf(\"%ll\", 1LL); }",
+            27,
+            31,
+            36,
+        ),
+        (
+            "void worker(int self) { printf(\"%llu\", 1LL); }",
+            27,
+            31,
+            37,
+        ),
+        (
+            "void worker(int self) { printf(\"%lId\", 1LL); }",
+            27,
+            31,
+            37,
+        ),
+        (
+            "void worker(int self) { printf(\"%LLd\", 1LL); }",
+            27,
+            31,
+            37,
+        ),
+        (
+            "void worker(int self) { printf(\"%lld%l\", 1LL, 1LL); }",
+            27,
+            31,
+            39,
+        ),
+        ("void worker(int self) { printf(\"%lld\"); }", 27, 31, 37),
+        (
+            "void worker(int self) { printf(\"%lld%%\", 1LL, 1LL); }",
+            27,
+            31,
+            39,
+        ),
+        ("void worker(int self) { printf(\"%d\", 1LL); }", 27, 37, 40),
+        ("void worker(int self) { printf(\"%u\", 1LL); }", 27, 37, 40),
+        ("void worker(int self) { printf(\"%lld\", 1); }", 27, 39, 40),
+        (
+            "void worker(int self) { printf(\"%lld\", 4294967295u); }",
+            27,
+            39,
+            50,
+        ),
+        (
+            "void worker(int self) { printf(\"%d\", 2147483648); }",
+            27,
+            37,
+            47,
+        ),
+        (
+            "void worker(int self) { printf(\"%lld%d\", 1LL, self + 1LL); }",
+            27,
+            46,
+            56,
+        ),
+        (
+            "void worker(int self) { printf(\"%d\", self ? 1LL : 1); }",
+            27,
+            37,
+            51,
+        ),
+        (
+            "void worker(int self) { printf(\"%lld\", 1LL < 2); }",
+            27,
+            39,
+            46,
+        ),
+        (
+            "void worker(int self) { printf(\"%lld\", !1LL); }",
+            27,
+            39,
+            43,
+        ),
+        (
+            "void worker(int self) { printf(\"%lld\", 1 << 1LL); }",
+            27,
+            39,
+            47,
+        ),
+        (
+            "void worker(int self) { printf(\"%u%lldd%lld\", 1u, 1LL, (int)1LL); }",
+            27,
+            55,
+            63,
+        ),
+        (
+            "void f(long long); void f(int a) { } void worker(int k) { }",
+            22,
+            24,
+            25,
+        ),
+        (
+            "int f(void); long long f(void) { } void worker(int k) { }",
+            22,
+            23,
+            24,
+        ),
+        (
+            "void f(unsigned); void f(long long a) { } void worker(int k) { }",
+            22,
+            23,
+            24,
+        ),
+        ("int a[0LL]; void worker(int k) { }", 25, 6, 9),
+        ("int a[4294967297]; void worker(int k) { }", 25, 6, 16),
+        (
+            "int a[9223372036854775807]; void worker(int k) { }",
+            25,
+            6,
+            25,
+        ),
+        ("int a[1], b[18446744]; void worker(int k) { }", 25, 12, 20),
+        (
+            "int a[4095], b[4294967297ll]; void worker(int k) { }",
+            25,
+            15,
+            27,
+        ),
+        ("long long a[4097]; void worker(int k) { }", 25, 12, 16),
+        ("long long a[4096], b; void worker(int k) { }", 25, 19, 20),
+        ("void worker(long long k) { }", 28, 28, 28),
+        ("long long worker(int k) { }", 28, 27, 27),
+        (
+            "void f(long long a) { } void worker(int k) { f(1LL, 2); }",
+            23,
+            45,
+            46,
+        ),
+        ("void worker(int k) { 1LL = 2; }", 24, 21, 24),
         // the first of several
         ("void worker(int self) { x = y; int self; }", 20, 24, 25),
         ("int a[1], a[0]; void worker(int k) { }", 21, 10, 11),

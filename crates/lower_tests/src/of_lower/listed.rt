@@ -9,7 +9,7 @@ pub type Listed = (&'static str, &'static str);
 
 /// The rows stand in a function, so that no proof but its own looks at them.
 pub fn rows() -> &'static [Listed] {
-    static ROWS: [Listed; 16] = [
+    static ROWS: [Listed; 18] = [
         (
             "int x; void worker(int self) { __transaction_atomic { x = x + 1; } }",
             "function worker registers 3\n0 begin >6\n1 rd r1 @0\n2 const r2 #1\n3 add.s r1 r1 r2\n4 wr @0 r1\n5 commit\n6 ret\n",
@@ -69,6 +69,14 @@ pub fn rows() -> &'static [Listed] {
         (
             "int x; void worker(int self) { int i, n; for (i = 0; i < 3; i++) { __transaction_atomic [[outer]] { n = n + 1; __transaction_atomic { if (i) __transaction_cancel; __transaction_atomic { x = x + n; if (x > 1) __transaction_cancel [[outer]]; } } if (n == 4) __transaction_cancel [[outer]]; } } }",
             "function worker registers 8\n0 const r5 #3\n1 const r6 #1\n2 const r7 #4\n3 const r1 #0\n4 const r2 #0\n5 const r1 #0\n6 jump >29\n7 jump >31\n8 jump >28\n9 begin >28\n10 add.s r2 r2 r6\n11 begin >24\n12 jz r1 >14\n13 cancel\n14 begin >23\n15 rd r3 @0\n16 add.s r3 r3 r2\n17 wr @0 r3\n18 rd r3 @0\n19 lt.s r3 r6 r3\n20 jz r3 >22\n21 cancelx #3\n22 commit\n23 commit\n24 eq r3 r2 r7\n25 jz r3 >27\n26 cancel\n27 commit\n28 add.s r1 r1 r6\n29 lt.s r3 r1 r5\n30 jnz r3 >9\n31 ret\n",
+        ),
+        (
+            "int x; long long y; unsigned u; void worker(int self) { __transaction_atomic { y = x + 1; x = y - 4294967296; y += x; u = y; y = u; } }",
+            "function worker registers 3\n0 begin >20\n1 rd r1 @0\n2 const r2 #1\n3 add.s r1 r1 r2\n4 ext r1 r1\n5 wr @1 r1\n6 rd r1 @1\n7 const r2 #4294967296\n8 sub.l r1 r1 r2\n9 wr @0 r1\n10 rd r1 @1\n11 rd r2 @0\n12 ext r2 r2\n13 add.l r1 r1 r2\n14 wr @1 r1\n15 rd r1 @1\n16 wr @2 r1\n17 rd r1 @2\n18 wr @1 r1\n19 commit\n20 ret\n",
+        ),
+        (
+            "long long f(long long a, int b) { return b; } void worker(int self) { long long v = self; int n = v; v = f(self, v) << 3LL; v = self ? v : 1u; printf(\"%lld %d\", v + 1, (int)v); }",
+            "function f registers 3\n0 ext r2 r1\n1 ret r2\n2 ret\nfunction worker registers 5\n3 const r1 #0\n4 ext r1 r0\n5 const r2 #0\n6 low r2 r1\n7 ext r3 r0\n8 low r4 r1\n9 call f r3 r3 r4\n10 const r4 #3\n11 shl.l r1 r3 r4\n12 jz r0 >14\n13 jump >15\n14 const r1 #1\n15 irrevocable\n16 const r3 #1\n17 add.l r3 r1 r3\n18 low r4 r1\n19 print.l r3\n20 print.t #0\n21 print.s r4\n22 ret\ntext 0 \" \"\n",
         ),
         (
             "void worker(int self) { int v = 1 + 1 + 1 + 1 + 1 + 1 + 1 + 1 + 1 + 1 + 1 + 1 + 1 + 1 + 1 + 1 + 1 + 1 + 1 + 1 + 1 + 1 + 1 + 1 + 1 + 1 + 1 + 1 + 1 + 1 + 1 + 1 + 1 + 1 + 1 + 1 + 1 + 1 + 1 + 1 + 1 + 1 + 1 + 1 + 1 + 1 + 1 + 1 + 1 + 1 + 1 + 1 + 1 + 1 + 1 + 1 + 1 + 1 + 1 + 1 + 1 + 1 + 1 + 1 + 1 + 1 + 1 + 1 + 1 + 1 + 1 + 1 + 1 + 1 + 1 + 1 + 1 + 1 + 1 + 1 + 1 + 1 + 1 + 1 + 1 + 1 + 1 + 1 + 1 + 1; }",

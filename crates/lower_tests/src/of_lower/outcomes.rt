@@ -299,9 +299,44 @@ fn texts() -> &'static [&'static str] {
     &TEXTS
 }
 
+/// Programs with `long long`: operators where numbers end, conversions, indices, conditions, loops and cancels.
+fn wide_texts() -> &'static [&'static str] {
+    static TEXTS: [&str; 23] = [
+        "long long m(int i) { return i == 0 ? 9223372036854775807 : i == 1 ? -9223372036854775807 - 1 : i == 2 ? 2147483648 : 4294967295u; } void worker(int self) { for (int i = 0; i < 4; i++) for (long long j = 0; j < 4; j++) { long long a = m(i), b = m(j); printf(\"%lld %lld %lld %lld;\", a & b, a | b, a ^ b, ~a); printf(\"%d%d%d%d%d%d \", a < b, a > b, a <= b, a >= b, a == b, a != b); } }",
+        "long long m(int i) { return i == 0 ? 9223372036854775807 : i == 1 ? -9223372036854775807 - 1 : i == 2 ? -4294967296 : 1u; } void worker(int self) { for (int i = 0; i < 4; i++) for (int j = 0; j < 4; j++) { long long a = m(i), b = m(j); printf(\"%lld %lld \", a / (b | 3), a % (b | 3)); printf(\"%lld %lld;\", a / 2 + b / 2, a / 2 - b / 2); } }",
+        "void worker(int self) { long long a = 3037000499, b = -4294967296; printf(\"%lld %lld \", a * a, b * 2147483648); printf(\"%lld %lld %lld\", a * -1, b * self, a * 4294967295u); printf(\" %lld\", a * (a + 1)); }",
+        "void worker(int self) { long long a = -9223372036854775807, b = 9223372036854775806; printf(\"%lld %lld %lld \", a - 1, b + 1, -b); a--; b++; printf(\"%lld %lld \", a, b); printf(\"%lld\", a / -1); }",
+        "void worker(int self) { long long a = -9223372036854775807 - 1; printf(\"%lld %lld \", a / 1, a % 1); printf(\"%lld\", a % -1); }",
+        "void worker(int self) { long long a = 9223372036854775807; printf(\"%lld \", -a); printf(\"%lld\", -(-a - 1)); }",
+        "void worker(int self) { int i = -2147483647 - 1; printf(\"%lld %lld \", i / -1LL, i % -1LL); i += 4294967295; printf(\"%d \", i); i += 1LL; printf(\"%d \", i); i *= 4294967297; printf(\"%d \", i); i /= -1; }",
+        "void worker(int self) { long long a = -2, b = 1; unsigned u = 4294967295u; printf(\"%lld %lld %lld %lld \", b << 62, a >> 63LL, a << 62, a >> self); printf(\"%d %u %d \", self << 3LL, u >> 31LL, -8 >> 1LL); while (1) { b <<= 7LL; printf(\"%lld;\", b); } }",
+        "void worker(int self) { long long k = 63; printf(\"%lld \", -1LL << k); k++; printf(\"%lld\", -1LL << k); }",
+        "void worker(int self) { long long k = 4294967297; printf(\"%u \", 1u << (int)k); printf(\"%u\", 1u << k); }",
+        "void worker(int self) { long long k = 4294967296; printf(\"%d \", 1 >> (unsigned)k); printf(\"%d\", 1 >> k); }",
+        "void worker(int self) { printf(\"%lld \", 4294967296 >> 32u); printf(\"%lld\", 4294967296 >> -1LL); }",
+        "int i; unsigned u; long long l; void worker(int self) { __transaction_atomic { l = -1; u = l; i = u; l += u; } printf(\"%d\", __transaction_atomic (i)); __transaction_atomic { i = 4294967301; u += 4294967299 + i; l = l - u * i; i = l; l = i; } printf(\"%u %lld\", __transaction_atomic (u), __transaction_atomic (l)); __transaction_atomic { u = -i; l = u; i = -l; u -= 9223372036854775807; l = u | i; } }",
+        "int i[2] = {-1, 7}; unsigned u[2] = {4294967295u, 0x80000000}; long long l[3] = {-0x80000000, -9223372036854775807, 1u}; void worker(int self) { for (long long k = 0; k < 2; k++) __transaction_atomic { l[k] ^= i[1 - k]; i[k] = l[1 + k]; u[k] = l[k] >> 1; l[k + 1] = u[k] + l[k]; } }",
+        "long long f(long long a, unsigned b, int c) { return a + b + c; } int g(long long a) { return a; } unsigned h(int a) { return a; } long long d(int a) { return a; } void worker(int self) { printf(\"%lld %d \", f(-1, -1, 4294967297), g(-4294967295)); printf(\"%u %lld %lld\", h(4294967295), d(4294967295u), h(-1) + 0LL); self = f(d(g(2147483648)), h(g(self)), d(-self)); printf(\" %d\", self); }",
+        "int a = -1; unsigned b = 1; long long c = -2; void worker(int self) { for (int i = 0; i < 3; i++) { printf(\"%lld %u \", __transaction_atomic (i ? a : c), __transaction_atomic (i == 1 ? a : b)); long long v = i == 2 ? __transaction_atomic (b) : -self; printf(\"%lld %d \", v, v < 1u ? 1 : v > -1); } printf(\"%d %d %d\", -1 < 1u, -1LL < 1u, -1 < 1LL); }",
+        "int a[3] = {1, 2, 3}; long long k = 4294967296; void worker(int self) { __transaction_atomic { a[k - 4294967294] = 7; } printf(\"%d\", __transaction_atomic (a[k >> 32])); __transaction_atomic { a[2LL]++; a[1u] = 4; a[k] = 9; } }",
+        "long long a[2]; void worker(int self) { __transaction_atomic { a[1] = -4294967296; } printf(\"%lld\", __transaction_atomic (a[1])); __transaction_atomic { a[0] = 1; a[a[1]] = 2; } }",
+        "void worker(int self) { long long x = 4294967296, y = x << 8; if (x) printf(\"a\"); if (!x) printf(\"b\"); else printf(\"c\"); while (y) { printf(\"%lld;\", y); y = y >> 20; } do { x -= 1073741824; printf(\"%d%d%d \", x && 1, x || 0, !!x); } while (x); for (x = 8589934592; x; x = x & x - 1) printf(\"%d\", x ? 1 : 2); }",
+        "void worker(int self) { long long s = 0; unsigned u = 4294967290u; for (long long i = 4294967290; i < 4294967300; i++) { s = s * 10 + i - 4294967290; u += 1LL; if (u == 2) break; } printf(\"%lld %u\", s, u); int n = 0; while (n < 3LL) n += 1; for (; s > 5; s /= 7) n ^= s; printf(\" %d\", n); }",
+        "void worker(int self) { long long p = 1; for (int n = 1; n < 30; n++) { p *= n; if (n > 17) printf(\"%lld \", p); } }",
+        "long long x = 4294967295; void worker(int self) { long long k = 1; for (int i = 0; i < 3; i++) { __transaction_atomic [[outer]] { k += x; x *= 2; __transaction_atomic { k = -k; x++; if (i == 1) __transaction_cancel [[outer]]; if (i == 2) __transaction_cancel; } } printf(\"%lld \", k); } printf(\"%lld\", __transaction_atomic (x) * 2u + __transaction_relaxed (self)); }",
+        "long long x = 9223372036854775800; void worker(int self) { while (1) { int v = __transaction_atomic (x); printf(\"%d,\", v); __transaction_atomic { x += self; } } }",
+    ];
+    &TEXTS
+}
+
 #[test]
 fn small_programs_show_the_same(rt: HostRuntime) {
     assert_none(&rt, show_others(rt.alloc(), texts(), 300, 1000));
+}
+
+#[test]
+fn programs_with_long_long_show_the_same(rt: HostRuntime) {
+    assert_none(&rt, show_others(rt.alloc(), wide_texts(), 400, 3000));
 }
 
 #[test]

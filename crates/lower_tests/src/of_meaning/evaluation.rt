@@ -10,7 +10,7 @@ type Row = (&'static str, &'static str, u64);
 
 // `p` prints its argument and gives it back
 fn rows() -> &'static [Row] {
-    static ROWS: [Row; 15] = [
+    static ROWS: [Row; 38] = [
         // arguments from the left
         (
             "int x; int p(int n) { printf(\"%d\", n); return n; } int f(int a, int b) { return a - b; }
@@ -105,6 +105,126 @@ fn rows() -> &'static [Row] {
             "int x; void worker(int self) { __transaction_atomic { x = __transaction_atomic (1u) > -1; x = 1 - x; } }",
             "",
             1,
+        ),
+        // a constant of `long long`, and a shift of one
+        (
+            "long long x; void worker(int self) { __transaction_atomic { x = 1LL << 40; } printf(\"%lld\", 1LL << 62); }",
+            "4611686018427387904",
+            1099511627776,
+        ),
+        (
+            "long long x; void worker(int self) { __transaction_atomic { x = -1LL << 63; } }",
+            "",
+            9223372036854775808,
+        ),
+        (
+            "long long x; void worker(int self) { __transaction_atomic { x = -0x80000000; } }",
+            "",
+            2147483648,
+        ),
+        (
+            "long long x; void worker(int self) { __transaction_atomic { x = -2147483648; } }",
+            "",
+            18446744071562067968,
+        ),
+        // beside `long long` an operand is converted by its number
+        (
+            "int x; void worker(int self) { printf(\"%d %d\", -1 < 4294967295u, -1LL < 4294967295u); __transaction_atomic { } }",
+            "0 1",
+            0,
+        ),
+        (
+            "long long x; void worker(int self) { __transaction_atomic { x = (self ? 1LL : 1u) - 2; } }",
+            "",
+            18446744073709551615,
+        ),
+        (
+            "long long x; void worker(int self) { __transaction_atomic { x = self ? 0LL : -1; } }",
+            "",
+            18446744073709551615,
+        ),
+        (
+            "long long x; void worker(int self) { __transaction_atomic { x = 2147483647 + 1LL; } }",
+            "",
+            2147483648,
+        ),
+        // an assignment, an argument and a result keep the number modulo the type's
+        (
+            "int x; void worker(int self) { __transaction_atomic { x = 2147483647; x += 1LL; } }",
+            "",
+            2147483648,
+        ),
+        (
+            "unsigned x; void worker(int self) { __transaction_atomic { x = 4294967295u; x *= 2147483647LL; } }",
+            "",
+            2147483649,
+        ),
+        (
+            "unsigned x; void worker(int self) { __transaction_atomic { x = -1LL; } }",
+            "",
+            4294967295,
+        ),
+        (
+            "long long x; void worker(int self) { __transaction_atomic { x = -1; } }",
+            "",
+            18446744073709551615,
+        ),
+        (
+            "long long x; void worker(int self) { __transaction_atomic { x = 4294967295u; } }",
+            "",
+            4294967295,
+        ),
+        (
+            "long long x; long long f(long long a, int b) { return a - b; } void worker(int self) { __transaction_atomic { x = f(-1, 4294967297); } }",
+            "",
+            18446744073709551614,
+        ),
+        (
+            "long long x; int f(long long a) { return a; } void worker(int self) { __transaction_atomic { x = f(4294967295); } }",
+            "",
+            18446744073709551615,
+        ),
+        (
+            "long long x; unsigned f(long long a) { return a; } void worker(int self) { __transaction_atomic { x = f(-1); } }",
+            "",
+            4294967295,
+        ),
+        (
+            "long long x; long long f(int a) { } void worker(int self) { __transaction_atomic { x = f(1) + 5; } }",
+            "",
+            5,
+        ),
+        (
+            "long long x; void worker(int self) { __transaction_atomic { x = (unsigned)-1LL + (int)4294967297; } }",
+            "",
+            0,
+        ),
+        (
+            "long long x; void worker(int self) { __transaction_atomic { x = (long long)(unsigned)-1 + (long long)-1; } }",
+            "",
+            4294967294,
+        ),
+        // a condition and an index are looked at whole
+        (
+            "int x; void worker(int self) { __transaction_atomic { if (4294967296) x = 1; if (!4294967296) x = 2; x += 4294967296 && 1; x += 4294967296 ? 4 : 8; } }",
+            "",
+            6,
+        ),
+        (
+            "int x[4]; void worker(int self) { __transaction_atomic { x[4294967298 - 4294967296] = 3; x[0] = x[2LL]; } }",
+            "",
+            3,
+        ),
+        // figures of `long long`
+        (
+            "int x; void worker(int self) { printf(\"a%lld%%%lldb%lld\", -1LL, 9223372036854775807, -9223372036854775807 - 1); __transaction_atomic { } }",
+            "a-1%9223372036854775807b-9223372036854775808",
+            0,
+        ),
+        (
+            "int x; void worker(int self) { printf(\"%lld %u %d\", ~0LL, ~0u, ~0); __transaction_atomic { } }",
+            "-1 4294967295 -1",
+            0,
         ),
     ];
     &ROWS

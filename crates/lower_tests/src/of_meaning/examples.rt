@@ -10,7 +10,7 @@ use std::alloc::Global;
 type Row = (&'static str, u32, &'static str, &'static [u64]);
 
 fn examples() -> &'static [Row] {
-    static EXAMPLES: [Row; 13] = [
+    static EXAMPLES: [Row; 14] = [
         (
             "// A cancel of an inner transaction undoes the inner one alone: who finds no seat in the train takes one in the bus, and what the\n// outer transaction wrote before stays. Each thread books twice.\nint train = 1, bus = 9, asked, by_train, by_bus;\n\nvoid worker(int self) {\n    int i;\n    for (i = 0; i < 2; i++) {\n        __transaction_atomic {\n            int seated = 0;\n            asked = asked + 1;\n            __transaction_atomic {\n                train = train - 1;\n                by_train = by_train + 1;\n                if (train < 0) __transaction_cancel;\n                seated = 1;\n            }\n            if (!seated) {\n                bus = bus - 1;\n                by_bus = by_bus + 1;\n            }\n        }\n    }\n}\n",
             0,
@@ -40,6 +40,12 @@ fn examples() -> &'static [Row] {
             0,
             "",
             &[42, 41],
+        ),
+        (
+            "// Cents that no `int` holds: each payment is an eighth of what is left of the fund, and both together stay what they were.\nlong long fund = 1234567890123, paid;\nint payments;\n\nvoid worker(int self) {\n    int i;\n    for (i = 0; i < 3; i++) {\n        long long part;\n        __transaction_atomic {\n            part = fund / 8;\n            fund = fund - part;\n            paid = paid + part;\n            payments++;\n        }\n        printf(\"%lld dollars, %d cents\\n\", part / 100, (int)(part % 100));\n    }\n}\n",
+            0,
+            "1543209862 dollars, 65 cents\n1350308629 dollars, 82 cents\n1181520051 dollars, 9 cents\n",
+            &[827064035767, 407503854356, 3],
         ),
         (
             "// A set of numbers in a table of 16 places, without a lock of its own: each insertion is one step.\nint place[16], count;\n\nint insert(int key) {\n    int at = key * 7 & 15, added = 0;\n    __transaction_atomic {\n        while (place[at] != 0 && place[at] != key) at = at + 1 & 15;\n        if (place[at] == 0) {\n            place[at] = key;\n            count = count + 1;\n            added = 1;\n        }\n    }\n    return added;\n}\n\nvoid worker(int self) {\n    int i, added = 0;\n    for (i = 1; i <= 4; i++) added = added + insert(i * (self + 1));\n    printf(\"%d added\\n\", added);\n}\n",

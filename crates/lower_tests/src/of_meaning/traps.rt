@@ -14,7 +14,7 @@ use syntax::numbers::Trap;
 type TrapRow = (&'static str, Trap);
 
 fn traps() -> &'static [TrapRow] {
-    static TRAPS: [TrapRow; 7] = [
+    static TRAPS: [TrapRow; 29] = [
         (
             "void worker(int self) { int a = 2147483647; a++; }",
             Trap::OutOfRange,
@@ -37,6 +37,77 @@ fn traps() -> &'static [TrapRow] {
             Trap::Frames,
         ),
         ("void worker(int self) { 1 << 32; }", Trap::ShiftCount),
+        // of `long long`, and beside it
+        (
+            "void worker(int self) { long long a = 9223372036854775807; a++; }",
+            Trap::OutOfRange,
+        ),
+        (
+            "void worker(int self) { long long a = -9223372036854775807; a -= 2u; }",
+            Trap::OutOfRange,
+        ),
+        (
+            "void worker(int self) { 9223372036854775807 + 1; }",
+            Trap::OutOfRange,
+        ),
+        (
+            "void worker(int self) { -9223372036854775807 - 2; }",
+            Trap::OutOfRange,
+        ),
+        (
+            "void worker(int self) { 4294967296 * 2147483648; }",
+            Trap::OutOfRange,
+        ),
+        (
+            "void worker(int self) { unsigned a = 4294967295u; a *= 4294967295; }",
+            Trap::OutOfRange,
+        ),
+        (
+            "void worker(int self) { -(-9223372036854775807 - 1); }",
+            Trap::OutOfRange,
+        ),
+        (
+            "void worker(int self) { (-9223372036854775807 - 1) / -1; }",
+            Trap::OutOfRange,
+        ),
+        (
+            "void worker(int self) { (-9223372036854775807 - 1) % -1; }",
+            Trap::OutOfRange,
+        ),
+        ("void worker(int self) { 1LL << 63; }", Trap::OutOfRange),
+        ("void worker(int self) { 1 << 31LL; }", Trap::OutOfRange),
+        (
+            "void worker(int self) { int a = 4294967295; a = -2147483648; a--; }",
+            Trap::OutOfRange,
+        ),
+        ("void worker(int self) { 1LL % self; }", Trap::ZeroDivisor),
+        (
+            "void worker(int self) { 1 / (4294967296 - 4294967296); }",
+            Trap::ZeroDivisor,
+        ),
+        (
+            "int a[3]; void worker(int self) { __transaction_atomic { a[4294967296] = 0; } }",
+            Trap::Index,
+        ),
+        (
+            "long long a[3]; void worker(int self) { __transaction_atomic { a[-1LL] = 0; } }",
+            Trap::Index,
+        ),
+        (
+            "long long f(long long a) { return f(a + 1); } void worker(int self) { f(4294967296); }",
+            Trap::Frames,
+        ),
+        ("void worker(int self) { 1LL << 64; }", Trap::ShiftCount),
+        ("void worker(int self) { 1LL >> -1; }", Trap::ShiftCount),
+        ("void worker(int self) { 1 << 32LL; }", Trap::ShiftCount),
+        (
+            "void worker(int self) { 1 << 4294967297; }",
+            Trap::ShiftCount,
+        ),
+        (
+            "void worker(int self) { 1u >> 4294967296; }",
+            Trap::ShiftCount,
+        ),
     ];
     &TRAPS
 }
