@@ -45,8 +45,10 @@ __attribute__((transaction_pure)) void against_pause(void);
 #line 1 "program.c"
 """
 TRANSACTION = re.compile(r"(__transaction_(?:atomic|relaxed)(?:\s*\[\[outer\]\])?\s*\{)")
-GLOBAL = re.compile(r"(unsigned int|signed int|unsigned|signed|int)\b(.*)$", re.S)
-DECLARATOR = re.compile(r"\s*(\w+)\s*(?:\[\s*(\w+?)[uU]?\s*\])?")
+GLOBAL = re.compile(r"((?:signed\s+)?long\s+long(?:\s+int)?|unsigned int|signed int|unsigned|signed|int)\b(.*)$", re.S)
+DECLARATOR = re.compile(r"\s*(\w+)\s*(?:\[\s*(\w+?)(?:[uU]|ll|LL)?\s*\])?")
+# How a number of each type is printed.
+FORMS = {"int": "%d", "unsigned": "%u", "long long": "%lld"}
 
 # A wrong outcome: a report, what the build said, or what became of the run; in how many of the runs.
 Wrong = collections.namedtuple("Wrong", "level method what count runs")
@@ -91,7 +93,7 @@ def globals_of(text):
     for item in "".join(level).split(";"):
         found = GLOBAL.match(item.strip())
         if found and "(" not in item:
-            kind = "unsigned" if found[1].startswith("unsigned") else "int"
+            kind = "unsigned" if found[1].startswith("unsigned") else "long long" if "long" in found[1] else "int"
             for it in found[2].split(","):
                 name, length = DECLARATOR.match(it).groups()
                 yield name, kind, size(length) if length else None
@@ -101,7 +103,7 @@ def memory_code(text):
     """The functions of the harness that know the program's globals."""
     declared, saved, reset, shown = [], [], [], []
     for name, kind, length in globals_of(text):
-        bounds, form = "" if length is None else f"[{length}]", "%u" if kind == "unsigned" else "%d"
+        bounds, form = "" if length is None else f"[{length}]", FORMS[kind]
         declared.append(f"extern {kind} {name}{bounds};\nstatic {kind} first_{name}{bounds};")
         saved.append(f"memcpy(&first_{name}, &{name}, sizeof {name});")
         reset.append(f"memcpy(&{name}, &first_{name}, sizeof {name});")

@@ -23,6 +23,8 @@ LOWER_TESTS = os.path.join(TOP, "crates/lower_tests/src/of_lower/examples.rt")
 SHOWN = re.compile(r"^```\n(\$ txc [^\n]*\n)(.*?)^```$", re.M | re.S)
 PROGRAM = re.compile(r"^```c\n(.*?)^```$", re.M | re.S)
 RUN = re.compile(r"\$ txc run examples/((?:against/)?\w+)\.c\n")
+# Globals of 64 bits: their names are words of these lines.
+WIDE = re.compile(r"^(?:signed )?long long (.*);$", re.M)
 SCHEDULE = re.compile(r"^```\n((?:\d+ a?\d+\n)+)```$", re.M)
 
 
@@ -153,17 +155,19 @@ fn transcripts_show_what_they_should(rt: HostRuntime) {{
 """
 
 
-def told(out):
-    """What a report of one thread says: the number of its trap or 0, what it printed, and the words of memory."""
+def told(source, out):
+    """What a report of one thread of a source says: the number of its trap or 0, what it printed, and the words of memory."""
     end, rest = out.split("\n", 1)
     printed, memory = rest.split("== memory\n")
     trap = re.fullmatch("== thread 0: (?:ended|trap ([1-5]))", end)[1]
-    words = [int(word) % 2**32 for line in memory.splitlines() for word in line.split(" = ")[1].split()]
+    wide = {name for line in WIDE.findall(source) for name in re.findall(r"\w+", line)}
+    shown = [line.split(" = ") for line in memory.splitlines()]
+    words = [int(word) % 2 ** (64 if name in wide else 32) for name, values in shown for word in values.split()]
     return f"            {trap or 0},\n            {literal(printed)},\n            &{words},\n"
 
 
 def meaning_tests():
-    examples = [f"        (\n            {literal(read(name))},\n{told(read(name[:-2] + '.out'))}        ),\n" for name in names("examples/*.c")]
+    examples = [f"        (\n            {literal(read(name))},\n{told(read(name), read(name[:-2] + '.out'))}        ),\n" for name in names("examples/*.c")]
     return f"""//! The programs of examples/, each run alone from its tree: written by scripts/examples.py.
 
 use crate::accepted::accepted_of;
