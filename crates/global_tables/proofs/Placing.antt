@@ -1,11 +1,13 @@
 -- What the tables of names say, as they are made and as they are read.
-use Rattle.std.proofs.Common.{◌≡◌, ℕ, ◌+◌, ◌≤◌, List, [], ◌∷◌, Option, Some, None, option_map, Bool, true, false, refl, ap, ◌∙◌, arith, bytes_eq, if◌then◌else◌}
+use Rattle.std.proofs.Common.{◌≡◌, ℕ, ◌+◌, ◌≤◌, List, [], ◌∷◌, Option, Some, None, option_map, Bool, true, false, refl, sym, ap, ◌∙◌, arith, bytes_eq, if◌then◌else◌}
+use Rattle.std.specs.Prelude.{IfSome}
 use Rattle.std.specs.Option.{option_or}
 use Rattle.name_tables.specs.Named.{first, declared}
 use Rattle.name_tables.proofs.Firsts.{first_declared}
-use Rattle.syntax.specs.Tree.{Global}
-use Rattle.syntax.specs.Names.{GlobalCells, global_from, cells}
-use Rattle.global_tables.specs.Tables.{total_cells}
+use Rattle.syntax.specs.Tree.{Global, Program}
+use Rattle.syntax.specs.Names.{GlobalCells, global_from, global_of, globals, cells}
+use Rattle.global_tables.specs.declared.table.Shared.{Shared}
+use Rattle.global_tables.specs.Tables.{total_cells, shared_in}
 
 -- with nothing else it is what was found
 pub or_none : {T : Type 0} (o : Option T) → option_or o None ≡ o
@@ -40,3 +42,8 @@ cell_step false g c gs x v h e = let k = e h in omega (arith, k)
 pub cells_among : (c : ℕ) (gs : List Global) (x : List ℕ) (v : GlobalCells) → global_from c gs x ≡ Some v → v.cell + cells v.global ≤ c + total_cells gs
 cells_among c [] x v h = absurd cc
 cells_among c (g ∷ gs) x v h = cell_step (bytes_eq g.name.text x) g c gs x v h (cells_among (c + cells g) gs x v)
+
+-- a global that a table has is among a program's cells
+pub low_among : {A : Type 0} (p : Program) (x : List ℕ) (o : Option (Shared A)) → option_map shared_in o ≡ global_of p x → total_cells (globals p) ≤ 4096 → IfSome o (λ g. g.cell + cells (shared_in g).global ≤ 4096)
+low_among p x None h few = tt
+low_among p x (Some g) h few = let k = cells_among 0 (globals p) x (shared_in g) (sym h) in omega (arith, k, few)

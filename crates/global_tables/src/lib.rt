@@ -3,4 +3,4 @@
 
 mod table;
 
-pub use table::{Globals, Shared, place_globals};
+pub use table::{Globals, Shared, look_up, place_globals};

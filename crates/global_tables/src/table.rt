@@ -1,13 +1,13 @@
 //! The table of a program's globals.
 
 ghost use Rattle.std.specs.Prelude.{◌≡◌, ◌+◌, ◌≤◌, ◌++◌, List, ℕ, Option, Some, map, if◌then◌else◌, bytes_eq};
-ghost use Rattle.std.specs.Prelude.{IfOk, OnOk};
+ghost use Rattle.std.specs.Prelude.{option_map, IfOk, IfSome, OnOk};
 ghost use Rattle.std.specs.Option.{option_or};
 ghost use Rattle.syntax.specs.Tree as tree;
 ghost use Rattle.syntax.specs.Names as Source;
 ghost use Rattle.syntax.specs.Names.{GlobalCells, globals};
 ghost use Rattle.syntax.specs.Views.{global_of, item_of};
-ghost use Rattle.global_tables.specs.Tables.{total_cells, shared_at, AreGlobals};
+ghost use Rattle.global_tables.specs.Tables.{total_cells, shared_at, shared_in, AreGlobals};
 
 use name_tables::Table;
 use std::alloc::{AllocError, Allocator};
@@ -22,6 +22,18 @@ pub struct Shared<'p, A: Allocator> {
 
 /// Each global, with its first cell.
 pub type Globals<'p, A> = Table<'p, Shared<'p, A>, A>;
+
+/// The global of a name, with its first cell.
+pub fn look_up<'p, A: Allocator + Copy>(
+    globals: &Globals<'p, A>,
+    name: &str,
+) -> Option<Shared<'p, A>>
+    ensures value { option_map shared_in result ≡ shared_at globals.now name.now }
+    ensures low { (p : tree.Program) → AreGlobals p globals.now → total_cells (Source.globals p) ≤ 4096
+        → IfSome result (λ g. g.cell + Source.cells (shared_in g).global ≤ 4096) }
+{
+    globals.get(name).copied()
+}
 
 /// Adds a global with this first cell, unless there is one of its name.
 fn add_global<'p, A: Allocator + Copy>(

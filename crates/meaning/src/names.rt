@@ -1,19 +1,19 @@
 //! What the names of a file stand for.
 
-ghost use Rattle.std.specs.Prelude.{◌≡◌, ◌+◌, ◌≤◌, ◌^◌, ◌∷◌, List, map, option_map, IfSome};
+ghost use Rattle.std.specs.Prelude.{◌≡◌, ◌+◌, ◌≤◌, ◌∷◌, List, map, option_map, IfSome};
 ghost use Rattle.std.specs.Option.{option_or};
 ghost use Rattle.syntax.specs.Tree as tree;
 ghost use Rattle.syntax.specs.Names as Names;
 ghost use Rattle.syntax.specs.Types as Types;
 ghost use Rattle.syntax.specs.Types.{running_scope, file_scope};
-ghost use Rattle.syntax.specs.Views.{expr_of, global_of, item_of};
+ghost use Rattle.syntax.specs.Views.{expr_of, item_of};
 ghost use Rattle.meaning.specs.inner.Machine.{local_in, program_in};
 ghost use Rattle.meaning.specs.inner.File.{defined_in, known_of};
 ghost use Rattle.global_tables.specs.Tables.{shared_in};
 
 use crate::machine::{Local, newest};
 use crate::program::Source;
-use global_tables::Shared;
+use global_tables::{Shared, look_up};
 use lex::token::Scalar;
 use std::alloc::Allocator;
 use syntax::tree::{Expr, Function, Global, Item, Name, Stmt};
@@ -32,15 +32,9 @@ pub(crate) fn global<'p, A: Allocator + Copy>(
     name: &str,
 ) -> Option<Shared<'p, A>>
     ensures value { option_map shared_in result ≡ Names.global_of (program_in source.now) name.now }
-    ensures low { IfSome result (λ g. g.cell + Names.cells (global_of g.global.now) ≤ 2 ^ 32) }
+    ensures low { IfSome result (λ g. g.cell + Names.cells (shared_in g).global ≤ 4096) }
 {
-    match source.globals.get(name) {
-        Some(g) => Some(Shared {
-            cell: g.cell,
-            global: g.global,
-        }),
-        None => None,
-    }
+    look_up(&source.globals, name)
 }
 
 /// The definition that an item is of a function, with its body.
