@@ -190,7 +190,7 @@ fn bad_characters(rt: HostRuntime) {
 }
 
 fn too_large() -> &'static [Refused<'static>] {
-    static ROWS: [Refused<'static>; 15] = [
+    static ROWS: [Refused<'static>; 33] = [
         ("x = 9223372036854775808;", 2, 4, 23),
         ("18446744073709551616", 2, 0, 20),
         ("9223372036854775808ll", 2, 0, 21),
@@ -203,6 +203,24 @@ fn too_large() -> &'static [Refused<'static>] {
         ("0x100000000U", 2, 0, 12),
         ("040000000000u", 2, 0, 13),
         ("9223372036854775807u", 2, 0, 20),
+        ("9223372036854775808", 2, 0, 19),
+        ("9223372036854775809", 2, 0, 19),
+        ("4294967297u", 2, 0, 11),
+        ("9223372036854775808u", 2, 0, 20),
+        ("9223372036854775809U", 2, 0, 20),
+        ("9223372036854775809ll", 2, 0, 21),
+        ("0X8000000000000001", 2, 0, 18),
+        ("0X100000001U", 2, 0, 12),
+        ("0x7fffffffffffffffu", 2, 0, 19),
+        ("0x8000000000000000U", 2, 0, 19),
+        ("0X8000000000000001u", 2, 0, 19),
+        ("0X8000000000000001LL", 2, 0, 20),
+        ("01000000000000000000001", 2, 0, 23),
+        ("040000000001u", 2, 0, 13),
+        ("0777777777777777777777U", 2, 0, 23),
+        ("01000000000000000000000u", 2, 0, 24),
+        ("01000000000000000000001U", 2, 0, 24),
+        ("01000000000000000000001ll", 2, 0, 25),
         // what is glued to one is no matter
         ("99999999999999999999x", 2, 0, 20),
         ("9223372036854775808l", 2, 0, 19),
@@ -266,7 +284,7 @@ fn typed_otherwise(alloc: Global, rows: &[Typed]) -> Option<&'static str> {
 }
 
 fn typed() -> &'static [Typed] {
-    static ROWS: [Typed; 35] = [
+    static ROWS: [Typed; 59] = [
         ("0", 0, Scalar::Int),
         ("0u", 0, Scalar::Unsigned),
         ("0ll", 0, Scalar::LongLong),
@@ -318,6 +336,31 @@ fn typed() -> &'static [Typed] {
             9223372036854775807,
             Scalar::LongLong,
         ),
+        // the other neighbours of 2^31, 2^32 and 2^63 in each form
+        ("2147483649", 2147483649, Scalar::LongLong),
+        ("4294967297", 4294967297, Scalar::LongLong),
+        ("2147483649U", 2147483649, Scalar::Unsigned),
+        ("2147483649ll", 2147483649, Scalar::LongLong),
+        ("4294967295LL", 4294967295, Scalar::LongLong),
+        ("4294967297LL", 4294967297, Scalar::LongLong),
+        ("0X80000001", 2147483649, Scalar::Unsigned),
+        ("0X100000001", 4294967297, Scalar::LongLong),
+        ("0x80000000U", 2147483648, Scalar::Unsigned),
+        ("0X80000001u", 2147483649, Scalar::Unsigned),
+        ("0x7fffffffLL", 2147483647, Scalar::LongLong),
+        ("0X80000001LL", 2147483649, Scalar::LongLong),
+        ("0xffffffffll", 4294967295, Scalar::LongLong),
+        ("0x100000000LL", 4294967296, Scalar::LongLong),
+        ("0X100000001ll", 4294967297, Scalar::LongLong),
+        ("020000000001", 2147483649, Scalar::Unsigned),
+        ("040000000001", 4294967297, Scalar::LongLong),
+        ("020000000000u", 2147483648, Scalar::Unsigned),
+        ("020000000001U", 2147483649, Scalar::Unsigned),
+        ("017777777777ll", 2147483647, Scalar::LongLong),
+        ("020000000000LL", 2147483648, Scalar::LongLong),
+        ("020000000001ll", 2147483649, Scalar::LongLong),
+        ("040000000000ll", 4294967296, Scalar::LongLong),
+        ("040000000001LL", 4294967297, Scalar::LongLong),
     ];
     &ROWS
 }
