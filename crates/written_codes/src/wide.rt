@@ -65,7 +65,7 @@ pub fn code_over_both<A: Allocator + Copy>(
 }
 
 // Instructions of narrow types see what lies in a register modulo 2^32, but a shift's count whole.
-const SEEN_NARROW: [WideOperator; 10] = [
+const SEEN_NARROW: [WideOperator; 30] = [
     (4294967301, 1, Instr::AddSigned(1, 2, 3), Ok("6")),
     (
         4294967296,
@@ -101,6 +101,86 @@ const SEEN_NARROW: [WideOperator; 10] = [
     (1099511627776, 0, Instr::Complement(1, 2), Ok("4294967295")),
     (6442450944, 0, Instr::Extend(1, 2), Ok("-2147483648")),
     (6442450944, 0, Instr::Low(1, 2), Ok("2147483648")),
+    (
+        6442450943,
+        1,
+        Instr::AddSigned(1, 2, 3),
+        Err(Trap::OutOfRange),
+    ),
+    (8589934591, 1, Instr::AddUnsigned(1, 2, 3), Ok("0")),
+    (
+        4294967301,
+        8589934599,
+        Instr::SubtractSigned(1, 2, 3),
+        Ok("4294967294"),
+    ),
+    (
+        4294967299,
+        8589934591,
+        Instr::MultiplySigned(1, 2, 3),
+        Ok("4294967293"),
+    ),
+    (
+        4295032832,
+        8590000129,
+        Instr::MultiplyUnsigned(1, 2, 3),
+        Ok("65536"),
+    ),
+    (
+        1101659111424,
+        8589934591,
+        Instr::DivideSigned(1, 2, 3),
+        Err(Trap::OutOfRange),
+    ),
+    (
+        4294967303,
+        8589934594,
+        Instr::DivideUnsigned(1, 2, 3),
+        Ok("3"),
+    ),
+    (
+        8589934585,
+        8589934594,
+        Instr::RemainderSigned(1, 2, 3),
+        Ok("4294967295"),
+    ),
+    (
+        4294967297,
+        31,
+        Instr::ShiftLeftUnsigned(1, 2, 3),
+        Ok("2147483648"),
+    ),
+    (
+        4294967297,
+        4294967296,
+        Instr::ShiftLeftUnsigned(1, 2, 3),
+        Err(Trap::ShiftCount),
+    ),
+    (
+        6442450944,
+        31,
+        Instr::ShiftRightSigned(1, 2, 3),
+        Ok("4294967295"),
+    ),
+    (
+        6442450944,
+        4294967296,
+        Instr::ShiftRightSigned(1, 2, 3),
+        Err(Trap::ShiftCount),
+    ),
+    (6442450944, 31, Instr::ShiftRightUnsigned(1, 2, 3), Ok("1")),
+    (
+        1,
+        4294967327,
+        Instr::ShiftRightUnsigned(1, 2, 3),
+        Err(Trap::ShiftCount),
+    ),
+    (6442450944, 0, Instr::LessSigned(1, 2, 3), Ok("1")),
+    (4294967297, 1, Instr::LessEqualSigned(1, 2, 3), Ok("1")),
+    (4294967296, 0, Instr::LessEqualUnsigned(1, 2, 3), Ok("1")),
+    (4294967297, 0, Instr::LessEqualUnsigned(1, 2, 3), Ok("0")),
+    (4294967297, 0, Instr::NegateSigned(1, 2), Ok("4294967295")),
+    (4294967297, 0, Instr::NegateUnsigned(1, 2), Ok("4294967295")),
 ];
 
 // Instructions that see all bits of a register, whatever its type.
