@@ -19,6 +19,8 @@ def calls(n):
     return 1 if n < 2 else 1 + calls(n - 1) + calls(n - 2)
 
 
+NARROW = 'the same of `sum` in `int`'
+
 # What is counted: the workload, a text in it, the number there, the two in its place, and how often the thing is done with each.
 COUNTED = [
     ('a transaction of `counter`', 'counter', 'i < {}', 500000, (1000, 3000), lambda n: n),
@@ -28,6 +30,8 @@ COUNTED = [
     ('a round of `sieve`', 'sieve', 'r < {}', 200, (2, 4), lambda n: n),
     ('a call in `fib`, with its return', 'fib', 'fib({})', 27, (10, 14), calls),
     ('a turn of `compute`', 'compute', 'i < {}', 1000, (10, 20), lambda n: 1000 * n),
+    ('a turn of `sum`', 'sum', 'i < {}', 1000000, (10000, 20000), lambda n: n),
+    (NARROW, 'sum', 'i < {}', 1000000, (10000, 20000), lambda n: n),
 ]
 
 
@@ -54,6 +58,8 @@ def main():
     for what, name, place, number, (few, many), times in COUNTED:
         with open(os.path.join(TOP, 'examples', 'bench', name + '.c'), encoding='utf-8') as file:
             text = file.read()
+        if what == NARROW:
+            text = text.replace('long long', 'int').replace('%lld', '%d')
         if text.count(place.format(number)) != 1:
             sys.exit(f'examples/bench/{name}.c has {place.format(number)} not once')
         more = counted(text.replace(place.format(number), place.format(many))) - counted(text.replace(place.format(number), place.format(few)))
