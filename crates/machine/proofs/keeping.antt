@@ -22,6 +22,8 @@ pub mod Reading
 pub mod Inside
 -- a commit that swaps the lock and stores, and the load of an outermost begin
 pub mod Committing
+-- what a thread leaves undone where it makes steps by itself
+pub mod Left
 -- validation
 pub mod Validating
 -- where no store and no comparison comes next

@@ -20,7 +20,7 @@ use Rattle.norec_core.specs.declared.step.Answer.{Answer}
 use Rattle.norec_core.specs.declared.step.Answer.TheVariants.{Value}
 use Rattle.norec_core.specs.Attempts.{Attempt}
 use Rattle.norec_core.specs.Accesses.{stops}
-use Rattle.norec_core.specs.Cores.{ComparesWith, IsComparing, IsStoring, IsWaiting}
+use Rattle.norec_core.specs.Cores.{CommitsAtOnce, ComparesWith, IsComparing, IsStoring, IsWaiting}
 use Rattle.machine.specs.Explained.{has_lock}
 use Rattle.machine.specs.Threads.{Next, Thread, op_of, access, told}
 
@@ -69,6 +69,14 @@ pub record IsPrepared (code : Code) (s : ThreadState) : Type 0 where
 -- where the thread runs, this is what stands at its place to be done
 abbrev pub StandsAt : Code → ThreadState → Doing → Type 0
 StandsAt code s doing = s.thread.status ≡ Running → Tells code s.thread.configuration doing
+
+-- what a thread that runs leaves where it makes steps by itself: no local step in its registers, no return, and no commit
+-- that makes no access and has not the lock
+abbrev pub IsLeft : {S : Type 0} → Option (Attempt S) → Doing → Type 0
+IsLeft o doing.Local = ⊥
+IsLeft o (doing.Return w) = ⊥
+IsLeft o doing.Commit = IsSomeAnd o (λ a. CommitsAtOnce a) → ⊥
+IsLeft o x = Unit {0}
 
 -- The thread runs, and its next step is the load of an outermost begin. What the begin saves is ready.
 pub record BeginsNext (code : Code) (s : ThreadState) : Type 0 where

@@ -1,6 +1,6 @@
 //! A thread of the machine.
 
-ghost use Rattle.std.specs.Prelude.{◌≡◌, ◌≢◌, ◌+◌, ◌<◌, ◌≤◌, ◌^◌, ◌↔◌, ℕ, [], None, Some, true, false, IfOk, IfNone, IfSome, OnOk, OnErr, OnSome};
+ghost use Rattle.std.specs.Prelude.{◌≡◌, ◌≢◌, ◌+◌, ◌<◌, ◌≤◌, ◌^◌, ◌↔◌, ℕ, [], None, Some, true, false, IfOk, IfNone, IfSome, OnOk, OnErr, OnSome, length};
 ghost use Rattle.syntax.specs.declared.numbers.Status.TheVariants.{Running};
 ghost use Rattle.bytecode.specs.Beginning.{beginning};
 ghost use Rattle.bytecode.specs.Code.{effect};
@@ -11,7 +11,7 @@ ghost use Rattle.norec_core.specs.Phases.{entry_access};
 ghost use Rattle.machine.specs.Threads.{access, told as told_spec};
 ghost use Rattle.machine.specs.Standing.{IsThreadOf};
 ghost use Rattle.machine.specs.Loads.{counted};
-ghost use Rattle.machine.specs.States.{BeginsNext, ComparesEntry, ComparesNext, IsPrepared, IsWordOf, StandsAt, StandsStill, StoresNext, SwapsNext, WaitsNext, first_thread, thread_has_lock};
+ghost use Rattle.machine.specs.States.{BeginsNext, ComparesEntry, ComparesNext, IsLeft, IsPrepared, IsWordOf, StandsAt, StandsStill, StoresNext, SwapsNext, WaitsNext, first_thread, thread_has_lock};
 ghost use Rattle.machine.specs.inner.Kept.{cost_if};
 
 use crate::event::Event;
@@ -126,6 +126,8 @@ impl<A: Allocator + Copy> Thread<A> {
         ensures count { result.0 ≤ most }
         ensures all { IfNone result.1 (result.0 ≡ most) }
         ensures stands { IfSome result.1 (λ doing. (result.0 < most) × StandsAt code.now self.new doing) }
+        ensures left { self.old.thread.status ≡ Running
+            → IfSome result.1 (λ doing. IsLeft self.new.thread.attempt doing) }
         ensures of { IsThreadOf code.now self.new.thread }
     {
         // The prover learns here that the code is valid.
@@ -253,6 +255,8 @@ impl<A: Allocator + Copy> Thread<A> {
         ensures accesses { self.new.accesses ≡ self.old.accesses }
         ensures begins { result ≡ true → BeginsNext code.now self.new }
         ensures access { result ≡ true → access (effect code.now) self.new.thread ≡ Access.LoadLock }
+        ensures full { result ≡ false → self.old.thread.status ≡ Running → self.old.thread.attempt ≡ None
+            → length self.old.ready.saved.registers < length self.old.thread.configuration.registers }
     {
         // The prover learns here that the code is valid.
         code.known();

@@ -175,6 +175,6 @@ module _ (code : Code) (law : BeginsStayOpen code) where
         record {
           thread = same_thread (shown l) (resumed (effect code) (shown k) x (core_step_as (restored c) n)).thread to att z.trapping z.text (z.status ∙ ap (λ (t : Outcome). status_after t x k.status) er) ∙ sym (ap (λ (t : Next Configuration). t.thread) step_is);
           event = ev ∙ sym (ap (λ (t : Next Configuration). t.event) step_is);
-          of = subst (KeptBy code l) (sym st) (kept_same code (record { configuration = resume (effect code) x c n.outcome (if_some (restored c) n.back); core = record { attempt = n.attempt; asked = None; saved = saved_in c; read_room = 0 }; trapping = false; text = []; status = status_after n.outcome x Running }) l (status_after n.outcome x Running) (sym to) (sym ea) left.stands);
+          of = subst (KeptBy code l) (sym st) (kept_same code (record { configuration = resume (effect code) x c n.outcome (if_some (restored c) n.back); core = record { attempt = n.attempt; asked = None; saved = saved_in c; read_room = 0; write_room = 0 }; trapping = false; text = []; status = status_after n.outcome x Running }) l (status_after n.outcome x Running) (sym to) (sym ea) left.stands);
           within = subst (λ (t : Configuration). AreWithin t (begins_of l.core.attempt)) (sym to) (subst (λ (t : Option (Attempt Saved)). AreWithin (resume (effect code) x c n.outcome (if_some (restored c) n.back)) (begins_of t)) (sym ea) left.within);
         }

@@ -82,7 +82,7 @@ module _ {C : Type 0} where
 
 -- where the operation of a core's step leaves the thread, and whether it runs
 pub record Leaves (code : Code) (c : Configuration) (x : Effect Configuration) (r : Outcome) (o : Option (Attempt Saved)) (d : Configuration) (s : Status) : Type 0 where
-  pub stands : KeptBy code (record { configuration = d; core = record { attempt = o; asked = None; saved = saved_in c; read_room = 0 }; trapping = false; text = []; status = s }) s
+  pub stands : KeptBy code (record { configuration = d; core = record { attempt = o; asked = None; saved = saved_in c; read_room = 0; write_room = 0 }; trapping = false; text = []; status = s }) s
   pub within : AreWithin d (begins_of o)
   pub restored : AreRestored c d (begins_of o)
 

@@ -5,6 +5,7 @@ use Rattle.machine.specs.States.{ThreadState}
 use Rattle.machine.specs.inner.Kept.{kept, shown}
 use Rattle.machine.proofs.keeping.Calls.{runs_of}
 use Rattle.machine.proofs.keeping.Seen.{thread_of}
+use Rattle.machine.proofs.keeping.Left.{left_shown}
 use Rattle.machine.proofs.thread.Thread.advance.Goals as goal
 
 pub advance-requires-clause-runs : goal.advance-requires-clause-runs
@@ -18,3 +19,6 @@ returns-in-Running-clause-leads g c = subst (λ (a : Counted). g.L.Loads.leads c
 
 pub returns-in-Running-clause-of : goal.returns-in-Running-clause-of
 returns-in-Running-clause-of g c = thread_of c.args.code.now (begins_stay_open c.args.code.now c.known.ensures) _ c.advance.ensures.of
+
+pub returns-in-Running-clause-left : goal.returns-in-Running-clause-left
+returns-in-Running-clause-left g c = λ runs. left_shown c.advance.new.self.frames.configuration c.advance.new.self.core.attempt c.advance.result.1 c.advance.ensures.left

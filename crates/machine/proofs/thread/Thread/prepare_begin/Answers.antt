@@ -7,6 +7,8 @@ use Rattle.machine.proofs.keeping.Committing.{begin_access}
 use Rattle.machine.proofs.keeping.Makes.{kept_same}
 use Rattle.machine.specs.States.{StandsAt, ThreadState}
 use Rattle.machine.specs.inner.Kept.{kept, shown_from}
+use Rattle.std.specs.Prelude.{◌<◌, ℕ, List, length}
+use Rattle.machine.proofs.keeping.Left.{none_shown}
 use Rattle.machine.proofs.thread.Thread.prepare_begin.Goals as goal
 
 pub frames-requires : goal.frames-requires
@@ -29,3 +31,9 @@ returns-in-Running-clause-access g c = λ made.
     let runs = runs_of c.args.code.now law k c.args.self.now.thread (ap (λ (s : ThreadState). s.thread) c.self.view_is) c.self.invariant c.in-Running.is c.requires.of in
     let tells = subst (λ (s : ThreadState). StandsAt c.args.code.now s (doing.Begin c.args.to)) (sym c.self.view_is) c.requires.stands c.in-Running.is in
     begin_access c.args.code.now law l c.args.to c.in-Running.is (kept_same c.args.code.now k l Running refl (sym c.prepare_begin.ensures.attempt) runs) tells (c.prepare_begin.ensures.none made)
+
+pub returns-in-Running-clause-full : goal.returns-in-Running-clause-full
+returns-in-Running-clause-full g c = λ made runs none.
+    let attempt = none_shown c.self.inside.held.frames.configuration c.self.inside.held.core.attempt (ap (λ (s : ThreadState). s.thread.attempt) c.self.view_is ∙ none) in
+    let full = subst (λ (rs : List ℕ). length c.self.inside.held.core.saved.registers < length rs) c.registers.ensures (c.prepare_begin.ensures.full made attempt) in
+    subst (λ (s : ThreadState). length s.ready.saved.registers < length s.thread.configuration.registers) c.self.view_is full
