@@ -44,7 +44,7 @@ module _ {A : Type 0} where
   abbrev pub tally_of : Worker A → Tally
   tally_of w = w.tally
 
-  -- the same five of a thread of a closed hall
+  -- of a thread of a closed hall its number, where it stands, its steps, the accesses among them, and its tally
   abbrev pub finished_number : Finished A → ℕ
   finished_number f = f.number
 
