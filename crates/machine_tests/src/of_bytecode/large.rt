@@ -42,9 +42,19 @@ fn a_longer_code_is_not_valid(rt: HostRuntime) {
     assert_that(&rt, valid == Some(false));
 }
 
-// Appends a function that returns at once, named by its number behind an `f`, whose instruction stands at `first`.
-fn push_function(alloc: Global, to: &mut Parts, number: u32, first: u32) -> Result<(), AllocError> {
-    let name = format!(in alloc; "f{number}")?;
+/// The beginning of names that all have one hash, where a hash multiplies eight bytes by eight with a constant and no key: behind
+/// it one factor is 0.
+const COLLIDING: &str = "aaaaaaaaaaaaassTNo3qMD1o";
+
+// Appends a function that returns at once, whose name begins so and ends in its number, and whose instruction stands at `first`.
+fn push_function(
+    alloc: Global,
+    to: &mut Parts,
+    beginning: &str,
+    number: u32,
+    first: u32,
+) -> Result<(), AllocError> {
+    let name = format!(in alloc; "{beginning}{number:08}")?;
     to.functions.push(FunctionCode {
         name: Text::from_string(name),
         first,
@@ -70,7 +80,7 @@ fn many(alloc: Global, count: u32, at: u32) -> Result<Parts, AllocError> {
     ];
     let mut parts = parts_of(alloc, &[WORKER], &[], &body, &[])?;
     for number in 0..count {
-        push_function(alloc, &mut parts, number, number.saturating_add(3))?;
+        push_function(alloc, &mut parts, "f", number, number.saturating_add(3))?;
         push_text(alloc, &mut parts, number)?;
     }
     Ok(parts)
@@ -79,7 +89,23 @@ fn many(alloc: Global, count: u32, at: u32) -> Result<Parts, AllocError> {
 // Parts as `many` gives them, and behind them one more function with this number.
 fn one_more(alloc: Global, count: u32, number: u32) -> Result<Parts, AllocError> {
     let mut parts = many(alloc, count, 1)?;
-    push_function(alloc, &mut parts, number, count.saturating_add(3))?;
+    push_function(alloc, &mut parts, "f", number, count.saturating_add(3))?;
+    Ok(parts)
+}
+
+// `worker`, 31,000 functions behind it whose names all collide, and one more with this number.
+fn colliding(alloc: Global, last: u32) -> Result<Parts, AllocError> {
+    let mut parts = parts_of(alloc, &[WORKER], &[], &[Instr::Return], &[])?;
+    for number in 0..31_000u32 {
+        push_function(
+            alloc,
+            &mut parts,
+            COLLIDING,
+            number,
+            number.saturating_add(1),
+        )?;
+    }
+    push_function(alloc, &mut parts, COLLIDING, last, 31_001)?;
     Ok(parts)
 }
 
@@ -107,4 +133,15 @@ fn the_last_of_two_thousand_names_is_another(rt: HostRuntime) {
     assert_that(&rt, another == Some(true));
     let first = is_valid_made(alloc, one_more(alloc, 2_000, 0));
     assert_that(&rt, first == Some(false));
+}
+
+#[test]
+fn colliding_names_are_told_apart(rt: HostRuntime) {
+    let alloc = rt.alloc();
+    let another = is_valid_made(alloc, colliding(alloc, 31_000));
+    assert_that(&rt, another == Some(true));
+    let oldest = is_valid_made(alloc, colliding(alloc, 0));
+    assert_that(&rt, oldest == Some(false));
+    let newest = is_valid_made(alloc, colliding(alloc, 30_999));
+    assert_that(&rt, newest == Some(false));
 }
