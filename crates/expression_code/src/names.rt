@@ -8,7 +8,7 @@ ghost use Rattle.expression_code.specs.inner.Tables.{callee_in};
 ghost use Rattle.expression_code.specs.Views.{program_in};
 
 use crate::program::Names;
-use global_tables::Shared;
+use global_tables::{Shared, look_up};
 use lex::token::Scalar;
 use std::alloc::Allocator;
 use syntax::tree::Parameter;
@@ -29,13 +29,7 @@ pub(crate) fn global<'p, A: Allocator + Copy>(
     ensures value { option_map shared_in result ≡ Source.global_of (program_in names.now) name.now }
     ensures low { IfSome result (λ g. g.cell + Source.cells (shared_in g).global ≤ 4096) }
 {
-    match names.globals.get(name) {
-        Some(g) => Some(Shared {
-            cell: g.cell,
-            global: g.global,
-        }),
-        None => None,
-    }
+    look_up(&names.globals, name)
 }
 
 /// A function that is defined in the file.

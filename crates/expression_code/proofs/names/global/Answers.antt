@@ -1,14 +1,9 @@
-use Rattle.std.proofs.Common.{◌∙◌, option_map, sym, ap, arith}
-use Rattle.syntax.specs.Names.{globals}
+use Rattle.std.proofs.Common.{◌∙◌}
 use Rattle.syntax.specs.Views.{program_of}
-use Rattle.global_tables.specs.Tables.{shared_in}
-use Rattle.global_tables.proofs.Placing.{cells_among}
 use Rattle.expression_code.proofs.names.global.Goals as goal
 
-pub returns-in-Some-clause-low : goal.returns-in-Some-clause-low
-returns-in-Some-clause-low g c =
-    let names = c.args.names.now in
-    let x = c.args.name.now in
-    let few = cells_among 0 (globals (program_of names.unit.now)) x (shared_in c.in-Some.g.now) (sym (names.shared x) ∙ sym (ap (option_map shared_in) c.in-Some.ensures)) in
-    let small = names.small in
-    omega (arith, few, small)
+pub returns-clause-value : goal.returns-clause-value
+returns-clause-value g c = c.look_up.ensures.value ∙ c.args.names.now.shared c.args.name.now
+
+pub returns-clause-low : goal.returns-clause-low
+returns-clause-low g c = c.look_up.ensures.low (program_of c.args.names.now.unit.now) c.args.names.now.shared c.args.names.now.small
