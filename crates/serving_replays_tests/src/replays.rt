@@ -11,7 +11,7 @@ use std::sync::Wait;
 use std::thread::Threads;
 
 fn schedules() -> &'static [Row] {
-    static ROWS: [Row; 20] = [
+    static ROWS: [Row; 23] = [
         // a lost swap, and a validation that fails
         (
             "txc replay a.c --threads 2 --schedule s.txt",
@@ -214,6 +214,37 @@ fn schedules() -> &'static [Row] {
             (
                 0,
                 b"== events\n6 0 commit\n== thread 0: ended\n== memory\nx = 1\n",
+                b"",
+            ),
+        ),
+        // words of 64 bits: one that has changed above its lower half is another one, and a cancel undoes all of it
+        (
+            "txc replay a.c --threads 2 --schedule s.txt",
+            b"long long x; void worker(int self) { __transaction_atomic { x = x + 4294967296; } }",
+            b"0 a1\n1 a1\n0 a1\n1 a1\n0 a1\n1 a1\n0 a1\n1 a1\n0 a1\n1 a1\n0 a2\n1 a9\n",
+            (
+                0,
+                b"== events\n11 0 commit\n13 1 abort\n19 1 commit\n== thread 0: ended\n== thread 1: ended\n== memory\nx = 8589934592\n",
+                b"",
+            ),
+        ),
+        (
+            "txc replay a.c --schedule s.txt",
+            b"long long x = 1, y; void worker(int self) { __transaction_atomic { x = 4294967298; __transaction_atomic { x = 3; y = x; __transaction_cancel; } y = y - x; } }",
+            b"0 a20\n",
+            (
+                0,
+                b"== events\n1 0 cancel\n7 0 commit\n== thread 0: ended\n== memory\nx = 4294967298\ny = -4294967298\n",
+                b"",
+            ),
+        ),
+        (
+            "txc replay a.c --schedule s.txt --timeline",
+            b"long long x = -1; void worker(int self) { __transaction_atomic { x = x * 4294967296 - 1; } }",
+            b"0 a9\n",
+            (
+                0,
+                b"== timeline\n1 0 0 begin >8; load lock = 0\n2 0 1 rd r1 @0; load @0 = 18446744073709551615\n3 0 1 rd r1 @0; load lock = 0\n3 0 2 const r2 #4294967296\n3 0 3 mul.l r1 r1 r2\n3 0 4 const r2 #1\n3 0 5 sub.l r1 r1 r2\n3 0 6 wr @0 r1\n4 0 7 commit; swap lock 0: won\n5 0 7 commit; store @0 = 18446744069414584319\n6 0 7 commit; store lock = 2; commit\n6 0 8 ret\n== events\n6 0 commit\n== thread 0: ended\n== memory\nx = -4294967297\n",
                 b"",
             ),
         ),

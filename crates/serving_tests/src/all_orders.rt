@@ -26,7 +26,7 @@ const TRAPS: &str =
     "int x; void worker(int self) { int k; __transaction_atomic { k = x; x = 1; } k = 1 / k; }";
 
 fn listed() -> &'static [Row] {
-    static ROWS: [Row; 13] = [
+    static ROWS: [Row; 14] = [
         (
             "txc outcomes a.c --threads 2",
             ADDS,
@@ -151,6 +151,17 @@ fn listed() -> &'static [Row] {
                 1,
                 b"",
                 b"txc: fault 50 at 2:25: shared access outside a transaction\n",
+            ),
+        ),
+        // memories that differ above the lower halves of their words alone
+        (
+            "txc outcomes a.c --threads 2",
+            b"long long x = 1; void worker(int self) { __transaction_atomic { x = x * 2 + self * 4294967296; } }",
+            b"",
+            (
+                0,
+                b"== outcome --order 0,1\n== thread 0: ended\n== thread 1: ended\n== memory\nx = 4294967300\n== outcome --order 1,0\n== thread 0: ended\n== thread 1: ended\n== memory\nx = 8589934596\n== outcomes: 2, orders: 2\n",
+                b"",
             ),
         ),
     ];
