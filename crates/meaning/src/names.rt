@@ -16,7 +16,7 @@ use crate::program::Source;
 use global_tables::{Shared, look_up};
 use lex::token::Scalar;
 use std::alloc::Allocator;
-use syntax::tree::{Expr, Function, Global, Item, Name, Stmt};
+use syntax::tree::{Expr, Function, Global, Item, Stmt};
 use syntax::types::{binary_type, common_of, unary_type};
 
 /// A function's definition, with its body.
@@ -72,10 +72,11 @@ pub(crate) fn definition<'p, A: Allocator + Copy>(
     }
 }
 
-/// What a name of the file is declared as.
+/// What a name is known as.
 #[derive(Drop)]
 pub(crate) enum Symbol<'p, A: Allocator> {
     Unknown,
+    Local(Scalar),
     Global(&'p Global<A>),
     Function(&'p Function<A>),
 }
@@ -87,6 +88,7 @@ impl<'p, A: Allocator> Symbol<'p, A> {
     {
         match self {
             Symbol::Unknown => Symbol::Unknown,
+            Symbol::Local(of) => Symbol::Local(*of),
             Symbol::Global(g) => Symbol::Global(*g),
             Symbol::Function(f) => Symbol::Function(*f),
         }
@@ -103,11 +105,26 @@ fn declared<'p, A: Allocator + Copy>(source: &Source<'p, A>, name: &str) -> Symb
     }
 }
 
+/// What a name is known as while these locals live.
+fn known<'p, A: Allocator + Copy>(
+    source: &Source<'p, A>,
+    locals: &[Local],
+    name: &str,
+) -> Symbol<'p, A>
+    ensures { known_of result ≡ running_scope (program_in source.now) (map local_in locals.now) name.now }
+{
+    match newest(locals, name) {
+        Some((_, of)) => Symbol::Local(of),
+        None => declared(source, name),
+    }
+}
+
 /// The type of a variable.
 fn number_type<A: Allocator>(s: &Symbol<A>) -> Option<Scalar>
     ensures { result ≡ Types.number_type (known_of s.now) }
 {
     match s {
+        Symbol::Local(of) => Some(*of),
         Symbol::Global(g) => match g.length {
             None => Some(g.of),
             Some(_) => None,
@@ -139,48 +156,6 @@ fn call_type<A: Allocator>(s: &Symbol<A>) -> Option<Scalar>
     }
 }
 
-/// The type of a name that stands as a variable.
-fn variable_type<A: Allocator + Copy>(
-    source: &Source<A>,
-    locals: &[Local],
-    x: &Name<A>,
-) -> Option<Scalar>
-    ensures { result ≡ Types.number_type (running_scope (program_in source.now) (map local_in locals.now) x.now.text) }
-{
-    match newest(locals, x.text.as_str()) {
-        Some((_, t)) => Some(t),
-        None => number_type(&declared(source, x.text.as_str())),
-    }
-}
-
-/// The type of the elements of a name that stands as an array.
-fn array_type<A: Allocator + Copy>(
-    source: &Source<A>,
-    locals: &[Local],
-    x: &Name<A>,
-) -> Option<Scalar>
-    ensures { result ≡ Types.element_type (running_scope (program_in source.now) (map local_in locals.now) x.now.text) }
-{
-    match newest(locals, x.text.as_str()) {
-        Some(_) => None,
-        None => element_type(&declared(source, x.text.as_str())),
-    }
-}
-
-/// The type of the value of a name that stands as a function.
-fn value_type<A: Allocator + Copy>(
-    source: &Source<A>,
-    locals: &[Local],
-    f: &Name<A>,
-) -> Option<Scalar>
-    ensures { result ≡ Types.call_type (running_scope (program_in source.now) (map local_in locals.now) f.now.text) }
-{
-    match newest(locals, f.text.as_str()) {
-        Some(_) => None,
-        None => call_type(&declared(source, f.text.as_str())),
-    }
-}
-
 /// The type of an expression while these locals live.
 pub(crate) fn type_of<A: Allocator + Copy>(
     source: &Source<A>,
@@ -190,10 +165,10 @@ pub(crate) fn type_of<A: Allocator + Copy>(
     ensures { result ≡ Types.type_of (running_scope (program_in source.now) (map local_in locals.now)) (expr_of e.now) }
 {
     match e {
-        Expr::Variable(x) => variable_type(source, locals, x),
+        Expr::Variable(x) => number_type(&known(source, locals, x.text.as_str())),
         Expr::Constant(_, t, _) => Some(*t),
-        Expr::Element(x, _, _) => array_type(source, locals, x),
-        Expr::Call(f, _, _) => value_type(source, locals, f),
+        Expr::Element(x, _, _) => element_type(&known(source, locals, x.text.as_str())),
+        Expr::Call(f, _, _) => call_type(&known(source, locals, f.text.as_str())),
         Expr::Parenthesized(e, _) => type_of(source, locals, e.get()),
         Expr::Cast(t, _, _) => Some(*t),
         Expr::Unary(op, e, _) => unary_type(*op, type_of(source, locals, e.get())),
