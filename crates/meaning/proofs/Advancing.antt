@@ -2,7 +2,6 @@
 use Rattle.std.proofs.Common.{◌≡◌, ℕ, suc, List, [], ◌∷◌, ◌++◌, Option, Some, None, refl, sym, ap, ◌∙◌, subst, append-nil, append_assoc, map, Vec}
 use Rattle.std.proofs.lemmas.List.{map-append}
 use Rattle.syntax.specs.declared.numbers.Halt.{Halt}
-use Rattle.syntax.specs.declared.numbers.Halt.TheVariants.{Spent}
 use Rattle.syntax.specs.Behaviours.{Memory, Ended, Stopped}
 use Rattle.syntax.specs.Names.{Local, definition_of}
 use Rattle.syntax.specs.Actions.{Context, Outside, State, Answer, Gives, Stops, Action, go_on, spend, tick, lefts_in, locals, put_locals, pure, or_astray, ◌>>=◌, ◌>>◌}
@@ -85,10 +84,6 @@ module _ {A : Type 0} (source : Source A) where
       ∙ sym (went_is (resumed source l) (map (resumed source) ls) (end_of thread.end) run step f (bare thread.at) (state_at at more) (follow_of source next) h)
       ∙ sym (at_last thread.left.items ls l (end_of thread.end) (framed f (bare thread.at)) last))
 
-  -- what a thread has still to do stands in its list, its end, its point and what it has shown
-  pub same_left : (thread new : Thread A) → new.left.items ≡ thread.left.items → new.end ≡ thread.end → new.at ≡ thread.at → new.shown ≡ thread.shown → (founds : List Memory) → rest source new founds ≡ rest source thread founds
-  same_left thread new left end at shown founds = λ i. go_on (left_gone_on source (left i) (end_of (end i)) (framed (frame_of founds (shown i)) (bare (at i)))) (λ _. tick)
-
   shown_by : (why : Halt) (f : Frame) (s : State) (founds lefts : List Memory) (text : List ℕ) → s.context ≡ Outside founds lefts → s.text ≡ text →
       outcome_of (Stops why (framed f s)) ≡ record { lefts = f.lefts ++ lefts; text = f.text ++ text; end = Stopped why }
   shown_by why f s founds lefts text there printed = λ i. record { lefts = lefts_in (context_framed f (there i)); text = f.text ++ printed i; end = Stopped why }
@@ -102,15 +97,6 @@ module _ {A : Type 0} (source : Source A) where
       ap (λ r. outcome_of (go_on r (λ _. tick))) (at_last thread.left.items ls l (end_of thread.end) (framed f (bare thread.at)) last ∙ stopped_is (resumed source l) (map (resumed source) ls) (end_of thread.end) run step f (bare thread.at) s why refl h)
       ∙ shown_by why f s founds (memories_in more.lefts.items) more.text.items there printed
       ∙ (λ i. record { lefts = f.lefts ++ memories_in (sym what i).lefts.items; text = f.text ++ (sym what i).text.items; end = end_by (sym is i) })
-
-  -- the tick of a thread's end
-  pub comes_to_end : (thread : Thread A) (stop : Stop A) → thread.left.items ≡ [] → stop.shown.lefts.items ≡ [] → stop.shown.text.items ≡ [] → outcome_of (tick (framed (frame_of [] thread.shown) (bare thread.at))) ≡ record { lefts = memories_in thread.shown.lefts.items ++ []; text = thread.shown.text.items ++ []; end = end_by stop.why } → IsStop source thread stop
-  comes_to_end thread stop none lefts text h =
-      ap (λ xs. outcome_of (go_on (left_gone_on source xs (end_of thread.end) (framed (frame_of [] thread.shown) (bare thread.at))) (λ _. tick))) none
-      ∙ h ∙ (λ i. record { lefts = memories_in thread.shown.lefts.items ++ memories_in (sym lefts i); text = thread.shown.text.items ++ sym text i; end = end_by stop.why })
-
-  pub spends : (at : Point A) (shown : Shown A) → at.ticks ≡ 0 → outcome_of (tick (framed (frame_of [] shown) (bare at))) ≡ record { lefts = memories_in shown.lefts.items ++ []; text = shown.text.items ++ []; end = Stopped Spent }
-  spends at shown none = ap (λ n. outcome_of (spend n (framed (frame_of [] shown) (bare at)))) none
 
   pub ends : (at : Point A) (shown : Shown A) (n : ℕ) → at.ticks ≡ suc n → outcome_of (tick (framed (frame_of [] shown) (bare at))) ≡ record { lefts = memories_in shown.lefts.items ++ []; text = shown.text.items ++ []; end = Ended }
   ends at shown n more = ap (λ n. outcome_of (spend n (framed (frame_of [] shown) (bare at)))) more
@@ -126,10 +112,6 @@ module _ {A : Type 0} (source : Source A) where
   module _ (p : Program) (ticks t : ℕ) (thread : Thread A) (founds : List Memory) (stands : (further : List Memory) → rest source thread further ≡ worker_run p t (first_state (founds ++ further) ticks)) where
     pub seen_is : (stop : Stop A) → IsStop source thread stop → seen_of thread stop ≡ behaviour p t founds ticks
     seen_is stop h = sym h ∙ ap outcome_of (stands []) ∙ ap (λ fs. outcome_of (worker_run p t (first_state fs ticks))) (append-nil founds)
-
-  pub stands_further : (p : Program) (ticks t : ℕ) (thread new : Thread A) (founds : List Memory) (m : Memory) → ((further : List Memory) → rest source new further ≡ rest source thread (m ∷ further)) →
-      ((further : List Memory) → rest source thread further ≡ worker_run p t (first_state (founds ++ further) ticks)) → (further : List Memory) → rest source new further ≡ worker_run p t (first_state ((founds ++ m ∷ []) ++ further) ticks)
-  stands_further p ticks t thread new founds m h stands further = h further ∙ stands (m ∷ further) ∙ ap (λ fs. worker_run p t (first_state fs ticks)) (sym (append_assoc founds (m ∷ []) further))
 
 abbrev is_given : {X : Type 0} → Answer X → Type 0
 is_given (Gives x s) = Unit {0}

@@ -10,7 +10,7 @@ use Rattle.bytecode.specs.declared.instr.Instr.{Instr}
 use Rattle.bytecode.specs.declared.instr.Instr.TheVariants as own
 use Rattle.lowered.specs.Expressions.{LocalScope, Layout, constant_in, types_left, arranged}
 use Rattle.picked.specs.declared.held.Held.{Held}
-use Rattle.picked.specs.Lists.{Lists, used, holding}
+use Rattle.picked.specs.Lists.{Lists, used}
 use Rattle.picked.specs.Names.{Callee, callee_of}
 use Rattle.picked.specs.Conditions.{Condition, zero_test, zero_tested}
 use Rattle.picked.specs.Expressions.{Emitted, AllEmitted, above, then_one, compared, settled, variable, element, called, tested, where_same, converting, ready, constant_ready, ready_or, converted_by, in_type, in_first_type, taken_types, emitted_type, emitted, due, own_condition, condition, operand, all_emitted}
@@ -31,9 +31,6 @@ max_more a b n h = grind arith
 
 pub used_leaner : (r : ℕ) (l m : Lists) → IsLeaner l m → IsLeaner (used r l) (used r m)
 used_leaner r l m h = record { registers = max_more m.registers l.registers (suc r) h.registers; nothing = h.nothing }
-
-holding_leaner : (n : ℕ) (l m : Lists) → IsLeaner l m → IsLeaner (holding n l) (holding n m)
-holding_leaner n l m h = record { registers = max_more m.registers l.registers n h.registers; nothing = h.nothing }
 
 used_both : (r s : ℕ) (l m : Lists) → r ≡ s → IsLeaner l m → IsLeaner (used r l) (used s m)
 used_both r s l m e h = subst (λ (x : ℕ). IsLeaner (used r l) (used x m)) e (used_leaner r l m h)

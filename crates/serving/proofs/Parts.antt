@@ -1,9 +1,9 @@
 -- Beginnings of texts that are written.
-use Rattle.std.proofs.Common.{◌≡◌, ◌∙◌, ◌+◌, ◌-◌, ◌≤◌, arith, ℕ, List, ◌++◌, Option, None, Some, length, take, drop, inl, inr, ap, refl, subst, sym, append_assoc}
-use Rattle.std.proofs.Math.Seq.{take-add, take-append-add, take-append_seam}
-use Rattle.std.proofs.lemmas.List.{append-nil, length-drop, take_rest, take-append-drop}
+use Rattle.std.proofs.Common.{◌≡◌, ◌∙◌, ◌+◌, ◌-◌, ◌≤◌, arith, ℕ, List, ◌++◌, Option, None, Some, length, take, drop, inl, inr, ap, subst, sym}
+use Rattle.std.proofs.Math.Seq.{take-add}
+use Rattle.std.proofs.lemmas.List.{append-nil, length-drop, take_rest}
 use Rattle.std.specs.Io.KnownBytes.{Appends, Keeps}
-use Rattle.serving.specs.Written.{AppendsBeginning, WritesPart}
+use Rattle.serving.specs.Written.{WritesPart}
 use Rattle.serving.proofs.Replays.{appends_more}
 
 -- nothing of a text is written so far
@@ -33,20 +33,3 @@ part_kept (Some x) (Some y) (Some z) bs p q = q ∙ p
 pub part_so : (IsSo Is : List ℕ → Type 0) (old new : Option (List ℕ)) → ((text : List ℕ) → IsSo text → Is text) → WritesPart IsSo old new → WritesPart Is old new
 part_so IsSo Is old new weaker (inl e) = inl e
 part_so IsSo Is old new weaker (inr w) = inr (w.0, weaker w.0 w.1, w.2)
-
--- a beginning of a text is one of the text with more behind it
-pub part_front : (a b : Option (List ℕ)) (front back : List ℕ) → AppendsBeginning a b front → AppendsBeginning a b (front ++ back)
-part_front a b front back part =
-    let first = take part.0 front in
-    let whole = sym (append_assoc first (drop part.0 front) back) ∙ ap (λ (l : List ℕ). l ++ back) (take-append-drop part.0 front) in
-    let cut = ap (λ (l : List ℕ). take (length first) l) (sym whole) ∙ take-append_seam first (drop part.0 front ++ back) in
-    (length first, subst (Appends a b) (sym cut) part.1)
-
--- a text, and then a beginning of another one
-pub part_behind : (a b c : Option (List ℕ)) (front back : List ℕ) → Appends a b front → WritesPart (λ (t : List ℕ). t ≡ back) b c → WritesPart (λ (t : List ℕ). t ≡ front ++ back) a c
-part_behind a b c front back first (inl e) =
-    let here = subst (λ (o : Option (List ℕ)). Appends a o front) (sym e) first in
-    inr (front ++ back, refl, (length front, subst (Appends a c) (sym (take-append_seam front back)) here))
-part_behind a b c front back first (inr w) =
-    let rest = subst (λ (t : List ℕ). Appends b c (take w.2.0 t)) w.1 w.2.1 in
-    inr (front ++ back, refl, (length front + w.2.0, subst (Appends a c) (sym (take-append-add front back w.2.0)) (appends_more a b c front (take w.2.0 back) first rest)))

@@ -116,10 +116,6 @@ module _ (code : Code) (law : BeginsStayOpen code) (k : Kept) (th : Thread Confi
   running_by P some HasEnded h = absurd (subst (λ (o : Option (Attempt Saved)). IsSomeAnd o P) h some)
   running_by P some (HasTrapped cause) h = absurd (subst (λ (o : Option (Attempt Saved)). IsSomeAnd o P) h some)
 
-  -- with an attempt it runs
-  pub runs_inside : AreWithin k.configuration (begins_of k.core.attempt) → IsThreadOf code th → (P : Attempt Saved → Type 0) → IsSomeAnd k.core.attempt P → k.status ≡ Running
-  runs_inside w t P some = running_by P some k.status (kept_of code law k w (subst (IsThreadOf code) (sym is) t))
-
   none_by : (s : Status) → (s ≡ Running → ⊥) → KeptBy code k s → k.core.attempt ≡ None
   none_by Running ne h = absurd (ne refl)
   none_by HasEnded ne h = h
