@@ -350,7 +350,7 @@ fn with_made<'a>(
     }
 }
 
-/// The same with a command that was to be made.
+/// A program that was made, with one more command that was to be made.
 fn with_command<'a>(
     program: Result<Command<'a>, AllocError>,
     command: Result<Command<'a>, AllocError>,

@@ -7,12 +7,12 @@ use std::alloc::{AllocError, Allocator};
 
 /// What can be copied with all that it holds.
 pub trait Copied<A: Allocator + Copy>: Sized {
-    /// The same, in memory of its own; an `Err` only where `alloc` refuses it.
+    /// A copy of the whole value, in memory of its own; an `Err` only where `alloc` refuses it.
     fn copy(&self, alloc: A) -> Result<Self, AllocError>
         ensures { IfOk result (λ x. x ≡ self.now) };
 }
 
-/// The same elements in the same order.
+/// Copies the elements of a list, in their order.
 fn copy_all<T: Copied<A> + Drop, A: Allocator + Copy>(
     alloc: A,
     all: &[T],

@@ -114,7 +114,7 @@ pub(crate) fn put_converted<A: Allocator>(
     }
 }
 
-/// Likewise of a value on its way to a cell, which takes the lower half by itself.
+/// Converts a value on its way to a cell, which takes the lower half by itself.
 pub(crate) fn put_widened<A: Allocator>(
     lists: &mut Lists<A>,
     code: &mut Vec<Instr, A>,

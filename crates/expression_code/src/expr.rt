@@ -202,7 +202,7 @@ fn push_arranged<A: Allocator>(
     Ok(all.len() - first)
 }
 
-/// So many registers are used.
+/// Notes that so many registers are used.
 fn hold<A: Allocator>(lists: &mut Lists<A>, count: usize) -> Result<u16, Failure>
     ensures lists { OnOk result (lists_of lists.new ≡ holding count (lists_of lists.old)) }
     ensures count { IfOk result (λ n. n ≡ count) }

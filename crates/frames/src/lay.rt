@@ -4,7 +4,7 @@ ghost use Rattle.std.specs.Prelude.{◌≡◌, ◌+◌, ◌<◌, ◌≤◌, ◌+
 
 use std::alloc::{AllocError, Allocator};
 
-// So many zeros. There is room.
+// Lays so many zeros behind the registers. There is room for them.
 #[inline(always)]
 fn push_zeros<A: Allocator>(registers: &mut Vec<u64, A>, count: usize)
     requires { vec_len registers.old + count ≤ vec_capacity registers.old }

@@ -35,7 +35,7 @@ use smallvec::SmallVec;
 use std::alloc::{AllocError, Allocator};
 use syntax::tree::{Expr, ForHead, Kind, Parameter, Simple, Stmt};
 
-/// So many commits, and then an instruction; the place behind.
+/// Writes so many commits and then an instruction, and gives the place behind them.
 fn leave<A: Allocator>(
     code: &mut Vec<Instr, A>,
     commits: u32,

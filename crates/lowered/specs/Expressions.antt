@@ -35,7 +35,7 @@ LeadsTo code q to = (q ≡ to) ⊎ At code q (Instr.Jump to)
 abbrev pub Coded : Type 1
 Coded = (from to free r : ℕ) → Scalar → Type 0
 
--- the same of a value that is due in a type, which it has in the register: the other type is its own
+-- code that gives a value which is due in a type, and has it in the register: the other type is its own
 abbrev pub Due : Type 1
 Due = (due : Scalar) → Coded
 
@@ -73,7 +73,7 @@ converting LongLong Int = Some Instr.Low
 converting LongLong Unsigned = Some Instr.Low
 converting s u = None
 
--- likewise of a value that is written to a cell: the write takes the lower half by itself
+-- the instruction of a conversion on the way to a cell, where a write takes the lower half by itself
 abbrev pub widening : (s u : Scalar) → Option (ℕ → ℕ → Instr)
 widening Int LongLong = Some Instr.Extend
 widening s u = None
@@ -122,7 +122,7 @@ module _ (code : Code) (layout : Layout) where
   ConvertedBy None home u ra from to free r = (to ≡ from) × (r ≡ ra)
   ConvertedBy (Some i) home u ra from to free r = GivenBy home (i r ra) u from to free r u
 
-  -- likewise from one type to another
+  -- a value in the register ra comes to a register by the conversion from one type to another
   abbrev pub Converts : Option ℕ → (s u : Scalar) → (ra from to free r : ℕ) → Type 0
   Converts home s u ra from to free r = ConvertedBy (converting s u) home u ra from to free r
 

@@ -117,7 +117,7 @@ module _ (code : Code) (layout : Layout) (p : Program) where
     pub t : Scalar
     pub computes : e from to free r t
 
-  -- likewise of one in the type that is due
+  -- a value in the type that is due, somewhere above the locals
   pub record ResultCode (scope : LocalScope) (u : Scalar) (e : Expr) (from to r : ℕ) : Type 0 where
     pub free : ℕ
     pub room : length scope ≤ free

@@ -2,5 +2,5 @@
 pub mod Invariant
 -- a thread as code keeps it
 pub mod Kept
--- the same with what loads for its reads
+-- a thread as code keeps it, with what loads for its reads
 pub mod Inside

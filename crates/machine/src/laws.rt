@@ -41,7 +41,7 @@ ghost use Rattle.machine.specs.Moments.{BeginsPast};
 /// they stood there. Later runs extend earlier ones (`IsExtended`): the run of more steps holds the steps of the run of fewer
 /// in their order, and each thread's earlier steps come first among its own.
 ///
-/// The same for every program that the code means: its runs, and what its threads print and how they end.
+/// All this holds for every program that the code means: of its runs, and of what its threads print and how they end.
 pub fn opaque<C>()
     ensures code { (code : C → Effect C) (init : ℕ → C) (bounds : List ℕ) (m0 : Memory) (threads : ℕ) (steps : List ℕ) →
         FitsCells code bounds → IsMemory bounds m0 →

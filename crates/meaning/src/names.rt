@@ -82,7 +82,7 @@ pub(crate) enum Symbol<'p, A: Allocator> {
 }
 
 impl<'p, A: Allocator> Symbol<'p, A> {
-    /// The same, lent once more.
+    /// Lends a symbol once more.
     fn lent(&self) -> Symbol<'p, A>
         ensures { result ≡ self.now }
     {

@@ -259,7 +259,7 @@ impl<A: Allocator + Copy> Steps<A> {
         self.store_access(place)
     }
 
-    // Such a commit, whose access was made.
+    // A commit goes on whose store of this pair, or past the last one of the lock, was made.
     #[inline(always)]
     pub(crate) fn stored(&mut self, place: usize) -> Outcome
         requires begun { self.old.begun ≡ true }
@@ -635,7 +635,7 @@ impl<A: Allocator + Copy> Steps<A> {
         }
     }
 
-    // Such a step, with the lock's value.
+    // The step of a validation that waits for an even lock, with the lock's value.
     #[inline(always)]
     pub(crate) fn waited(&mut self, lock: u64)
         requires begun { self.old.begun ≡ true }

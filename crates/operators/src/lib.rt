@@ -33,7 +33,7 @@ fn fit(t: Scalar, z: i64) -> Result<u64, Trap>
     }
 }
 
-/// The same of a number of any size.
+/// The word of a number of any size as a result of a type: a signed one traps outside its range, an unsigned one wraps.
 #[inline(always)]
 fn fit_wide(t: Scalar, z: i128) -> Result<u64, Trap>
     ensures { result ≡ fitted t z }

@@ -148,7 +148,7 @@ fn is_plain(tokens: &[Token]) -> bool
         && !is_next(tokens, Fixed::Keyword(Keyword::Attribute))
 }
 
-/// Those of the one list, and then those of the other.
+/// The attributes of one list, and then those of another.
 pub fn joined<A: Allocator>(
     front: Items<Attribute, A>,
     back: Items<Attribute, A>,

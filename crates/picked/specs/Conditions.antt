@@ -41,7 +41,7 @@ completed met unmet (draft.Whole i) = i
 completed met unmet (draft.ToMet at_zero r) = jump_if at_zero r met
 completed met unmet (draft.ToUnmet at_zero r) = jump_if at_zero r unmet
 
--- the same of the opposite condition
+-- an instruction of the opposite condition
 abbrev pub turned : Draft → Draft
 turned (draft.Whole i) = draft.Whole i
 turned (draft.ToMet at_zero r) = draft.ToUnmet at_zero r

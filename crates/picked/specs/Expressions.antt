@@ -156,7 +156,7 @@ abbrev pub in_type : (s u : Scalar) → Expr → Emitted → (from into : ℕ) �
 in_type s u (Constant n t at) e from into l = constant (constant_in u t n) u from into l
 in_type s u e' e from into l = converted_by (converting s u) u e into
 
--- likewise in the first of these types, where there is one
+-- a value of type s in the first of these types, where there is one
 abbrev pub in_first_type : Scalar → List Scalar → Expr → Emitted → (from into : ℕ) → Lists → Emitted
 in_first_type s [] e' e from into l = e
 in_first_type s (u ∷ us) e' e from into l = in_type s u e' e from into l

@@ -108,7 +108,7 @@ taking target.Nowhere s = None
 abbrev pub fitting : Target → Scalar → Emitted → (into : ℕ) → Emitted
 fitting t s e into = converted_by (taking t s) (type_at t) e into
 
--- likewise an expression's: a constant is set as what it is converted to
+-- an expression's value on its way to a target: a constant is set as what it is converted to
 abbrev pub expr_fitting : Target → Scalar → Expr → Emitted → (from into : ℕ) → Lists → Emitted
 expr_fitting t s (Constant n x at) e from into l = constant (constant_in (type_at t) x n) (type_at t) from into l
 expr_fitting t s e' e from into l = fitting t s e into

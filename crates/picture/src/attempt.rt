@@ -47,7 +47,7 @@ pub(crate) struct Lane<A: Allocator = Global> {
     pub tries: u64,
     /// Attempts that were dropped, to which an arrow leads.
     pub drops: u64,
-    /// Its last row.
+    /// The last row in which the thread is drawn.
     pub latest: u64,
     /// How much of it stands in the last row of the picture, if anything does: marks, of prints characters.
     pub standing: Option<usize>,

@@ -58,7 +58,7 @@ fn holder_of(memory: &RunMemory) -> Option<u32>
     }
 }
 
-/// So many threads, by their numbers.
+/// What is shown of so many threads, by their numbers.
 fn threads_shown(
     alloc: Global,
     count: u32,

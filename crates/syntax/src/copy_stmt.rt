@@ -114,7 +114,7 @@ fn copy_boxed<A: Allocator + Copy>(
     Boxed::new(alloc, s.get().copy(alloc)?)
 }
 
-/// The same branch, where there is one.
+/// Copies the branch behind an `else`, where there is one.
 #[cycle(copy_stmt)]
 fn copy_else<A: Allocator + Copy>(
     alloc: A,

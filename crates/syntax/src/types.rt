@@ -35,7 +35,7 @@ pub fn common_type(s: Scalar, t: Scalar) -> Scalar
     }
 }
 
-/// The same of operands that may have none: then there is none.
+/// The common type of two operands, where both have a type.
 pub fn common_of(s: Option<Scalar>, t: Option<Scalar>) -> Option<Scalar>
     ensures { result ≡ common_of s t }
 {
@@ -70,7 +70,7 @@ pub fn result_type(op: BinaryOp, of: Scalar) -> Scalar
     }
 }
 
-/// The same where the operands may have none.
+/// The type of an operator's result, where its operands have a type.
 fn joined_type(op: BinaryOp, both: Option<Scalar>) -> Option<Scalar>
     ensures { result ≡ option_map (result_type op) both }
 {

@@ -70,7 +70,7 @@ module _ {A : Type 0} where
     pub there : AreThere z key world heard ws all
     pub threads_are : threads ≡ finished_back ws
     pub runs : RunsSay key world
-    -- and of each program that the code means
+    -- the same run explains each program that the code means
     pub programs : (does : Behaviour) → Means (bounds_of key.code) (code_does key.code) does → key.threads ≤ 2 ^ 32 →
         (es : List Entry) → IsMerge world.parts es → IsExplained does key world es
     -- no thread was dropped more often than others took the lock

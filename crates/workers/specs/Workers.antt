@@ -37,7 +37,7 @@ module _ {A : Type 0} where
   abbrev pub CanStep : TableId → Setup → ℕ → Worker A → Type 0
   CanStep z key n w = (steps : ℕ) × IsWorkerAt z key steps w × (steps + n < 2 ^ 64)
 
-  -- the same as `StepsOn`, by n steps that are not yet counted
+  -- a worker has gone on as `StepsOn` says, by n steps that are not yet counted
   abbrev pub StepsBy : TableId → Setup → ℕ → Worker A → Worker A → Type 0
   StepsBy z key n a b =
       (b.number ≡ a.number) × (b.steps ≡ a.steps) × ((steps : ℕ) (was : IsWorkerAt z key steps a) →

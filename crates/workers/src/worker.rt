@@ -165,7 +165,7 @@ impl<A: Allocator + Copy> Worker<A> {
         Some(lock)
     }
 
-    // Such steps, one after another, at most so many, until the lock is found even: how many were made.
+    // The steps of a begin, one after another, at most so many, until the lock is found even: how many were made.
     #[inline(always)]
     fn begin(&mut self, words: &Words<A>, code: &Code<A>, to: u32, most: u64) -> u64
         requires table { words.now.table_id.words ≡ cells_of code.now + 1 }
@@ -225,7 +225,7 @@ impl<A: Allocator + Copy> Worker<A> {
         self.thread.stored(code, place)
     }
 
-    // Such steps, one after another, at most so many: how many were made.
+    // The steps of a commit's stores, one after another, at most so many: how many were made.
     #[inline(always)]
     fn store_all(&mut self, words: &Words<A>, code: &Code<A>, most: u64) -> u64
         requires table { words.now.table_id.words ≡ cells_of code.now + 1 }

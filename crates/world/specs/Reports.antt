@@ -37,7 +37,7 @@ parts_shown stop t (p ∷ ps) = (end_with stop t p.thread.status, p.thread.text)
 abbrev pub threads_shown : Option (ℕ × StopReason) → Simulation → List (End × List ℕ)
 threads_shown stop s = parts_shown stop 0 (world_of s).parts
 
--- the same, as a report has it
+-- how each thread is found and what it has printed, as a report has it
 abbrev pub threads_of : {A : Type 0} → List (End × String A) → List (End × List ℕ)
 threads_of {A} rs = map (λ (r : End × String A). (r.0, string_bytes r.1)) rs
 

@@ -45,7 +45,7 @@ impl<A: Allocator> Model for World<A> {
     ghost invariant = { λ w. IsWorldOf (record { code = w.code; threads = length w.threads.items; trace = w.trace.items }) w.lock w.words.items w.threads.items w.accesses };
 }
 
-// So many threads, each at its beginning.
+// Makes so many threads, each at its beginning.
 fn first_threads<A: Allocator + Copy>(
     alloc: A,
     code: &Code<A>,

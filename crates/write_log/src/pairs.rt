@@ -71,7 +71,7 @@ fn search<L: Ledger>(
     Err(from)
 }
 
-/// The same, with a ledger for the looks.
+/// Searches as `search` does, with a ledger of its own for the looks.
 fn search_uncounted<L: Ledger>(
     order: &[(u32, usize)],
     least: u32,
@@ -89,7 +89,7 @@ fn search_uncounted<L: Ledger>(
     search(order, least, greatest, address, &mut Looks::<L>::new(blank))
 }
 
-/// The same where nobody counts.
+/// Searches as `search` does, where nobody counts the looks.
 fn slot_of(order: &[(u32, usize)], least: u32, greatest: u32, address: u32) -> Result<usize, usize>
     requires rising { IsRising order.now }
     requires between { AreWithin least greatest order.now }
@@ -211,7 +211,7 @@ impl<A: Allocator + Copy> Pairs<A> {
         self.put_among(address, word)
     }
 
-    /// The same at any address.
+    /// Writes a word at an address that may be anywhere among the others.
     #[inline(never)]
     fn put_among(&mut self, address: u32, word: u64) -> Change
         requires { 0 < self.old.room }

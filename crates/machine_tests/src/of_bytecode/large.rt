@@ -7,7 +7,7 @@ use containers::Text;
 use std::alloc::{AllocError, Global};
 use std::mem::size_of;
 
-// So many jumps, and a return.
+// Instructions of which so many are jumps, and the last is a return.
 fn jumps(alloc: Global, count: usize) -> Result<Vec<Instr>, AllocError> {
     let mut instructions = Vec::new(alloc);
     for _ in 0..count {

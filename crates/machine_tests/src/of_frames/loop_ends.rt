@@ -118,7 +118,7 @@ const NEVER: [Instr; 6] = [
     Instr::Return,
 ];
 
-// The second sum traps.
+// A loop end whose second sum traps.
 const TRAPS: [Instr; 7] = [
     Instr::Constant(0, 2147483647),
     Instr::Constant(1, 500),

@@ -19,7 +19,7 @@ pub record Plays (line : Line) (room left : ℕ) (before after : Simulation) : T
       steps_of before.code room (line ∷ lines) (world_of before)
       ≡ made ++ steps_of before.code left lines (world_of after)
 
--- the same up to a step that is not made
+-- With room for so many steps before it, these are the steps of the line up to one that is not made.
 pub record IsCut (line : Line) (room : ℕ) (before after : Simulation) : Type 0 where
   pub made : List ℕ
   pub are : after ≡ further before made

@@ -42,7 +42,7 @@ module _ {A : Type 0} where
     pub locals : take (count_in old) (locals_of new) ≡ locals_of old
     pub file : file_of new ≡ file_of old
 
-  -- the same names
+  -- both know the same names
   pub record Agrees (old new : Names A) : Type 0 where
     pub locals : locals_of new ≡ locals_of old
     pub file : file_of new ≡ file_of old

@@ -34,7 +34,7 @@ abbrev pub AreBetween : ℕ → ℕ → List (ℕ × ℕ) → Type 0
 AreBetween least greatest ps = (i : ℕ) → i < length ps →
     (least ≤ (slice_index_or ps i (0, 0)).0) × ((slice_index_or ps i (0, 0)).0 ≤ greatest)
 
--- the same of an order's addresses
+-- no address of an order lies outside these bounds
 abbrev pub AreWithin : ℕ → ℕ → List (ℕ × ℕ) → Type 0
 AreWithin least greatest order = (k : ℕ) → k < length order →
     (least ≤ (slice_index_or order k (0, 0)).0) × ((slice_index_or order k (0, 0)).0 ≤ greatest)
