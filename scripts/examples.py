@@ -85,7 +85,7 @@ fn examples() -> &'static [Example] {{
     &ROWS
 }}
 
-// Whether a source prints this, and nothing on standard error.
+/// Whether a source prints this, and nothing on standard error.
 fn prints<H: Threads + Wait + Sync>(rt: &H, alloc: Global, source: &[u8], out: &[u8]) -> bool {{
     match serve_line(rt, alloc, "txc run a.c", source, b"", false) {{
         Some(served) => served.out.as_slice() == out && served.err.is_empty(),
@@ -93,7 +93,7 @@ fn prints<H: Threads + Wait + Sync>(rt: &H, alloc: Global, source: &[u8], out: &
     }}
 }}
 
-// The first program that prints something else.
+/// The first program that prints something else.
 fn wrong_example<H: Threads + Wait + Sync>(rt: &H, alloc: Global) -> Option<&'static str> {{
     for (file, source, out) in examples() {{
         if !prints(rt, alloc, source, out) {{
@@ -117,13 +117,13 @@ fn transcripts() -> &'static [Transcript] {{
     &ROWS
 }}
 
-// Whether this is what was served: the output, and behind it the standard error.
+/// Whether this is what was served: the output, and behind it the standard error.
 fn shows(served: &Served, shown: &[u8]) -> bool {{
     let out = served.out.as_slice();
     shown.starts_with(out) && shown.get(out.len()..) == Some(served.err.as_slice())
 }}
 
-// Whether a terminal shows this of a command line.
+/// Whether a terminal shows this of a command line.
 fn is_shown<H: Threads + Wait + Sync>(
     rt: &H,
     alloc: Global,
@@ -138,7 +138,7 @@ fn is_shown<H: Threads + Wait + Sync>(
     }}
 }}
 
-// The first command line of which a terminal shows something else.
+/// The first command line of which a terminal shows something else.
 fn wrong_transcript<H: Threads + Wait + Sync>(rt: &H, alloc: Global) -> Option<&'static str> {{
     for (line, source, schedule, shown) in transcripts() {{
         if !is_shown(rt, alloc, line, source, schedule, shown) {{
@@ -188,7 +188,7 @@ fn examples() -> &'static [Row] {{
 /// Entries enough for the transactions of each program.
 const ALONE: [u32; 20] = [0; 20];
 
-// Whether a thread has printed what the row says, and is over so.
+/// Whether a thread has printed what the row says, and is over so.
 fn is_report(report: &ThreadReport, row: &Row) -> bool {{
     let over = match report.end {{
         ThreadEnd::Ended => row.1 == 0,
@@ -198,7 +198,7 @@ fn is_report(report: &ThreadReport, row: &Row) -> bool {{
     over && report.text.as_slice() == row.2.as_bytes()
 }}
 
-// Whether one thread has done what the row says.
+/// Whether one thread has done what the row says.
 fn has_done(outcome: &SourceOutcome, row: &Row) -> bool {{
     match outcome.threads.as_slice() {{
         [thread] => outcome.memory.as_slice() == row.3 && is_report(thread, row),
@@ -206,7 +206,7 @@ fn has_done(outcome: &SourceOutcome, row: &Row) -> bool {{
     }}
 }}
 
-// Whether one thread of a program does what the row says.
+/// Whether one thread of a program does what the row says.
 fn does_so(alloc: Global, accepted: &Accepted, row: &Row) -> bool {{
     match run_order(alloc, accepted, 1, ALONE.as_slice(), 100000) {{
         Ok(outcome) => has_done(&outcome, row),
@@ -214,7 +214,7 @@ fn does_so(alloc: Global, accepted: &Accepted, row: &Row) -> bool {{
     }}
 }}
 
-// Whether one thread of a row's text does what the row says.
+/// Whether one thread of a row's text does what the row says.
 fn is_so(alloc: Global, row: &Row) -> bool {{
     match accepted_of(alloc, row.0) {{
         Some(accepted) => does_so(alloc, &accepted, row),
@@ -222,7 +222,7 @@ fn is_so(alloc: Global, row: &Row) -> bool {{
     }}
 }}
 
-// The text of the first row that is not so.
+/// The text of the first row that is not so.
 fn first_other(alloc: Global, rows: &[Row]) -> Option<&'static str> {{
     for row in rows {{
         if !is_so(alloc, row) {{
@@ -254,7 +254,7 @@ pub fn examples() -> &'static [&'static str] {{
     &TEXTS
 }}
 
-// The first of these texts that has no code.
+/// The first of these texts that has no code.
 fn has_none(alloc: Global, texts: &[&'static str]) -> Option<&'static str> {{
     for text in texts {{
         if fault_of(alloc, text).is_some() {{

@@ -32,7 +32,7 @@ impl<A: Allocator> Model for AtomicThread<A> {
     ghost view = { λ t. record { thread = making.thread_of t.held; steps = t.steps } };
 }
 
-// The end of a thread, by how it is.
+/// The end of a thread, by how it is.
 fn end_of(status: Status) -> Option<End>
     ensures { result ≡ end_by status }
 {
@@ -43,7 +43,7 @@ fn end_of(status: Status) -> Option<End>
     }
 }
 
-// What comes of a thread that has made so many instructions.
+/// What comes of a thread that has made so many instructions.
 fn ran<A: Allocator>(steps: u64, left: Option<Vec<u64, A>>, status: Status) -> Ran<A>
     ensures steps { result.steps ≡ steps }
     ensures left { result.left ≡ left }

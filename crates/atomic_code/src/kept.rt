@@ -41,7 +41,7 @@ pub(crate) enum Signal<A: Allocator> {
     Wants,
 }
 
-// Goes on where a cancel of the begin that stands here does.
+/// Goes on where a cancel of the begin that stands here does.
 fn cancel_here<A: Allocator + Copy, B: Allocator>(frames: &mut Frames<A>, code: &Code<B>)
     requires { IsConfigurationOf code.now frames.old.configuration }
     ensures { frames.new.configuration ≡ after_cancel (effect code.now frames.old.configuration) frames.old.configuration }
@@ -51,7 +51,7 @@ fn cancel_here<A: Allocator + Copy, B: Allocator>(frames: &mut Frames<A>, code: 
     }
 }
 
-// Goes back to an open begin, and on where a cancel of it does.
+/// Goes back to an open begin, and on where a cancel of it does.
 fn go_back<A: Allocator + Copy, B: Allocator>(
     frames: &mut Frames<A>,
     code: &Code<B>,
@@ -65,7 +65,7 @@ fn go_back<A: Allocator + Copy, B: Allocator>(
     cancel_here(frames, code);
 }
 
-// Whether a print may be made.
+/// Whether a print may be made.
 fn may_print<A: Allocator>(open_in: &Option<Open<A>>) -> bool
     ensures { IsTrue result ↔ MayPrint (option_map transaction_of open_in.now) }
 {
@@ -76,7 +76,7 @@ fn may_print<A: Allocator>(open_in: &Option<Open<A>>) -> bool
 }
 
 impl<A: Allocator + Copy> KeptThread<A> {
-    // A local step.
+    /// A local step.
     fn work<B: Allocator>(&mut self, code: &Code<B>) -> Signal<A>
         requires valid { IsValid code.now }
         requires running { self.old.status ≡ Running }
@@ -113,7 +113,7 @@ impl<A: Allocator + Copy> KeptThread<A> {
         Signal::Goes
     }
 
-    // A print stands still in a transaction that was not made irrevocable.
+    /// A print stands still in a transaction that was not made irrevocable.
     fn print<B: Allocator>(&mut self, code: &Code<B>, doing: Doing) -> Result<Signal<A>, AllocError>
         requires valid { IsValid code.now }
         requires running { self.old.status ≡ Running }
@@ -130,7 +130,7 @@ impl<A: Allocator + Copy> KeptThread<A> {
         Ok(Signal::Goes)
     }
 
-    // An outermost transaction begins where there is none.
+    /// An outermost transaction begins where there is none.
     fn begin_outermost<B: Allocator>(
         &mut self,
         alloc: A,
@@ -185,7 +185,7 @@ impl<A: Allocator + Copy> KeptThread<A> {
         }
     }
 
-    // A shared access stands still outside transactions.
+    /// A shared access stands still outside transactions.
     fn read<B: Allocator>(&mut self, code: &Code<B>, d: u32, cell: u32) -> Signal<A>
         requires valid { IsValid code.now }
         requires running { self.old.status ≡ Running }
@@ -238,7 +238,7 @@ impl<A: Allocator + Copy> KeptThread<A> {
         }
     }
 
-    // A commit stands still outside transactions.
+    /// A commit stands still outside transactions.
     fn commit<B: Allocator>(&mut self, code: &Code<B>) -> Signal<A>
         requires valid { IsValid code.now }
         requires running { self.old.status ≡ Running }
@@ -261,8 +261,8 @@ impl<A: Allocator + Copy> KeptThread<A> {
         }
     }
 
-    // A cancel of so many levels stands still outside transactions, and where it would undo the outermost one after that was
-    // made irrevocable.
+    /// A cancel of so many levels stands still outside transactions, and where it would undo the outermost one after that was
+    /// made irrevocable.
     fn cancel<B: Allocator>(&mut self, code: &Code<B>, levels: u32) -> Signal<A>
         requires valid { IsValid code.now }
         requires running { self.old.status ≡ Running }
@@ -291,7 +291,7 @@ impl<A: Allocator + Copy> KeptThread<A> {
         }
     }
 
-    // A trap leaves the memory that the outermost transaction found.
+    /// A trap leaves the memory that the outermost transaction found.
     fn trap<B: Allocator>(&mut self, code: &Code<B>, cause: Trap) -> Signal<A>
         requires valid { IsValid code.now }
         requires running { self.old.status ≡ Running }

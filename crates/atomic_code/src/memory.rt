@@ -12,7 +12,7 @@ use lex::token::Scalar;
 use std::alloc::Allocator;
 use syntax::tree::Global;
 
-// Whether these are words of a type.
+/// Whether these are words of a type.
 fn are_words(of: Scalar, words: &[u64]) -> bool
     ensures { IsTrue result ↔ EachIndex words.now (λ i. slice_index words.now i < modulus of) }
 {
@@ -22,7 +22,7 @@ fn are_words(of: Scalar, words: &[u64]) -> bool
     }
 }
 
-// Whether these are as many words as the globals have cells, each of its cell's type.
+/// Whether these are as many words as the globals have cells, each of its cell's type.
 fn are_cells<A: Allocator>(globals: &[Global<A>], words: &[u64]) -> bool
     ensures { IsTrue result ↔ IsMemory (cell_bounds (map global_of globals.now)) words.now }
 {

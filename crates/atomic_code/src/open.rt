@@ -26,7 +26,7 @@ pub(crate) struct Open<A: Allocator> {
     pub kept: bool,
 }
 
-// What a begin keeps that stands at the place, and finds this memory.
+/// What a begin keeps that stands at the place, and finds this memory.
 fn save_begin<A: Allocator + Copy>(
     alloc: A,
     frames: &Frames<A>,
@@ -90,7 +90,7 @@ pub(crate) fn close_inner<A: Allocator>(transaction: &mut Open<A>) -> Option<Beg
     transaction.inner.pop()
 }
 
-// Closes so many inner transactions, the innermost ones.
+/// Closes so many inner transactions, the innermost ones.
 fn close_inside<A: Allocator>(transaction: &mut Open<A>, count: usize)
     requires { count ≤ length (transaction_of transaction.old).inner }
     ensures { transaction_of transaction.new ≡ with_memory (transaction_of transaction.old) (transaction_of transaction.old).mem (drop count (transaction_of transaction.old).inner) }

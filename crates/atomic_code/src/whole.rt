@@ -37,7 +37,7 @@ pub struct ThreadOutcome<A: Allocator = Global> {
     pub end: ThreadEnd,
 }
 
-// The end of a thread that wants no memory: spent, where it would go on.
+/// The end of a thread that wants no memory: spent, where it would go on.
 fn end_without_want(status: Status) -> ThreadEnd
     ensures { thread_end_in result ≡ end_due false status }
 {
@@ -48,7 +48,7 @@ fn end_without_want(status: Status) -> ThreadEnd
     }
 }
 
-// The memory under this number.
+/// The memory under this number.
 fn memory_at<A: Allocator>(founds: &[Vec<u64, A>], number: usize) -> Option<&[u64]>
     ensures { at_hand (λ m. m.now) result ≡ slice_get (memories_in founds.now) number }
 {

@@ -7,7 +7,7 @@ use norec_core::{Access, Answer, Core, Op, Outcome, ReadStep, Saved, Stop};
 use refusing::{Refusing, growths};
 use std::alloc::{Allocator, Global};
 
-// The answer of an access that finds this value in the lock or the word.
+/// The answer of an access that finds this value in the lock or the word.
 pub(crate) fn answer_to(access: Access, found: u64) -> Answer
     ensures { IsAnswerTo access result }
 {
@@ -20,7 +20,7 @@ pub(crate) fn answer_to(access: Access, found: u64) -> Answer
     }
 }
 
-// One step of an operation, whose access finds this value.
+/// One step of an operation, whose access finds this value.
 pub(crate) fn step<A: Allocator + Copy>(
     core: &mut Core<A>,
     op: Op,
@@ -30,10 +30,10 @@ pub(crate) fn step<A: Allocator + Copy>(
     Ok((access, core.told(answer_to(access, found))))
 }
 
-// An operation, what its access finds, the access, and what comes of the operation.
+/// An operation, what its access finds, the access, and what comes of the operation.
 pub(crate) type Row = (Op, u64, Access, Outcome);
 
-// Whether each of these steps is played so. The rows stand in functions, so that no proof but theirs looks at them.
+/// Whether each of these steps is played so. The rows stand in functions, so that no proof but theirs looks at them.
 pub(crate) fn plays<A: Allocator + Copy>(core: &mut Core<A>, rows: &[Row]) -> bool {
     for row in rows {
         if step(core, row.0, row.1) != Ok((row.2, row.3)) {
@@ -43,7 +43,7 @@ pub(crate) fn plays<A: Allocator + Copy>(core: &mut Core<A>, rows: &[Row]) -> bo
     true
 }
 
-// A read that meets a later commit, reads anew and is written back.
+/// A read that meets a later commit, reads anew and is written back.
 fn read_again() -> &'static [Row] {
     static ROWS: [Row; 12] = [
         (Op::Begin, 1, Access::LoadLock, Outcome::Going),
@@ -62,7 +62,7 @@ fn read_again() -> &'static [Row] {
     &ROWS
 }
 
-// A cancelled inner transaction, with a committed one in it, has written to addresses written before it and to others.
+/// A cancelled inner transaction, with a committed one in it, has written to addresses written before it and to others.
 fn nested() -> &'static [Row] {
     static ROWS: [Row; 16] = [
         (Op::Begin, 2, Access::LoadLock, Outcome::Done),
@@ -85,7 +85,7 @@ fn nested() -> &'static [Row] {
     &ROWS
 }
 
-// Validation finds another word at an address that was read.
+/// Validation finds another word at an address that was read.
 fn changed() -> &'static [Row] {
     static ROWS: [Row; 7] = [
         (Op::Begin, 2, Access::LoadLock, Outcome::Done),
@@ -99,7 +99,7 @@ fn changed() -> &'static [Row] {
     &ROWS
 }
 
-// The lock is taken at its last value but one, and released at its last even one.
+/// The lock is taken at its last value but one, and released at its last even one.
 fn last_release() -> &'static [Row] {
     static ROWS: [Row; 5] = [
         (Op::Begin, u64::MAX - 3, Access::LoadLock, Outcome::Done),
@@ -121,7 +121,7 @@ fn last_release() -> &'static [Row] {
     &ROWS
 }
 
-// A transaction that has read at the last lock value commits there.
+/// A transaction that has read at the last lock value commits there.
 fn last_read() -> &'static [Row] {
     static ROWS: [Row; 4] = [
         (Op::Begin, u64::MAX - 1, Access::LoadLock, Outcome::Done),
@@ -137,7 +137,7 @@ fn last_read() -> &'static [Row] {
     &ROWS
 }
 
-// One that has written cannot take the lock there.
+/// One that has written cannot take the lock there.
 fn last_write() -> &'static [Row] {
     static ROWS: [Row; 2] = [
         (Op::Begin, u64::MAX - 1, Access::LoadLock, Outcome::Done),
@@ -146,7 +146,7 @@ fn last_write() -> &'static [Row] {
     &ROWS
 }
 
-// The lock is taken early, read under without a check, and released by a trap.
+/// The lock is taken early, read under without a check, and released by a trap.
 fn kept() -> &'static [Row] {
     static ROWS: [Row; 5] = [
         (Op::Begin, 2, Access::LoadLock, Outcome::Done),
@@ -158,7 +158,7 @@ fn kept() -> &'static [Row] {
     &ROWS
 }
 
-// Whether one core plays these in turn.
+/// Whether one core plays these in turn.
 fn plays_each<A: Allocator + Copy>(core: &mut Core<A>) -> bool {
     plays(core, read_again())
         && plays(core, nested())
@@ -167,28 +167,28 @@ fn plays_each<A: Allocator + Copy>(core: &mut Core<A>) -> bool {
         && plays(core, kept())
 }
 
-// Whether this is what was saved where the attempt that was aborted began.
+/// Whether this is what was saved where the attempt that was aborted began.
 fn is_first<A: Allocator + Copy>(saved: &Saved<A>) -> bool {
     saved.registers() == [3, 4].as_slice() && saved.frames() == 2 && saved.place() == 7
 }
 
-// Whether a core whose validation fails goes back to that, and there is no attempt.
+/// Whether a core whose validation fails goes back to that, and there is no attempt.
 fn goes_back<A: Allocator + Copy>(core: &mut Core<A>) -> bool {
     plays(core, changed()) && !core.has_attempt() && is_first(core.saved())
 }
 
-// Whether an operation is not prepared, since the sequence is used up.
+/// Whether an operation is not prepared, since the sequence is used up.
 fn is_used_up<A: Allocator + Copy>(core: &mut Core<A>, op: Op) -> bool {
     core.prepare(op, &[], 0, 0) == Err(Stop::SequenceUsedUp)
 }
 
-// A read of what was written, which is in the log.
+/// A read of what was written, which is in the log.
 fn read_in_place() -> &'static [Row] {
     static ROWS: [Row; 1] = [(Op::Read(5), 0, Access::Local, Outcome::Read(9))];
     &ROWS
 }
 
-// Whether the lock is not taken at its last value, and the attempt goes on.
+/// Whether the lock is not taken at its last value, and the attempt goes on.
 fn stops_at_the_last<A: Allocator + Copy>(core: &mut Core<A>) -> bool {
     plays(core, last_write())
         && is_used_up(core, Op::Commit)
@@ -198,7 +198,7 @@ fn stops_at_the_last<A: Allocator + Copy>(core: &mut Core<A>) -> bool {
         && plays(core, read_in_place())
 }
 
-// Makes these steps, each prepared again where it is refused, and says how many were; `None` where one is not made.
+/// Makes these steps, each prepared again where it is refused, and says how many were; `None` where one is not made.
 fn insist<A: Allocator + Copy>(core: &mut Core<A>, rows: &[Row]) -> Option<u64> {
     let mut refused = 0u64;
     for row in rows {
@@ -212,7 +212,7 @@ fn insist<A: Allocator + Copy>(core: &mut Core<A>, rows: &[Row]) -> Option<u64> 
     Some(refused)
 }
 
-// How many steps of one of two transactions were refused, if all of both are made: the most.
+/// How many steps of one of two transactions were refused, if all of both are made: the most.
 fn insist_twice<A: Allocator + Copy>(core: &mut Core<A>) -> Option<u64> {
     match (insist(core, nested()), insist(core, read_again())) {
         (Some(first), Some(second)) => Some(first.max(second)),
@@ -220,7 +220,7 @@ fn insist_twice<A: Allocator + Copy>(core: &mut Core<A>) -> Option<u64> {
     }
 }
 
-// Whether steps are made where a growth may be refused: then one is, unless it is still to come, and a transaction follows.
+/// Whether steps are made where a growth may be refused: then one is, unless it is still to come, and a transaction follows.
 fn insists<A: Allocator + Copy, B: Allocator>(core: &mut Core<A>, refusing: &Refusing<B>) -> bool {
     let refused = insist_twice(core);
     if refusing.is_waiting() {
@@ -229,7 +229,7 @@ fn insists<A: Allocator + Copy, B: Allocator>(core: &mut Core<A>, refusing: &Ref
     refused == Some(1) && plays(core, nested())
 }
 
-// Whether a step is told its answer without a growth.
+/// Whether a step is told its answer without a growth.
 fn is_told_in_place<A: Allocator + Copy, B: Allocator>(
     core: &mut Core<A>,
     refusing: &Refusing<B>,
@@ -244,7 +244,7 @@ fn is_told_in_place<A: Allocator + Copy, B: Allocator>(
     refusing.is_waiting()
 }
 
-// Whether each of these is.
+/// Whether each of these is.
 fn are_told_in_place<A: Allocator + Copy, B: Allocator>(
     core: &mut Core<A>,
     refusing: &Refusing<B>,
@@ -258,7 +258,7 @@ fn are_told_in_place<A: Allocator + Copy, B: Allocator>(
     true
 }
 
-// An attempt that finds another word in place of one that it has read, and is dropped.
+/// An attempt that finds another word in place of one that it has read, and is dropped.
 fn dropped() -> &'static [Row] {
     static ROWS: [Row; 7] = [
         (Op::Begin, 2, Access::LoadLock, Outcome::Done),
@@ -272,7 +272,7 @@ fn dropped() -> &'static [Row] {
     &ROWS
 }
 
-// Whether a core takes no memory where it is told an answer.
+/// Whether a core takes no memory where it is told an answer.
 fn tells_in_place<A: Allocator + Copy, B: Allocator>(
     core: &mut Core<A>,
     refusing: &Refusing<B>,
@@ -283,7 +283,7 @@ fn tells_in_place<A: Allocator + Copy, B: Allocator>(
         && are_told_in_place(core, refusing, kept())
 }
 
-// Whether transactions are played in a core, and in the third round without a growth.
+/// Whether transactions are played in a core, and in the third round without a growth.
 fn stays_roomy<A: Allocator + Copy, B: Allocator>(
     core: &mut Core<A>,
     refusing: &Refusing<B>,
@@ -297,12 +297,12 @@ fn stays_roomy<A: Allocator + Copy, B: Allocator>(
     refusing.is_waiting()
 }
 
-// Whether an operation whose access finds this value is made.
+/// Whether an operation whose access finds this value is made.
 fn makes<A: Allocator + Copy>(core: &mut Core<A>, op: Op, found: u64) -> bool {
     step(core, op, found).is_ok()
 }
 
-// Whether each of 1000 words is read and written.
+/// Whether each of 1000 words is read and written.
 fn writes_many<A: Allocator + Copy>(core: &mut Core<A>) -> bool {
     for address in 0..1000u32 {
         let read = makes(core, Op::Read(address), 5) && makes(core, Op::Read(address), 2);
@@ -313,7 +313,7 @@ fn writes_many<A: Allocator + Copy>(core: &mut Core<A>) -> bool {
     true
 }
 
-// Whether each of them is stored.
+/// Whether each of them is stored.
 fn stores_many<A: Allocator + Copy>(core: &mut Core<A>) -> bool {
     for address in 0..1000u32 {
         let wanted = (Access::StoreWord(address, 6), Outcome::Going);
@@ -324,13 +324,13 @@ fn stores_many<A: Allocator + Copy>(core: &mut Core<A>) -> bool {
     true
 }
 
-// The lock is released after that.
+/// The lock is released after that.
 fn released() -> &'static [Row] {
     static ROWS: [Row; 1] = [(Op::Commit, 0, Access::StoreLock(4), Outcome::Done)];
     &ROWS
 }
 
-// Whether a transaction of so many commits.
+/// Whether a transaction of so many commits.
 fn commits_many<A: Allocator + Copy>(core: &mut Core<A>) -> bool {
     makes(core, Op::Begin, 2)
         && writes_many(core)
@@ -339,7 +339,7 @@ fn commits_many<A: Allocator + Copy>(core: &mut Core<A>) -> bool {
         && plays(core, released())
 }
 
-// What comes of a read that is made whole, if it is: it finds this word, and then this lock.
+/// What comes of a read that is made whole, if it is: it finds this word, and then this lock.
 fn reads<A: Allocator + Copy>(
     core: &mut Core<A>,
     cell: u32,
@@ -352,14 +352,14 @@ fn reads<A: Allocator + Copy>(
     }
 }
 
-// Whether a read is made whole where nothing disturbs it, leaves validation where the lock has moved, and is not made there.
+/// Whether a read is made whole where nothing disturbs it, leaves validation where the lock has moved, and is not made there.
 fn reads_up_to_validation<A: Allocator + Copy>(core: &mut Core<A>) -> bool {
     reads(core, 5, 7, 2) == Some(Outcome::Read(7))
         && reads(core, 6, 7, 4) == Some(Outcome::Going)
         && reads(core, 6, 7, 4).is_none()
 }
 
-// Whether reads are made whole in an attempt, where room is there.
+/// Whether reads are made whole in an attempt, where room is there.
 fn reads_whole<A: Allocator + Copy, B: Allocator>(
     core: &mut Core<A>,
     refusing: &Refusing<B>,
@@ -371,7 +371,7 @@ fn reads_whole<A: Allocator + Copy, B: Allocator>(
     begun && outside.is_none() && refused.is_none() && reads_up_to_validation(core)
 }
 
-// Validation after that.
+/// Validation after that.
 fn validates() -> &'static [Row] {
     static ROWS: [Row; 2] = [
         (Op::Read(6), 4, Access::LoadLock, Outcome::Going),
@@ -380,7 +380,7 @@ fn validates() -> &'static [Row] {
     &ROWS
 }
 
-// Whether a core makes reads whole, and then validates.
+/// Whether a core makes reads whole, and then validates.
 fn makes_reads_whole<A: Allocator + Copy, B: Allocator>(
     core: &mut Core<A>,
     refusing: &Refusing<B>,
@@ -388,19 +388,19 @@ fn makes_reads_whole<A: Allocator + Copy, B: Allocator>(
     reads_whole(core, refusing) && plays(core, validates())
 }
 
-// Whether a commit of nothing is made at once, and neither it nor a write is made outside.
+/// Whether a commit of nothing is made at once, and neither it nor a write is made outside.
 fn commits_at_once<A: Allocator + Copy>(core: &mut Core<A>) -> bool {
     let outside = core.write(5, 9) || core.commit();
     let begun = makes(core, Op::Begin, 2);
     !outside && begun && core.commit() && !core.has_attempt()
 }
 
-// Whether a read of this cell is made at once, with this word.
+/// Whether a read of this cell is made at once, with this word.
 fn reads_at_once<A: Allocator + Copy>(core: &mut Core<A>, cell: u32, word: u64) -> bool {
     core.read(cell) == ReadStep::Written(word)
 }
 
-// Whether what is written next is read at once, and a cell beside it is loaded.
+/// Whether what is written next is read at once, and a cell beside it is loaded.
 fn reads_what_it_wrote<A: Allocator + Copy>(core: &mut Core<A>) -> bool {
     core.write(5, 8)
         && core.write(6, 7)
@@ -410,7 +410,7 @@ fn reads_what_it_wrote<A: Allocator + Copy>(core: &mut Core<A>) -> bool {
         && core.read(7) == ReadStep::Loads
 }
 
-// Whether a write is made at once, and then reads of what was written, but no commit, which takes the lock.
+/// Whether a write is made at once, and then reads of what was written, but no commit, which takes the lock.
 fn writes_at_once<A: Allocator + Copy>(core: &mut Core<A>) -> bool {
     let outside = core.read(5) == ReadStep::Other;
     let begun = makes(core, Op::Begin, 2);
@@ -418,12 +418,12 @@ fn writes_at_once<A: Allocator + Copy>(core: &mut Core<A>) -> bool {
     outside && begun && written && !core.commit() && plays(core, read_in_place())
 }
 
-// Whether both are.
+/// Whether both are.
 fn does_both_at_once<A: Allocator + Copy>(core: &mut Core<A>) -> bool {
     commits_at_once(core) && writes_at_once(core)
 }
 
-// What a new core plays.
+/// What a new core plays.
 #[derive(Clone, Copy)]
 enum Play {
     Steps,
@@ -437,7 +437,7 @@ enum Play {
     AtOnce,
 }
 
-// Whether a core plays this.
+/// Whether a core plays this.
 fn plays_this<A: Allocator + Copy, B: Allocator>(
     core: &mut Core<A>,
     refusing: &Refusing<B>,
@@ -456,7 +456,7 @@ fn plays_this<A: Allocator + Copy, B: Allocator>(
     }
 }
 
-// Whether a new core plays this.
+/// Whether a new core plays this.
 fn new_plays<A: Allocator + Copy, B: Allocator>(
     alloc: A,
     refusing: &Refusing<B>,
@@ -466,13 +466,13 @@ fn new_plays<A: Allocator + Copy, B: Allocator>(
     plays_this(&mut core, refusing, play)
 }
 
-// Whether a new core plays this where growth `nth` is refused.
+/// Whether a new core plays this where growth `nth` is refused.
 fn is_played_at(alloc: &Refusing<Global>, nth: u64, play: Play) -> bool {
     alloc.refuse(nth);
     new_plays(alloc, alloc, play)
 }
 
-// Whether a new core plays this where no growth is refused.
+/// Whether a new core plays this where no growth is refused.
 fn is_played(inner: Global, play: Play) -> bool {
     is_played_at(&Refusing::new(inner, 0), 0, play)
 }
@@ -505,7 +505,7 @@ fn told_takes_no_memory(rt: HostRuntime) {
     assert_that(&rt, is_played(rt.alloc(), Play::Told));
 }
 
-// After its first transactions a thread that runs such ones takes no more memory.
+/// After its first transactions a thread that runs such ones takes no more memory.
 #[test]
 fn room_stays(rt: HostRuntime) {
     assert_that(&rt, is_played(rt.alloc(), Play::Rounds));

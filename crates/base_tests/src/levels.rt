@@ -6,15 +6,15 @@ use norec_core::{Access, Core, Op, Outcome, Saved, Stop};
 use refusing::Refusing;
 use std::alloc::{Allocator, Global};
 
-// What a step comes to: its access, and what comes of the operation.
+/// What a step comes to: its access, and what comes of the operation.
 type Made = Result<(Access, Outcome), Stop>;
 
-// A local step after which the operation is done, or goes on.
+/// A local step after which the operation is done, or goes on.
 const DONE: Made = Ok((Access::Local, Outcome::Done));
 
 const GOING: Made = Ok((Access::Local, Outcome::Going));
 
-// How many levels are open, how many of them are cancelled, and whether the lock is kept.
+/// How many levels are open, how many of them are cancelled, and whether the lock is kept.
 #[derive(Clone, Copy)]
 struct Cancel {
     depth: u32,
@@ -22,7 +22,7 @@ struct Cancel {
     kept: bool,
 }
 
-// Whether the begin of this level is made, counted from 1 for the outermost one. It saves its number.
+/// Whether the begin of this level is made, counted from 1 for the outermost one. It saves its number.
 fn begins<A: Allocator + Copy>(core: &mut Core<A>, level: u32) -> bool {
     match core.prepare(Op::Begin, &[u64::from(level)], 2, level) {
         Ok(access) => core.told(answer_to(access, 2)) == Outcome::Done,
@@ -30,17 +30,17 @@ fn begins<A: Allocator + Copy>(core: &mut Core<A>, level: u32) -> bool {
     }
 }
 
-// Whether a word is written.
+/// Whether a word is written.
 fn writes<A: Allocator + Copy>(core: &mut Core<A>, cell: u32, word: u32) -> bool {
     step(core, Op::Write(cell, u64::from(word)), 0) == DONE
 }
 
-// Whether a level begins and writes its number to a cell of its own and to one that all levels write.
+/// Whether a level begins and writes its number to a cell of its own and to one that all levels write.
 fn opens<A: Allocator + Copy>(core: &mut Core<A>, level: u32) -> bool {
     begins(core, level) && writes(core, level, level) && writes(core, 0, level)
 }
 
-// Whether so many levels do.
+/// Whether so many levels do.
 fn opens_each<A: Allocator + Copy>(core: &mut Core<A>, depth: u32) -> bool {
     for level in 1..depth.saturating_add(1) {
         if !opens(core, level) {
@@ -50,18 +50,18 @@ fn opens_each<A: Allocator + Copy>(core: &mut Core<A>, depth: u32) -> bool {
     true
 }
 
-// Whether they do, with the lock kept where it is to be.
+/// Whether they do, with the lock kept where it is to be.
 fn stands<A: Allocator + Copy>(core: &mut Core<A>, cancel: Cancel) -> bool {
     let keeps = Ok((Access::Swap(2), Outcome::Done));
     opens_each(core, cancel.depth) && (!cancel.kept || step(core, Op::Irrevocable, 2) == keeps)
 }
 
-// Whether a read of a cell is of what was written.
+/// Whether a read of a cell is of what was written.
 fn is_written<A: Allocator + Copy>(core: &mut Core<A>, cell: u32) -> bool {
     core.prepare(Op::Read(cell), &[], 0, 0) == Ok(Access::Local)
 }
 
-// Whether the words of so many levels are there, and of no more.
+/// Whether the words of so many levels are there, and of no more.
 fn has_words_of<A: Allocator + Copy>(core: &mut Core<A>, levels: u32) -> bool {
     for level in 1..18u32 {
         if is_written(core, level) != (level <= levels) {
@@ -72,7 +72,7 @@ fn has_words_of<A: Allocator + Copy>(core: &mut Core<A>, levels: u32) -> bool {
     step(core, Op::Read(0), 0) == last
 }
 
-// Whether just so many levels are open: those inside the outermost one are committed in turn, and then it.
+/// Whether just so many levels are open: those inside the outermost one are committed in turn, and then it.
 fn closes_each<A: Allocator + Copy>(core: &mut Core<A>, levels: u32, kept: bool) -> bool {
     for _ in 1..levels {
         if step(core, Op::Commit, 0) != DONE {
@@ -87,13 +87,13 @@ fn closes_each<A: Allocator + Copy>(core: &mut Core<A>, levels: u32, kept: bool)
     core.prepare(Op::Commit, &[], 0, 0) == Ok(wanted)
 }
 
-// Whether this is what the begin of that level saved.
+/// Whether this is what the begin of that level saved.
 fn is_of<A: Allocator + Copy>(saved: &Saved<A>, level: u32) -> bool {
     let registers = [u64::from(level)];
     saved.registers() == registers.as_slice() && saved.frames() == 2 && saved.place() == level
 }
 
-// Whether the transaction goes on at the begin inside these levels, which are left.
+/// Whether the transaction goes on at the begin inside these levels, which are left.
 fn goes_on<A: Allocator + Copy>(core: &mut Core<A>, left: u32, kept: bool) -> bool {
     is_of(core.saved(), left.saturating_add(1))
         && core.is_kept() == kept
@@ -101,17 +101,17 @@ fn goes_on<A: Allocator + Copy>(core: &mut Core<A>, left: u32, kept: bool) -> bo
         && closes_each(core, left, kept)
 }
 
-// Whether it stands still, with the lock kept and all levels open.
+/// Whether it stands still, with the lock kept and all levels open.
 fn stands_still<A: Allocator + Copy>(core: &mut Core<A>, depth: u32) -> bool {
     core.is_kept() && has_words_of(core, depth) && closes_each(core, depth, true)
 }
 
-// Whether it is over, and gone back to its begin.
+/// Whether it is over, and gone back to its begin.
 fn is_over<A: Allocator + Copy>(core: &mut Core<A>) -> bool {
     !core.has_attempt() && is_of(core.saved(), 1)
 }
 
-// Whether the step of a cancel comes to this, and leaves what it should.
+/// Whether the step of a cancel comes to this, and leaves what it should.
 fn leaves<A: Allocator + Copy>(core: &mut Core<A>, cancel: Cancel, made: Made) -> bool {
     if cancel.levels < cancel.depth {
         made == DONE && goes_on(core, cancel.depth - cancel.levels, cancel.kept)
@@ -122,7 +122,7 @@ fn leaves<A: Allocator + Copy>(core: &mut Core<A>, cancel: Cancel, made: Made) -
     }
 }
 
-// Whether a cancel is made without a growth.
+/// Whether a cancel is made without a growth.
 fn cancels<A: Allocator + Copy, B: Allocator>(
     core: &mut Core<A>,
     refusing: &Refusing<B>,
@@ -138,14 +138,14 @@ fn cancels<A: Allocator + Copy, B: Allocator>(
     waits && leaves(core, cancel, made)
 }
 
-// Whether one is in a new core.
+/// Whether one is in a new core.
 fn a_new_one_cancels(inner: Global, cancel: Cancel) -> bool {
     let alloc = Refusing::new(inner, 0);
     let mut core = Core::new(&alloc);
     cancels(&mut core, &alloc, cancel)
 }
 
-// Whether a cancel of so many levels is made with the lock kept and without.
+/// Whether a cancel of so many levels is made with the lock kept and without.
 fn cancels_both(inner: Global, depth: u32, levels: u32) -> bool {
     let free = Cancel {
         depth,
@@ -155,7 +155,7 @@ fn cancels_both(inner: Global, depth: u32, levels: u32) -> bool {
     a_new_one_cancels(inner, free) && a_new_one_cancels(inner, Cancel { kept: true, ..free })
 }
 
-// The first depth at which a cancel of 2 to 17 levels leaves something else.
+/// The first depth at which a cancel of 2 to 17 levels leaves something else.
 fn left_otherwise(inner: Global) -> Option<u32> {
     for depth in 1..17u32 {
         for levels in 2..18u32 {
@@ -172,7 +172,7 @@ fn several_levels_are_cancelled(rt: HostRuntime) {
     assert_that(&rt, left_otherwise(rt.alloc()).is_none());
 }
 
-// A read in the innermost of three levels, which two are then cancelled, is compared later.
+/// A read in the innermost of three levels, which two are then cancelled, is compared later.
 fn reads_stay() -> &'static [Row] {
     static ROWS: [Row; 9] = [
         (Op::Begin, 2, Access::LoadLock, Outcome::Done),
@@ -188,7 +188,7 @@ fn reads_stay() -> &'static [Row] {
     &ROWS
 }
 
-// Whether an entry with another word then drops the attempt.
+/// Whether an entry with another word then drops the attempt.
 fn compares_what_was_read(inner: Global) -> bool {
     let mut core = Core::new(inner);
     let dropped = Ok((Access::LoadWord(5), Outcome::Aborted));

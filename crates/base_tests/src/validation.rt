@@ -5,7 +5,7 @@ use crate::cores::step;
 use norec_core::{Core, Op, Outcome};
 use std::alloc::{Allocator, Global};
 
-// Whether a read of this cell finds this word and then this lock value, with this outcome.
+/// Whether a read of this cell finds this word and then this lock value, with this outcome.
 fn reads<A: Allocator + Copy>(
     core: &mut Core<A>,
     cell: u32,
@@ -22,7 +22,7 @@ fn reads<A: Allocator + Copy>(
     }
 }
 
-// Whether an attempt begins at lock value 2, reads three cells, and then one where the lock has changed.
+/// Whether an attempt begins at lock value 2, reads three cells, and then one where the lock has changed.
 fn comes_to_validation<A: Allocator + Copy>(core: &mut Core<A>) -> bool {
     step(core, Op::Begin, 2).is_ok()
         && reads(core, 5, 50, 2, Outcome::Read(50))
@@ -31,7 +31,7 @@ fn comes_to_validation<A: Allocator + Copy>(core: &mut Core<A>) -> bool {
         && reads(core, 8, 80, 3, Outcome::Going)
 }
 
-// Whether validation loads the lock, this value.
+/// Whether validation loads the lock, this value.
 fn waits<A: Allocator + Copy>(core: &mut Core<A>, lock: u64) -> bool {
     if !core.is_waiting() {
         return false;
@@ -40,7 +40,7 @@ fn waits<A: Allocator + Copy>(core: &mut Core<A>, lock: u64) -> bool {
     true
 }
 
-// Whether validation compares an entry of this cell, or where there is no cell the lock; this value is loaded.
+/// Whether validation compares an entry of this cell, or where there is no cell the lock; this value is loaded.
 fn compares<A: Allocator + Copy>(core: &mut Core<A>, cell: Option<u32>, found: u64) -> bool {
     let Some((time, place)) = core.comparing() else {
         return false;
@@ -61,7 +61,7 @@ fn compares<A: Allocator + Copy>(core: &mut Core<A>, cell: Option<u32>, found: u
     }
 }
 
-// Whether validation waits for lock value 4 and finds all three words again.
+/// Whether validation waits for lock value 4 and finds all three words again.
 fn compares_all<A: Allocator + Copy>(core: &mut Core<A>) -> bool {
     waits(core, 3)
         && waits(core, 4)
@@ -71,7 +71,7 @@ fn compares_all<A: Allocator + Copy>(core: &mut Core<A>) -> bool {
         && compares(core, Some(7), 70)
 }
 
-// Whether validation does that, finds the lock changed again, and then not, and the read is made at the new lock value.
+/// Whether validation does that, finds the lock changed again, and then not, and the read is made at the new lock value.
 fn goes_on<A: Allocator + Copy>(core: &mut Core<A>) -> bool {
     comes_to_validation(core)
         && compares_all(core)
@@ -83,7 +83,7 @@ fn goes_on<A: Allocator + Copy>(core: &mut Core<A>) -> bool {
         && reads(core, 8, 81, 4, Outcome::Read(81))
 }
 
-// Whether validation drops the attempt at its second entry, and goes back to what was saved.
+/// Whether validation drops the attempt at its second entry, and goes back to what was saved.
 fn drops<A: Allocator + Copy>(core: &mut Core<A>) -> bool {
     comes_to_validation(core)
         && waits(core, 4)
@@ -93,7 +93,7 @@ fn drops<A: Allocator + Copy>(core: &mut Core<A>) -> bool {
         && core.saved().place() == 7
 }
 
-// Whether a new core goes on, and then one drops its attempt.
+/// Whether a new core goes on, and then one drops its attempt.
 fn validates(alloc: Global) -> bool {
     let mut first = Core::new(alloc);
     let mut second = Core::new(alloc);

@@ -11,7 +11,7 @@ use lex::token::Scalar;
 use std::alloc::{AllocError, Allocator};
 use syntax::initial::push_global;
 
-// What a type sees of a word.
+/// What a type sees of a word.
 fn seen(of: Scalar, word: u64) -> u64
     ensures { result ≡ residue of word }
 {

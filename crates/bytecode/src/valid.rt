@@ -28,7 +28,7 @@ pub enum PartsFault<A: Allocator = std::alloc::Global> {
     OutOfMemory(Parts<A>),
 }
 
-// Whether a global has 1 to 4,096 cells, and one for each initial value.
+/// Whether a global has 1 to 4,096 cells, and one for each initial value.
 fn is_shaped<A: Allocator>(g: &Global<A>) -> bool
     ensures { result ≡ is_shaped (global_of g.now) }
 {
@@ -36,7 +36,7 @@ fn is_shaped<A: Allocator>(g: &Global<A>) -> bool
     1 <= cells && cells <= MOST_CELLS && g.first.len() <= cells
 }
 
-// Whether each global is so.
+/// Whether each global is so.
 fn are_shaped<A: Allocator>(globals: &[Global<A>]) -> bool
     ensures { result ≡ list_all (λ g. is_shaped (global_of g)) globals.now }
 {
@@ -54,7 +54,7 @@ impl<A: Allocator> PartsFault<A> {
     }
 }
 
-// The number of all cells, where they are not too many.
+/// The number of all cells, where they are not too many.
 fn count_cells<A: Allocator>(globals: &[Global<A>]) -> Option<usize>
     ensures { MatchOption result (MOST_CELLS < length (initial_from (map global_of globals.now))) (λ n. (n ≡ length (initial_from (map global_of globals.now))) × (n ≤ MOST_CELLS)) }
 {
@@ -69,7 +69,7 @@ fn count_cells<A: Allocator>(globals: &[Global<A>]) -> Option<usize>
     Some(count)
 }
 
-// Where a function's code ends.
+/// Where a function's code ends.
 pub(crate) fn end_of<A: Allocator>(parts: &Parts<A>, number: usize) -> usize
     requires { number < length parts.now.functions }
     ensures { result ≡ end_of (code_of parts.now) number }
@@ -80,7 +80,7 @@ pub(crate) fn end_of<A: Allocator>(parts: &Parts<A>, number: usize) -> usize
     }
 }
 
-// Whether the functions' codes lie one after another from 0 on, each with an instruction.
+/// Whether the functions' codes lie one after another from 0 on, each with an instruction.
 fn are_laid_out<A: Allocator>(parts: &Parts<A>) -> bool
     ensures { IsTrue result ↔ AreLaidOut (code_of parts.now) }
 {
@@ -100,7 +100,7 @@ fn are_laid_out<A: Allocator>(parts: &Parts<A>) -> bool
     true
 }
 
-// The hash of all functions' names, in order: so no name can be chosen for the key that it will have a part in.
+/// The hash of all functions' names, in order: so no name can be chosen for the key that it will have a part in.
 fn key_of<A: Allocator>(functions: &[FunctionCode<A>]) -> u64
     ensures { result ≡ sip.finish (fold sip.write sip.initial (flat_map (λ f. fed.str f.name) functions.now)) }
 {
@@ -111,7 +111,7 @@ fn key_of<A: Allocator>(functions: &[FunctionCode<A>]) -> u64
     hasher.finish()
 }
 
-// Whether no two functions have one name.
+/// Whether no two functions have one name.
 fn have_distinct_names<A: Allocator + Copy>(alloc: A, parts: &Parts<A>) -> Result<bool, AllocError>
     ensures { IfOk result (λ b. IsTrue b ↔ HasDistinctNames (code_of parts.now)) }
 {
@@ -127,7 +127,7 @@ fn have_distinct_names<A: Allocator + Copy>(alloc: A, parts: &Parts<A>) -> Resul
     Ok(true)
 }
 
-// Whether there is a function `worker` with one parameter.
+/// Whether there is a function `worker` with one parameter.
 fn has_worker<A: Allocator>(parts: &Parts<A>) -> bool
     ensures { IsTrue result ↔ HasWorker (code_of parts.now) }
 {
@@ -139,7 +139,7 @@ fn has_worker<A: Allocator>(parts: &Parts<A>) -> bool
     false
 }
 
-// Whether what a function's instructions name is there.
+/// Whether what a function's instructions name is there.
 fn are_written<A: Allocator>(
     parts: &Parts<A>,
     f: &FunctionCode<A>,
@@ -159,7 +159,7 @@ fn are_written<A: Allocator>(
     true
 }
 
-// Whether a function that begins before its end is valid.
+/// Whether a function that begins before its end is valid.
 fn is_valid_function<A: Allocator + Copy>(
     alloc: A,
     parts: &Parts<A>,
@@ -181,7 +181,7 @@ fn is_valid_function<A: Allocator + Copy>(
     walk(alloc, parts, f, behind)
 }
 
-// Whether functions whose codes lie one after another are valid.
+/// Whether functions whose codes lie one after another are valid.
 fn are_valid_functions<A: Allocator + Copy>(
     alloc: A,
     parts: &Parts<A>,
@@ -201,7 +201,7 @@ fn are_valid_functions<A: Allocator + Copy>(
     Ok(true)
 }
 
-// Whether parts are a valid code.
+/// Whether parts are a valid code.
 fn is_valid<A: Allocator + Copy>(alloc: A, parts: &Parts<A>) -> Result<bool, AllocError>
     ensures { IfOk result (λ b. IsTrue b ↔ IsValid (code_of parts.now)) }
 {

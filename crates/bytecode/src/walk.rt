@@ -87,7 +87,7 @@ fn visit<A: Allocator>(
     }
 }
 
-// The arrival at a place.
+/// The arrival at a place.
 fn arrival_of(arrivals: &[Arrival], first: usize, at: usize) -> Option<Arrival>
     ensures { result ≡ arrival_at first arrivals.now at }
 {
@@ -97,7 +97,7 @@ fn arrival_of(arrivals: &[Arrival], first: usize, at: usize) -> Option<Arrival>
     arrivals.get(at - first).copied()
 }
 
-// A way comes to a place back under the begin that encloses the one at `under`.
+/// A way comes to a place back under the begin that encloses the one at `under`.
 fn reopen<A: Allocator>(
     arrivals: &mut [Arrival],
     work: &mut Vec<usize, A>,
@@ -114,7 +114,7 @@ fn reopen<A: Allocator>(
     }
 }
 
-// Where a cancel of the begin at a place goes on, if a begin stands there.
+/// Where a cancel of the begin at a place goes on, if a begin stands there.
 fn cancel_in(instr: &Instr) -> Option<u32>
     ensures { (arguments : List ℕ) → result ≡ begun_by (instr_of arguments instr.now) }
 {
@@ -133,7 +133,7 @@ fn cancel_at(instrs: &[Instr], at: usize) -> Option<u32>
     }
 }
 
-// Goes on where a cancel of the begin at a place does: whether a way may come there.
+/// Goes on where a cancel of the begin at a place does: whether a way may come there.
 fn cancel<A: Allocator>(
     instrs: &[Instr],
     arrivals: &mut [Arrival],
@@ -150,7 +150,7 @@ fn cancel<A: Allocator>(
     }
 }
 
-// The begin round the one at a place, and the one round that, so many times.
+/// The begin round the one at a place, and the one round that, so many times.
 fn begin_round(arrivals: &[Arrival], first: usize, times: u32, begin: usize) -> Option<usize>
     ensures { result ≡ begin_round first arrivals.now times begin }
 {
@@ -166,8 +166,8 @@ fn begin_round(arrivals: &[Arrival], first: usize, times: u32, begin: usize) -> 
     Some(round)
 }
 
-// Goes on where a cancel of so many levels does, the innermost of which is the begin at a place: whether there are so many, and a
-// way may come there. Takes a look at an arrival for each level.
+/// Goes on where a cancel of so many levels does, the innermost of which is the begin at a place: whether there are so many, and a
+/// way may come there. Takes a look at an arrival for each level.
 fn cancel_outer<A: Allocator>(
     instrs: &[Instr],
     arrivals: &mut [Arrival],
@@ -185,7 +185,7 @@ fn cancel_outer<A: Allocator>(
     }
 }
 
-// Goes on from a place by the way of its instruction: whether each way on may go where it goes.
+/// Goes on from a place by the way of its instruction: whether each way on may go where it goes.
 fn go_by<A: Allocator>(
     instrs: &[Instr],
     arrivals: &mut [Arrival],
@@ -229,7 +229,7 @@ fn go_by<A: Allocator>(
     }
 }
 
-// Goes on from a place by its instruction: whether each way on may go where it goes.
+/// Goes on from a place by its instruction: whether each way on may go where it goes.
 fn go_on<A: Allocator>(
     instrs: &[Instr],
     arrivals: &mut [Arrival],
@@ -246,7 +246,7 @@ fn go_on<A: Allocator>(
     go_by(instrs, arrivals, work, first, at, arrival, way)
 }
 
-// The walk over a function's ways, by arrivals that are all unseen and an empty list of work.
+/// The walk over a function's ways, by arrivals that are all unseen and an empty list of work.
 fn walk_over<A: Allocator>(
     instrs: &[Instr],
     first: usize,

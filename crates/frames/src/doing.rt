@@ -54,7 +54,7 @@ pub enum Doing {
     Traps(Trap),
 }
 
-// The piece that a print shows, and nothing where none does. The digits of a number stand in the buffer.
+/// The piece that a print shows, and nothing where none does. The digits of a number stand in the buffer.
 fn piece<'a, A: Allocator>(code: &'a Code<A>, doing: Doing, digits: &'a mut Buffer) -> &'a str
     ensures { result.now ≡ piece_of code.entry.now doing }
 {

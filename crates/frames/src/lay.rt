@@ -4,7 +4,7 @@ ghost use Rattle.std.specs.Prelude.{◌≡◌, ◌+◌, ◌<◌, ◌≤◌, ◌+
 
 use std::alloc::{AllocError, Allocator};
 
-// Lays so many zeros behind the registers. There is room for them.
+/// Lays so many zeros behind the registers. There is room for them.
 #[inline(always)]
 fn push_zeros<A: Allocator>(registers: &mut Vec<u64, A>, count: usize)
     requires { vec_len registers.old + count ≤ vec_capacity registers.old }
@@ -30,7 +30,7 @@ pub(crate) fn lay_first<A: Allocator>(
     Ok(())
 }
 
-// The values of arguments, which are registers of the frame that begins at `base`. There is room.
+/// The values of arguments, which are registers of the frame that begins at `base`. There is room.
 #[inline(always)]
 fn push_arguments<A: Allocator>(registers: &mut Vec<u64, A>, base: usize, args: &[u32])
     requires room { vec_len registers.old + length args.now ≤ vec_capacity registers.old }

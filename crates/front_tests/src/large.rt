@@ -17,7 +17,7 @@ pub enum Piece {
 /// The functions of a chain, with the last one, which is no link.
 pub const LENGTH: usize = 20000;
 
-// Appends a text so many times.
+/// Appends a text so many times.
 fn push_times(to: &mut String, text: &str, times: usize) -> Result<(), AllocError> {
     for _ in 0..times {
         to.push_str(text)?;
@@ -25,7 +25,7 @@ fn push_times(to: &mut String, text: &str, times: usize) -> Result<(), AllocErro
     Ok(())
 }
 
-// Appends a number between two texts.
+/// Appends a number between two texts.
 fn push_number(
     to: &mut String,
     alloc: Global,
@@ -36,7 +36,7 @@ fn push_number(
     to.push_str(format!(in alloc; "{before}{i}{behind}")?.as_str())
 }
 
-// Appends each number below `n` between two texts.
+/// Appends each number below `n` between two texts.
 fn push_numbers(
     to: &mut String,
     alloc: Global,
@@ -50,13 +50,13 @@ fn push_numbers(
     Ok(())
 }
 
-// Appends a function that calls the next one.
+/// Appends a function that calls the next one.
 fn push_link(to: &mut String, alloc: Global, i: usize) -> Result<(), AllocError> {
     let next = i.saturating_add(1);
     to.push_str(format!(in alloc; "void f{i}(void) {{ f{next}(); }}")?.as_str())
 }
 
-// Appends a chain's links.
+/// Appends a chain's links.
 fn push_links(to: &mut String, alloc: Global, from_last: bool) -> Result<(), AllocError> {
     for i in 0..LENGTH - 1 {
         let link = if from_last { LENGTH - 2 - i } else { i };
@@ -65,7 +65,7 @@ fn push_links(to: &mut String, alloc: Global, from_last: bool) -> Result<(), All
     Ok(())
 }
 
-// Appends a piece.
+/// Appends a piece.
 fn push_piece(to: &mut String, alloc: Global, piece: Piece) -> Result<(), AllocError> {
     match piece {
         Piece::Times(text, times) => push_times(to, text, times),

@@ -46,7 +46,7 @@ pub fn safe_of<A: Allocator + Copy>(alloc: A, text: &str) -> Option<Safe<A>> {
     }
 }
 
-// The fault of tokens.
+/// The fault of tokens.
 fn parse_fault_in(alloc: Global, tokens: &[Token]) -> Option<Fault> {
     match parse(alloc, tokens) {
         Ok(_) => None,
@@ -54,7 +54,7 @@ fn parse_fault_in(alloc: Global, tokens: &[Token]) -> Option<Fault> {
     }
 }
 
-// The parser's fault of a text. One that has no tokens has the number 1.
+/// The parser's fault of a text. One that has no tokens has the number 1.
 fn parse_fault_of(alloc: Global, text: &str) -> Option<Fault> {
     match lex(alloc, text) {
         Err(_) => Some((1, None)),
@@ -62,7 +62,7 @@ fn parse_fault_of(alloc: Global, text: &str) -> Option<Fault> {
     }
 }
 
-// The fault of a tree.
+/// The fault of a tree.
 fn type_fault_in(alloc: Global, unit: Unit) -> Option<Fault> {
     match check(alloc, unit) {
         Ok(_) => None,
@@ -70,7 +70,7 @@ fn type_fault_in(alloc: Global, unit: Unit) -> Option<Fault> {
     }
 }
 
-// A text's fault of names and types. One that is no program has the number 1.
+/// A text's fault of names and types. One that is no program has the number 1.
 fn type_fault_of(alloc: Global, text: &str) -> Option<Fault> {
     match unit_of(alloc, text) {
         None => Some((1, None)),
@@ -78,7 +78,7 @@ fn type_fault_of(alloc: Global, text: &str) -> Option<Fault> {
     }
 }
 
-// The fault of a typed program.
+/// The fault of a typed program.
 fn safety_fault_in(alloc: Global, typed: Typed) -> Option<Fault> {
     match safe(alloc, typed) {
         Ok(_) => None,
@@ -86,7 +86,7 @@ fn safety_fault_in(alloc: Global, typed: Typed) -> Option<Fault> {
     }
 }
 
-// A text's fault of safety. One that is no typed program has the number 1.
+/// A text's fault of safety. One that is no typed program has the number 1.
 fn safety_fault_of(alloc: Global, text: &str) -> Option<Fault> {
     match typed_of(alloc, text) {
         None => Some((1, None)),
@@ -94,7 +94,7 @@ fn safety_fault_of(alloc: Global, text: &str) -> Option<Fault> {
     }
 }
 
-// The fault of a safe program.
+/// The fault of a safe program.
 fn separation_fault_in(alloc: Global, safe: Safe) -> Option<Fault> {
     match accept(alloc, safe) {
         Ok(_) => None,
@@ -102,7 +102,7 @@ fn separation_fault_in(alloc: Global, safe: Safe) -> Option<Fault> {
     }
 }
 
-// A text's fault of separation. One that is no safe program has the number 1.
+/// A text's fault of separation. One that is no safe program has the number 1.
 fn separation_fault_of(alloc: Global, text: &str) -> Option<Fault> {
     match safe_of(alloc, text) {
         None => Some((1, None)),

@@ -50,7 +50,7 @@ impl<A: Allocator> Model for Thread<A> {
     ghost invariant = { λ t. AreWithin t.held.frames.configuration (begins_of t.held.core.attempt) };
 }
 
-// How many accesses to the lock or the words what was prepared makes.
+/// How many accesses to the lock or the words what was prepared makes.
 #[inline(always)]
 fn cost_of(prepared: Option<Access>) -> u64
     ensures { result ≡ cost_if prepared }
@@ -62,7 +62,7 @@ fn cost_of(prepared: Option<Access>) -> u64
     }
 }
 
-// What stands to be done where no step is made of so many.
+/// What stands to be done where no step is made of so many.
 fn idle(most: u64) -> Option<Doing>
     ensures all { IfNone result (0 ≡ most) }
     ensures local { IfSome result (λ doing. (0 < most) × (doing ≡ Doing.Local)) }

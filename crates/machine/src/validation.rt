@@ -16,7 +16,7 @@ use bytecode::Code;
 use frames::Doing;
 use std::alloc::Allocator;
 
-// Whether what is to be done is an operation under which an attempt is validated.
+/// Whether what is to be done is an operation under which an attempt is validated.
 #[inline(always)]
 pub(crate) fn is_validated(doing: Doing) -> bool
     ensures { result ≡ true ↔ MayValidate doing }
@@ -30,7 +30,7 @@ pub(crate) fn is_validated(doing: Doing) -> bool
 }
 
 impl<A: Allocator + Copy> KeptThread<A> {
-    // A step that waits for an even lock, with the lock's value that was loaded.
+    /// A step that waits for an even lock, with the lock's value that was loaded.
     #[inline(always)]
     pub(crate) fn waited<B: Allocator>(&mut self, code: &Code<B>, lock: u64)
         requires valid { IsValid code.now }
@@ -47,7 +47,7 @@ impl<A: Allocator + Copy> KeptThread<A> {
         self.trapping = false;
     }
 
-    // A step that compares this entry, whose word was loaded again. The entry behind it is compared next.
+    /// A step that compares this entry, whose word was loaded again. The entry behind it is compared next.
     #[inline(always)]
     pub(crate) fn compared<B: Allocator>(
         &mut self,
@@ -75,7 +75,7 @@ impl<A: Allocator + Copy> KeptThread<A> {
         self.trapping = false;
     }
 
-    // A step that compares this entry, where another word was loaded.
+    /// A step that compares this entry, where another word was loaded.
     #[inline(always)]
     pub(crate) fn differed<B: Allocator>(
         &mut self,
@@ -101,7 +101,7 @@ impl<A: Allocator + Copy> KeptThread<A> {
         go_back(&mut self.frames, &self.core);
     }
 
-    // A step past the last entry, with the lock's value that was loaded.
+    /// A step past the last entry, with the lock's value that was loaded.
     #[inline(always)]
     pub(crate) fn validated<B: Allocator>(
         &mut self,

@@ -18,13 +18,13 @@ use std::alloc::{Allocator, Global};
 use syntax::numbers::{Status, Trap};
 use written_codes::{adds_five, code_of, over_x, traps};
 
-// The most accesses of a thread here.
+/// The most accesses of a thread here.
 const MOST: u64 = 1_000_000;
 
-// The last even value of the lock.
+/// The last even value of the lock.
 const LAST: u64 = u64::MAX - 1;
 
-// Whether this is a cell of the code's first global.
+/// Whether this is a cell of the code's first global.
 fn is_in_first<A: Allocator>(code: &Code<A>, cell: u32) -> bool
     ensures { result ≡ true → 2 ^ 32 ≤ slice_index (bounds_of code.now) cell }
 {
@@ -34,7 +34,7 @@ fn is_in_first<A: Allocator>(code: &Code<A>, cell: u32) -> bool
     }
 }
 
-// The answer of an access that finds this lock, or this word, where it names a cell of the code's first global.
+/// The answer of an access that finds this lock, or this word, where it names a cell of the code's first global.
 fn answer_to<A: Allocator>(code: &Code<A>, access: Access, lock: u64, word: u32) -> Option<Answer>
     ensures fits { IfSome result (λ y. IsAnswerTo access y) }
     ensures word { IfSome result (λ y. IsWordOf code.now access y) }
@@ -59,7 +59,7 @@ fn answer_to<A: Allocator>(code: &Code<A>, access: Access, lock: u64, word: u32)
     }
 }
 
-// A thread at its beginning.
+/// A thread at its beginning.
 fn begun<A: Allocator + Copy>(alloc: A, code: &Code<A>) -> Option<Thread<A>>
     ensures { IfSome result (λ t. IsThreadOf code.now t.thread) }
 {
@@ -69,7 +69,7 @@ fn begun<A: Allocator + Copy>(alloc: A, code: &Code<A>) -> Option<Thread<A>>
     }
 }
 
-// One step, of a thread that has made few.
+/// One step, of a thread that has made few.
 fn step<A: Allocator + Copy>(
     thread: &mut Thread<A>,
     code: &Code<A>,
@@ -91,7 +91,7 @@ fn step<A: Allocator + Copy>(
     }
 }
 
-// Whether a step that was not refused room is this one.
+/// Whether a step that was not refused room is this one.
 fn is_made(step: Option<Result<(Access, Event), Stop>>, wanted: Option<(Access, Event)>) -> bool {
     match step {
         Some(Ok(made)) => wanted == Some(made),
@@ -100,7 +100,7 @@ fn is_made(step: Option<Result<(Access, Event), Stop>>, wanted: Option<(Access, 
     }
 }
 
-// Whether the next step is this one. Where it was refused room it is made again, and counted.
+/// Whether the next step is this one. Where it was refused room it is made again, and counted.
 fn is_next<A: Allocator + Copy>(
     thread: &mut Thread<A>,
     code: &Code<A>,
@@ -119,7 +119,7 @@ fn is_next<A: Allocator + Copy>(
     is_made(step(thread, code, lock, word), wanted)
 }
 
-// Whether these are the next steps, and how many of them were refused room first.
+/// Whether these are the next steps, and how many of them were refused room first.
 fn plays<A: Allocator + Copy>(thread: &mut Thread<A>, code: &Code<A>, rows: &[Row]) -> Option<u64>
     requires { IsThreadOf code.now thread.old.thread }
     ensures { IsThreadOf code.now thread.new.thread }
@@ -133,7 +133,7 @@ fn plays<A: Allocator + Copy>(thread: &mut Thread<A>, code: &Code<A>, rows: &[Ro
     Some(refused)
 }
 
-// How a thread is, what it has printed, and how many accesses it has made. It has not got the lock.
+/// How a thread is, what it has printed, and how many accesses it has made. It has not got the lock.
 type Found<'a> = (Status, &'a str, u64);
 
 fn is_found<A: Allocator + Copy>(thread: &Thread<A>, found: Found) -> bool {
@@ -144,7 +144,7 @@ fn is_found<A: Allocator + Copy>(thread: &Thread<A>, found: Found) -> bool {
         && !thread.has_lock()
 }
 
-// How many steps were refused room, if these are the next steps and the thread is then found so.
+/// How many steps were refused room, if these are the next steps and the thread is then found so.
 fn goes<A: Allocator + Copy>(
     thread: &mut Thread<A>,
     code: &Code<A>,
@@ -161,8 +161,8 @@ fn goes<A: Allocator + Copy>(
     }
 }
 
-// How many steps of a new thread of this code were refused room, if these are its steps and it is then found so.
-// Growth `nth` is refused, or none.
+/// How many steps of a new thread of this code were refused room, if these are its steps and it is then found so.
+/// Growth `nth` is refused, or none.
 fn begins<A: Allocator + Copy, B: Allocator>(
     alloc: A,
     refusing: &Refusing<B>,
@@ -180,8 +180,8 @@ fn begins<A: Allocator + Copy, B: Allocator>(
     }
 }
 
-// How many steps of a thread of these instructions were refused room, if these are its steps and it is then found so.
-// Growth `nth` is refused, or none.
+/// How many steps of a thread of these instructions were refused room, if these are its steps and it is then found so.
+/// Growth `nth` is refused, or none.
 fn makes<A: Allocator + Copy, B: Allocator>(
     alloc: A,
     refusing: &Refusing<B>,
@@ -196,8 +196,8 @@ fn makes<A: Allocator + Copy, B: Allocator>(
     }
 }
 
-// How many steps of a thread of these instructions were refused room by a new allocator, which refuses growth `nth`,
-// or none, if these are its steps and it is then found so.
+/// How many steps of a thread of these instructions were refused room by a new allocator, which refuses growth `nth`,
+/// or none, if these are its steps and it is then found so.
 fn steps(
     inner: Global,
     nth: u64,
@@ -209,7 +209,7 @@ fn steps(
     makes(&alloc, &alloc, nth, instructions, rows, found)
 }
 
-// Whether these are the next steps of these instructions, and the thread is then found so, where no growth is refused.
+/// Whether these are the next steps of these instructions, and the thread is then found so, where no growth is refused.
 fn go(inner: Global, instructions: &[Instr], rows: &[Row], found: Found) -> bool {
     steps(inner, 0, instructions, rows, found) == Some(0)
 }
@@ -226,7 +226,7 @@ fn a_trap_gives_the_lock_back_and_is_the_end(rt: HostRuntime) {
     assert_that(&rt, go(rt.alloc(), traps(), trapped(), found));
 }
 
-// Reads, in a transaction.
+/// Reads, in a transaction.
 fn reader() -> &'static [Instr] {
     static CODE: [Instr; 4] = [
         Instr::Begin(3),
@@ -237,7 +237,7 @@ fn reader() -> &'static [Instr] {
     &CODE
 }
 
-// The steps of `reader` at the last value of the lock.
+/// The steps of `reader` at the last value of the lock.
 fn read_last() -> &'static [Row] {
     static ROWS: [Row; 4] = [
         (LAST, 7, Some((Access::LoadLock, Event::Quiet))),
@@ -248,7 +248,7 @@ fn read_last() -> &'static [Row] {
     &ROWS
 }
 
-// Writes, in a transaction.
+/// Writes, in a transaction.
 fn writer() -> &'static [Instr] {
     static CODE: [Instr; 4] = [
         Instr::Begin(3),
@@ -259,7 +259,7 @@ fn writer() -> &'static [Instr] {
     &CODE
 }
 
-// The steps of `writer`, which bring the lock to its last value.
+/// The steps of `writer`, which bring the lock to its last value.
 fn written_last() -> &'static [Row] {
     static ROWS: [Row; 5] = [
         (LAST - 2, 7, Some((Access::LoadLock, Event::Quiet))),
@@ -280,7 +280,7 @@ fn a_reader_and_a_last_writer_commit(rt: HostRuntime) {
     assert_all(&rt, &[("a reader", reads), ("a last writer", writes)]);
 }
 
-// This word in each cell, and the lock at this value.
+/// This word in each cell, and the lock at this value.
 #[derive(Drop)]
 struct Uniform {
     word: u32,
@@ -303,8 +303,8 @@ impl Loads for Uniform {
     fn goes_on(&self) {}
 }
 
-// What stands there after a begin at the lock value 2, and as many steps as go on from there, where 7 and this lock are found; and
-// how many these are.
+/// What stands there after a begin at the lock value 2, and as many steps as go on from there, where 7 and this lock are found; and
+/// how many these are.
 fn reads_on<A: Allocator + Copy>(
     thread: &mut Thread<A>,
     code: &Code<A>,
@@ -320,8 +320,8 @@ fn reads_on<A: Allocator + Copy>(
     Some(thread.advance(code, &mut found, MOST))
 }
 
-// What stands there after a begin of a new thread at the lock value 2, and as many steps as go on from there, where 7
-// and this lock are found; and how many these are.
+/// What stands there after a begin of a new thread at the lock value 2, and as many steps as go on from there, where 7
+/// and this lock are found; and how many these are.
 fn reads_first<A: Allocator + Copy>(
     alloc: A,
     code: &Code<A>,
@@ -333,8 +333,8 @@ fn reads_first<A: Allocator + Copy>(
     }
 }
 
-// What stands there after a begin of a thread of these instructions at the lock value 2, and as many steps as go on
-// from there, where 7 and this lock are found; and how many these are.
+/// What stands there after a begin of a thread of these instructions at the lock value 2, and as many steps as go on
+/// from there, where 7 and this lock are found; and how many these are.
 fn reads_of(inner: Global, instructions: &[Instr], lock: u64) -> Option<(u64, Option<Doing>)> {
     match code_of(inner, &over_x(instructions)) {
         Some(code) => reads_first(inner, &code, lock),
@@ -342,7 +342,7 @@ fn reads_of(inner: Global, instructions: &[Instr], lock: u64) -> Option<(u64, Op
     }
 }
 
-// Reads into another register.
+/// Reads into another register.
 fn reads_aside() -> &'static [Instr] {
     static CODE: [Instr; 4] = [
         Instr::Begin(3),
@@ -353,7 +353,7 @@ fn reads_aside() -> &'static [Instr] {
     &CODE
 }
 
-// Writes what it has read.
+/// Writes what it has read.
 fn writes_back() -> &'static [Instr] {
     static CODE: [Instr; 5] = [
         Instr::Begin(4),
@@ -384,7 +384,7 @@ fn a_read_that_finds_another_lock_stands_there_still(rt: HostRuntime) {
     assert_that(&rt, found == Some((2, Some(Doing::Read(1, 0)))));
 }
 
-// Takes the lock to print, in a transaction.
+/// Takes the lock to print, in a transaction.
 fn printer() -> &'static [Instr] {
     static CODE: [Instr; 6] = [
         Instr::Begin(5),
@@ -397,7 +397,7 @@ fn printer() -> &'static [Instr] {
     &CODE
 }
 
-// The steps of `writer` and of `printer` up to the lock, at its last value.
+/// The steps of `writer` and of `printer` up to the lock, at its last value.
 fn used_up() -> &'static [Row] {
     static ROWS: [Row; 4] = [
         (LAST, 7, Some((Access::LoadLock, Event::Quiet))),
@@ -416,7 +416,7 @@ fn nobody_takes_the_lock_at_its_last_value(rt: HostRuntime) {
     assert_all(&rt, &[("a writer", writes), ("a printer", prints)]);
 }
 
-// Whether a thread goes on where one step is refused room, if growth `nth` is met, and none else.
+/// Whether a thread goes on where one step is refused room, if growth `nth` is met, and none else.
 fn goes_on_at(alloc: &Refusing<Global>, nth: u64) -> bool {
     let found = (Status::Ended, "13", 13);
     match makes(alloc, alloc, nth, adds_five(), dropped_once(), found) {
@@ -430,7 +430,7 @@ fn a_step_that_was_refused_room_is_made_again(rt: HostRuntime) {
     assert_that(&rt, growths(rt.alloc(), 20, goes_on_at).ok() > Some(2));
 }
 
-// Whether the next step is this one, and takes no memory from when it is told its answer on.
+/// Whether the next step is this one, and takes no memory from when it is told its answer on.
 fn is_told_in_place<A: Allocator + Copy, B: Allocator>(
     thread: &mut Thread<A>,
     code: &Code<A>,
@@ -458,7 +458,7 @@ fn is_told_in_place<A: Allocator + Copy, B: Allocator>(
     }
 }
 
-// Whether these are the next steps, and take no memory from when they are told their answers on.
+/// Whether these are the next steps, and take no memory from when they are told their answers on.
 fn are_told_in_place<A: Allocator + Copy, B: Allocator>(
     thread: &mut Thread<A>,
     code: &Code<A>,
@@ -476,7 +476,7 @@ fn are_told_in_place<A: Allocator + Copy, B: Allocator>(
     true
 }
 
-// Whether these are the first steps of a thread of this code, each told so, and the thread is then found so.
+/// Whether these are the first steps of a thread of this code, each told so, and the thread is then found so.
 fn tells_in_place<A: Allocator + Copy, B: Allocator>(
     alloc: A,
     refusing: &Refusing<B>,
@@ -492,8 +492,8 @@ fn tells_in_place<A: Allocator + Copy, B: Allocator>(
     }
 }
 
-// Calls and writes in an inner transaction that is cancelled, and then cancels two at once. `f` writes its parameter and
-// gives it back.
+/// Calls and writes in an inner transaction that is cancelled, and then cancels two at once. `f` writes its parameter and
+/// gives it back.
 fn calls_and_cancels() -> &'static [Instr] {
     static CODE: [Instr; 13] = [
         Instr::Begin(9),
@@ -513,7 +513,7 @@ fn calls_and_cancels() -> &'static [Instr] {
     &CODE
 }
 
-// The steps of `calls_and_cancels`.
+/// The steps of `calls_and_cancels`.
 fn cancelled() -> &'static [Row] {
     static ROWS: [Row; 12] = [
         (2, 7, Some((Access::LoadLock, Event::Quiet))),
@@ -532,7 +532,7 @@ fn cancelled() -> &'static [Row] {
     &ROWS
 }
 
-// Whether a thread of these instructions takes no memory where it is told its answers.
+/// Whether a thread of these instructions takes no memory where it is told its answers.
 fn is_told_all(inner: Global, instructions: &[Instr], rows: &[Row], found: Found) -> bool {
     let alloc = Refusing::new(inner, 0);
     match code_of(&alloc, &over_x(instructions)) {
@@ -541,7 +541,7 @@ fn is_told_all(inner: Global, instructions: &[Instr], rows: &[Row], found: Found
     }
 }
 
-// Whether a thread that calls and cancels takes no memory where it is told its answers.
+/// Whether a thread that calls and cancels takes no memory where it is told its answers.
 fn is_told_cancels(inner: Global) -> bool {
     let alloc = Refusing::new(inner, 0);
     match code_of_two(&alloc, calls_and_cancels(), 11, (2, 1)) {

@@ -21,11 +21,11 @@ use write_log::WriteLog;
 pub struct Attempt<A: Allocator = Global> {
     reads: ReadLog<A>,
     writes: WriteLog<A>,
-    // What the outermost begin saved and what was set aside; where they are turned, the other way round.
+    /// What the outermost begin saved and what was set aside; where they are turned, the other way round.
     one: Saved<A>,
     other: Saved<A>,
     turned: bool,
-    // The first `depth` are what the open inner begins saved, the outermost one first. The others are room.
+    /// The first `depth` are what the open inner begins saved, the outermost one first. The others are room.
     inner: Vec<Saved<A>, A>,
     depth: usize,
     kept: bool,
@@ -45,7 +45,7 @@ impl<A: Allocator> Model for Attempt<A> {
     ghost invariant = { λ a. (a.depth ≤ vec_len a.inner) × (a.depth ≤ length a.writes.marks) };
 }
 
-// Makes room for what one more inner begin saves.
+/// Makes room for what one more inner begin saves.
 #[inline(always)]
 fn reserve_inner<A: Allocator + Copy>(
     inner: &mut Vec<Saved<A>, A>,
@@ -64,7 +64,7 @@ fn reserve_inner<A: Allocator + Copy>(
     Ok(())
 }
 
-// Swaps what lies there with what was set aside.
+/// Swaps what lies there with what was set aside.
 #[inline(always)]
 fn swap_aside<A: Allocator>(
     there: &mut Saved<A>,
@@ -214,8 +214,8 @@ impl<A: Allocator + Copy> Attempt<A> {
         self.depth -= 1;
     }
 
-    // Goes back to the inner begin of this depth: the write log is what it was there, and what was saved is set aside. It and
-    // the begins inside it are closed.
+    /// Goes back to the inner begin of this depth: the write log is what it was there, and what was saved is set aside. It and
+    /// the begins inside it are closed.
     #[inline(always)]
     fn back_to(&mut self, depth: usize)
         requires { depth < length self.old.begins.inner }

@@ -22,7 +22,7 @@ impl<A: Allocator> Model for Saved<A> {
     ghost view = { λ s. record { registers = s.registers.items; frames = s.frames; place = s.place } };
 }
 
-// Puts these registers in place of those that were there. It takes no memory.
+/// Puts these registers in place of those that were there. It takes no memory.
 #[inline(never)]
 fn refill<A: Allocator>(registers: &mut Vec<u64, A>, from: &[u64])
     requires { length from.now ≤ vec_capacity registers.old }
@@ -34,8 +34,8 @@ fn refill<A: Allocator>(registers: &mut Vec<u64, A>, from: &[u64])
     }
 }
 
-// Puts these registers in place of those that were there, with more room where they need it. The error comes only where there is
-// none and the allocator refuses it.
+/// Puts these registers in place of those that were there, with more room where they need it. The error comes only where there is
+/// none and the allocator refuses it.
 #[inline(never)]
 fn regrow<A: Allocator>(registers: &mut Vec<u64, A>, from: &[u64]) -> Result<(), AllocError>
     ensures ok { OnOk result (registers.new.items ≡ from.now) }
@@ -51,7 +51,7 @@ fn regrow<A: Allocator>(registers: &mut Vec<u64, A>, from: &[u64]) -> Result<(),
 }
 
 impl<A: Allocator + Copy> Saved<A> {
-    // No registers, no frames, place 0. It takes no memory yet.
+    /// No registers, no frames, place 0. It takes no memory yet.
     pub(crate) fn new(alloc: A) -> Saved<A> {
         Saved {
             registers: Vec::new(alloc),
@@ -60,8 +60,8 @@ impl<A: Allocator + Copy> Saved<A> {
         }
     }
 
-    // Saves these in place of what was saved. The error comes only where there are more registers than were saved, and the
-    // allocator refuses them room.
+    /// Saves these in place of what was saved. The error comes only where there are more registers than were saved, and the
+    /// allocator refuses them room.
     #[inline(always)]
     pub(crate) fn save(
         &mut self,

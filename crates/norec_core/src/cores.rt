@@ -25,7 +25,7 @@ const LAST_SNAPSHOT: u64 = u64::MAX - 1;
 #[derive(Drop)]
 pub struct Core<A: Allocator = Global> {
     steps: Steps<A>,
-    // The operation that was prepared last, and whether its step is still to be told.
+    /// The operation that was prepared last, and whether its step is still to be told.
     op: Op,
     is_asked: bool,
 }

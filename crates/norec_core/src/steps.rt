@@ -14,12 +14,12 @@ use nesting::{Attempt, Saved};
 use std::alloc::{AllocError, Allocator};
 use std::marker::Model;
 
-// The attempt of a thread, if one is under way, and where it stands.
+/// The attempt of a thread, if one is under way, and where it stands.
 #[derive(Drop)]
 pub(crate) struct Steps<A: Allocator> {
     logs: Attempt<A>,
     begun: bool,
-    // Whether an attempt stands at an operation without the lock.
+    /// Whether an attempt stands at an operation without the lock.
     plain: bool,
     first: u64,
     snapshot: u64,
@@ -38,7 +38,7 @@ impl<A: Allocator> Model for Steps<A> {
 }
 
 impl<A: Allocator + Copy> Steps<A> {
-    // No attempt is under way. It takes no memory yet.
+    /// No attempt is under way. It takes no memory yet.
     pub(crate) fn new(alloc: A) -> Steps<A>
         ensures { result.begun ≡ false }
     {
@@ -52,7 +52,7 @@ impl<A: Allocator + Copy> Steps<A> {
         }
     }
 
-    // Makes room for what a step of this operation may add, and sets aside what a begin saves.
+    /// Makes room for what a step of this operation may add, and sets aside what a begin saves.
     #[inline(always)]
     pub(crate) fn make_room(
         &mut self,
@@ -104,7 +104,7 @@ impl<A: Allocator + Copy> Steps<A> {
         self.logs.aside()
     }
 
-    // How a read of this cell is made next, where it stands at an operation without the lock.
+    /// How a read of this cell is made next, where it stands at an operation without the lock.
     #[inline(always)]
     pub(crate) fn reading(&self, cell: u32) -> ReadStep
         ensures written { (word : ℕ) → result ≡ ReadStep.Written word → (self.now.begun ≡ true) × IsWritten self.now.attempt cell word }
@@ -120,7 +120,7 @@ impl<A: Allocator + Copy> Steps<A> {
         }
     }
 
-    // Makes room for a read's entry: whether there is.
+    /// Makes room for a read's entry: whether there is.
     #[inline(always)]
     pub(crate) fn make_read_room(&mut self) -> bool
         ensures room { result ≡ true → 0 < self.new.read_room }
@@ -130,7 +130,7 @@ impl<A: Allocator + Copy> Steps<A> {
         self.logs.prepare_read().is_ok()
     }
 
-    // Both steps of such a read.
+    /// Both steps of such a read.
     #[inline(always)]
     pub(crate) fn take_read(&mut self, cell: u32, word: u64, lock: u64) -> Outcome
         requires begun { self.old.begun ≡ true }
@@ -147,7 +147,7 @@ impl<A: Allocator + Copy> Steps<A> {
         Outcome::Going
     }
 
-    // Whether it stands at an operation without the lock.
+    /// Whether it stands at an operation without the lock.
     #[inline(always)]
     pub(crate) fn is_plain(&self) -> bool
         ensures plain { result ≡ true → (self.now.begun ≡ true) × (self.now.attempt.phase ≡ Phase.AtOperation) }
@@ -156,7 +156,7 @@ impl<A: Allocator + Copy> Steps<A> {
         self.plain
     }
 
-    // The attempt is no longer under way.
+    /// The attempt is no longer under way.
     #[inline(always)]
     fn end(&mut self)
         ensures begun { self.new.begun ≡ false }
@@ -167,7 +167,7 @@ impl<A: Allocator + Copy> Steps<A> {
         self.plain = false;
     }
 
-    // Makes room for a write: whether there is.
+    /// Makes room for a write: whether there is.
     #[inline(always)]
     pub(crate) fn make_write_room(&mut self) -> bool
         ensures room { result ≡ true → 0 < self.new.write_room }
@@ -177,7 +177,7 @@ impl<A: Allocator + Copy> Steps<A> {
         self.logs.prepare_write().is_ok()
     }
 
-    // Writes a word.
+    /// Writes a word.
     #[inline(always)]
     pub(crate) fn write(&mut self, cell: u32, word: u64)
         requires { 0 < self.old.write_room }
@@ -187,7 +187,7 @@ impl<A: Allocator + Copy> Steps<A> {
         self.logs.write(cell, word);
     }
 
-    // Whether a commit makes no access.
+    /// Whether a commit makes no access.
     #[inline(always)]
     pub(crate) fn commits_at_once(&self) -> bool
         requires { self.now.attempt.phase ≡ Phase.AtOperation }
@@ -200,7 +200,7 @@ impl<A: Allocator + Copy> Steps<A> {
         }
     }
 
-    // Commits without an access.
+    /// Commits without an access.
     #[inline(always)]
     pub(crate) fn commit(&mut self)
         requires begun { self.old.begun ≡ true }
@@ -211,7 +211,7 @@ impl<A: Allocator + Copy> Steps<A> {
         self.told_commit(Answer::Done);
     }
 
-    // Sets aside what an outermost begin saves: whether there was room.
+    /// Sets aside what an outermost begin saves: whether there was room.
     #[inline(always)]
     pub(crate) fn set_aside(&mut self, registers: &[u64], frames: usize, place: u32) -> bool
         ensures aside { result ≡ true → self.new.aside ≡ record { registers = registers.now; frames = frames; place = place } }
@@ -223,7 +223,7 @@ impl<A: Allocator + Copy> Steps<A> {
             .is_ok()
     }
 
-    // The step of a commit that swaps the lock from this value, with the swap's answer.
+    /// The step of a commit that swaps the lock from this value, with the swap's answer.
     #[inline(always)]
     pub(crate) fn take_swap(&mut self, from: u64, answer: Answer) -> Outcome
         requires begun { self.old.begun ≡ true }
@@ -236,7 +236,7 @@ impl<A: Allocator + Copy> Steps<A> {
         self.swapped(answer)
     }
 
-    // The place in the write log that a commit stores next, where one stores.
+    /// The place in the write log that a commit stores next, where one stores.
     #[inline(always)]
     pub(crate) fn storing(&self) -> Option<usize>
         ensures some { IfSome result (λ place. (self.now.begun ≡ true) × (self.now.attempt.phase ≡ Phase.Stores place)) }
@@ -248,7 +248,7 @@ impl<A: Allocator + Copy> Steps<A> {
         }
     }
 
-    // The access of a commit that stores this pair next, or past the last one the lock.
+    /// The access of a commit that stores this pair next, or past the last one the lock.
     #[inline(always)]
     pub(crate) fn next_store(&self, place: usize) -> Access
         requires { self.now.attempt.phase ≡ Phase.Stores place }
@@ -259,7 +259,7 @@ impl<A: Allocator + Copy> Steps<A> {
         self.store_access(place)
     }
 
-    // A commit goes on whose store of this pair, or past the last one of the lock, was made.
+    /// A commit goes on whose store of this pair, or past the last one of the lock, was made.
     #[inline(always)]
     pub(crate) fn stored(&mut self, place: usize) -> Outcome
         requires begun { self.old.begun ≡ true }
@@ -271,7 +271,7 @@ impl<A: Allocator + Copy> Steps<A> {
         self.told_store(place)
     }
 
-    // The access of the next step.
+    /// The access of the next step.
     #[inline(always)]
     pub(crate) fn access(&self, op: Op) -> Access
         ensures { result ≡ core_access (attempt_of self.now) op }
@@ -346,7 +346,7 @@ impl<A: Allocator + Copy> Steps<A> {
         }
     }
 
-    // Makes the step with the answer to its access. It takes no memory.
+    /// Makes the step with the answer to its access. It takes no memory.
     #[inline(always)]
     pub(crate) fn told(&mut self, op: Op, answer: Answer) -> Outcome
         requires room { HasRoom op self.old }
@@ -362,7 +362,7 @@ impl<A: Allocator + Copy> Steps<A> {
         Outcome::Going
     }
 
-    // An outermost begin: an even lock value is the snapshot.
+    /// An outermost begin: an even lock value is the snapshot.
     #[inline(always)]
     pub(crate) fn told_begin(&mut self, answer: Answer) -> Outcome
         requires { self.old.begun ≡ false }
@@ -399,7 +399,7 @@ impl<A: Allocator + Copy> Steps<A> {
         }
     }
 
-    // The first step of an operation.
+    /// The first step of an operation.
     #[inline(always)]
     fn told_operation(&mut self, op: Op, answer: Answer) -> Outcome
         requires begun { self.old.begun ≡ true }
@@ -462,7 +462,7 @@ impl<A: Allocator + Copy> Steps<A> {
         self.swapped(answer)
     }
 
-    // A commit has swapped the lock: where the swap was won it stores next, where it was lost it validates.
+    /// A commit has swapped the lock: where the swap was won it stores next, where it was lost it validates.
     #[inline(always)]
     fn swapped(&mut self, answer: Answer) -> Outcome
         requires begun { self.old.begun ≡ true }
@@ -479,7 +479,7 @@ impl<A: Allocator + Copy> Steps<A> {
         Outcome::Going
     }
 
-    // The write log goes back to the begin, the read log stays. With the lock kept the outermost one stands still.
+    /// The write log goes back to the begin, the read log stays. With the lock kept the outermost one stands still.
     #[inline(never)]
     fn told_cancel(&mut self) -> Outcome
         requires { self.old.begun ≡ true }
@@ -497,7 +497,7 @@ impl<A: Allocator + Copy> Steps<A> {
         Outcome::Done
     }
 
-    // A cancel of several levels, or of all that are open where these are fewer: the log and the lock as at a cancel of one.
+    /// A cancel of several levels, or of all that are open where these are fewer: the log and the lock as at a cancel of one.
     #[inline(never)]
     fn told_cancel_outer(&mut self, levels: u32) -> Outcome
         requires { self.old.begun ≡ true }
@@ -544,7 +544,7 @@ impl<A: Allocator + Copy> Steps<A> {
         }
     }
 
-    // The word at a place of the write log, or past the last one the lock, was stored. What has the lock is not plain.
+    /// The word at a place of the write log, or past the last one the lock, was stored. What has the lock is not plain.
     #[inline(always)]
     fn told_store(&mut self, place: usize) -> Outcome
         requires begun { self.old.begun ≡ true }
@@ -560,7 +560,7 @@ impl<A: Allocator + Copy> Steps<A> {
         Outcome::Done
     }
 
-    // A read that has its word is logged where the lock is still the snapshot.
+    /// A read that has its word is logged where the lock is still the snapshot.
     #[inline(always)]
     fn told_check(&mut self, address: u32, word: u64, answer: Answer) -> Outcome
         requires begun { self.old.begun ≡ true }
@@ -580,7 +580,7 @@ impl<A: Allocator + Copy> Steps<A> {
         Outcome::Going
     }
 
-    // Validation begins at an even lock.
+    /// Validation begins at an even lock.
     #[inline(never)]
     fn told_time(&mut self, answer: Answer) -> Outcome
         requires begun { self.old.begun ≡ true }
@@ -594,8 +594,8 @@ impl<A: Allocator + Copy> Steps<A> {
         Outcome::Going
     }
 
-    // An entry with another word drops the attempt. Past the last entry the lock, unchanged since the time, is the new
-    // snapshot.
+    /// An entry with another word drops the attempt. Past the last entry the lock, unchanged since the time, is the new
+    /// snapshot.
     #[inline(never)]
     fn told_compare(&mut self, time: u64, place: usize, answer: Answer) -> Outcome
         requires begun { self.old.begun ≡ true }
@@ -623,7 +623,7 @@ impl<A: Allocator + Copy> Steps<A> {
         Outcome::Going
     }
 
-    // Whether validation loads the lock next, until it is even.
+    /// Whether validation loads the lock next, until it is even.
     #[inline(always)]
     pub(crate) fn is_waiting(&self) -> bool
         ensures waits { result ≡ true → (self.now.begun ≡ true) × (self.now.attempt.phase ≡ Phase.ValidatesTime) }
@@ -635,7 +635,7 @@ impl<A: Allocator + Copy> Steps<A> {
         }
     }
 
-    // The step of a validation that waits for an even lock, with the lock's value.
+    /// The step of a validation that waits for an even lock, with the lock's value.
     #[inline(always)]
     pub(crate) fn waited(&mut self, lock: u64)
         requires begun { self.old.begun ≡ true }
@@ -648,7 +648,7 @@ impl<A: Allocator + Copy> Steps<A> {
         self.phase = Phase::ValidatesEntry(lock, 0);
     }
 
-    // The lock value at which validation compares an entry next, and the entry's place in the read log.
+    /// The lock value at which validation compares an entry next, and the entry's place in the read log.
     #[inline(always)]
     pub(crate) fn comparing(&self) -> Option<(u64, usize)>
         ensures some { IfSome result (λ at. (self.now.begun ≡ true) × (self.now.attempt.phase ≡ Phase.ValidatesEntry at.0 at.1)) }
@@ -666,7 +666,7 @@ impl<A: Allocator + Copy> Steps<A> {
         }
     }
 
-    // The entry at a place.
+    /// The entry at a place.
     #[inline(always)]
     pub(crate) fn entry(&self, place: usize) -> Option<(u32, u64)>
         ensures value { result ≡ slice_get self.now.attempt.reads place }
@@ -675,7 +675,7 @@ impl<A: Allocator + Copy> Steps<A> {
         self.logs.read_at(place)
     }
 
-    // The step in which an entry's word was found again.
+    /// The step in which an entry's word was found again.
     #[inline(always)]
     pub(crate) fn compared(&mut self, time: u64, place: usize)
         requires phase { self.old.attempt.phase ≡ Phase.ValidatesEntry time place }
@@ -687,7 +687,7 @@ impl<A: Allocator + Copy> Steps<A> {
         self.phase = Phase::ValidatesEntry(time, next);
     }
 
-    // The step in which an entry's word was not found again.
+    /// The step in which an entry's word was not found again.
     #[inline(always)]
     pub(crate) fn differed(&mut self)
         ensures begun { self.new.begun ≡ false }
@@ -697,7 +697,7 @@ impl<A: Allocator + Copy> Steps<A> {
         self.end();
     }
 
-    // The step past the last entry, with the lock's value.
+    /// The step past the last entry, with the lock's value.
     #[inline(always)]
     pub(crate) fn validated(&mut self, time: u64, place: usize, lock: u64)
         requires begun { self.old.begun ≡ true }

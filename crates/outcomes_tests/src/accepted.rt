@@ -9,7 +9,7 @@ use std::alloc::Allocator;
 use syntax::tree::Unit;
 use types::{Typed, check};
 
-// The tree of a text, where it is a program.
+/// The tree of a text, where it is a program.
 fn unit_of<A: Allocator + Copy>(alloc: A, text: &str) -> Option<Unit<A>> {
     match lex(alloc, text) {
         Ok(tokens) => parse(alloc, tokens.as_slice()).ok(),
@@ -17,7 +17,7 @@ fn unit_of<A: Allocator + Copy>(alloc: A, text: &str) -> Option<Unit<A>> {
     }
 }
 
-// The tree of a text with its types, where they are right.
+/// The tree of a text with its types, where they are right.
 fn typed_of<A: Allocator + Copy>(alloc: A, text: &str) -> Option<Typed<A>> {
     match unit_of(alloc, text) {
         Some(unit) => check(alloc, unit).ok(),
@@ -25,7 +25,7 @@ fn typed_of<A: Allocator + Copy>(alloc: A, text: &str) -> Option<Typed<A>> {
     }
 }
 
-// The tree of a text with its types, where it is safe.
+/// The tree of a text with its types, where it is safe.
 fn safe_of<A: Allocator + Copy>(alloc: A, text: &str) -> Option<Safe<A>> {
     match typed_of(alloc, text) {
         Some(typed) => safe(alloc, typed).ok(),

@@ -22,12 +22,12 @@ const SAYS: &str = "int x; void worker(int self) {
     printf(\"%d\", k);
 }";
 
-// whole transactions let only one thread see the other's room taken
+/// whole transactions let only one thread see the other's room taken
 const SKEW: &str = "int a = 1, b = 1; void worker(int self) {
     __transaction_atomic { if (a + b == 2) { if (self) a = 0; else b = 0; } }
 }";
 
-// 7 is left by one order of three threads alone
+/// 7 is left by one order of three threads alone
 const THIRD: &str = "int x; void worker(int self) {
     __transaction_atomic {
         if (self == 0 && x == 0) x = 1;
@@ -86,12 +86,12 @@ fn rows() -> &'static [Row] {
     &ROWS
 }
 
-// Whether the first cell of an outcome holds this.
+/// Whether the first cell of an outcome holds this.
 fn begins_with<A: Allocator>(one: &Listed<A>, cell: u64) -> bool {
     one.memory.first().copied() == Some(cell)
 }
 
-// Whether one of these outcomes has the cell.
+/// Whether one of these outcomes has the cell.
 fn have<A: Allocator>(listed: &[Listed<A>], cell: Option<u64>) -> bool {
     match cell {
         Some(cell) => listed.iter().any(|one| begins_with(one, cell)),
@@ -99,7 +99,7 @@ fn have<A: Allocator>(listed: &[Listed<A>], cell: Option<u64>) -> bool {
     }
 }
 
-// Whether these are the outcomes that a row tells.
+/// Whether these are the outcomes that a row tells.
 fn are_so<A: Allocator>(found: &Outcomes<A>, row: &Row) -> bool {
     found.listed.len() == row.4
         && found.orders == row.5
@@ -108,7 +108,7 @@ fn are_so<A: Allocator>(found: &Outcomes<A>, row: &Row) -> bool {
         && have(found.listed.as_slice(), row.8)
 }
 
-// Whether two threads have printed the same and end alike.
+/// Whether two threads have printed the same and end alike.
 fn same_report<A: Allocator>(a: &ThreadReport<A>, b: &ThreadReport<A>) -> bool {
     a.text.as_slice() == b.text.as_slice() && a.end == b.end
 }
@@ -130,7 +130,7 @@ fn same_outcome<A: Allocator>(one: &Listed<A>, ran: &SourceOutcome<A>) -> bool {
         && same_reports(one.threads.as_slice(), ran.threads.as_slice())
 }
 
-// Whether an order gives the outcome that it is listed with.
+/// Whether an order gives the outcome that it is listed with.
 fn is_given<A: Allocator + Copy>(
     alloc: A,
     accepted: &Accepted<A>,
@@ -172,7 +172,7 @@ fn is_so<A: Allocator + Copy>(alloc: A, inner: Global, row: &Row) -> bool {
     }
 }
 
-// The text and the threads of the first row that is not so.
+/// The text and the threads of the first row that is not so.
 fn first_other<A: Allocator + Copy>(
     alloc: A,
     inner: Global,
@@ -186,8 +186,8 @@ fn first_other<A: Allocator + Copy>(
     None
 }
 
-// The text and the threads of the first of all rows that is not so, over an allocator that refuses nothing. The
-// prover has less to look through in one that is lent.
+/// The text and the threads of the first of all rows that is not so, over an allocator that refuses nothing. The
+/// prover has less to look through in one that is lent.
 fn first_other_of_all(inner: Global) -> Option<(&'static str, u32, usize)> {
     let alloc = Refusing::new(inner, 0);
     first_other(&alloc, inner, rows())
@@ -198,7 +198,7 @@ fn outcomes_are_listed(rt: HostRuntime) {
     assert_eq!(rt; first_other_of_all(rt.alloc()), None);
 }
 
-// The number of the fault of so many threads.
+/// The number of the fault of so many threads.
 fn fault_in<A: Allocator + Copy>(alloc: A, inner: Global, threads: u32) -> Option<u32> {
     let mut told = Vec::new(inner);
     match accepted_of(alloc, ADDS) {
@@ -212,7 +212,7 @@ fn fault_in<A: Allocator + Copy>(alloc: A, inner: Global, threads: u32) -> Optio
     }
 }
 
-// The number of the fault of so many threads, over an allocator that refuses nothing.
+/// The number of the fault of so many threads, over an allocator that refuses nothing.
 fn fault_of(inner: Global, threads: u32) -> Option<u32> {
     let alloc = Refusing::new(inner, 0);
     fault_in(&alloc, inner, threads)
@@ -226,7 +226,7 @@ fn a_wrong_number_of_threads_has_a_fault(rt: HostRuntime) {
     );
 }
 
-// Whether the outcomes of two threads are found: none where memory was refused.
+/// Whether the outcomes of two threads are found: none where memory was refused.
 fn is_made<A: Allocator + Copy>(alloc: A, inner: Global, accepted: &Accepted<A>) -> Option<bool> {
     let mut told = Vec::new(inner);
     match outcomes_of(alloc, accepted, 2, 100, 100, false, &mut told) {
@@ -235,7 +235,7 @@ fn is_made<A: Allocator + Copy>(alloc: A, inner: Global, accepted: &Accepted<A>)
     }
 }
 
-// Whether they are found where growth `nth` is not met, and else that is told. The allocator is the one that refuses.
+/// Whether they are found where growth `nth` is not met, and else that is told. The allocator is the one that refuses.
 fn tells_in<A: Allocator, B: Allocator + Copy>(
     refusing: &Refusing<A>,
     alloc: B,
@@ -251,7 +251,7 @@ fn tells_in<A: Allocator, B: Allocator + Copy>(
     }
 }
 
-// How many growths the outcomes of the text that says take, each of which is refused once.
+/// How many growths the outcomes of the text that says take, each of which is refused once.
 fn growths_of_saying(inner: Global) -> Result<u64, u64> {
     growths(inner, 5000, |alloc, nth| tells_in(alloc, alloc, inner, nth))
 }

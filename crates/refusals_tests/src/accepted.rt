@@ -35,7 +35,7 @@ fn copy_of<A: Allocator + Copy>(alloc: A, unit: &Unit<A>) -> Option<Unit<A>> {
     }
 }
 
-// A copy of the tree of a text.
+/// A copy of the tree of a text.
 fn unit_of<A: Allocator + Copy>(alloc: A, text: &str, seen: &mut Seen) -> Option<Unit<A>> {
     let Some(tokens) = tokens_of(alloc, text) else {
         return None;
@@ -49,7 +49,7 @@ fn unit_of<A: Allocator + Copy>(alloc: A, text: &str, seen: &mut Seen) -> Option
     }
 }
 
-// A refusal gives the tree back, and it is the one that is wanted.
+/// A refusal gives the tree back, and it is the one that is wanted.
 fn typed_of<A: Allocator + Copy>(alloc: A, unit: Unit<A>, wanted: &Typed<A>) -> Option<Typed<A>> {
     if !unit.same(wanted.unit()) {
         return None;
@@ -67,7 +67,7 @@ fn typed_of<A: Allocator + Copy>(alloc: A, unit: Unit<A>, wanted: &Typed<A>) -> 
     }
 }
 
-// A refusal gives the program back, and it is the one that is wanted.
+/// A refusal gives the program back, and it is the one that is wanted.
 fn safe_of<A: Allocator + Copy>(alloc: A, typed: Typed<A>, wanted: &Typed<A>) -> Option<Safe<A>> {
     match safe(alloc, typed) {
         Ok(safe) => Some(safe),
@@ -82,7 +82,7 @@ fn safe_of<A: Allocator + Copy>(alloc: A, typed: Typed<A>, wanted: &Typed<A>) ->
     }
 }
 
-// A refusal gives the program back, and it is the one that is wanted.
+/// A refusal gives the program back, and it is the one that is wanted.
 fn separate_of<A: Allocator + Copy>(
     alloc: A,
     safe: Safe<A>,
@@ -101,7 +101,7 @@ fn separate_of<A: Allocator + Copy>(
     }
 }
 
-// The accepted program of a tree.
+/// The accepted program of a tree.
 fn accepted_tree<A: Allocator + Copy>(
     alloc: A,
     unit: Unit<A>,
@@ -146,7 +146,7 @@ pub fn accepted_of<A: Allocator + Copy>(
     }
 }
 
-// The safe program of a tree, with no refusal.
+/// The safe program of a tree, with no refusal.
 fn safe_at_once<A: Allocator + Copy>(alloc: A, unit: Unit<A>) -> Option<Safe<A>> {
     match check(alloc, unit) {
         Ok(typed) => safe(alloc, typed).ok(),
@@ -154,7 +154,7 @@ fn safe_at_once<A: Allocator + Copy>(alloc: A, unit: Unit<A>) -> Option<Safe<A>>
     }
 }
 
-// The tree of a text, with no refusal.
+/// The tree of a text, with no refusal.
 fn unit_at_once<A: Allocator + Copy>(alloc: A, text: &str) -> Option<Unit<A>> {
     match lex(alloc, text) {
         Ok(tokens) => parse(alloc, tokens.as_slice()).ok(),

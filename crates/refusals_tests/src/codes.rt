@@ -28,7 +28,7 @@ fn listed<A: Allocator + Copy>(alloc: A, code: &Code<A>) -> Option<String<A>> {
     }
 }
 
-// Adds the listing of a code.
+/// Adds the listing of a code.
 fn list<A: Allocator + Copy>(alloc: A, code: &Code<A>, seen: &mut Seen) -> Option<()> {
     match listed(alloc, code) {
         Some(text) => seen.line(text.as_str()),

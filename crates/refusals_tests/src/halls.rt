@@ -13,7 +13,7 @@ use workers::{CloseFault, CloseReason, Hall, Outcome, Status, Worker};
 /// The most steps of a worker.
 const MOST: u64 = 100_000;
 
-// A hall of two workers, if memory is there.
+/// A hall of two workers, if memory is there.
 fn opened<A: Allocator + Copy>(alloc: A, code: &Code<A>) -> Option<(Hall<A>, Vec<Worker<A>, A>)>
     ensures { IfSome result (λ r. AreWorkersOf r.0.table.shared.table_id r.0.setup r.1.items) }
 {
@@ -23,7 +23,7 @@ fn opened<A: Allocator + Copy>(alloc: A, code: &Code<A>) -> Option<(Hall<A>, Vec
     }
 }
 
-// A hall of two workers, by a second call where the first was refused memory.
+/// A hall of two workers, by a second call where the first was refused memory.
 fn opened_at_last<A: Allocator + Copy>(
     alloc: A,
     code: &Code<A>,
@@ -36,7 +36,7 @@ fn opened_at_last<A: Allocator + Copy>(
     }
 }
 
-// The last worker of the list.
+/// The last worker of the list.
 fn take<A: Allocator + Copy>(hall: &Hall<A>, workers: &mut Vec<Worker<A>, A>) -> Option<Worker<A>>
     requires { AreWorkersOf hall.now.table.shared.table_id hall.now.setup workers.old.items }
     ensures left { AreWorkersOf hall.now.table.shared.table_id hall.now.setup workers.new.items }
@@ -49,7 +49,7 @@ fn take<A: Allocator + Copy>(hall: &Hall<A>, workers: &mut Vec<Worker<A>, A>) ->
     }
 }
 
-// One more worker at the end of the list.
+/// One more worker at the end of the list.
 fn put<A: Allocator + Copy>(
     hall: &Hall<A>,
     workers: &mut Vec<Worker<A>, A>,
@@ -64,7 +64,7 @@ fn put<A: Allocator + Copy>(
     Ok(())
 }
 
-// The rest of a worker's steps.
+/// The rest of a worker's steps.
 fn run<A: Allocator + Copy>(hall: &Hall<A>, worker: &mut Worker<A>) -> Result<Status, Stop>
     requires { IsWorkerOf hall.now.table.shared.table_id hall.now.setup worker.old }
     ensures { IsWorkerOf hall.now.table.shared.table_id hall.now.setup worker.new }
@@ -76,7 +76,7 @@ fn run<A: Allocator + Copy>(hall: &Hall<A>, worker: &mut Worker<A>) -> Result<St
     worker.run(hall, MOST - steps)
 }
 
-// Whether a worker comes to its end, by a second call where the first was refused memory: that one leaves it running.
+/// Whether a worker comes to its end, by a second call where the first was refused memory: that one leaves it running.
 fn ends<A: Allocator + Copy>(hall: &Hall<A>, worker: &mut Worker<A>) -> bool
     requires { IsWorkerOf hall.now.table.shared.table_id hall.now.setup worker.old }
     ensures { IsWorkerOf hall.now.table.shared.table_id hall.now.setup worker.new }
@@ -90,7 +90,7 @@ fn ends<A: Allocator + Copy>(hall: &Hall<A>, worker: &mut Worker<A>) -> bool
     }
 }
 
-// Adds how many steps and accesses a worker has made by its end, and what it has printed.
+/// Adds how many steps and accesses a worker has made by its end, and what it has printed.
 fn end<A: Allocator + Copy>(hall: &Hall<A>, worker: &mut Worker<A>, seen: &mut Seen) -> Option<()>
     requires { IsWorkerOf hall.now.table.shared.table_id hall.now.setup worker.old }
     ensures { IsWorkerOf hall.now.table.shared.table_id hall.now.setup worker.new }
@@ -104,7 +104,7 @@ fn end<A: Allocator + Copy>(hall: &Hall<A>, worker: &mut Worker<A>, seen: &mut S
     seen.bytes("worker", worker.output().as_bytes())
 }
 
-// The last worker of the list, at its end.
+/// The last worker of the list, at its end.
 fn last_at_end<A: Allocator + Copy>(
     hall: &Hall<A>,
     workers: &mut Vec<Worker<A>, A>,
@@ -123,7 +123,7 @@ fn last_at_end<A: Allocator + Copy>(
     }
 }
 
-// Both workers come to their ends, the last one first, and are put back.
+/// Both workers come to their ends, the last one first, and are put back.
 fn end_both<A: Allocator + Copy>(
     hall: &Hall<A>,
     workers: &mut Vec<Worker<A>, A>,
@@ -144,7 +144,7 @@ fn end_both<A: Allocator + Copy>(
     (first.is_ok() && last.is_ok()).then_some(())
 }
 
-// What a hall leaves, by a second call where the first was refused memory and gave all back.
+/// What a hall leaves, by a second call where the first was refused memory and gave all back.
 fn closed<A: Allocator + Copy>(
     alloc: A,
     hall: Hall<A>,
@@ -170,7 +170,7 @@ fn closed<A: Allocator + Copy>(
     }
 }
 
-// Adds what a hall leaves.
+/// Adds what a hall leaves.
 fn close<A: Allocator + Copy>(
     alloc: A,
     hall: Hall<A>,

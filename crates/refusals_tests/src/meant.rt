@@ -15,7 +15,7 @@ use syntax::numbers::Status;
 /// How many ticks a thread of the source has, and how many instructions one of the code.
 const MOST: u64 = 100_000;
 
-// The end of a thread, for a line.
+/// The end of a thread, for a line.
 fn end_text(end: ThreadEnd) -> &'static str {
     match end {
         ThreadEnd::Ended => "ended",
@@ -36,7 +36,7 @@ fn ran<A: Allocator + Copy>(
     }
 }
 
-// Adds the memories that were left.
+/// Adds the memories that were left.
 fn add_lefts<A: Allocator>(lefts: &[Vec<u64, A>], seen: &mut Seen) -> Option<()> {
     for left in lefts {
         let Some(()) = seen.words("left", left.as_slice()) else {
@@ -74,7 +74,7 @@ fn ordered<A: Allocator + Copy>(
     }
 }
 
-// Adds the cells of a memory.
+/// Adds the cells of a memory.
 fn add_memory(memory: &[u64], seen: &mut Seen) -> Option<()> {
     for word in memory {
         let Some(()) = seen.words("cell", &[*word]) else {
@@ -102,7 +102,7 @@ pub fn mean_in_order<A: Allocator + Copy>(
     add_memory(outcome.memory.as_slice(), seen)
 }
 
-// Thread 1 of a code at its beginning.
+/// Thread 1 of a code at its beginning.
 fn begun<A: Allocator + Copy>(alloc: A, code: &Code<A>) -> Option<AtomicThread<A>>
     ensures { IfSome result (λ t. IsThreadOf code.now t.thread) }
 {
@@ -112,7 +112,7 @@ fn begun<A: Allocator + Copy>(alloc: A, code: &Code<A>) -> Option<AtomicThread<A
     }
 }
 
-// Thread 1 of a code at its beginning, by a second call where the first was refused memory.
+/// Thread 1 of a code at its beginning, by a second call where the first was refused memory.
 fn begun_at_last<A: Allocator + Copy>(alloc: A, code: &Code<A>) -> Option<AtomicThread<A>>
     ensures { IfSome result (λ t. IsThreadOf code.now t.thread) }
 {
@@ -122,7 +122,7 @@ fn begun_at_last<A: Allocator + Copy>(alloc: A, code: &Code<A>) -> Option<Atomic
     }
 }
 
-// Carries a thread on to the next memory that it leaves, to its end, or until it has made so many instructions.
+/// Carries a thread on to the next memory that it leaves, to its end, or until it has made so many instructions.
 fn go<A: Allocator + Copy>(
     thread: &mut AtomicThread<A>,
     code: &Code<A>,
@@ -139,7 +139,7 @@ fn go<A: Allocator + Copy>(
     thread.go(code, found, rest).ok()
 }
 
-// Carries a thread on until it has made so many instructions.
+/// Carries a thread on until it has made so many instructions.
 fn go_to<A: Allocator + Copy>(
     thread: &mut AtomicThread<A>,
     code: &Code<A>,
@@ -154,7 +154,7 @@ fn go_to<A: Allocator + Copy>(
     }
 }
 
-// Whether a thread stands where another one does that has made as many instructions.
+/// Whether a thread stands where another one does that has made as many instructions.
 fn stands_so<A: Allocator + Copy>(
     alloc: A,
     thread: &AtomicThread<A>,
@@ -172,7 +172,7 @@ fn stands_so<A: Allocator + Copy>(
     }
 }
 
-// `go`, by a second call where the first was refused memory.
+/// `go`, by a second call where the first was refused memory.
 fn go_at_last<A: Allocator + Copy>(
     alloc: A,
     thread: &mut AtomicThread<A>,
@@ -194,7 +194,7 @@ fn go_at_last<A: Allocator + Copy>(
     }
 }
 
-// Adds what a thread has left by a call: whether it is over.
+/// Adds what a thread has left by a call: whether it is over.
 fn add_ran<A: Allocator>(ran: &Ran<A>, seen: &mut Seen) -> Option<bool> {
     match &ran.left {
         Some(left) => match seen.words("go", left.as_slice()) {
@@ -205,7 +205,7 @@ fn add_ran<A: Allocator>(ran: &Ran<A>, seen: &mut Seen) -> Option<bool> {
     }
 }
 
-// Carries a thread on to its end: `None` where it does not come there.
+/// Carries a thread on to its end: `None` where it does not come there.
 fn go_on<A: Allocator + Copy>(
     alloc: A,
     thread: &mut AtomicThread<A>,
@@ -255,7 +255,7 @@ pub fn carry<A: Allocator + Copy>(
     seen.bytes(status_text(thread.status()), thread.output().as_bytes())
 }
 
-// The first memory of a code, with no refusal.
+/// The first memory of a code, with no refusal.
 fn first_memory<A: Allocator + Copy>(alloc: A, code: &Code<A>) -> Result<Vec<u64, A>, AllocError> {
     let mut memory = Vec::new(alloc);
     code.push_initial(&mut memory)?;

@@ -10,24 +10,24 @@ pub struct Seen {
     text: String,
 }
 
-// Adds a line.
+/// Adds a line.
 fn add(seen: &mut Seen, line: &str) -> Result<(), AllocError> {
     seen.text.push_str(line)?;
     seen.text.push_str("\n")?;
     Ok(())
 }
 
-// The line of these bytes.
+/// The line of these bytes.
 fn line_of_bytes(alloc: Global, call: &str, bytes: &[u8]) -> Result<String, AllocError> {
     format!(in alloc; "{call} {bytes:?}")
 }
 
-// The line of these words.
+/// The line of these words.
 fn line_of_words(alloc: Global, call: &str, words: &[u64]) -> Result<String, AllocError> {
     format!(in alloc; "{call} {words:?}")
 }
 
-// A number that stands for where these tokens begin and end.
+/// A number that stands for where these tokens begin and end.
 fn digest(tokens: &[Token<'_>]) -> u64 {
     let mut digest = 0u64;
     for token in tokens {

@@ -30,7 +30,7 @@ fn replayed<A: Allocator + Copy>(alloc: A, code: &Code<A>, lines: &[Line]) -> Op
     }
 }
 
-// The report of these lines, where no step was refused memory: a replay that was is made again from its beginning.
+/// The report of these lines, where no step was refused memory: a replay that was is made again from its beginning.
 fn replayed_whole<A: Allocator + Copy>(
     alloc: A,
     code: &Code<A>,
@@ -51,7 +51,7 @@ fn replayed_whole<A: Allocator + Copy>(
     }
 }
 
-// Adds the events and threads of a report.
+/// Adds the events and threads of a report.
 fn add_report<A: Allocator>(report: &Report<A>, seen: &mut Seen) -> Option<()> {
     for event in &report.events {
         let Some(()) = seen.words("event", &[event.0, u64::from(event.1)]) else {
@@ -69,7 +69,7 @@ fn add_report<A: Allocator>(report: &Report<A>, seen: &mut Seen) -> Option<()> {
     report.stop.is_none().then_some(())
 }
 
-// Whether two worlds have the same lock, words, steps, accesses and outputs.
+/// Whether two worlds have the same lock, words, steps, accesses and outputs.
 fn are_alike<A: Allocator + Copy>(one: &World<A>, other: &World<A>) -> bool {
     if one.threads() != 2 || other.threads() != 2 {
         return false;
@@ -82,7 +82,7 @@ fn are_alike<A: Allocator + Copy>(one: &World<A>, other: &World<A>) -> bool {
         && one.output(1) == other.output(1)
 }
 
-// A world of two threads.
+/// A world of two threads.
 fn opened<A: Allocator + Copy>(alloc: A, code: &Code<A>) -> Option<World<A>> {
     match World::new(alloc, code, 2) {
         Ok(world) => Some(world),
@@ -91,7 +91,7 @@ fn opened<A: Allocator + Copy>(alloc: A, code: &Code<A>) -> Option<World<A>> {
     }
 }
 
-// Whether a world that was refused a step stands where one does that made the steps before it.
+/// Whether a world that was refused a step stands where one does that made the steps before it.
 fn stands_before<A: Allocator + Copy>(
     alloc: A,
     code: &Code<A>,
@@ -104,7 +104,7 @@ fn stands_before<A: Allocator + Copy>(
     }
 }
 
-// Makes the rest of the steps, where the one that was not made was refused memory.
+/// Makes the rest of the steps, where the one that was not made was refused memory.
 fn run_rest<A: Allocator + Copy>(
     alloc: A,
     code: &Code<A>,
@@ -121,7 +121,7 @@ fn run_rest<A: Allocator + Copy>(
     }
 }
 
-// Makes these steps.
+/// Makes these steps.
 fn run<A: Allocator + Copy>(alloc: A, code: &Code<A>, world: &mut World<A>, steps: &[u32]) -> bool {
     match world.run(steps) {
         Ok(()) => true,
@@ -129,7 +129,7 @@ fn run<A: Allocator + Copy>(alloc: A, code: &Code<A>, world: &mut World<A>, step
     }
 }
 
-// Adds the lock, the words, the accesses and the outputs of a world of two threads.
+/// Adds the lock, the words, the accesses and the outputs of a world of two threads.
 fn add_world<A: Allocator + Copy>(world: &World<A>, seen: &mut Seen) -> Option<()> {
     if world.threads() != 2 {
         return None;
@@ -146,7 +146,7 @@ fn add_world<A: Allocator + Copy>(world: &World<A>, seen: &mut Seen) -> Option<(
     seen.bytes("world", world.output(1).as_bytes())
 }
 
-// Adds what these steps lead to.
+/// Adds what these steps lead to.
 fn step<A: Allocator + Copy>(
     alloc: A,
     code: &Code<A>,
@@ -162,7 +162,7 @@ fn step<A: Allocator + Copy>(
     add_world(&world, seen)
 }
 
-// Adds what a replay of these lines leaves, and what a world does by the same steps.
+/// Adds what a replay of these lines leaves, and what a world does by the same steps.
 fn add_lines<A: Allocator + Copy>(
     alloc: A,
     code: &Code<A>,
@@ -178,7 +178,7 @@ fn add_lines<A: Allocator + Copy>(
     step(alloc, code, report.trace.as_slice(), seen)
 }
 
-// Adds the threads of lines that ask for one step each.
+/// Adds the threads of lines that ask for one step each.
 fn add_threads(lines: &[Line], seen: &mut Seen) -> Option<()> {
     for line in lines {
         let Some(()) = seen.words("seeded", &[u64::from(line.thread)]) else {

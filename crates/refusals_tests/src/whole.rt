@@ -33,7 +33,7 @@ enum Half {
     Made,
 }
 
-// A transaction in another one is cancelled, and what it has read is validated still.
+/// A transaction in another one is cancelled, and what it has read is validated still.
 fn cancels() -> &'static Row {
     static ROW: Row = Row {
         text: "int f, g = 1, h; void worker(int self) { if (self == 0) { __transaction_atomic { f = 1; h = 1; } } else { \
@@ -54,7 +54,7 @@ __transaction_atomic { __transaction_atomic { if (f == 0) { g = 9; __transaction
     &ROW
 }
 
-// A swap is lost, the validation behind it fails, and the transaction is made again.
+/// A swap is lost, the validation behind it fails, and the transaction is made again.
 fn loses_a_swap() -> &'static Row {
     static ROW: Row = Row {
         text: "int x; void worker(int self) { __transaction_atomic { x = x + 1; } }",
@@ -73,7 +73,7 @@ fn loses_a_swap() -> &'static Row {
     &ROW
 }
 
-// A relaxed transaction takes the lock before it prints.
+/// A relaxed transaction takes the lock before it prints.
 fn prints() -> &'static Row {
     static ROW: Row = Row {
         text: "int x; void worker(int self) { __transaction_relaxed { x = x + 1; printf(\"%d\\n\", x); } }",
@@ -100,7 +100,7 @@ fn prints() -> &'static Row {
     &ROW
 }
 
-// Thread 0 makes 64 frames, and thread 1 is trapped at the 65th.
+/// Thread 0 makes 64 frames, and thread 1 is trapped at the 65th.
 fn calls_deep() -> &'static Row {
     static ROW: Row = Row {
         text: "void down(int k) { if (k > 0) down(k - 1); } void worker(int self) { down(62 + self); }",
@@ -113,7 +113,7 @@ fn calls_deep() -> &'static Row {
     &ROW
 }
 
-// A program with all that the language has.
+/// A program with all that the language has.
 fn says_all() -> &'static Row {
     static ROW: Row = Row {
         text: "int x = -2, a[3] = {1, 2,}, y; unsigned u, w = 5; \
@@ -150,7 +150,7 @@ i = __transaction_relaxed (f(__transaction_atomic (a[1]), 5)) * 7; h(-i); printf
     &ROW
 }
 
-// What a program means, and its code.
+/// What a program means, and its code.
 fn show_program<A: Allocator + Copy>(
     alloc: A,
     row: &Row,
@@ -170,7 +170,7 @@ fn show_program<A: Allocator + Copy>(
     }
 }
 
-// From a text to its program, which is this one, and on.
+/// From a text to its program, which is this one, and on.
 fn show_text<A: Allocator + Copy>(
     alloc: A,
     row: &Row,
@@ -184,7 +184,7 @@ fn show_text<A: Allocator + Copy>(
     }
 }
 
-// What a code's threads do, by single steps, in a world and on real words.
+/// What a code's threads do, by single steps, in a world and on real words.
 fn show_code<A: Allocator + Copy>(
     alloc: A,
     row: &Row,
@@ -207,8 +207,8 @@ fn show_code<A: Allocator + Copy>(
     }
 }
 
-// Half of the way of a program, with growth `nth` of it refused, which is refused behind what it is compared with and
-// begins with. `None` where a call goes wrong, behind what those before it gave.
+/// Half of the way of a program, with growth `nth` of it refused, which is refused behind what it is compared with and
+/// begins with. `None` where a call goes wrong, behind what those before it gave.
 fn show_refused<'a>(
     alloc: &'a Refusing<Global>,
     row: &Row,
@@ -232,7 +232,7 @@ fn show_refused<'a>(
     }
 }
 
-// What is seen on half of the way of a program, with growth `nth` of it refused.
+/// What is seen on half of the way of a program, with growth `nth` of it refused.
 fn seen_at(inner: Global, alloc: &Refusing<Global>, row: &Row, half: Half, nth: u64) -> Seen {
     let mut seen = Seen::new(inner);
     if let Some(wanted) = accepted_at_once(alloc, row.text) {
@@ -241,16 +241,16 @@ fn seen_at(inner: Global, alloc: &Refusing<Global>, row: &Row, half: Half, nth: 
     seen
 }
 
-// How many growths are met, each of which was refused once and left the end as it is without a refusal; or the first
-// that did not.
+/// How many growths are met, each of which was refused once and left the end as it is without a refusal; or the first
+/// that did not.
 fn met(inner: Global, row: &Row, half: Half, wanted: &Seen) -> Result<u64, u64> {
     growths(inner, 5000, |alloc, nth| {
         seen_at(inner, alloc, row, half, nth).text() == wanted.text()
     })
 }
 
-// Asserts that half of the way of a program shows these lines and meets more growths than 50, each of which may be
-// refused once.
+/// Asserts that half of the way of a program shows these lines and meets more growths than 50, each of which may be
+/// refused once.
 fn assert_goes_on(rt: &impl Abort, inner: Global, row: &Row, half: Half, lines: &[&str]) {
     let wanted = seen_at(inner, &Refusing::new(inner, 0), row, half, 0);
     for line in lines {

@@ -13,18 +13,18 @@ use std::alloc::{AllocError, Allocator};
 use syntax::numbers::Status;
 use world::{Report, StopReason, World, WorldFault};
 
-// What happened in which step: the accesses to the lock or the words that all threads had made with it, and its thread.
+/// What happened in which step: the accesses to the lock or the words that all threads had made with it, and its thread.
 type Events<A> = Vec<(u64, u32, Event), A>;
 
-// Why a line was not made to its end.
+/// Why a line was not made to its end.
 enum Halt {
-    // A step was not made.
+    /// A step was not made.
     Stopped(StopReason),
-    // The growth of the events was refused.
+    /// The growth of the events was refused.
     Refused,
 }
 
-// Whether a line counts accesses and its thread is over.
+/// Whether a line counts accesses and its thread is over.
 fn is_cut_off<A: Allocator + Copy>(world: &World<A>, line: Line) -> bool
     requires { line.thread < world.now.threads }
     ensures { result ≡ is_cut_off_spec (world_of world.now) line }
@@ -51,7 +51,7 @@ fn is_quiet(event: Event) -> bool
     }
 }
 
-// Makes the next step of a thread, and notes what happened in it. It says how many accesses the step made.
+/// Makes the next step of a thread, and notes what happened in it. It says how many accesses the step made.
 fn step<A: Allocator + Copy>(
     world: &mut World<A>,
     events: &mut Events<A>,
@@ -82,14 +82,14 @@ fn step<A: Allocator + Copy>(
     }
 }
 
-// What a step takes of a line's count, where it made so many accesses.
+/// What a step takes of a line's count, where it made so many accesses.
 fn spent(line: Line, made: u32) -> u32
     ensures { result ≡ (if line.accesses then made else 1) }
 {
     if line.accesses { made } else { 1 }
 }
 
-// Makes the steps of a line, for which there is room for so many. It says for how many there still is.
+/// Makes the steps of a line, for which there is room for so many. It says for how many there still is.
 fn play<A: Allocator + Copy>(
     world: &mut World<A>,
     events: &mut Events<A>,
@@ -131,8 +131,8 @@ fn line_at(lines: &[Line], at: usize) -> Line
     lines[at]
 }
 
-// Makes the steps that lines name, one after another, up to the first one that is not made: that one's thread, and why. The
-// error comes only where the growth of the events is refused.
+/// Makes the steps that lines name, one after another, up to the first one that is not made: that one's thread, and why. The
+/// error comes only where the growth of the events is refused.
 fn play_all<A: Allocator + Copy>(
     world: &mut World<A>,
     events: &mut Events<A>,
@@ -155,7 +155,7 @@ fn play_all<A: Allocator + Copy>(
     Ok(None)
 }
 
-// Makes the steps that lines name in a world that has made none, and reports what they leave.
+/// Makes the steps that lines name in a world that has made none, and reports what they leave.
 fn report_played<A: Allocator + Copy>(
     alloc: A,
     world: &mut World<A>,

@@ -97,11 +97,11 @@ fn number(digits: &[u8]) -> Option<u32>
 #[derive(Clone, Copy)]
 struct Parts<'a> {
     thread: &'a [u8],
-    // Whether a space stands behind the thread.
+    /// Whether a space stands behind the thread.
     apart: bool,
     accesses: bool,
     count: &'a [u8],
-    // What stands behind the spaces after the count.
+    /// What stands behind the spaces after the count.
     over: &'a [u8],
 }
 

@@ -9,7 +9,7 @@ use machine::StepShown;
 use std::alloc::Allocator;
 use world::World;
 
-// Makes the next step of a thread, and shows it; there is no answer where it cannot be made or shown.
+/// Makes the next step of a thread, and shows it; there is no answer where it cannot be made or shown.
 fn show<A: Allocator + Copy>(
     world: &mut World<A>,
     shown: &mut Vec<(u64, u32, StepShown), A>,
@@ -31,7 +31,7 @@ fn show<A: Allocator + Copy>(
     Some(())
 }
 
-// Makes steps of a world that has made none, and shows each.
+/// Makes steps of a world that has made none, and shows each.
 fn show_all<A: Allocator + Copy>(
     alloc: A,
     world: &mut World<A>,

@@ -11,7 +11,7 @@ use std::alloc::{AllocError, Allocator, Global};
 use world::{End, World};
 use written_codes::{Levels, NUMBERS, cancels_levels, code_of, over_x};
 
-// Whether the report of one thread that makes a hundred steps is as wanted.
+/// Whether the report of one thread that makes a hundred steps is as wanted.
 fn replays(alloc: Global, code: &Code, wanted: &Wanted) -> bool {
     match read_schedule(alloc, "0 100") {
         Ok(lines) => match replay(alloc, code, 1, lines.as_slice()) {
@@ -22,7 +22,7 @@ fn replays(alloc: Global, code: &Code, wanted: &Wanted) -> bool {
     }
 }
 
-// Whether levels are left, which the thread commits: with its fourth access, since a kept lock is taken before the stores.
+/// Whether levels are left, which the thread commits: with its fourth access, since a kept lock is taken before the stores.
 fn commits(alloc: Global, code: &Code, levels: Levels) -> bool {
     let Some(text) = NUMBERS.get(levels.left() as usize).copied() else {
         return false;
@@ -38,7 +38,7 @@ fn commits(alloc: Global, code: &Code, levels: Levels) -> bool {
     replays(alloc, code, &wanted)
 }
 
-// The outermost one is cancelled too, and takes effect, having written nothing.
+/// The outermost one is cancelled too, and takes effect, having written nothing.
 fn all_cancelled() -> &'static Wanted<'static> {
     static WANTED: Wanted<'static> = Wanted {
         events: &[(1, 0, Event::Cancel)],
@@ -50,7 +50,7 @@ fn all_cancelled() -> &'static Wanted<'static> {
     &WANTED
 }
 
-// With the lock kept the thread stands still at an outermost cancel.
+/// With the lock kept the thread stands still at an outermost cancel.
 fn standing_still() -> &'static Wanted<'static> {
     static WANTED: Wanted<'static> = Wanted {
         events: &[],
@@ -62,7 +62,7 @@ fn standing_still() -> &'static Wanted<'static> {
     &WANTED
 }
 
-// Whether the thread of a code does what it should.
+/// Whether the thread of a code does what it should.
 fn does(alloc: Global, code: &Code, levels: Levels) -> bool {
     if levels.left() > 0 {
         commits(alloc, code, levels)
@@ -73,7 +73,7 @@ fn does(alloc: Global, code: &Code, levels: Levels) -> bool {
     }
 }
 
-// Whether the thread of the code that cancels so many levels does what it should.
+/// Whether the thread of the code that cancels so many levels does what it should.
 fn a_code_does(alloc: Global, levels: Levels) -> Result<bool, AllocError> {
     let instructions = cancels_levels(alloc, levels)?;
     match code_of(alloc, &over_x(instructions.as_slice())) {
@@ -82,7 +82,7 @@ fn a_code_does(alloc: Global, levels: Levels) -> Result<bool, AllocError> {
     }
 }
 
-// Whether the threads that cancel so many levels of that depth do what they should, with the lock kept and without.
+/// Whether the threads that cancel so many levels of that depth do what they should, with the lock kept and without.
 fn both_do(alloc: Global, depth: u32, cancelled: u32) -> bool {
     let free = Levels {
         depth,
@@ -93,7 +93,7 @@ fn both_do(alloc: Global, depth: u32, cancelled: u32) -> bool {
     a_code_does(alloc, free) == Ok(true) && a_code_does(alloc, kept) == Ok(true)
 }
 
-// The first depth at which a thread does something else.
+/// The first depth at which a thread does something else.
 fn done_otherwise(alloc: Global) -> Option<u32> {
     for depth in 2..17u32 {
         for cancelled in 2..depth.saturating_add(1) {
@@ -110,7 +110,7 @@ fn several_levels_are_cancelled(rt: HostRuntime) {
     assert_that(&rt, done_otherwise(rt.alloc()).is_none());
 }
 
-// Whether a world makes a step of thread 0, so often.
+/// Whether a world makes a step of thread 0, so often.
 fn steps<A: Allocator + Copy>(world: &mut World<A>, times: u32) -> bool {
     for _ in 0..times {
         if world.run(&[0]).is_err() {
@@ -120,7 +120,7 @@ fn steps<A: Allocator + Copy>(world: &mut World<A>, times: u32) -> bool {
     true
 }
 
-// Whether its thread makes the steps up to the cancel, and then that one without a growth.
+/// Whether its thread makes the steps up to the cancel, and then that one without a growth.
 fn cancels_in_place<A: Allocator + Copy, B: Allocator>(
     world: &mut World<A>,
     refusing: &Refusing<B>,
@@ -133,8 +133,8 @@ fn cancels_in_place<A: Allocator + Copy, B: Allocator>(
     steps(world, 1) && refusing.is_waiting()
 }
 
-// Whether the thread of a new world makes the steps up to the cancel of so many levels, and then that one without a
-// growth.
+/// Whether the thread of a new world makes the steps up to the cancel of so many levels, and then that one without a
+/// growth.
 fn a_world_cancels<A: Allocator + Copy, B: Allocator>(
     alloc: A,
     refusing: &Refusing<B>,
@@ -150,13 +150,13 @@ fn a_world_cancels<A: Allocator + Copy, B: Allocator>(
     }
 }
 
-// Whether the thread of a new world over a new allocator makes the cancel of so many levels without a growth.
+/// Whether the thread of a new world over a new allocator makes the cancel of so many levels without a growth.
 fn is_in_place(inner: Global, levels: Levels) -> bool {
     let alloc = Refusing::new(inner, 0);
     a_world_cancels(&alloc, &alloc, levels) == Ok(true)
 }
 
-// Whether it is so of each cancel of levels of four, where the trace has room for a step more.
+/// Whether it is so of each cancel of levels of four, where the trace has room for a step more.
 fn are_in_place(inner: Global) -> bool {
     for cancelled in 2..5u32 {
         let free = Levels {

@@ -11,7 +11,7 @@ use syntax::numbers::{Status, Trap};
 use world::{End, StopReason};
 use written_codes::{code_of, over_x, traps};
 
-// Adds 1 to x.
+/// Adds 1 to x.
 fn adds_one() -> &'static [Instr] {
     static CODE: [Instr; 7] = [
         Instr::Begin(6),
@@ -25,7 +25,7 @@ fn adds_one() -> &'static [Instr] {
     &CODE
 }
 
-// Whether the report of these lines is as wanted.
+/// Whether the report of these lines is as wanted.
 fn replays(alloc: Global, code: &Code, threads: u32, lines: &[Line], wanted: &Wanted) -> bool {
     match replay(alloc, code, threads, lines) {
         Ok(report) => is_as(&report, wanted),
@@ -33,7 +33,7 @@ fn replays(alloc: Global, code: &Code, threads: u32, lines: &[Line], wanted: &Wa
     }
 }
 
-// Whether the report of a schedule's text is as wanted.
+/// Whether the report of a schedule's text is as wanted.
 fn replays_text(alloc: Global, code: &Code, threads: u32, text: &str, wanted: &Wanted) -> bool {
     match read_schedule(alloc, text) {
         Ok(lines) => replays(alloc, code, threads, lines.as_slice(), wanted),
@@ -41,7 +41,7 @@ fn replays_text(alloc: Global, code: &Code, threads: u32, text: &str, wanted: &W
     }
 }
 
-// Whether the report of a worker of these instructions by a schedule's text is as wanted.
+/// Whether the report of a worker of these instructions by a schedule's text is as wanted.
 fn gives(alloc: Global, instrs: &[Instr], threads: u32, text: &str, wanted: &Wanted) -> bool {
     match code_of(alloc, &over_x(instrs)) {
         Some(code) => replays_text(alloc, &code, threads, text, wanted),
@@ -49,7 +49,7 @@ fn gives(alloc: Global, instrs: &[Instr], threads: u32, text: &str, wanted: &Wan
     }
 }
 
-// Two threads add one, and one of them is dropped once.
+/// Two threads add one, and one of them is dropped once.
 fn dropped_once() -> &'static Wanted<'static> {
     static WANTED: Wanted<'static> = Wanted {
         events: &[
@@ -72,7 +72,7 @@ fn a_transaction_is_dropped_and_made_again(rt: HostRuntime) {
     assert_that(&rt, holds);
 }
 
-// One of two threads adds one, and then a third is named.
+/// One of two threads adds one, and then a third is named.
 fn met_a_stranger() -> &'static Wanted<'static> {
     static WANTED: Wanted<'static> = Wanted {
         events: &[(6, 0, Event::Commit)],
@@ -91,7 +91,7 @@ fn a_stranger_ends_a_replay(rt: HostRuntime) {
     assert_that(&rt, holds);
 }
 
-// The one thread traps behind its print.
+/// The one thread traps behind its print.
 fn trapped() -> &'static Wanted<'static> {
     static WANTED: Wanted<'static> = Wanted {
         events: &[(3, 0, Event::Trap(Trap::ZeroDivisor))],
@@ -109,7 +109,7 @@ fn a_trap_gives_the_lock_back(rt: HostRuntime) {
     assert_that(&rt, holds);
 }
 
-// Adds 1 to x, and takes back what two inner transactions do, as one: its place and registers are those of the outer of these.
+/// Adds 1 to x, and takes back what two inner transactions do, as one: its place and registers are those of the outer of these.
 fn takes_back() -> &'static [Instr] {
     static CODE: [Instr; 14] = [
         Instr::Begin(13),
@@ -147,7 +147,7 @@ fn a_cancel_of_two_levels_goes_back_to_the_outer_one(rt: HostRuntime) {
     assert_that(&rt, holds);
 }
 
-// Reads x in the inner one of two transactions, takes back both, and stores 5.
+/// Reads x in the inner one of two transactions, takes back both, and stores 5.
 fn reads_and_takes_back() -> &'static [Instr] {
     static CODE: [Instr; 10] = [
         Instr::Begin(9),
@@ -164,7 +164,7 @@ fn reads_and_takes_back() -> &'static [Instr] {
     &CODE
 }
 
-// What thread 1 has read there is validated all the same, once thread 0 has stored.
+/// What thread 1 has read there is validated all the same, once thread 0 has stored.
 fn validated() -> &'static Wanted<'static> {
     static WANTED: Wanted<'static> = Wanted {
         events: &[
@@ -190,7 +190,7 @@ fn what_cancelled_levels_have_read_is_validated(rt: HostRuntime) {
     assert_that(&rt, holds);
 }
 
-// A thread that prints has the lock before its print.
+/// A thread that prints has the lock before its print.
 fn held() -> &'static Wanted<'static> {
     static WANTED: Wanted<'static> = Wanted {
         events: &[],
@@ -208,7 +208,7 @@ fn a_replay_ends_with_the_lock_held(rt: HostRuntime) {
     assert_that(&rt, holds);
 }
 
-// Whether four threads that add one each leave 4 by these lines.
+/// Whether four threads that add one each leave 4 by these lines.
 fn adds_up_by(alloc: Global, code: &Code, lines: &[Line]) -> bool {
     match replay(alloc, code, 4, lines) {
         Ok(report) => report.holder.is_none() && report.words.as_slice() == [4u64].as_slice(),
@@ -216,7 +216,7 @@ fn adds_up_by(alloc: Global, code: &Code, lines: &[Line]) -> bool {
     }
 }
 
-// Whether four threads that add one each leave 4 by the steps of a seed.
+/// Whether four threads that add one each leave 4 by the steps of a seed.
 fn adds_up(alloc: Global, code: &Code, seed: u64) -> bool {
     match seeded(alloc, seed, 4, 400) {
         Ok(lines) => adds_up_by(alloc, code, lines.as_slice()),
@@ -224,7 +224,7 @@ fn adds_up(alloc: Global, code: &Code, seed: u64) -> bool {
     }
 }
 
-// Whether four threads that add one each leave 4 by the steps of the seeds 1 to 19.
+/// Whether four threads that add one each leave 4 by the steps of the seeds 1 to 19.
 fn all_add_up(alloc: Global, code: &Code) -> bool {
     for seed in 1..20u64 {
         if !adds_up(alloc, code, seed) {
@@ -234,7 +234,7 @@ fn all_add_up(alloc: Global, code: &Code) -> bool {
     true
 }
 
-// Whether the code of threads that add one each leaves 4 by the steps of the seeds 1 to 19.
+/// Whether the code of threads that add one each leaves 4 by the steps of the seeds 1 to 19.
 fn seeds_add_up(alloc: Global) -> bool {
     match code_of(alloc, &over_x(adds_one())) {
         Some(code) => all_add_up(alloc, &code),
@@ -247,7 +247,7 @@ fn a_seed_adds_all(rt: HostRuntime) {
     assert_that(&rt, seeds_add_up(rt.alloc()));
 }
 
-// A quiet step of a thread that runs.
+/// A quiet step of a thread that runs.
 fn quiet(place: u32, access: Access, answer: Answer) -> StepShown {
     StepShown {
         status: Status::Running,
@@ -258,7 +258,7 @@ fn quiet(place: u32, access: Access, answer: Answer) -> StepShown {
     }
 }
 
-// Whether this is shown of steps of two threads.
+/// Whether this is shown of steps of two threads.
 fn are_shown(alloc: Global, code: &Code, steps: &[u32], wanted: &[(u64, u32, StepShown)]) -> bool {
     match timeline(alloc, code, 2, steps) {
         Some(shown) => shown.as_slice() == wanted,
@@ -266,7 +266,7 @@ fn are_shown(alloc: Global, code: &Code, steps: &[u32], wanted: &[(u64, u32, Ste
     }
 }
 
-// Whether this is shown of steps of two threads of these instructions.
+/// Whether this is shown of steps of two threads of these instructions.
 fn shows(alloc: Global, instrs: &[Instr], steps: &[u32], wanted: &[(u64, u32, StepShown)]) -> bool {
     match code_of(alloc, &over_x(instrs)) {
         Some(code) => are_shown(alloc, &code, steps, wanted),
@@ -274,7 +274,7 @@ fn shows(alloc: Global, instrs: &[Instr], steps: &[u32], wanted: &[(u64, u32, St
     }
 }
 
-// What is shown of the first steps of both.
+/// What is shown of the first steps of both.
 fn first_steps() -> [(u64, u32, StepShown); 5] {
     let lock = quiet(0, Access::LoadLock, Answer::Value(0));
     [
@@ -294,7 +294,7 @@ fn each_step_is_shown(rt: HostRuntime) {
     assert_all(&rt, &[("both", both), ("a stranger", stranger)]);
 }
 
-// Takes back two transactions, which are all that are open.
+/// Takes back two transactions, which are all that are open.
 fn takes_all_back() -> &'static [Instr] {
     static CODE: [Instr; 4] = [
         Instr::Begin(3),

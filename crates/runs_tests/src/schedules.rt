@@ -168,7 +168,7 @@ fn seed_fault<A: Allocator + Copy>(alloc: A, steps: u32) -> Option<ScheduleFault
     seeded(alloc, 1, 4, steps).err()
 }
 
-// The threads of a seed: the words of PCG-XSH-RR 64/32 modulo 4 and modulo 3, computed by another program.
+/// The threads of a seed: the words of PCG-XSH-RR 64/32 modulo 4 and modulo 3, computed by another program.
 #[test]
 fn a_seed_names_threads(rt: HostRuntime) {
     let threads = [0, 0, 2, 0, 2, 1, 2, 3, 3, 3, 1, 3];

@@ -6,7 +6,7 @@ use seats::Setup;
 use std::alloc::Allocator;
 use written_codes::{WrittenCode, WrittenVariable, code_of, worker};
 
-// A variable that begins with this value.
+/// A variable that begins with this value.
 fn variable(value: u32) -> WrittenVariable<'static> {
     WrittenVariable {
         of: Scalar::Int,
@@ -15,7 +15,7 @@ fn variable(value: u32) -> WrittenVariable<'static> {
     }
 }
 
-// The code of a `worker` that returns at once, over two variables `x`, which begin with these values.
+/// The code of a `worker` that returns at once, over two variables `x`, which begin with these values.
 fn code<A: Allocator + Copy>(alloc: A, first: u32, second: u32) -> Option<Code<A>> {
     let written = WrittenCode {
         functions: &[worker(1)],

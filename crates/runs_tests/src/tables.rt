@@ -6,7 +6,7 @@ use refusing::{Refusing, growths};
 use seats::{Setup, close, join, meet, open, split_first};
 use std::alloc::{Allocator, Global};
 
-// What the cells have that a table leaves, whose seats part and join.
+/// What the cells have that a table leaves, whose seats part and join.
 fn left(alloc: Global, setup: &Setup) -> Option<Vec<u64>> {
     match open(alloc, setup) {
         Ok((table, mut all)) => {
@@ -21,7 +21,7 @@ fn left(alloc: Global, setup: &Setup) -> Option<Vec<u64>> {
     }
 }
 
-// Whether these are the two variables.
+/// Whether these are the two variables.
 fn leaves(alloc: Global, setup: &Setup, first: u64, second: u64) -> bool {
     match left(alloc, setup) {
         Some(cells) => cells.as_slice() == [first, second].as_slice(),
@@ -29,7 +29,7 @@ fn leaves(alloc: Global, setup: &Setup, first: u64, second: u64) -> bool {
     }
 }
 
-// Whether two threads' table leaves what its variables begin with.
+/// Whether two threads' table leaves what its variables begin with.
 fn leaves_all(alloc: Global) -> bool {
     match setup(alloc, 7, 9, 2) {
         Some(setup) => leaves(alloc, &setup, 7, 9),
@@ -42,7 +42,7 @@ fn seats_part_and_join(rt: HostRuntime) {
     assert_that(&rt, leaves_all(rt.alloc()));
 }
 
-// The lock that the first of two threads finds where it meets the other.
+/// The lock that the first of two threads finds where it meets the other.
 fn met(alloc: Global, setup: &Setup) -> Option<u64> {
     match open(alloc, setup) {
         Ok((table, mut all)) => {
@@ -53,7 +53,7 @@ fn met(alloc: Global, setup: &Setup) -> Option<u64> {
     }
 }
 
-// The lock that the first of two threads of a new table finds where it meets the other.
+/// The lock that the first of two threads of a new table finds where it meets the other.
 fn met_first(alloc: Global) -> Option<u64> {
     match setup(alloc, 7, 9, 2) {
         Some(setup) => met(alloc, &setup),
@@ -70,7 +70,7 @@ fn opens<A: Allocator + Copy>(alloc: A, setup: &Setup<A>) -> bool {
     open(alloc, setup).is_ok()
 }
 
-// Whether a table is opened where growth `nth` behind its code's is not met, and else by a second call alone.
+/// Whether a table is opened where growth `nth` behind its code's is not met, and else by a second call alone.
 fn tells_in<A: Allocator + Copy, B: Allocator>(alloc: A, refusing: &Refusing<B>, nth: u64) -> bool {
     match setup(alloc, 1, 2, 64) {
         Some(setup) => {
@@ -82,8 +82,8 @@ fn tells_in<A: Allocator + Copy, B: Allocator>(alloc: A, refusing: &Refusing<B>,
     }
 }
 
-// Whether an allocator that refuses lets a table be opened where growth `nth` behind its code's is not met, and else
-// by a second call alone.
+/// Whether an allocator that refuses lets a table be opened where growth `nth` behind its code's is not met, and else
+/// by a second call alone.
 fn tells(refusing: &Refusing<Global>, nth: u64) -> bool {
     tells_in(refusing, refusing, nth)
 }

@@ -13,7 +13,7 @@ pub struct Wanted<'a> {
     pub stop: Option<(u64, StopReason)>,
 }
 
-// Whether a thread is found so, with this output.
+/// Whether a thread is found so, with this output.
 fn shows(report: &Report, t: usize, end: End, text: &str) -> bool {
     match report.threads.as_slice().get(t) {
         Some(found) => found.0 == end && found.1.as_str() == text,
@@ -21,7 +21,7 @@ fn shows(report: &Report, t: usize, end: End, text: &str) -> bool {
     }
 }
 
-// Whether the threads are found so.
+/// Whether the threads are found so.
 fn show(report: &Report, threads: &[(End, &str)]) -> bool {
     for t in 0..threads.len() {
         let (end, text) = threads[t];

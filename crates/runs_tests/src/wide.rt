@@ -10,7 +10,7 @@ use written_codes::{
     WideOperator, WideRow, code_over_both, shown_operator, wide_cells, wide_operators, wide_steps,
 };
 
-// Whether the one thread of a report has come to its end and has printed this, or has trapped so.
+/// Whether the one thread of a report has come to its end and has printed this, or has trapped so.
 fn is_given(report: &Report, given: Result<&str, Trap>) -> bool {
     match report.threads.as_slice().first() {
         Some(found) => match given {
@@ -21,7 +21,7 @@ fn is_given(report: &Report, given: Result<&str, Trap>) -> bool {
     }
 }
 
-// What a hundred steps of the one thread of a code leave.
+/// What a hundred steps of the one thread of a code leave.
 fn replayed(alloc: Global, code: &Code) -> Option<Report> {
     match read_schedule(alloc, "0 100") {
         Ok(lines) => match replay(alloc, code, 1, lines.as_slice()) {
@@ -32,7 +32,7 @@ fn replayed(alloc: Global, code: &Code) -> Option<Report> {
     }
 }
 
-// Whether a world of these instructions gives this, and leaves these words.
+/// Whether a world of these instructions gives this, and leaves these words.
 fn comes_to(
     alloc: Global,
     instructions: &[Instr],
@@ -49,7 +49,7 @@ fn comes_to(
     }
 }
 
-// Whether worlds give what each of these operators should.
+/// Whether worlds give what each of these operators should.
 fn are_computed(alloc: Global, rows: &[WideOperator]) -> bool {
     for row in rows {
         if !comes_to(alloc, &shown_operator(row), None, row.3, [0, 0]) {
@@ -59,7 +59,7 @@ fn are_computed(alloc: Global, rows: &[WideOperator]) -> bool {
     true
 }
 
-// The first operators of which a world does not.
+/// The first operators of which a world does not.
 fn computed_otherwise(alloc: Global) -> Option<&'static str> {
     for (name, rows) in wide_operators() {
         if !are_computed(alloc, *rows) {
@@ -74,7 +74,7 @@ fn operators_on_words_of_64_bits(rt: HostRuntime) {
     assert_none(&rt, computed_otherwise(rt.alloc()));
 }
 
-// The first row that a world does not do.
+/// The first row that a world does not do.
 fn done_otherwise(alloc: Global, rows: &[WideRow]) -> Option<&'static str> {
     for (name, instructions, begin, given, words) in rows {
         if !comes_to(alloc, *instructions, *begin, *given, *words) {

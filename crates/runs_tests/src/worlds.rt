@@ -6,8 +6,8 @@ use std::alloc::{Allocator, Global};
 use world::{End, StopReason, World, WorldFault};
 use written_codes::{adds_five, code_of, over_x};
 
-// Of two threads that add 5 to x: thread 1 has the word of x when thread 0 changes it. It reads again, and makes 10
-// accesses in place of 6.
+/// Of two threads that add 5 to x: thread 1 has the word of x when thread 0 changes it. It reads again, and makes 10
+/// accesses in place of 6.
 fn crossed() -> &'static [u32] {
     static STEPS: [u32; 29] = [
         1, 1, 1, 0, 0, 0, 0, 0, 0, 0, 0, 0, 0, 0, 1, 1, 1, 1, 1, 1, 1, 1, 1, 1, 1, 1, 1, 1, 1,
@@ -15,7 +15,7 @@ fn crossed() -> &'static [u32] {
     &STEPS
 }
 
-// A world of so many threads that add, before any step.
+/// A world of so many threads that add, before any step.
 fn opened<A: Allocator + Copy>(alloc: A, threads: u32) -> Result<World<A>, WorldFault> {
     match code_of(alloc, &over_x(adds_five())) {
         Some(code) => World::new(alloc, &code, threads),
@@ -23,7 +23,7 @@ fn opened<A: Allocator + Copy>(alloc: A, threads: u32) -> Result<World<A>, World
     }
 }
 
-// Which step was not made and why, where one was not.
+/// Which step was not made and why, where one was not.
 fn stopped<A: Allocator + Copy>(world: &mut World<A>, steps: &[u32]) -> Option<(u64, StopReason)> {
     match world.run(steps) {
         Ok(()) => None,
@@ -38,10 +38,10 @@ fn reports(alloc: Global, world: &World, wanted: &Wanted) -> bool {
     }
 }
 
-// What steps leave: the lock, how many accesses were made, and the rest.
+/// What steps leave: the lock, how many accesses were made, and the rest.
 type Left<'a> = (u64, u64, &'a Wanted<'a>);
 
-// Whether a world stands so behind these steps.
+/// Whether a world stands so behind these steps.
 fn stands(world: &World, steps: &[u32], left: Left) -> bool {
     let (lock, accesses, wanted) = left;
     if world.lock() != lock || world.accesses() != accesses || world.holder() != wanted.holder {
@@ -50,12 +50,12 @@ fn stands(world: &World, steps: &[u32], left: Left) -> bool {
     world.words() == wanted.words && world.trace() == steps
 }
 
-// Whether all these steps of two threads are made, and leave what is wanted.
+/// Whether all these steps of two threads are made, and leave what is wanted.
 fn goes(alloc: Global, world: &mut World, steps: &[u32], left: Left) -> bool {
     stopped(world, steps).is_none() && stands(world, steps, left) && reports(alloc, world, left.2)
 }
 
-// Whether all these steps of two threads of a new world are made, and leave what is wanted.
+/// Whether all these steps of two threads of a new world are made, and leave what is wanted.
 fn leads_to(alloc: Global, steps: &[u32], left: Left) -> bool {
     match opened(alloc, 2) {
         Ok(mut world) => goes(alloc, &mut world, steps, left),
@@ -97,13 +97,13 @@ fn a_thread_has_the_lock(rt: HostRuntime) {
     assert_that(&rt, holds);
 }
 
-// Whether a stranger's step, the third one, is not made, and those before it are.
+/// Whether a stranger's step, the third one, is not made, and those before it are.
 fn stops_at_a_stranger(world: &mut World) -> bool {
     let stop = stopped(world, &[0, 1, 7, 0]);
     stop == Some((2, StopReason::Stranger)) && world.trace() == [0u32, 1].as_slice()
 }
 
-// Whether a stranger's step in a new world, the third one, is not made, and those before it are.
+/// Whether a stranger's step in a new world, the third one, is not made, and those before it are.
 fn meets_a_stranger(alloc: Global) -> bool {
     match opened(alloc, 2) {
         Ok(mut world) => stops_at_a_stranger(&mut world),
@@ -116,7 +116,7 @@ fn a_stranger_makes_no_step(rt: HostRuntime) {
     assert_that(&rt, meets_a_stranger(rt.alloc()));
 }
 
-// Why a world of so many threads is not opened, where it is not.
+/// Why a world of so many threads is not opened, where it is not.
 fn refusal(alloc: Global, threads: u32) -> Option<WorldFault> {
     match opened(alloc, threads) {
         Ok(_) => None,

@@ -13,7 +13,7 @@ use std::alloc::{AllocError, Allocator};
 /// The table, which owns the words.
 pub type WordsTable<A> = Table<(), View, Setup<A>, Ruled, A>;
 
-// The lock, which is free, and the first word of each cell.
+/// The lock, which is free, and the first word of each cell.
 fn opening_words<A: Allocator + Copy>(alloc: A, code: &Code<A>) -> Result<Vec<u64, A>, AllocError>
     ensures words { IfOk result (λ v. v.items ≡ 0 ∷ initial_of code.now) }
     ensures valid { OnOk result (IsValid code.now) }

@@ -29,7 +29,7 @@ pub fn join<A: Allocator>(words: &Words<A>, seat: &mut Seat<(), View>, other: Se
     words.join_seat::<Joined>(seat, other);
 }
 
-// Loads the lock for all threads that the seat speaks for. The value found is given: it is a floor for their later answers.
+/// Loads the lock for all threads that the seat speaks for. The value found is given: it is a floor for their later answers.
 fn floor<A: Allocator>(words: &Words<A>, seat: &mut Seat<(), View>) -> u64
     requires { (seat.old.table_id ≡ words.now.table_id) × (0 < words.now.table_id.words) }
     ensures table { seat.new.table_id ≡ seat.old.table_id }

@@ -104,7 +104,7 @@ pub struct WrongRow {
     pub wanted: Option<String>,
 }
 
-// An answer in a line of text, if there was memory for it.
+/// An answer in a line of text, if there was memory for it.
 fn shown(alloc: Global, answer: Answer) -> Option<String> {
     let (status, out, err) = answer;
     let out = String::from_utf8_lossy(alloc, out).ok()?;
@@ -117,7 +117,7 @@ fn shown(alloc: Global, answer: Answer) -> Option<String> {
     text.ok()
 }
 
-// What was served, in a line of text.
+/// What was served, in a line of text.
 fn served_shown(alloc: Global, served: Option<Served>) -> Option<String> {
     match served {
         Some(served) => shown(

@@ -308,7 +308,7 @@ fn refusals() -> &'static [Refusal] {
     &ROWS
 }
 
-// Whether this is what was served of a schedule that is refused: its fault, and this behind it.
+/// Whether this is what was served of a schedule that is refused: its fault, and this behind it.
 fn is_refused_so(served: &Served, told: &[u8], shown: &[u8]) -> bool {
     let err = served.err.as_slice();
     served.status == 2
@@ -317,7 +317,7 @@ fn is_refused_so(served: &Served, told: &[u8], shown: &[u8]) -> bool {
         && err.get(told.len()..) == Some(shown)
 }
 
-// Whether a schedule is refused so, on a terminal or not.
+/// Whether a schedule is refused so, on a terminal or not.
 fn is_refused<H: Threads + Wait + Sync>(
     rt: &H,
     alloc: Global,
@@ -333,7 +333,7 @@ fn is_refused<H: Threads + Wait + Sync>(
     }
 }
 
-// The first schedule of the table that is not refused so on a terminal, and without what is shown elsewhere.
+/// The first schedule of the table that is not refused so on a terminal, and without what is shown elsewhere.
 fn not_refused<H: Threads + Wait + Sync>(rt: &H, alloc: Global) -> Option<&'static [u8]> {
     for (schedule, told, shown) in refusals() {
         if !is_refused(rt, alloc, schedule, true, told, shown)
@@ -366,7 +366,7 @@ fn refuses_a_source_first(rt: HostRuntime) {
     assert!(rt; answers(&rt, rt.alloc(), line, BARE, b"0 x", false, BARE_ANSWER));
 }
 
-// Whether this is told of a schedule that cannot be read.
+/// Whether this is told of a schedule that cannot be read.
 fn is_unread<H: Threads + Wait + Sync>(rt: &H, alloc: Global, line: &str, told: &[u8]) -> bool {
     match request_of(alloc, line) {
         Ok(request) => is_answer(
@@ -392,7 +392,7 @@ const SEED_7: &[u8] =
 const SHOWS: &[u8] =
     b"int x = 1; void worker(int self) { int i; for (i = 0; i < 2; i++) { int v; __transaction_atomic { v = x; x = x * 3 + self; } printf(\"%d \", v); } }";
 
-// What is served to a command line with a source and no schedule.
+/// What is served to a command line with a source and no schedule.
 fn serve_alone<H: Threads + Wait + Sync>(
     rt: &H,
     alloc: Global,
@@ -402,7 +402,7 @@ fn serve_alone<H: Threads + Wait + Sync>(
     serve_line(rt, alloc, line, source, b"", false)
 }
 
-// Whether a replay of a schedule by three threads is answered as another one was.
+/// Whether a replay of a schedule by three threads is answered as another one was.
 fn is_replayed_alike<H: Threads + Wait + Sync>(
     rt: &H,
     alloc: Global,
@@ -414,7 +414,7 @@ fn is_replayed_alike<H: Threads + Wait + Sync>(
     answers(rt, alloc, line, SHOWS, schedule, false, wanted)
 }
 
-// The status of the replay that a line asks, where that of a schedule is answered alike.
+/// The status of the replay that a line asks, where that of a schedule is answered alike.
 fn status_as_of<H: Threads + Wait + Sync>(
     rt: &H,
     alloc: Global,
@@ -429,7 +429,7 @@ fn status_as_of<H: Threads + Wait + Sync>(
     }
 }
 
-// The status of what a line is answered.
+/// The status of what a line is answered.
 fn status_of<H: Threads + Wait + Sync>(rt: &H, alloc: Global, line: &str) -> Option<u8> {
     match serve_alone(rt, alloc, line, SHOWS) {
         Some(served) => Some(served.status),
@@ -468,7 +468,7 @@ fn prints_schedules(rt: HostRuntime) {
     assert_eq!(rt; wrong_row(&rt, rt.alloc(), printed_schedules()), None);
 }
 
-// Whether the steps of a seed, which one line replays and the other prints as a schedule, are read back to the same report.
+/// Whether the steps of a seed, which one line replays and the other prints as a schedule, are read back to the same report.
 fn reads_back<H: Threads + Wait + Sync>(rt: &H, alloc: Global, replay: &str, print: &str) -> bool {
     match serve_alone(rt, alloc, print, SHOWS) {
         Some(printed) => status_as_of(rt, alloc, replay, printed.out.as_slice()).is_some(),
@@ -483,7 +483,7 @@ fn reads_back_what_is_printed(rt: HostRuntime) {
     assert!(rt; reads_back(&rt, rt.alloc(), replay, print));
 }
 
-// A request of so many threads and steps.
+/// A request of so many threads and steps.
 fn seeded(alloc: Global, threads: u32, count: u32) -> Result<Request, AllocError> {
     let file = String::from_str(alloc, "a.c")?;
     let steps = Steps::Seed { seed: 1, count };
@@ -495,7 +495,7 @@ fn seeded(alloc: Global, threads: u32, count: u32) -> Result<Request, AllocError
     })
 }
 
-// Whether such a request is answered so.
+/// Whether such a request is answered so.
 fn is_answered<H: Threads + Wait + Sync>(
     rt: &H,
     alloc: Global,
@@ -524,14 +524,14 @@ fn refuses_requests(rt: HostRuntime) {
 const COUNTS: &[u8] =
     b"int x; void worker(int self) { int i; for (i = 0; i < 100; i++) { __transaction_atomic { x = x + 1; } printf(\"%d \", i); } }";
 
-// The thread of a commit that a line tells.
+/// The thread of a commit that a line tells.
 fn committer(line: &str) -> Option<&str> {
     let told = line.strip_suffix(" commit")?;
     let (_, thread) = told.split_once(' ')?;
     Some(thread)
 }
 
-// One more of the threads that commas join at the end of a command line.
+/// One more of the threads that commas join at the end of a command line.
 fn push_thread(line: &mut String, thread: &str) -> Result<(), AllocError> {
     if !line.as_str().ends_with(' ') {
         line.push_str(",")?;
@@ -539,7 +539,7 @@ fn push_thread(line: &mut String, thread: &str) -> Result<(), AllocError> {
     line.push_str(thread)
 }
 
-// The threads of the commits that a report tells, in their order.
+/// The threads of the commits that a report tells, in their order.
 fn push_order(line: &mut String, report: &str) -> Result<(), AllocError> {
     for told in report.lines() {
         if told.starts_with("== thread") {
@@ -552,7 +552,7 @@ fn push_order(line: &mut String, report: &str) -> Result<(), AllocError> {
     Ok(())
 }
 
-// What a report says that a thread has printed, behind the line that begins so.
+/// What a report says that a thread has printed, behind the line that begins so.
 fn text_of<'a>(report: &'a str, begins: &str) -> Option<&'a str> {
     let (_, line) = report.split_once(begins)?;
     let (_, behind) = line.split_once('\n')?;
@@ -560,7 +560,7 @@ fn text_of<'a>(report: &'a str, begins: &str) -> Option<&'a str> {
     Some(text.strip_suffix("\n").unwrap_or(text))
 }
 
-// Whether the text of one thread in a replay begins that in a run of the source.
+/// Whether the text of one thread in a replay begins that in a run of the source.
 fn is_begun(replayed: &str, ran: &str, begins: &str) -> bool {
     match (text_of(replayed, begins), text_of(ran, begins)) {
         (Some(text), Some(whole)) => whole.starts_with(text),
@@ -568,7 +568,7 @@ fn is_begun(replayed: &str, ran: &str, begins: &str) -> bool {
     }
 }
 
-// Whether a run of the source leaves what a replay does, if that tells it, and each thread's text there begins the one here.
+/// Whether a run of the source leaves what a replay does, if that tells it, and each thread's text there begins the one here.
 fn agrees(replayed: &str, ran: &str) -> bool {
     let Some((_, left)) = replayed.split_once("== memory\n") else {
         return true;
@@ -586,7 +586,7 @@ fn agrees(replayed: &str, ran: &str) -> bool {
     ran.ends_with(left)
 }
 
-// Whether the source, run as a line asks, agrees with a replay.
+/// Whether the source, run as a line asks, agrees with a replay.
 fn runs_alike<H: Threads + Wait + Sync>(rt: &H, alloc: Global, line: &str, replayed: &str) -> bool {
     match serve_alone(rt, alloc, line, COUNTS) {
         Some(ran) => match str::from_utf8(ran.out.as_slice()) {
@@ -597,7 +597,7 @@ fn runs_alike<H: Threads + Wait + Sync>(rt: &H, alloc: Global, line: &str, repla
     }
 }
 
-// Whether the source agrees with a replay in the order of its commits.
+/// Whether the source agrees with a replay in the order of its commits.
 fn runs_in_its_order<H: Threads + Wait + Sync>(rt: &H, alloc: Global, replayed: &str) -> bool {
     match String::from_str(alloc, "txc source a.c --threads=4 --order ") {
         Ok(mut line) => {
@@ -608,7 +608,7 @@ fn runs_in_its_order<H: Threads + Wait + Sync>(rt: &H, alloc: Global, replayed: 
     }
 }
 
-// Whether the source agrees with the replay that a line asks, in the order of its commits.
+/// Whether the source agrees with the replay that a line asks, in the order of its commits.
 fn runs_as_replayed<H: Threads + Wait + Sync>(rt: &H, alloc: Global, line: &str) -> bool {
     match serve_alone(rt, alloc, line, COUNTS) {
         Some(replayed) => match str::from_utf8(replayed.out.as_slice()) {
@@ -619,7 +619,7 @@ fn runs_as_replayed<H: Threads + Wait + Sync>(rt: &H, alloc: Global, line: &str)
     }
 }
 
-// Whether the source agrees with a replay of the steps of a seed, in the order of its commits.
+/// Whether the source agrees with a replay of the steps of a seed, in the order of its commits.
 fn runs_as_seeded<H: Threads + Wait + Sync>(rt: &H, alloc: Global, seed: u32) -> bool {
     match format!(in alloc; "txc replay a.c --threads=4 --seed={seed} --steps=100000") {
         Ok(line) => runs_as_replayed(rt, alloc, line.as_str()),
@@ -627,7 +627,7 @@ fn runs_as_seeded<H: Threads + Wait + Sync>(rt: &H, alloc: Global, seed: u32) ->
     }
 }
 
-// The first seed up to 20 with which they do not agree.
+/// The first seed up to 20 with which they do not agree.
 fn disagreeing_seed<H: Threads + Wait + Sync>(rt: &H, alloc: Global) -> Option<u32> {
     for seed in 1..21u32 {
         if !runs_as_seeded(rt, alloc, seed) {

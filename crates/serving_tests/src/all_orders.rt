@@ -203,12 +203,12 @@ fn sources() -> &'static [(&'static str, u32, usize)] {
     &SOURCES
 }
 
-// The text of a report.
+/// The text of a report.
 fn text_of(alloc: Global, printed: &Printed) -> Option<Vec<u8>> {
     report_text(alloc, printed).ok()
 }
 
-// The report of a source's threads in an order.
+/// The report of a source's threads in an order.
 fn report_in(alloc: Global, source: &str, threads: u32, order: &[u32]) -> Option<Vec<u8>> {
     match run_in_order(alloc, source, threads, order, 100000) {
         Ok(printed) => text_of(alloc, &printed),
@@ -216,13 +216,13 @@ fn report_in(alloc: Global, source: &str, threads: u32, order: &[u32]) -> Option
     }
 }
 
-// The outcomes of a source.
+/// The outcomes of a source.
 fn found_of(alloc: Global, source: &str, threads: u32) -> Option<OutcomesFound> {
     let mut err = Vec::new(alloc);
     list_outcomes(alloc, source, threads, 100000, 10000, false, &mut err).ok()
 }
 
-// Whether there are so many outcomes, and each is what the report of its order shows.
+/// Whether there are so many outcomes, and each is what the report of its order shows.
 fn are_of_orders(alloc: Global, source: &str, threads: u32, count: usize) -> bool {
     let Some(found) = found_of(alloc, source, threads) else {
         return false;
@@ -236,7 +236,7 @@ fn are_of_orders(alloc: Global, source: &str, threads: u32, count: usize) -> boo
     found.is_whole && !found.is_spent && found.outcomes.len() == count
 }
 
-// The first of these sources whose outcomes are not those of their orders.
+/// The first of these sources whose outcomes are not those of their orders.
 fn wrong_orders(alloc: Global) -> Option<&'static str> {
     for (source, threads, count) in sources() {
         if !are_of_orders(alloc, source, *threads, *count) {
@@ -251,7 +251,7 @@ fn outcomes_are_those_of_their_orders(rt: HostRuntime) {
     assert_eq!(rt; wrong_orders(rt.alloc()), None);
 }
 
-// Whether a report is that of one of these outcomes.
+/// Whether a report is that of one of these outcomes.
 fn has_report(alloc: Global, found: &OutcomesFound, report: &[u8]) -> bool {
     for one in &found.outcomes {
         if let Some(text) = text_of(alloc, &one.shown)
@@ -263,7 +263,7 @@ fn has_report(alloc: Global, found: &OutcomesFound, report: &[u8]) -> bool {
     false
 }
 
-// What a run of all threads at once prints.
+/// What a run of all threads at once prints.
 fn run_of<H: Threads + Wait + Sync>(
     rt: &H,
     alloc: Global,
@@ -281,7 +281,7 @@ fn run_of<H: Threads + Wait + Sync>(
     }
 }
 
-// Whether each of 20 runs of a source is one of its outcomes.
+/// Whether each of 20 runs of a source is one of its outcomes.
 fn runs_are_listed<H: Threads + Wait + Sync>(
     rt: &H,
     alloc: Global,
@@ -300,7 +300,7 @@ fn runs_are_listed<H: Threads + Wait + Sync>(
     true
 }
 
-// The first of these sources that ran otherwise.
+/// The first of these sources that ran otherwise.
 fn wrong_run<H: Threads + Wait + Sync>(rt: &H, alloc: Global) -> Option<&'static str> {
     for (source, threads, _) in sources() {
         if !runs_are_listed(rt, alloc, source, *threads) {

@@ -122,7 +122,7 @@ fn rows() -> &'static [Row] {
     &ROWS
 }
 
-// The source of the first row that is told otherwise.
+/// The source of the first row that is told otherwise.
 fn told_otherwise<H: Threads + Wait + Sync>(rt: &H, alloc: Global) -> Option<&'static str> {
     for (source, told) in rows() {
         let wanted = (1, b"".as_slice(), told.as_bytes());

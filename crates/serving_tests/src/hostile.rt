@@ -73,7 +73,7 @@ fn asked() -> &'static [Asked] {
     &ASKED
 }
 
-// What is answered to a task, in memory of this allocator; what it writes lies in memory of its own.
+/// What is answered to a task, in memory of this allocator; what it writes lies in memory of its own.
 fn served_alone(
     alloc: &Refusing<Global>,
     inner: Global,
@@ -90,7 +90,7 @@ fn served_alone(
     Served { status, out, err }
 }
 
-// Whether a report is whole and tells of a step that was refused memory.
+/// Whether a report is whole and tells of a step that was refused memory.
 fn is_stopped(served: &Served) -> bool {
     match str::from_utf8(served.out.as_slice()) {
         Ok(report) => {
@@ -101,14 +101,14 @@ fn is_stopped(served: &Served) -> bool {
     }
 }
 
-// Whether want of memory is told, with nothing else, or by a whole report.
+/// Whether want of memory is told, with nothing else, or by a whole report.
 fn gives_up(served: &Served) -> bool {
     let is_told = is_answer(served, (4, b"", b"txc: out of memory\n"));
     is_told || served.status == 4 && is_stopped(served)
 }
 
-// Whether this is answered, or growth `nth` is met, want of memory is told, and this is answered to the same task then. It
-// may be answered where the growth is met too: not every growth that is asked for has to be made.
+/// Whether this is answered, or growth `nth` is met, want of memory is told, and this is answered to the same task then. It
+/// may be answered where the growth is met too: not every growth that is asked for has to be made.
 fn tells(
     alloc: &Refusing<Global>,
     nth: u64,
@@ -128,7 +128,7 @@ fn tells(
     is_answer(&served_alone(alloc, inner, task, files.0, files.1), wanted)
 }
 
-// How many growths a task makes, each of which is refused once.
+/// How many growths a task makes, each of which is refused once.
 fn growths_of(inner: Global, task: &Task, source: &[u8], schedule: &[u8]) -> Result<u64, u64> {
     let whole = served_alone(&Refusing::new(inner, 0), inner, task, source, schedule);
     let wanted = (whole.status, whole.out.as_slice(), whole.err.as_slice());
@@ -137,7 +137,7 @@ fn growths_of(inner: Global, task: &Task, source: &[u8], schedule: &[u8]) -> Res
     })
 }
 
-// How many growths the task of a command line makes, each of which is refused once.
+/// How many growths the task of a command line makes, each of which is refused once.
 fn growths_of_line(alloc: Global, asked: &Asked) -> Result<u64, u64> {
     match request_of(alloc, asked.0) {
         Ok(Request::Program { task, .. }) => growths_of(alloc, &task, asked.1, asked.2),
@@ -145,7 +145,7 @@ fn growths_of_line(alloc: Global, asked: &Asked) -> Result<u64, u64> {
     }
 }
 
-// The first command line that makes few growths, or tells one otherwise, and how many they are or which.
+/// The first command line that makes few growths, or tells one otherwise, and how many they are or which.
 fn told_otherwise(alloc: Global) -> Option<(&'static str, Result<u64, u64>)> {
     for asked in asked() {
         let met = growths_of_line(alloc, asked);
@@ -161,7 +161,7 @@ fn each_growth_of_an_answer_is_refused_once(rt: HostRuntime) {
     assert_eq!(rt; told_otherwise(rt.alloc()), None);
 }
 
-// The first growth of a task whose refusal leaves a report in which a step was not made.
+/// The first growth of a task whose refusal leaves a report in which a step was not made.
 fn first_stopped(alloc: Global, task: &Task, source: &[u8], schedule: &[u8]) -> Option<u64> {
     let met = growths(alloc, 5000, |refusing, nth| {
         refusing.refuse(nth);
@@ -170,7 +170,7 @@ fn first_stopped(alloc: Global, task: &Task, source: &[u8], schedule: &[u8]) -> 
     met.err()
 }
 
-// Whether there is one in the replay of a command line.
+/// Whether there is one in the replay of a command line.
 fn stops(alloc: Global, asked: &Asked) -> bool {
     match request_of(alloc, asked.0) {
         Ok(Request::Program { task, .. }) => {
@@ -187,7 +187,7 @@ fn a_step_that_is_refused_memory_is_told_in_a_report(rt: HostRuntime) {
     assert!(rt; stops(rt.alloc(), &(replay, CANCELS, schedule)));
 }
 
-// What is answered to `run` where no thread is started.
+/// What is answered to `run` where no thread is started.
 fn run_alone(inner: Global) -> Option<Served> {
     match request_of(inner, "txc run a.c --threads 2") {
         Ok(Request::Program { task, .. }) => {

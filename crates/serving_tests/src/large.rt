@@ -104,7 +104,7 @@ fn checks() -> &'static [(Pieces, Answer<'static>)] {
     &ROWS
 }
 
-// Whether `txc check` answers a text in pieces so.
+/// Whether `txc check` answers a text in pieces so.
 fn is_checked<H: Threads + Wait + Sync>(
     rt: &H,
     alloc: Global,
@@ -120,7 +120,7 @@ fn is_checked<H: Threads + Wait + Sync>(
     }
 }
 
-// The number, from 0, of the first text that is answered otherwise.
+/// The number, from 0, of the first text that is answered otherwise.
 fn not_checked<H: Threads + Wait + Sync>(rt: &H, alloc: Global) -> Option<usize> {
     for (number, (pieces, wanted)) in checks().iter().enumerate() {
         if !is_checked(rt, alloc, pieces, *wanted) {
@@ -135,7 +135,7 @@ fn the_largest_sources_are_checked(rt: HostRuntime) {
     assert_eq!(rt; not_checked(&rt, rt.alloc()), None);
 }
 
-// What is served to a command line with a text in pieces.
+/// What is served to a command line with a text in pieces.
 fn served<H: Threads + Wait + Sync>(
     rt: &H,
     alloc: Global,
@@ -148,7 +148,7 @@ fn served<H: Threads + Wait + Sync>(
     }
 }
 
-// Whether so much is printed, with status 0, and it ends so.
+/// Whether so much is printed, with status 0, and it ends so.
 fn prints<H: Threads + Wait + Sync>(
     rt: &H,
     alloc: Global,
@@ -200,7 +200,7 @@ fn a_megabyte_is_printed(rt: HostRuntime) {
     );
 }
 
-// A program of so many functions, which `worker` calls, and which print.
+/// A program of so many functions, which `worker` calls, and which print.
 fn of_functions(alloc: Global, count: u32) -> Result<String, AllocError> {
     let mut text = String::new(alloc);
     for number in 0..count {
@@ -216,7 +216,7 @@ fn of_functions(alloc: Global, count: u32) -> Result<String, AllocError> {
     Ok(text)
 }
 
-// What so many functions print, each its number.
+/// What so many functions print, each its number.
 fn printed_by(alloc: Global, count: u32) -> Result<String, AllocError> {
     let mut text = String::from_str(alloc, "== thread 0: ended\n")?;
     for number in 0..count {
@@ -226,7 +226,7 @@ fn printed_by(alloc: Global, count: u32) -> Result<String, AllocError> {
     Ok(text)
 }
 
-// Whether a program of so many functions runs, each called once.
+/// Whether a program of so many functions runs, each called once.
 fn functions_run<H: Threads + Wait + Sync>(rt: &H, alloc: Global, count: u32) -> bool {
     match (of_functions(alloc, count), printed_by(alloc, count)) {
         (Ok(source), Ok(report)) => answers(
@@ -251,7 +251,7 @@ fn two_thousand_functions_and_texts_run(rt: HostRuntime) {
 /// it one factor is 0.
 const COLLIDING: &str = "aaaaaaaaaaaaassTNo3qMD1o";
 
-// A function with 31,000 locals, whose names begin so and end in their numbers, and with one more, whose number this is.
+/// A function with 31,000 locals, whose names begin so and end in their numbers, and with one more, whose number this is.
 fn of_locals(alloc: Global, beginning: &str, last: u32) -> Result<String, AllocError> {
     let mut text = String::from_str(alloc, "void worker(int self) { int x")?;
     for number in 0..31_000u32 {
@@ -261,7 +261,7 @@ fn of_locals(alloc: Global, beginning: &str, last: u32) -> Result<String, AllocE
     Ok(text)
 }
 
-// Whether `txc check` answers such a function so.
+/// Whether `txc check` answers such a function so.
 fn locals_are_checked<H: Threads + Wait + Sync>(
     rt: &H,
     alloc: Global,
@@ -288,7 +288,7 @@ fn colliding_names_are_checked(rt: HostRuntime) {
     assert!(rt; locals_are_checked(&rt, alloc, COLLIDING, 30_999, (1, b"", told)));
 }
 
-// A function with so many locals, and as many assignments to the oldest one.
+/// A function with so many locals, and as many assignments to the oldest one.
 fn of_uses(alloc: Global, count: u32) -> Result<String, AllocError> {
     let mut text = String::from_str(alloc, "void worker(int self) { int z")?;
     for number in 1..count {
@@ -300,7 +300,7 @@ fn of_uses(alloc: Global, count: u32) -> Result<String, AllocError> {
     Ok(text)
 }
 
-// The listing of its code: each local begins with 0, and the oldest one has register 1.
+/// The listing of its code: each local begins with 0, and the oldest one has register 1.
 fn listing_of_uses(alloc: Global, count: u32) -> Result<String, AllocError> {
     let registers = count.saturating_add(1);
     let mut text = format!(in alloc; "function worker registers {registers}\n")?;
@@ -316,7 +316,7 @@ fn listing_of_uses(alloc: Global, count: u32) -> Result<String, AllocError> {
     Ok(text)
 }
 
-// Whether such a function has this listing.
+/// Whether such a function has this listing.
 fn uses_are_listed<H: Threads + Wait + Sync>(rt: &H, alloc: Global, count: u32) -> bool {
     match (of_uses(alloc, count), listing_of_uses(alloc, count)) {
         (Ok(source), Ok(listing)) => answers(
@@ -341,14 +341,14 @@ fn sixty_thousand_uses_of_the_oldest_local_are_listed(rt: HostRuntime) {
 const COUNTS: &[u8] =
     b"int x; void worker(int self) { int i; for (i = 0; i < 1000; i++) __transaction_atomic { x = x + 1; } }";
 
-// A command line with an order of so many turns, thread 0 and 1 by turns.
+/// A command line with an order of so many turns, thread 0 and 1 by turns.
 fn line_of_turns(alloc: Global, turns: usize) -> Result<String, AllocError> {
     let mut line = String::from_str(alloc, "txc source a.c --threads 2 --order 0")?;
     line.push_str(",1,0".repeat(alloc, turns / 2)?.as_str())?;
     Ok(line)
 }
 
-// Whether an order of so many turns is answered so.
+/// Whether an order of so many turns is answered so.
 fn turns_give<H: Threads + Wait + Sync>(
     rt: &H,
     alloc: Global,
@@ -382,7 +382,7 @@ fn long_orders_are_answered(rt: HostRuntime) {
 /// Each thread adds one.
 const ADDS: &[u8] = b"int x; void worker(int self) { __transaction_atomic { x = x + 1; } }";
 
-// Whether so many threads each add one.
+/// Whether so many threads each add one.
 fn threads_add<H: Threads + Wait + Sync>(rt: &H, alloc: Global, threads: u32) -> bool {
     let Ok(line) = format!(in alloc; "txc run a.c --threads {threads}") else {
         return false;
@@ -397,7 +397,7 @@ fn threads_add<H: Threads + Wait + Sync>(rt: &H, alloc: Global, threads: u32) ->
     }
 }
 
-// The first number of threads, from 1 to 64, that do not all add one.
+/// The first number of threads, from 1 to 64, that do not all add one.
 fn threads_that_do_not_add<H: Threads + Wait + Sync>(rt: &H, alloc: Global) -> Option<u32> {
     for threads in 1..65u32 {
         if !threads_add(rt, alloc, threads) {
@@ -412,7 +412,7 @@ fn every_number_of_threads_runs(rt: HostRuntime) {
     assert_eq!(rt; threads_that_do_not_add(&rt, rt.alloc()), None);
 }
 
-// A schedule of so many threads, one behind the other, each to its end, the last one first.
+/// A schedule of so many threads, one behind the other, each to its end, the last one first.
 fn schedule_of(alloc: Global, threads: u32) -> Result<String, AllocError> {
     let mut schedule = String::new(alloc);
     for number in 0..threads {
@@ -422,7 +422,7 @@ fn schedule_of(alloc: Global, threads: u32) -> Result<String, AllocError> {
     Ok(schedule)
 }
 
-// What the replay of that schedule reports: each thread commits behind six accesses.
+/// What the replay of that schedule reports: each thread commits behind six accesses.
 fn replay_of(alloc: Global, threads: u32) -> Result<String, AllocError> {
     let mut report = String::from_str(alloc, "== events\n")?;
     for number in 0..threads {
@@ -437,7 +437,7 @@ fn replay_of(alloc: Global, threads: u32) -> Result<String, AllocError> {
     Ok(report)
 }
 
-// Whether a replay of so many threads that each add one is reported so.
+/// Whether a replay of so many threads that each add one is reported so.
 fn threads_add_in_a_replay<H: Threads + Wait + Sync>(rt: &H, alloc: Global, threads: u32) -> bool {
     let Ok(line) = format!(in alloc; "txc replay a.c --threads {threads} --schedule s.txt") else {
         return false;
@@ -456,7 +456,7 @@ fn threads_add_in_a_replay<H: Threads + Wait + Sync>(rt: &H, alloc: Global, thre
     }
 }
 
-// The first number of threads, from 1 to 64, that do not all add one in a replay.
+/// The first number of threads, from 1 to 64, that do not all add one in a replay.
 fn threads_that_do_not_add_in_a_replay<H: Threads + Wait + Sync>(
     rt: &H,
     alloc: Global,
@@ -481,7 +481,7 @@ const WHOLE: &[u8] =
 /// How many beginnings are accepted, and how many are refused with 10, 12 and 28.
 type Counts = (u32, u32, u32, u32);
 
-// Counts one more answer of a check; there is none where it is another one.
+/// Counts one more answer of a check; there is none where it is another one.
 fn counted(counts: Counts, served: &Served) -> Option<Counts> {
     let err = served.err.as_slice();
     let (accepted, unexpected, unfinished, no_worker) = counts;
@@ -500,7 +500,7 @@ fn counted(counts: Counts, served: &Served) -> Option<Counts> {
     }
 }
 
-// How the beginnings of a source are answered, all of them.
+/// How the beginnings of a source are answered, all of them.
 fn beginnings<H: Threads + Wait + Sync>(rt: &H, alloc: Global, source: &[u8]) -> Option<Counts> {
     let mut counts = (0, 0, 0, 0);
     for length in 0..source.len().saturating_add(1) {

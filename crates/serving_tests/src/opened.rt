@@ -178,7 +178,7 @@ fn rows() -> &'static [Row] {
     &ROWS
 }
 
-// Whether a row is answered as it should be.
+/// Whether a row is answered as it should be.
 fn is_answered<H: Threads + Wait + Sync>(rt: &H, alloc: Global, row: &Row) -> bool {
     let (line, source, schedule, is_terminal, wanted) = *row;
     let Ok(request) = request_of(alloc, line) else {
@@ -194,7 +194,7 @@ fn is_answered<H: Threads + Wait + Sync>(rt: &H, alloc: Global, row: &Row) -> bo
     status == wanted.0 && out.as_slice() == wanted.1 && told.bytes.as_slice() == wanted.2
 }
 
-// The number, from 0, of the first row that is answered otherwise.
+/// The number, from 0, of the first row that is answered otherwise.
 fn wrong_files<H: Threads + Wait + Sync>(rt: &H, alloc: Global) -> Option<usize> {
     for (number, row) in rows().iter().enumerate() {
         if !is_answered(rt, alloc, row) {

@@ -211,7 +211,7 @@ fn told_of_long() -> &'static [ToldOfLong] {
     &LONG
 }
 
-// The text that pieces make.
+/// The text that pieces make.
 pub fn joined(alloc: Global, pieces: &[(&str, usize)]) -> Result<String, AllocError> {
     let mut text = String::new(alloc);
     for (piece, times) in pieces {
@@ -220,17 +220,17 @@ pub fn joined(alloc: Global, pieces: &[(&str, usize)]) -> Result<String, AllocEr
     Ok(text)
 }
 
-// The line that tells a fault.
+/// The line that tells a fault.
 fn line(alloc: Global, number: u32, told: &str) -> Result<String, AllocError> {
     format!(in alloc; "txc: fault {number:02} at {told}\n")
 }
 
-// Whether `txc run` answers a source so.
+/// Whether `txc run` answers a source so.
 fn runs_to<H: Threads + Wait + Sync>(rt: &H, alloc: Global, source: &[u8], wanted: Answer) -> bool {
     answers(rt, alloc, "txc run a.c", source, b"", false, wanted)
 }
 
-// Whether it answers a source by a fault with this number, and these words behind it.
+/// Whether it answers a source by a fault with this number, and these words behind it.
 fn is_told<H: Threads + Wait + Sync>(
     rt: &H,
     alloc: Global,
@@ -244,7 +244,7 @@ fn is_told<H: Threads + Wait + Sync>(
     }
 }
 
-// The first source of the table that is answered otherwise.
+/// The first source of the table that is answered otherwise.
 fn not_told<H: Threads + Wait + Sync>(rt: &H, alloc: Global) -> Option<&'static str> {
     for (source, number, words) in told() {
         if !is_told(rt, alloc, source.as_bytes(), *number, words) {
@@ -259,7 +259,7 @@ fn faults_are_told_with_place_and_words(rt: HostRuntime) {
     assert_eq!(rt; not_told(&rt, rt.alloc()), None);
 }
 
-// Whether the fault of a source in pieces is told with this number and these words.
+/// Whether the fault of a source in pieces is told with this number and these words.
 fn is_told_of<H: Threads + Wait + Sync>(
     rt: &H,
     alloc: Global,
@@ -273,7 +273,7 @@ fn is_told_of<H: Threads + Wait + Sync>(
     }
 }
 
-// The first fault of a long source that is answered otherwise.
+/// The first fault of a long source that is answered otherwise.
 fn not_told_of_long<H: Threads + Wait + Sync>(rt: &H, alloc: Global) -> Option<u32> {
     for (pieces, number, words) in told_of_long() {
         if !is_told_of(rt, alloc, pieces, *number, words) {
@@ -288,7 +288,7 @@ fn faults_of_long_sources_are_told(rt: HostRuntime) {
     assert_eq!(rt; not_told_of_long(&rt, rt.alloc()), None);
 }
 
-// A worker with so many locals.
+/// A worker with so many locals.
 fn with_locals(alloc: Global, count: u32) -> Result<String, AllocError> {
     let mut text = String::from_str(alloc, "void worker(int self) { ")?;
     for number in 0..count {
@@ -298,7 +298,7 @@ fn with_locals(alloc: Global, count: u32) -> Result<String, AllocError> {
     Ok(text)
 }
 
-// Whether a worker with so many locals is answered by this fault.
+/// Whether a worker with so many locals is answered by this fault.
 fn is_told_of_locals<H: Threads + Wait + Sync>(
     rt: &H,
     alloc: Global,
@@ -340,7 +340,7 @@ fn the_line_follows_on_a_terminal(rt: HostRuntime) {
     assert!(rt; answers(&rt, rt.alloc(), verbose, source, b"", false, wanted));
 }
 
-// Whether what a command line is answered begins so.
+/// Whether what a command line is answered begins so.
 fn explains<H: Threads + Wait + Sync>(rt: &H, alloc: Global, line: &str, begins: &[u8]) -> bool {
     match serve_line(rt, alloc, line, b"", b"", false) {
         Some(served) => served.status == 0 && served.out.starts_with(begins),
@@ -357,7 +357,7 @@ fn explains_faults(rt: HostRuntime) {
     assert!(rt; answers(&rt, rt.alloc(), "txc explain 07", b"", b"", false, unknown));
 }
 
-// Whether a file of so many bytes, of which none is a character's, is answered so.
+/// Whether a file of so many bytes, of which none is a character's, is answered so.
 fn no_text_is_told<H: Threads + Wait + Sync>(
     rt: &H,
     alloc: Global,
@@ -380,7 +380,7 @@ fn a_long_file_that_is_not_utf8_is_told(rt: HostRuntime) {
     assert!(rt; no_text_is_told(&rt, rt.alloc(), 1_048_577, too_long));
 }
 
-// Whether this is told of a run that is refused, to a terminal or not.
+/// Whether this is told of a run that is refused, to a terminal or not.
 fn is_told_of_run(alloc: Global, fault: RunFault, is_terminal: bool, told: &[u8]) -> bool {
     let mut err = Vec::new(alloc);
     let detail = Detail::of("a.c", false, Format::Plain, is_terminal);

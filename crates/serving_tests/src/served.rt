@@ -626,7 +626,7 @@ fn serves_threads_in_an_order(rt: HostRuntime) {
     assert_eq!(rt; wrong_row(&rt, rt.alloc(), orders()), None);
 }
 
-// Whether why words are refused is told so: with this status, output that begins so and this standard error.
+/// Whether why words are refused is told so: with this status, output that begins so and this standard error.
 fn is_told_so(alloc: Global, fault: &UsageFault, wanted: Answer) -> bool {
     let mut out = Vec::new(alloc);
     let mut err = Vec::new(alloc);
@@ -635,7 +635,7 @@ fn is_told_so(alloc: Global, fault: &UsageFault, wanted: Answer) -> bool {
     status == wanted.0 && begins && err.as_slice() == wanted.2
 }
 
-// Whether why a command line is refused is told so: with this status, output that begins so and this standard error.
+/// Whether why a command line is refused is told so: with this status, output that begins so and this standard error.
 fn is_refused(alloc: Global, line: &str, wanted: Answer) -> bool {
     match request_of(alloc, line) {
         Ok(_) => false,
@@ -655,7 +655,7 @@ fn says_what_words_are_wrong(rt: HostRuntime) {
     assert!(rt; is_told_so(rt.alloc(), &UsageFault::OutOfMemory, refused));
 }
 
-// Whether output that cannot be written is told so.
+/// Whether output that cannot be written is told so.
 fn cannot_write<H: Threads + Wait + Sync>(
     rt: &H,
     alloc: Global,
@@ -677,7 +677,7 @@ fn cannot_write<H: Threads + Wait + Sync>(
     status == 4 && err.as_slice() == told
 }
 
-// Whether output that cannot be written is told so, of a command line.
+/// Whether output that cannot be written is told so, of a command line.
 fn cannot_write_for<H: Threads + Wait + Sync>(
     rt: &H,
     alloc: Global,
@@ -690,7 +690,7 @@ fn cannot_write_for<H: Threads + Wait + Sync>(
     }
 }
 
-// Whether this is told of a source that cannot be read.
+/// Whether this is told of a source that cannot be read.
 fn is_unread<H: Threads + Wait + Sync>(rt: &H, alloc: Global, line: &str, told: &[u8]) -> bool {
     let none = b"".as_slice();
     match request_of(alloc, line) {
@@ -713,7 +713,7 @@ fn says_why_it_cannot_be_read(rt: HostRuntime) {
     assert!(rt; is_unread(&rt, rt.alloc(), "txc run --verbose a.c", told));
 }
 
-// What is said of a file that the system does not open, and the status; nothing where it is opened.
+/// What is said of a file that the system does not open, and the status; nothing where it is opened.
 fn told_unless_opened(rt: &HostRuntime, alloc: Global, file: &str) -> (u8, Vec<u8>) {
     let mut err = Vec::new(alloc);
     let detail = Detail::of(file, false, Format::Plain, false);

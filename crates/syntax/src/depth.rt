@@ -34,7 +34,7 @@ impl<A: Allocator> Expr<A> {
     }
 }
 
-// The greatest of the depths, or 0 where there is none.
+/// The greatest of the depths, or 0 where there is none.
 #[cycle(depth)]
 pub(crate) fn deepest_of<A: Allocator>(args: &[Expr<A>]) -> usize
     ensures { result ≡ min (deepest (exprs_of args.now)) usize.MAX }

@@ -111,7 +111,7 @@ impl<A: Allocator> Stmt<A> {
     }
 }
 
-// The depth of a block: one more than its deepest statement, and 1 where it is empty.
+/// The depth of a block: one more than its deepest statement, and 1 where it is empty.
 #[cycle(depth_stmt)]
 pub(crate) fn block_depth_of<A: Allocator>(all: &[Stmt<A>]) -> usize
     ensures { result ≡ min (block_depth (stmts_of all.now)) usize.MAX }

@@ -28,7 +28,7 @@ fn has<A: Allocator>(workers: &Vec<Worker<A>, A>, number: u32) -> bool
     false
 }
 
-// A thread without a worker.
+/// A thread without a worker.
 fn missing<A: Allocator>(workers: &Vec<Worker<A>, A>, count: u32) -> bool
     ensures { MatchBool result ((n : ℕ) × (n < count) × NoWorker workers.now.items n) (AllHere workers.now.items count) }
 {
@@ -155,7 +155,7 @@ impl<A: Allocator> CloseFault<A> {
     }
 }
 
-// Takes in the seats, and gives the words.
+/// Takes in the seats, and gives the words.
 pub(crate) fn gather<A: Allocator>(
     hall: Hall<A>,
     workers: Vec<Worker<A>, A>,
@@ -177,7 +177,7 @@ pub(crate) fn gather<A: Allocator>(
     Outcome { words, threads }
 }
 
-// One seat for all threads, and the threads.
+/// One seat for all threads, and the threads.
 fn join_all<A: Allocator>(
     words: &Words<A>,
     mut workers: Vec<Worker<A>, A>,

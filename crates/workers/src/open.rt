@@ -65,7 +65,7 @@ fn worker<A: Allocator + Copy>(
     })
 }
 
-// Adds the worker of a thread to those of the threads before it.
+/// Adds the worker of a thread to those of the threads before it.
 fn add_worker<A: Allocator + Copy>(
     all: &mut Vec<Worker<A>, A>,
     alloc: A,
@@ -85,7 +85,7 @@ fn add_worker<A: Allocator + Copy>(
     Ok(())
 }
 
-// One worker for each thread.
+/// One worker for each thread.
 fn workers<A: Allocator + Copy>(
     words: &Words<A>,
     alloc: A,
@@ -107,7 +107,7 @@ fn workers<A: Allocator + Copy>(
     Ok(all)
 }
 
-// A hall for these threads, of which there is one at least.
+/// A hall for these threads, of which there is one at least.
 fn opened<A: Allocator + Copy>(
     alloc: A,
     code: &Code<A>,

@@ -37,7 +37,7 @@ pub trait Gate {
 /// How often in a row a gate is asked.
 const MOST_TURNS: u64 = 1_000_000;
 
-// Whether the gate held the thread to the end.
+/// Whether the gate held the thread to the end.
 fn held<G: Gate>(gate: &G, thread: u32, accesses: u64) -> bool {
     'turns: for _ in 0..MOST_TURNS {
         if !gate.hold(thread, accesses) {
@@ -69,7 +69,7 @@ fn made(worker: Worker, overheld: bool, stopped: Option<Stop>) -> Driven
     }
 }
 
-// A worker's loop, where a gate may hold it.
+/// A worker's loop, where a gate may hold it.
 fn drive_held<G: Gate>(hall: &Hall, mut worker: Worker, budget: u64, gate: &G) -> Driven
     requires worker { IsWorkerOf hall.now.table.shared.table_id hall.now.setup worker }
     requires room { worker.steps + budget < 2 ^ 64 }
@@ -90,7 +90,7 @@ fn drive_held<G: Gate>(hall: &Hall, mut worker: Worker, budget: u64, gate: &G) -
     made(worker, overheld, None)
 }
 
-// A worker's loop, where no gate holds it.
+/// A worker's loop, where no gate holds it.
 fn drive_free(hall: &Hall, mut worker: Worker, budget: u64) -> Driven
     requires worker { IsWorkerOf hall.now.table.shared.table_id hall.now.setup worker }
     requires room { worker.steps + budget < 2 ^ 64 }
@@ -104,7 +104,7 @@ fn drive_free(hall: &Hall, mut worker: Worker, budget: u64) -> Driven
     }
 }
 
-// A worker's loop.
+/// A worker's loop.
 fn drive_on<G: Gate>(hall: &Hall, worker: Worker, budget: u64, gate: &G) -> Driven
     requires worker { IsWorkerOf hall.now.table.shared.table_id hall.now.setup worker }
     requires room { worker.steps + budget < 2 ^ 64 }
@@ -119,7 +119,7 @@ fn drive_on<G: Gate>(hall: &Hall, worker: Worker, budget: u64, gate: &G) -> Driv
     }
 }
 
-// A worker's loop, from its thread's beginning.
+/// A worker's loop, from its thread's beginning.
 fn drive<G: Gate>(hall: &Hall, worker: Worker, budget: u64, gate: &G) -> Driven
     requires { IsWorkerOf hall.now.table.shared.table_id hall.now.setup worker × (worker.steps ≡ 0) }
     ensures { IsWorkerOf hall.now.table.shared.table_id hall.now.setup result.worker × EndsAt hall.now.setup budget result.stopped result.worker × (result.worker.number ≡ worker.number) }
@@ -141,7 +141,7 @@ impl<'a> Promise<Driven> for OfHall<'a> {
     ghost kept_by = { λ p r. IsWorkerOf (table_of p.hall.now) (setup_of p.hall.now) r.worker × EndsAt (setup_of p.hall.now) p.budget r.stopped r.worker × (worker_number r.worker ≡ p.number) };
 }
 
-// Starts a thread for each worker, and joins them.
+/// Starts a thread for each worker, and joins them.
 fn drive_all<R: Threads + Wait + Sync, G: Gate + Sync>(
     rt: &R,
     alloc: Global,
@@ -264,7 +264,7 @@ impl RunFault {
     }
 }
 
-// Why the workers were not driven.
+/// Why the workers were not driven.
 #[derive(Clone, Copy)]
 enum DriveFault {
     OutOfMemory,
@@ -297,7 +297,7 @@ pub struct RunReport<A: Allocator = Global> {
     pub overheld: Vec<u32, A>,
 }
 
-// Adds how a worker's loop ended, and its number where the gate held it to the end.
+/// Adds how a worker's loop ended, and its number where the gate held it to the end.
 fn note(one: &Driven, ends: &mut Vec<Ending>, overheld: &mut Vec<u32>) -> Result<(), AllocError>
     ensures { OnOk result (ends.new.items ≡ ends.old.items ++ record { number = one.now.worker.number; stopped = one.now.stopped } ∷ []) }
 {
@@ -311,7 +311,7 @@ fn note(one: &Driven, ends: &mut Vec<Ending>, overheld: &mut Vec<u32>) -> Result
     Ok(())
 }
 
-// Moves the workers to a list of their own, the last one first.
+/// Moves the workers to a list of their own, the last one first.
 fn unpack_into(
     hall: &Hall,
     budget: u64,
@@ -331,7 +331,7 @@ fn unpack_into(
     Ok(())
 }
 
-// The workers, how their loops ended, and the numbers of those that were held to the end.
+/// The workers, how their loops ended, and the numbers of those that were held to the end.
 fn unpack(
     alloc: Global,
     hall: &Hall,
@@ -364,7 +364,7 @@ fn memory(words: Vec<u64>, held: Option<u32>) -> RunMemory
     }
 }
 
-// The report of workers that were driven.
+/// The report of workers that were driven.
 fn reported(
     alloc: Global,
     hall: Hall,
@@ -395,7 +395,7 @@ fn reported(
     })
 }
 
-// Drives the workers of a hall, and reports what they leave.
+/// Drives the workers of a hall, and reports what they leave.
 fn run_workers<R: Threads + Wait + Sync, G: Gate + Sync>(
     rt: &R,
     alloc: Global,

@@ -15,7 +15,7 @@ pub struct Tally {
     pub retried: u64,
 }
 
-// One more. No worker makes 2 ^ 64 steps, so it never wraps.
+/// One more. No worker makes 2 ^ 64 steps, so it never wraps.
 #[inline(always)]
 fn one_more(count: u64) -> u64 {
     count.wrapping_add(1)
@@ -30,7 +30,7 @@ impl Tally {
         }
     }
 
-    // An outermost begin has loaded the lock.
+    /// An outermost begin has loaded the lock.
     #[inline(always)]
     pub(crate) fn count_begin(&mut self, lock: u64) {
         if lock % 2 == 0 {
@@ -40,7 +40,7 @@ impl Tally {
         }
     }
 
-    // Validation that waits has loaded the lock.
+    /// Validation that waits has loaded the lock.
     #[inline(always)]
     pub(crate) fn count_wait(&mut self, lock: u64) {
         if lock % 2 == 1 {
@@ -53,8 +53,8 @@ impl Tally {
         self.dropped = one_more(self.dropped);
     }
 
-    // A step was made: what was to be done in it, whether validation waited in it, its answer, and what happened. Of begins the
-    // outermost alone makes an access.
+    /// A step was made: what was to be done in it, whether validation waited in it, its answer, and what happened. Of begins the
+    /// outermost alone makes an access.
     pub(crate) fn count_step(&mut self, doing: Doing, waits: bool, answer: Answer, event: Event) {
         match (doing, answer) {
             (Doing::Begin(_), Answer::Value(lock)) => self.count_begin(lock),

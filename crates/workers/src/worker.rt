@@ -45,7 +45,7 @@ pub enum Status {
     Budget,
 }
 
-// Tells the processor that this thread waits, where the lock was found taken.
+/// Tells the processor that this thread waits, where the lock was found taken.
 #[inline(always)]
 fn pause(lock: u64) {
     if lock % 2 == 1 {
@@ -53,10 +53,10 @@ fn pause(lock: u64) {
     }
 }
 
-// How often a worker whose attempt was dropped tells the processor that it waits, before it begins anew.
+/// How often a worker whose attempt was dropped tells the processor that it waits, before it begins anew.
 const BACKOFF: u32 = 512;
 
-// Leaves the lock and the words to the other threads for a while.
+/// Leaves the lock and the words to the other threads for a while.
 #[inline(never)]
 fn back_off() {
     'turns: for _ in 0..BACKOFF {
@@ -69,8 +69,8 @@ impl<A: Allocator + Copy> Worker<A> {
 
     // Steps are counted where `step` and `run` end, and not by what they call.
 
-    // Local steps of the thread, and reads between them, at most so many steps: how many were made, and where they are fewer what is to
-    // be done then.
+    /// Local steps of the thread, and reads between them, at most so many steps: how many were made, and where they are fewer what is to
+    /// be done then.
     #[inline(always)]
     fn advance(&mut self, words: &Words<A>, code: &Code<A>, most: u64) -> (u64, Option<Doing>)
         requires table { words.now.table_id.words ≡ cells_of code.now + 1 }
@@ -88,7 +88,7 @@ impl<A: Allocator + Copy> Worker<A> {
         self.thread.advance(code, &mut loads, most)
     }
 
-    // One step of the thread, in which this is to be done.
+    /// One step of the thread, in which this is to be done.
     #[inline(always)]
     fn step_at(&mut self, words: &Words<A>, code: &Code<A>, doing: Doing) -> Result<(), Stop>
         requires table { words.now.table_id.words ≡ cells_of code.now + 1 }
@@ -110,7 +110,7 @@ impl<A: Allocator + Copy> Worker<A> {
         Ok(())
     }
 
-    // One step of the thread.
+    /// One step of the thread.
     #[inline(never)]
     fn step_on(&mut self, words: &Words<A>, code: &Code<A>) -> Result<(), Stop>
         requires table { words.now.table_id.words ≡ cells_of code.now + 1 }
@@ -124,7 +124,7 @@ impl<A: Allocator + Copy> Worker<A> {
         self.step_at(words, code, doing)
     }
 
-    // One step of the thread, counted.
+    /// One step of the thread, counted.
     pub(crate) fn step(&mut self, words: &Words<A>, code: &Code<A>) -> Result<(), Stop>
         requires table { words.now.table_id.words ≡ cells_of code.now + 1 }
         requires code { words.now.key.code ≡ code.now }
@@ -144,8 +144,8 @@ impl<A: Allocator + Copy> Worker<A> {
         }
     }
 
-    // The step of a begin, which loads the lock, where no attempt is under way: the lock's value that was found, if it was made.
-    // Where that is odd the begin stands there still.
+    /// The step of a begin, which loads the lock, where no attempt is under way: the lock's value that was found, if it was made.
+    /// Where that is odd the begin stands there still.
     #[inline(always)]
     fn load_begin(&mut self, words: &Words<A>, code: &Code<A>, to: u32) -> Option<u64>
         requires table { words.now.table_id.words ≡ cells_of code.now + 1 }
@@ -165,7 +165,7 @@ impl<A: Allocator + Copy> Worker<A> {
         Some(lock)
     }
 
-    // The steps of a begin, one after another, at most so many, until the lock is found even: how many were made.
+    /// The steps of a begin, one after another, at most so many, until the lock is found even: how many were made.
     #[inline(always)]
     fn begin(&mut self, words: &Words<A>, code: &Code<A>, to: u32, most: u64) -> u64
         requires table { words.now.table_id.words ≡ cells_of code.now + 1 }
@@ -189,7 +189,7 @@ impl<A: Allocator + Copy> Worker<A> {
         most
     }
 
-    // The step of a commit that swaps the lock, where that is its next one: whether it was made.
+    /// The step of a commit that swaps the lock, where that is its next one: whether it was made.
     #[inline(always)]
     fn swap(&mut self, words: &Words<A>, code: &Code<A>) -> bool
         requires table { words.now.table_id.words ≡ cells_of code.now + 1 }
@@ -208,8 +208,8 @@ impl<A: Allocator + Copy> Worker<A> {
         true
     }
 
-    // The step of a commit that stores the pair at this place of the write log, or past the last one the lock: whether the commit
-    // goes on.
+    /// The step of a commit that stores the pair at this place of the write log, or past the last one the lock: whether the commit
+    /// goes on.
     #[inline(always)]
     fn store(&mut self, words: &Words<A>, code: &Code<A>, place: usize) -> bool
         requires table { words.now.table_id.words ≡ cells_of code.now + 1 }
@@ -225,7 +225,7 @@ impl<A: Allocator + Copy> Worker<A> {
         self.thread.stored(code, place)
     }
 
-    // The steps of a commit's stores, one after another, at most so many: how many were made.
+    /// The steps of a commit's stores, one after another, at most so many: how many were made.
     #[inline(always)]
     fn store_all(&mut self, words: &Words<A>, code: &Code<A>, most: u64) -> u64
         requires table { words.now.table_id.words ≡ cells_of code.now + 1 }
@@ -247,7 +247,7 @@ impl<A: Allocator + Copy> Worker<A> {
         most
     }
 
-    // The swap of a commit and what follows it, at most so many steps, where it goes on with the swap or stores: how many were made.
+    /// The swap of a commit and what follows it, at most so many steps, where it goes on with the swap or stores: how many were made.
     #[inline(always)]
     fn commit(&mut self, words: &Words<A>, code: &Code<A>, most: u64) -> u64
         requires table { words.now.table_id.words ≡ cells_of code.now + 1 }
@@ -266,7 +266,7 @@ impl<A: Allocator + Copy> Worker<A> {
         stored + 1
     }
 
-    // Steps of what is to be done, at most so many, where a function of its own makes them: how many were made.
+    /// Steps of what is to be done, at most so many, where a function of its own makes them: how many were made.
     #[inline(always)]
     fn complete(&mut self, words: &Words<A>, code: &Code<A>, doing: Doing, most: u64) -> u64
         requires table { words.now.table_id.words ≡ cells_of code.now + 1 }
@@ -285,7 +285,7 @@ impl<A: Allocator + Copy> Worker<A> {
         }
     }
 
-    // The step of validation that loads the lock, until it is even.
+    /// The step of validation that loads the lock, until it is even.
     #[inline(always)]
     fn wait(&mut self, words: &Words<A>, code: &Code<A>)
         requires table { words.now.table_id.words ≡ cells_of code.now + 1 }
@@ -302,7 +302,7 @@ impl<A: Allocator + Copy> Worker<A> {
         pause(lock);
     }
 
-    // The step of validation that compares this entry: whether its word was loaded again.
+    /// The step of validation that compares this entry: whether its word was loaded again.
     #[inline(always)]
     fn compare_word(
         &mut self,
@@ -333,7 +333,7 @@ impl<A: Allocator + Copy> Worker<A> {
         true
     }
 
-    // The step of validation past the last entry, which loads the lock.
+    /// The step of validation past the last entry, which loads the lock.
     #[inline(always)]
     fn confirm(&mut self, words: &Words<A>, code: &Code<A>, time: u64, place: usize)
         requires table { words.now.table_id.words ≡ cells_of code.now + 1 }
@@ -349,8 +349,8 @@ impl<A: Allocator + Copy> Worker<A> {
         self.thread.validated(code, time, place, lock);
     }
 
-    // Steps of validation at this lock value, from this place of the read log on, one after another, at most so many, up to an entry
-    // whose word is another one, or past the last one: how many were made, and whether the attempt goes on.
+    /// Steps of validation at this lock value, from this place of the read log on, one after another, at most so many, up to an entry
+    /// whose word is another one, or past the last one: how many were made, and whether the attempt goes on.
     #[inline(always)]
     fn compare(
         &mut self,
@@ -383,7 +383,7 @@ impl<A: Allocator + Copy> Worker<A> {
         (most, true)
     }
 
-    // Steps of validation, one after another, at most so many, where what is to be done is under it: how many were made.
+    /// Steps of validation, one after another, at most so many, where what is to be done is under it: how many were made.
     #[inline(never)]
     fn validate(&mut self, words: &Words<A>, code: &Code<A>, most: u64) -> u64
         requires table { words.now.table_id.words ≡ cells_of code.now + 1 }
@@ -415,7 +415,7 @@ impl<A: Allocator + Copy> Worker<A> {
         most
     }
 
-    // Steps of the thread in which this is to be done, at most so many, and one at least: how many were made.
+    /// Steps of the thread in which this is to be done, at most so many, and one at least: how many were made.
     #[inline(always)]
     fn operate(
         &mut self,
@@ -447,7 +447,7 @@ impl<A: Allocator + Copy> Worker<A> {
         }
     }
 
-    // How its thread is, after all steps of a budget.
+    /// How its thread is, after all steps of a budget.
     fn reported(&self, budget: u64) -> Status
         ensures { Reports result self.now.thread.thread.status budget budget }
     {
@@ -460,7 +460,7 @@ impl<A: Allocator + Copy> Worker<A> {
         }
     }
 
-    // `run`, whose steps are not yet counted: how many they were, and how it ended.
+    /// `run`, whose steps are not yet counted: how many they were, and how it ended.
     #[inline(always)]
     fn run_on(&mut self, hall: &Hall<A>, budget: u64) -> (u64, Result<Status, Stop>)
         requires worker { IsWorkerOf hall.now.table.shared.table_id hall.now.setup self.old }

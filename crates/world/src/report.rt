@@ -73,7 +73,7 @@ fn end_with(stop: Option<(u32, StopReason)>, t: u32, status: Status) -> End
 }
 
 impl<A: Allocator + Copy> World<A> {
-    // How each thread is found, and what it has printed.
+    /// How each thread is found, and what it has printed.
     fn shown(
         &self,
         alloc: A,

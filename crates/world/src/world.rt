@@ -45,7 +45,7 @@ impl<A: Allocator> Model for World<A> {
     ghost invariant = { λ w. IsWorldOf (record { code = w.code; threads = length w.threads.items; trace = w.trace.items }) w.lock w.words.items w.threads.items w.accesses };
 }
 
-// Makes so many threads, each at its beginning.
+/// Makes so many threads, each at its beginning.
 fn first_threads<A: Allocator + Copy>(
     alloc: A,
     code: &Code<A>,
@@ -61,7 +61,7 @@ fn first_threads<A: Allocator + Copy>(
     Ok(threads)
 }
 
-// The world of so many threads, before any step.
+/// The world of so many threads, before any step.
 fn opened<A: Allocator + Copy>(
     alloc: A,
     code: &Code<A>,
@@ -154,7 +154,7 @@ impl<A: Allocator + Copy> World<A> {
         })
     }
 
-    // Makes the next step of thread t, where there is such a thread.
+    /// Makes the next step of thread t, where there is such a thread.
     fn step_any(&mut self, t: u32) -> Result<(), StopReason>
         ensures ok { OnOk result (self.new ≡ further self.old (t ∷ [])) }
         ensures err { IfErr result (λ e. (self.new ≡ self.old) × StopsFor self.new t e) }
@@ -263,7 +263,7 @@ impl<A: Allocator + Copy> World<A> {
     }
 }
 
-// The stop of a list's step.
+/// The stop of a list's step.
 fn stopped(step: usize, reason: StopReason) -> WorldStop
     ensures { (result.step ≡ step) × (result.reason ≡ reason) }
 {

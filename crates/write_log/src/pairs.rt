@@ -184,7 +184,7 @@ impl<A: Allocator + Copy> Pairs<A> {
         }
     }
 
-    // Whether an address is above all others, as is known without a search.
+    /// Whether an address is above all others, as is known without a search.
     #[inline(always)]
     fn is_above(&self, address: u32) -> bool
         ensures { result ≡ true → IsAbove address self.now.pairs }

@@ -7,7 +7,7 @@ use lex::token::{Scalar, Span};
 use std::alloc::{AllocError, Allocator};
 use syntax::tree::{First, Global, Name};
 
-// Parts with nothing in them.
+/// Parts with nothing in them.
 fn nothing<A: Allocator + Copy>(alloc: A) -> Parts<A> {
     Parts {
         functions: Items::new(alloc),
@@ -18,7 +18,7 @@ fn nothing<A: Allocator + Copy>(alloc: A) -> Parts<A> {
     }
 }
 
-// Appends a function.
+/// Appends a function.
 fn push_function<A: Allocator + Copy>(
     alloc: A,
     to: &mut Items<FunctionCode<A>, A>,
@@ -33,7 +33,7 @@ fn push_function<A: Allocator + Copy>(
     })
 }
 
-// Appends functions.
+/// Appends functions.
 fn push_functions<A: Allocator + Copy>(
     alloc: A,
     to: &mut Items<FunctionCode<A>, A>,
@@ -45,7 +45,7 @@ fn push_functions<A: Allocator + Copy>(
     Ok(())
 }
 
-// Appends instructions, or the registers that calls hand over.
+/// Appends instructions, or the registers that calls hand over.
 fn push_each<T: Copy, A: Allocator>(to: &mut Items<T, A>, each: &[T]) -> Result<(), AllocError> {
     for item in each {
         to.push(*item)?;
@@ -53,7 +53,7 @@ fn push_each<T: Copy, A: Allocator>(to: &mut Items<T, A>, each: &[T]) -> Result<
     Ok(())
 }
 
-// Appends a text.
+/// Appends a text.
 fn push_text<A: Allocator + Copy>(
     alloc: A,
     to: &mut Items<Text<A>, A>,
@@ -62,7 +62,7 @@ fn push_text<A: Allocator + Copy>(
     to.push(Text::from_str(alloc, text)?)
 }
 
-// Appends texts.
+/// Appends texts.
 fn push_texts<A: Allocator + Copy>(
     alloc: A,
     to: &mut Items<Text<A>, A>,
@@ -74,7 +74,7 @@ fn push_texts<A: Allocator + Copy>(
     Ok(())
 }
 
-// What a variable begins with, where that is said.
+/// What a variable begins with, where that is said.
 fn beginning<A: Allocator + Copy>(
     alloc: A,
     value: Option<u32>,
@@ -91,7 +91,7 @@ fn beginning<A: Allocator + Copy>(
     Ok(all)
 }
 
-// Appends a variable.
+/// Appends a variable.
 fn push_variable<A: Allocator + Copy>(
     alloc: A,
     to: &mut Items<Global<A>, A>,
@@ -110,7 +110,7 @@ fn push_variable<A: Allocator + Copy>(
     })
 }
 
-// Appends variables.
+/// Appends variables.
 fn push_variables<A: Allocator + Copy>(
     alloc: A,
     to: &mut Items<Global<A>, A>,
@@ -122,7 +122,7 @@ fn push_variables<A: Allocator + Copy>(
     Ok(())
 }
 
-// Appends what has a name and what is printed.
+/// Appends what has a name and what is printed.
 fn push_names<A: Allocator + Copy>(
     alloc: A,
     parts: &mut Parts<A>,
@@ -133,7 +133,7 @@ fn push_names<A: Allocator + Copy>(
     push_variables(alloc, &mut parts.globals, written.variables)
 }
 
-// Appends the instructions, and the registers that calls hand over.
+/// Appends the instructions, and the registers that calls hand over.
 fn push_instructions<A: Allocator>(
     parts: &mut Parts<A>,
     written: &WrittenCode,
@@ -142,7 +142,7 @@ fn push_instructions<A: Allocator>(
     push_each(&mut parts.arguments, written.arguments)
 }
 
-// Appends all.
+/// Appends all.
 fn fill<A: Allocator + Copy>(
     alloc: A,
     parts: &mut Parts<A>,
@@ -152,7 +152,7 @@ fn fill<A: Allocator + Copy>(
     push_instructions(parts, written)
 }
 
-// The parts of a code.
+/// The parts of a code.
 fn parts_of<A: Allocator + Copy>(alloc: A, written: &WrittenCode) -> Option<Parts<A>> {
     let mut parts = nothing(alloc);
     match fill(alloc, &mut parts, written) {

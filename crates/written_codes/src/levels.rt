@@ -23,7 +23,7 @@ impl Levels {
         self.depth.saturating_mul(3).saturating_add(kept)
     }
 
-    // Where a cancel of this level, counted from 1 for the outermost one, goes on: the levels round it are open there.
+    /// Where a cancel of this level, counted from 1 for the outermost one, goes on: the levels round it are open there.
     fn cancelled_to(&self, level: u32) -> u32 {
         let after = self.opening().saturating_add(1);
         after.saturating_add(self.depth.saturating_sub(level))
@@ -35,7 +35,7 @@ pub const NUMBERS: [&str; 17] = [
     "0", "1", "2", "3", "4", "5", "6", "7", "8", "9", "10", "11", "12", "13", "14", "15", "16",
 ];
 
-// Opens a level, which sets register 1 and x to its number.
+/// Opens a level, which sets register 1 and x to its number.
 fn push_level<A: Allocator>(
     to: &mut Vec<Instr, A>,
     levels: Levels,
@@ -47,7 +47,7 @@ fn push_level<A: Allocator>(
     Ok(())
 }
 
-// Opens all levels, and keeps the lock where it is to be kept.
+/// Opens all levels, and keeps the lock where it is to be kept.
 fn push_levels<A: Allocator>(to: &mut Vec<Instr, A>, levels: Levels) -> Result<(), AllocError> {
     for level in 0..levels.depth {
         push_level(to, levels, level.saturating_add(1))?;
@@ -58,7 +58,7 @@ fn push_levels<A: Allocator>(to: &mut Vec<Instr, A>, levels: Levels) -> Result<(
     Ok(())
 }
 
-// Cancels, commits what a cancel leaves open, and prints register 1.
+/// Cancels, commits what a cancel leaves open, and prints register 1.
 fn push_rest<A: Allocator>(to: &mut Vec<Instr, A>, levels: Levels) -> Result<(), AllocError> {
     to.push(Instr::CancelOuter(levels.cancelled))?;
     for _ in 1..levels.depth {

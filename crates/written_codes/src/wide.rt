@@ -64,7 +64,7 @@ pub fn code_over_both<A: Allocator + Copy>(
     }
 }
 
-// Instructions of narrow types see what lies in a register modulo 2^32, but a shift's count whole.
+/// Instructions of narrow types see what lies in a register modulo 2^32, but a shift's count whole.
 const SEEN_NARROW: [WideOperator; 30] = [
     (4294967301, 1, Instr::AddSigned(1, 2, 3), Ok("6")),
     (
@@ -183,7 +183,7 @@ const SEEN_NARROW: [WideOperator; 30] = [
     (4294967297, 0, Instr::NegateUnsigned(1, 2), Ok("4294967295")),
 ];
 
-// Instructions that see all bits of a register, whatever its type.
+/// Instructions that see all bits of a register, whatever its type.
 const SEEN_WHOLE: [WideOperator; 6] = [
     (1, 4294967297, Instr::Equal(1, 2, 3), Ok("0")),
     (1, 4294967297, Instr::NotEqual(1, 2, 3), Ok("1")),

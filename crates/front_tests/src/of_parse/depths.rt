@@ -9,7 +9,7 @@ use lex::token::{Span, Token};
 use parse::parse;
 use std::alloc::{AllocError, Global};
 
-// Whether the tree of pieces is what it is to be.
+/// Whether the tree of pieces is what it is to be.
 fn has_shape_in(alloc: Global, pieces: &[Piece], shape: Shape) -> bool {
     match text_of(alloc, pieces) {
         Ok(text) => has_shape(alloc, text.as_str(), shape),
@@ -17,12 +17,12 @@ fn has_shape_in(alloc: Global, pieces: &[Piece], shape: Shape) -> bool {
     }
 }
 
-// Whether pieces are too deep.
+/// Whether pieces are too deep.
 fn is_too_deep(alloc: Global, pieces: &[Piece]) -> bool {
     matches!(fault_in(alloc, Stage::Parse, pieces), Some(Some((11, _))))
 }
 
-// A worker with a declaration whose first value stands in so many pairs of parentheses, of which this opens each.
+/// A worker with a declaration whose first value stands in so many pairs of parentheses, of which this opens each.
 fn nested(open: &'static str, pairs: usize) -> [Piece; 5] {
     [
         Piece::Times("void worker(int self) { int a = ", 1),
@@ -57,7 +57,7 @@ fn a_program_may_be_100_deep(rt: HostRuntime) {
     );
 }
 
-// A worker with so many blocks in one another.
+/// A worker with so many blocks in one another.
 fn blocks(times: usize) -> [Piece; 4] {
     [
         Piece::Times("void worker(int self) { ", 1),
@@ -157,7 +157,7 @@ fn no_list_is_too_long(rt: HostRuntime) {
     assert_none(&rt, faulty_large(rt.alloc(), Stage::Parse, long()));
 }
 
-// Appends tokens so many times.
+/// Appends tokens so many times.
 fn extend_times<'a>(
     to: &mut Vec<Token<'a>>,
     tokens: &[Token<'a>],
@@ -172,7 +172,7 @@ fn extend_times<'a>(
 /// A text, and how often its tokens stand there.
 type Tokens<'a> = (&'a str, usize);
 
-// Appends the tokens of a text, which stand where they do in it.
+/// Appends the tokens of a text, which stand where they do in it.
 fn push_tokens<'a>(
     alloc: Global,
     to: &mut Vec<Token<'a>>,
@@ -185,7 +185,7 @@ fn push_tokens<'a>(
     }
 }
 
-// The tokens of texts.
+/// The tokens of texts.
 fn tokens_of<'a>(alloc: Global, pieces: &[Tokens<'a>]) -> Result<Vec<Token<'a>>, AllocError> {
     let mut tokens = Vec::new(alloc);
     for piece in pieces {
@@ -194,7 +194,7 @@ fn tokens_of<'a>(alloc: Global, pieces: &[Tokens<'a>]) -> Result<Vec<Token<'a>>,
     Ok(tokens)
 }
 
-// Whether the tokens of texts have no fault.
+/// Whether the tokens of texts have no fault.
 fn are_accepted(alloc: Global, pieces: &[Tokens]) -> bool {
     match tokens_of(alloc, pieces) {
         Ok(tokens) => parse(alloc, tokens.as_slice()).is_ok(),

@@ -92,7 +92,7 @@ fn sums() -> &'static [Row] {
     &ROWS
 }
 
-// The statements of a program's one function.
+/// The statements of a program's one function.
 fn body_of(unit: &Unit) -> Option<&[Stmt]> {
     match unit.items.as_slice() {
         [Item::Function(function)] => match &function.body {
@@ -103,7 +103,7 @@ fn body_of(unit: &Unit) -> Option<&[Stmt]> {
     }
 }
 
-// Of a body that is one `if`, whether its `else` is that of an `if` in it.
+/// Of a body that is one `if`, whether its `else` is that of an `if` in it.
 fn is_nearest(body: Option<&[Stmt]>) -> Option<bool> {
     match body {
         Some([Stmt::If(_, _, Some(_))]) => Some(false),
@@ -118,7 +118,7 @@ fn is_nearest(body: Option<&[Stmt]>) -> Option<bool> {
     }
 }
 
-// Of a body that is a value, its outermost operator, and whether the operands are operators' values.
+/// Of a body that is a value, its outermost operator, and whether the operands are operators' values.
 fn grouped(body: Option<&[Stmt]>) -> Option<(BinaryOp, bool, bool)> {
     match body {
         Some([Stmt::Do(Simple::Evaluate(Expr::Binary(op, a, b, _)))]) => {
@@ -133,7 +133,7 @@ fn grouped(body: Option<&[Stmt]>) -> Option<(BinaryOp, bool, bool)> {
 const DECLARED: &str =
     "[[transaction_safe, transaction_unsafe]] unsigned f(int a, unsigned) __attribute__((transaction_callable));";
 
-// Whether the attributes, the type and the name are those of the text.
+/// Whether the attributes, the type and the name are those of the text.
 fn keeps_head(f: &Function) -> bool {
     let kept = [Attribute::Safe, Attribute::Unsafe, Attribute::Callable];
     f.attributes.as_slice() == kept.as_slice()
@@ -142,7 +142,7 @@ fn keeps_head(f: &Function) -> bool {
         && f.body.is_none()
 }
 
-// Whether the parameters are those of the text.
+/// Whether the parameters are those of the text.
 fn keeps_parameters(f: &Function) -> bool {
     match f.parameters.as_slice() {
         [first, second] => {
@@ -155,7 +155,7 @@ fn keeps_parameters(f: &Function) -> bool {
     }
 }
 
-// Whether the tree's one item is the function of the text.
+/// Whether the tree's one item is the function of the text.
 fn keeps_function(unit: &Unit) -> bool {
     match unit.items.as_slice() {
         [Item::Function(f)] => {
@@ -167,7 +167,7 @@ fn keeps_function(unit: &Unit) -> bool {
 
 const GLOBALS: &str = "unsigned a = 7u, b[3] = {1, -2,}; signed c;";
 
-// Whether a global is an `unsigned` with no length, and 7 its first value.
+/// Whether a global is an `unsigned` with no length, and 7 its first value.
 fn is_seven(g: &tree::Global) -> bool {
     match g.first.as_slice() {
         [seven] => {
@@ -180,7 +180,7 @@ fn is_seven(g: &tree::Global) -> bool {
     }
 }
 
-// Whether a global is an array of three `unsigned`, of which the second first value is a negative one.
+/// Whether a global is an array of three `unsigned`, of which the second first value is a negative one.
 fn is_array(g: &tree::Global) -> bool {
     let long = match g.length {
         Some((length, _)) => length == 3,
@@ -197,7 +197,7 @@ fn is_array(g: &tree::Global) -> bool {
     }
 }
 
-// Whether these are the two declarations of the text.
+/// Whether these are the two declarations of the text.
 fn keeps_globals(both: &[tree::Global], last: &[tree::Global]) -> bool {
     match (both, last) {
         ([a, b], [c]) => { is_seven(a) && is_array(b) && c.of == Scalar::Int && c.first.len() == 0 }
@@ -205,7 +205,7 @@ fn keeps_globals(both: &[tree::Global], last: &[tree::Global]) -> bool {
     }
 }
 
-// Whether the tree's items are the two declarations of the text.
+/// Whether the tree's items are the two declarations of the text.
 fn keeps_values(unit: &Unit) -> bool {
     match unit.items.as_slice() {
         [Item::Globals(both), Item::Globals(last)] => {
@@ -215,7 +215,7 @@ fn keeps_values(unit: &Unit) -> bool {
     }
 }
 
-// Whether the tree's one item is a global of this type.
+/// Whether the tree's one item is a global of this type.
 fn is_one_of(unit: &Unit, of: Scalar) -> bool {
     match unit.items.as_slice() {
         [Item::Globals(globals)] => match globals.as_slice() {
@@ -226,7 +226,7 @@ fn is_one_of(unit: &Unit, of: Scalar) -> bool {
     }
 }
 
-// Whether the one function of a tree has so many statements.
+/// Whether the one function of a tree has so many statements.
 fn has_statements(body: Option<&[Stmt]>, count: usize) -> bool {
     match body {
         Some(body) => body.len() == count,
@@ -234,7 +234,7 @@ fn has_statements(body: Option<&[Stmt]>, count: usize) -> bool {
     }
 }
 
-// Whether a tree is what it is to be.
+/// Whether a tree is what it is to be.
 fn is_shaped(unit: &Unit, shape: Shape) -> bool {
     match shape {
         Shape::Depth(depth) => unit.depth() == depth,
@@ -255,7 +255,7 @@ pub fn has_shape(alloc: Global, text: &str, shape: Shape) -> bool {
     }
 }
 
-// The first text of a row whose tree is not what it is to be.
+/// The first text of a row whose tree is not what it is to be.
 fn shaped_otherwise(alloc: Global, rows: &[Row]) -> Option<&'static str> {
     for (text, shape) in rows {
         if !has_shape(alloc, text, *shape) {

@@ -11,7 +11,7 @@ const PRINTING: Piece = Piece::Times("void f19999(void) { printf(\"a\"); }", 1);
 
 const WORKER: Piece = Piece::Times("void worker(int k) { __transaction_atomic { f0(); } }", 1);
 
-// Whether the fault of a chain is a call of an unsafe function in an atomic transaction.
+/// Whether the fault of a chain is a call of an unsafe function in an atomic transaction.
 fn is_unsafe(alloc: Global, chain: &[Piece]) -> bool {
     matches!(fault_in(alloc, Stage::Safety, chain), Some(Some((40, _))))
 }

@@ -16,14 +16,14 @@ const BARE: Piece = Piece::Times("void worker(int k) { f0(); }", 1);
 
 const ENCLOSED: Piece = Piece::Times("void worker(int k) { __transaction_atomic { f0(); } }", 1);
 
-// Whether the fault of a text is that of the bare call with which it ends, by its place.
+/// Whether the fault of a text is that of the bare call with which it ends, by its place.
 fn ends_bare(alloc: Global, text: &str) -> bool {
     let start = text.len().saturating_sub(7);
     let end = text.len().saturating_sub(5);
     fault_of(alloc, Stage::Separation, text) == Some((51, Some(Span { start, end })))
 }
 
-// Whether the fault of a chain is that of the bare call with which it ends, by its place.
+/// Whether the fault of a chain is that of the bare call with which it ends, by its place.
 fn is_bare(alloc: Global, chain: &[Piece]) -> bool {
     match text_of(alloc, chain) {
         Ok(text) => ends_bare(alloc, text.as_str()),
@@ -31,7 +31,7 @@ fn is_bare(alloc: Global, chain: &[Piece]) -> bool {
     }
 }
 
-// Whether a chain is accepted.
+/// Whether a chain is accepted.
 fn is_accepted(alloc: Global, chain: &[Piece]) -> bool {
     fault_in(alloc, Stage::Separation, chain) == Some(None)
 }

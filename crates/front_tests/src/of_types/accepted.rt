@@ -44,7 +44,7 @@ fn right_programs_are_accepted(rt: HostRuntime) {
     assert_none(&rt, faulty(rt.alloc(), Stage::Types, rows()));
 }
 
-// Whether the program that is kept has so many items.
+/// Whether the program that is kept has so many items.
 fn has_items(alloc: Global, unit: Unit, count: usize) -> bool {
     match check(alloc, unit) {
         Ok(typed) => typed.unit().items.len() == count,
@@ -52,7 +52,7 @@ fn has_items(alloc: Global, unit: Unit, count: usize) -> bool {
     }
 }
 
-// Whether what is kept of this text has so many items.
+/// Whether what is kept of this text has so many items.
 fn has_items_of(alloc: Global, text: &str, count: usize) -> bool {
     match unit_of(alloc, text) {
         Some(unit) => has_items(alloc, unit, count),

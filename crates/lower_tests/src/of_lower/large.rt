@@ -7,7 +7,7 @@ use bytecode::Code;
 use lex::token::Span;
 use std::alloc::Global;
 
-// How many functions, registers of the first one, and instructions a code has.
+/// How many functions, registers of the first one, and instructions a code has.
 type Sizes = (usize, u32, usize);
 
 fn sizes(code: &Code) -> Sizes {
@@ -18,7 +18,7 @@ fn sizes(code: &Code) -> Sizes {
     (code.functions().len(), registers, code.len())
 }
 
-// The sizes of a text's code.
+/// The sizes of a text's code.
 fn sizes_of(alloc: Global, text: &str) -> Option<Sizes> {
     match code_of(alloc, text) {
         Ok(code) => Some(sizes(&code)),
@@ -26,7 +26,7 @@ fn sizes_of(alloc: Global, text: &str) -> Option<Sizes> {
     }
 }
 
-// The sizes of the code of a text of pieces.
+/// The sizes of the code of a text of pieces.
 fn sizes_in(alloc: Global, pieces: &[Piece]) -> Option<Sizes> {
     match text_of(alloc, pieces) {
         Ok(text) => sizes_of(alloc, text.as_str()),
@@ -34,7 +34,7 @@ fn sizes_in(alloc: Global, pieces: &[Piece]) -> Option<Sizes> {
     }
 }
 
-// The fault of a text of pieces.
+/// The fault of a text of pieces.
 fn fault_in(alloc: Global, pieces: &[Piece]) -> Option<(u32, Option<Span>)> {
     match text_of(alloc, pieces) {
         Ok(text) => fault_of(alloc, text.as_str()),
@@ -42,12 +42,12 @@ fn fault_in(alloc: Global, pieces: &[Piece]) -> Option<(u32, Option<Span>)> {
     }
 }
 
-// Whether this is the fault of these bytes.
+/// Whether this is the fault of these bytes.
 fn is_at(fault: Option<(u32, Option<Span>)>, number: u32, start: usize, end: usize) -> bool {
     fault == Some((number, Some(Span { start, end })))
 }
 
-// Whether a function has so many registers.
+/// Whether a function has so many registers.
 fn is_so_wide(sizes: Option<Sizes>, least: u32, most: u32) -> bool {
     match sizes {
         Some((1, registers, _)) => least <= registers && registers <= most,
@@ -71,7 +71,7 @@ fn a_function_may_have_so_many_registers(rt: HostRuntime) {
     assert_that(&rt, is_so_wide(sizes, 65_535, 65_535));
 }
 
-// Two constants lie ready in the last two registers that a function may have, and with a local more there is no room for them.
+/// Two constants lie ready in the last two registers that a function may have, and with a local more there is no room for them.
 #[test]
 fn constants_lie_ready_where_there_is_room(rt: HostRuntime) {
     let turns = " while (self < 7) self = self + 3;";
@@ -92,7 +92,7 @@ fn a_function_may_not_have_more_registers(rt: HostRuntime) {
     assert_that(&rt, is_at(fault, 60, 5, 11));
 }
 
-// A sum of 90 ones.
+/// A sum of 90 ones.
 const ONES: [Piece; 3] = [
     Piece::Times("void worker(int self) { int v = 1", 1),
     Piece::Times(" + 1", 89),
@@ -113,7 +113,7 @@ fn with_statements(count: u32) -> [Piece; 3] {
     ]
 }
 
-// Whether a code has so many instructions.
+/// Whether a code has so many instructions.
 fn is_so_long(sizes: Option<Sizes>, count: usize) -> bool {
     match sizes {
         Some((_, _, length)) => length == count,
@@ -134,7 +134,7 @@ fn a_code_has_at_most_so_many_instructions(rt: HostRuntime) {
     );
 }
 
-// 13,900 loops.
+/// 13,900 loops.
 const LOOPS: [Piece; 3] = [
     Piece::Times("int x[9]; void worker(int s) { int i; ", 1),
     Piece::Times(
@@ -144,7 +144,7 @@ const LOOPS: [Piece; 3] = [
     Piece::Times(" }", 1),
 ];
 
-// How long a text of pieces is, which has code.
+/// How long a text of pieces is, which has code.
 fn length_of(alloc: Global, pieces: &[Piece]) -> Option<usize> {
     match text_of(alloc, pieces) {
         Ok(text) => match fault_of(alloc, text.as_str()) {

@@ -86,7 +86,7 @@ pub fn rows() -> &'static [Listed] {
     &ROWS
 }
 
-// Whether this is the listing of a program's code.
+/// Whether this is the listing of a program's code.
 fn is_listed(alloc: Global, text: &str, wanted: &str) -> bool {
     match listed(alloc, text) {
         Ok(found) => found.as_str() == wanted,
@@ -94,7 +94,7 @@ fn is_listed(alloc: Global, text: &str, wanted: &str) -> bool {
     }
 }
 
-// The first program that has another one.
+/// The first program that has another one.
 fn has_another(alloc: Global, rows: &[Listed]) -> Option<&'static str> {
     for (text, wanted) in rows {
         if !is_listed(alloc, text, wanted) {

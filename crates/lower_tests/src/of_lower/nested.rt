@@ -6,7 +6,7 @@ use crate::of_lower::pieces::{Piece, text_of};
 use lex::token::Span;
 use std::alloc::Global;
 
-// The fault of a text of pieces. One that has code has the number 0, and one that memory is refused 1.
+/// The fault of a text of pieces. One that has code has the number 0, and one that memory is refused 1.
 fn fault_at(alloc: Global, pieces: &[Piece]) -> (u32, Option<Span>) {
     match text_of(alloc, pieces) {
         Ok(text) => match fault_of(alloc, text.as_str()) {
@@ -17,7 +17,7 @@ fn fault_at(alloc: Global, pieces: &[Piece]) -> (u32, Option<Span>) {
     }
 }
 
-// What stands before, and a worker in which so many transactions lie in one another.
+/// What stands before, and a worker in which so many transactions lie in one another.
 fn worker(before: &'static str, count: u32) -> [Piece; 5] {
     [
         Piece::Times(before, 1),
@@ -43,7 +43,7 @@ fn the_seventeenth_is_too_deep(rt: HostRuntime) {
     assert_that(&rt, found == (62, Some(keyword)));
 }
 
-// A worker in which 16 lie in one another, and a function with 17 in branches.
+/// A worker in which 16 lie in one another, and a function with 17 in branches.
 fn branches() -> [Piece; 7] {
     [
         Piece::Times("void worker(int self) { ", 1),
@@ -64,7 +64,7 @@ fn calls_begin_anew_and_branches_do_not(rt: HostRuntime) {
     assert_all(&rt, &[("calls", anew == 0), ("branches", deeper == 62)]);
 }
 
-// A worker in which so many blocks of transactions lie round so many that are expressions.
+/// A worker in which so many blocks of transactions lie round so many that are expressions.
 fn round(blocks: u32, expressions: u32) -> [Piece; 9] {
     [
         Piece::Times("void worker(int self) { ", 1),

@@ -11,7 +11,7 @@ pub enum Piece {
     Numbers(&'static str, u32, &'static str),
 }
 
-// Appends a text so many times.
+/// Appends a text so many times.
 fn push_times(to: &mut String, text: &str, times: u32) -> Result<(), AllocError> {
     for _ in 0..times {
         to.push_str(text)?;
@@ -19,7 +19,7 @@ fn push_times(to: &mut String, text: &str, times: u32) -> Result<(), AllocError>
     Ok(())
 }
 
-// Appends a number between two texts.
+/// Appends a number between two texts.
 fn push_number(
     to: &mut String,
     alloc: Global,
@@ -30,7 +30,7 @@ fn push_number(
     to.push_str(format!(in alloc; "{before}{number}{behind}")?.as_str())
 }
 
-// Appends so many numbers.
+/// Appends so many numbers.
 fn push_numbers(
     to: &mut String,
     alloc: Global,
@@ -44,7 +44,7 @@ fn push_numbers(
     Ok(())
 }
 
-// Appends a piece.
+/// Appends a piece.
 fn push_piece(to: &mut String, alloc: Global, piece: Piece) -> Result<(), AllocError> {
     match piece {
         Piece::Times(text, times) => push_times(to, text, times),

@@ -148,7 +148,7 @@ fn program_of(alloc: Global, shape: &Shape, levels: u32) -> Result<String, Alloc
     Ok(text)
 }
 
-// How the thread of a text ends.
+/// How the thread of a text ends.
 fn end_of(alloc: Global, text: &str) -> Option<ThreadEnd> {
     match run(alloc, text, 0, 1, 1000000) {
         Some(outcome) => Some(outcome.end),
@@ -156,7 +156,7 @@ fn end_of(alloc: Global, text: &str) -> Option<ThreadEnd> {
     }
 }
 
-// How the thread of a shape with so many levels ends.
+/// How the thread of a shape with so many levels ends.
 fn end_at(alloc: Global, shape: &Shape, levels: u32) -> Option<ThreadEnd> {
     match program_of(alloc, shape, levels) {
         Ok(text) => end_of(alloc, text.as_str()),
@@ -164,7 +164,7 @@ fn end_at(alloc: Global, shape: &Shape, levels: u32) -> Option<ThreadEnd> {
     }
 }
 
-// Whether a shape with so many levels is an accepted program.
+/// Whether a shape with so many levels is an accepted program.
 fn is_accepted_at(alloc: Global, shape: &Shape, levels: u32) -> Option<bool> {
     match program_of(alloc, shape, levels) {
         Ok(text) => Some(accepted_of(alloc, text.as_str()).is_some()),
@@ -172,13 +172,13 @@ fn is_accepted_at(alloc: Global, shape: &Shape, levels: u32) -> Option<bool> {
     }
 }
 
-// Whether 64 frames of a shape fit the stack, and one level more is too deep.
+/// Whether 64 frames of a shape fit the stack, and one level more is too deep.
 fn is_so(alloc: Global, shape: &Shape) -> bool {
     end_at(alloc, shape, shape.5) == Some(ThreadEnd::Trapped(Trap::Frames))
         && is_accepted_at(alloc, shape, shape.5.saturating_add(1)) == Some(false)
 }
 
-// What stands before and opens the levels of the first shape that is not so.
+/// What stands before and opens the levels of the first shape that is not so.
 fn first_other(alloc: Global, shapes: &[Shape]) -> Option<(&'static str, &'static str)> {
     for shape in shapes {
         if !is_so(alloc, shape) {

@@ -8,7 +8,7 @@ use std::alloc::Global;
 /// A text, what is printed, and the first cell of the memory left.
 type Row = (&'static str, &'static str, u64);
 
-// `p` prints its argument and gives it back
+/// `p` prints its argument and gives it back
 fn rows() -> &'static [Row] {
     static ROWS: [Row; 38] = [
         // arguments from the left
@@ -230,14 +230,14 @@ fn rows() -> &'static [Row] {
     &ROWS
 }
 
-// Whether a thread has ended, has printed this, and has left a memory that begins so.
+/// Whether a thread has ended, has printed this, and has left a memory that begins so.
 fn leaves(outcome: &ThreadOutcome, printed: &str, first: u64) -> bool {
     first_left(outcome) == Some(first)
         && outcome.end == ThreadEnd::Ended
         && outcome.text.as_slice() == printed.as_bytes()
 }
 
-// Whether a thread does what the row says.
+/// Whether a thread does what the row says.
 fn is_so(alloc: Global, row: &Row) -> bool {
     match run(alloc, row.0, 0, 1, 1000) {
         Some(outcome) => leaves(&outcome, row.1, row.2),
@@ -245,7 +245,7 @@ fn is_so(alloc: Global, row: &Row) -> bool {
     }
 }
 
-// The text of the first row that is not so.
+/// The text of the first row that is not so.
 fn first_other(alloc: Global, rows: &[Row]) -> Option<&'static str> {
     for row in rows {
         if !is_so(alloc, row) {

@@ -8,7 +8,7 @@ use std::alloc::Global;
 use syntax::numbers::Trap;
 
 const ADDS: &str = "int x; void worker(int self) { __transaction_atomic { x = x + 1; } }";
-// each thread says what it found, and ends behind its second transaction
+/// each thread says what it found, and ends behind its second transaction
 const SAYS: &str = "int x; void worker(int self) {
     int k = 0;
     __transaction_atomic { k = x; x = x + self + 1; }
@@ -19,13 +19,13 @@ const SAYS: &str = "int x; void worker(int self) {
 
 const LOOPS: &str =
     "int x; void worker(int self) { __transaction_atomic { x = 5; while (1) { } } }";
-// a cancel leaves the memory that was found, and a trap too
+/// a cancel leaves the memory that was found, and a trap too
 const UNDOES: &str = "int x; void worker(int self) {
     __transaction_atomic { x = x + 1; if (self) __transaction_cancel; }
     __transaction_atomic { x = x + 2; x = x / (1 - self); }
 }";
 
-// a thread may stand in each kind of statement, in a call and in an expression
+/// a thread may stand in each kind of statement, in a call and in an expression
 const STANDS: &str = "int x;
 int add(int by) { int was; __transaction_atomic { was = x; x = x + by; } return was; }
 void worker(int self) {
@@ -35,7 +35,7 @@ void worker(int self) {
     do { __transaction_atomic { x = x + 1; } if (k == 1) continue; k--; } while (k > 0);
     printf(\"%d\", k);
 }";
-// calls as statements, two deep, one in parentheses: loops, a return between transactions, names that the callers have too
+/// calls as statements, two deep, one in parentheses: loops, a return between transactions, names that the callers have too
 const CALLS: &str = "int x;
 void say(int k) { printf(\"%d \", k); }
 int twice(int by) {
@@ -53,14 +53,14 @@ void worker(int self) {
     __transaction_atomic { k = k + x; }
     printf(\"%d\", k);
 }";
-// the first thread comes to 64 frames, and the second one to a frame more
+/// the first thread comes to 64 frames, and the second one to a frame more
 const FRAMES: &str = "int x;
 void down(int n) { __transaction_atomic { x = x + 1; } if (n) down(n - 1); __transaction_atomic { x = x + 100; } }
 void worker(int self) { down(62 + self); }";
-// as many turns as there are transactions
+/// as many turns as there are transactions
 const TURNS: &str =
     "int x; void worker(int self) { for (int i = 0; i < 5000; i++) { __transaction_atomic { x++; } } }";
-// the same in a function that is called
+/// the same in a function that is called
 const CALLED_TURNS: &str = "int x;
 void all(int n) { for (int i = 0; i < n; i++) { __transaction_atomic { x++; } } }
 void worker(int self) { all(5000); }";
@@ -170,12 +170,12 @@ fn rows() -> &'static [Row] {
     &ROWS
 }
 
-// Whether a thread has printed this, and ends so.
+/// Whether a thread has printed this, and ends so.
 fn is_report(report: &ThreadReport, printed: &str, end: ThreadEnd) -> bool {
     report.text.as_slice() == printed.as_bytes() && report.end == end
 }
 
-// Whether these have printed and end as the row says.
+/// Whether these have printed and end as the row says.
 fn are_reports(reports: &[ThreadReport], row: &Row) -> bool {
     match reports {
         [first, second] => { is_report(first, row.5, row.6) && is_report(second, row.7, row.8) }
@@ -183,17 +183,17 @@ fn are_reports(reports: &[ThreadReport], row: &Row) -> bool {
     }
 }
 
-// Whether a memory is one cell that holds this.
+/// Whether a memory is one cell that holds this.
 fn is_cell(memory: &[u64], cell: u64) -> bool {
     memory.len() == 1 && memory.first().copied() == Some(cell)
 }
 
-// Whether this is what two threads have done.
+/// Whether this is what two threads have done.
 fn have_done(outcome: &SourceOutcome, row: &Row) -> bool {
     is_cell(outcome.memory.as_slice(), row.4) && are_reports(outcome.threads.as_slice(), row)
 }
 
-// Whether the threads of a program do what the row says.
+/// Whether the threads of a program do what the row says.
 fn do_so(alloc: Global, accepted: &Accepted, row: &Row) -> bool {
     match run_order(alloc, accepted, row.1, row.2, row.3) {
         Ok(outcome) => have_done(&outcome, row),
@@ -201,7 +201,7 @@ fn do_so(alloc: Global, accepted: &Accepted, row: &Row) -> bool {
     }
 }
 
-// Whether the threads of a row's text do what the row says.
+/// Whether the threads of a row's text do what the row says.
 fn is_so(alloc: Global, row: &Row) -> bool {
     match accepted_of(alloc, row.0) {
         Some(accepted) => do_so(alloc, &accepted, row),
@@ -209,7 +209,7 @@ fn is_so(alloc: Global, row: &Row) -> bool {
     }
 }
 
-// The text and the order of the first row that is not so.
+/// The text and the order of the first row that is not so.
 fn first_other(alloc: Global, rows: &[Row]) -> Option<(&'static str, &'static [u32])> {
     for row in rows {
         if !is_so(alloc, row) {
@@ -224,7 +224,7 @@ fn threads_run_in_an_order(rt: HostRuntime) {
     assert_eq!(rt; first_other(rt.alloc(), rows()), None);
 }
 
-// What so many turns of two threads come to.
+/// What so many turns of two threads come to.
 fn come_to(alloc: Global, accepted: &Accepted, turns: u32) -> Option<SourceOutcome> {
     let mut order = Vec::new(alloc);
     for i in 0..turns {
@@ -238,7 +238,7 @@ fn come_to(alloc: Global, accepted: &Accepted, turns: u32) -> Option<SourceOutco
     }
 }
 
-// Whether so many turns of two threads of a text leave this in its cell, and how the threads end.
+/// Whether so many turns of two threads of a text leave this in its cell, and how the threads end.
 fn end_so(
     alloc: Global,
     text: &str,
@@ -295,7 +295,7 @@ fn faults() -> &'static [FaultRow] {
     &FAULTS
 }
 
-// How many threads are told of, or the number of the order's fault.
+/// How many threads are told of, or the number of the order's fault.
 fn count(alloc: Global, accepted: &Accepted, threads: u32, order: &[u32]) -> Result<usize, u32> {
     match run_order(alloc, accepted, threads, order, 100) {
         Ok(outcome) => Ok(outcome.threads.len()),
@@ -303,7 +303,7 @@ fn count(alloc: Global, accepted: &Accepted, threads: u32, order: &[u32]) -> Res
     }
 }
 
-// How many threads of the text that adds are told of, or the number of the order's fault.
+/// How many threads of the text that adds are told of, or the number of the order's fault.
 fn count_adding(alloc: Global, threads: u32, order: &[u32]) -> Option<Result<usize, u32>> {
     match accepted_of(alloc, ADDS) {
         Some(accepted) => Some(count(alloc, &accepted, threads, order)),
@@ -311,12 +311,12 @@ fn count_adding(alloc: Global, threads: u32, order: &[u32]) -> Option<Result<usi
     }
 }
 
-// Whether an order has the fault that the row says.
+/// Whether an order has the fault that the row says.
 fn has_fault(alloc: Global, row: &FaultRow) -> bool {
     count_adding(alloc, row.0, row.1) == Some(Err(row.2))
 }
 
-// The first of these orders that has not its fault.
+/// The first of these orders that has not its fault.
 fn first_without_fault(alloc: Global, rows: &[FaultRow]) -> Option<FaultRow> {
     for row in rows {
         if !has_fault(alloc, row) {

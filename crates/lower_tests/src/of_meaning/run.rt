@@ -7,8 +7,8 @@ use meaning::{ThreadEnd, ThreadOutcome, thread};
 use separation::Accepted;
 use std::alloc::{Allocator, Global};
 
-// What `worker(t)` of a program does where its transactions find memories of so many cells that hold 0; none where memory is
-// refused.
+/// What `worker(t)` of a program does where its transactions find memories of so many cells that hold 0; none where memory is
+/// refused.
 fn run_accepted<A: Allocator + Copy>(
     alloc: A,
     accepted: &Accepted<A>,
@@ -49,7 +49,7 @@ pub(crate) fn first_left<A: Allocator>(outcome: &ThreadOutcome<A>) -> Option<u64
 const THOUSAND: &str =
     "int x; void worker(int self) { for (int i = 0; i < 1000; i++) __transaction_atomic { x = x + i; } }";
 
-// Whether a thread has left so many memories, each with its number in the first cell.
+/// Whether a thread has left so many memories, each with its number in the first cell.
 fn has_left_numbers(outcome: &ThreadOutcome, count: usize) -> bool {
     for (number, memory) in outcome.lefts.iter().enumerate() {
         if memory.first().copied() != Some(number as u64) {
@@ -59,7 +59,7 @@ fn has_left_numbers(outcome: &ThreadOutcome, count: usize) -> bool {
     outcome.lefts.len() == count
 }
 
-// Whether the thread that is handed so many memories leaves as many, and comes to this end.
+/// Whether the thread that is handed so many memories leaves as many, and comes to this end.
 fn comes_to(alloc: Global, founds: usize, end: ThreadEnd) -> bool {
     match run(alloc, THOUSAND, 0, founds, 100_000) {
         Some(outcome) => has_left_numbers(&outcome, founds) && outcome.end == end,

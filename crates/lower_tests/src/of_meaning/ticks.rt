@@ -29,80 +29,80 @@ const DIVIDES: ThreadEnd = ThreadEnd::Trapped(Trap::ZeroDivisor);
 const IDLE: &str = "void worker(int self) { }";
 
 const SETS: &str = "int x; void worker(int self) { __transaction_atomic { x = 1; } }";
-// a block in a function is a statement, and the empty one in it too
+/// a block in a function is a statement, and the empty one in it too
 const BLOCK: &str = "void worker(int self) { { ; } }";
-// for: its statement, two turns with an empty statement each, and the turn that ends it
+/// for: its statement, two turns with an empty statement each, and the turn that ends it
 const FOR: &str = "void worker(int self) { for (int i = 0; i < 2; i++) ; }";
-// a turn is due before the condition is computed, which takes a call's tick and those of its body
+/// a turn is due before the condition is computed, which takes a call's tick and those of its body
 const WHILE: &str =
     "int f(void) { printf(\"c\"); return 0; } void worker(int self) { while (f()) ; }";
 
 const FOR_TESTED: &str =
     "int f(void) { printf(\"c\"); return 0; } void worker(int self) { for (; f(); ) ; }";
-// do: its statement, two turns with a statement each
+/// do: its statement, two turns with a statement each
 const DO: &str = "void worker(int self) { int i = 2; do i--; while (i); }";
-// its turn is due before the body
+/// its turn is due before the body
 const DO_PRINTS: &str = "void worker(int self) { do printf(\"b\"); while (0); }";
 
 const BREAKS: &str = "void worker(int self) { while (1) { break; } }";
-// three turns, of which the second prints nothing, and the turn that ends it
+/// three turns, of which the second prints nothing, and the turn that ends it
 const CONTINUES: &str =
     "void worker(int self) { for (int i = 0; i < 3; i++) { if (i == 1) continue; printf(\"%d\", i); } }";
-// a continue goes on with the condition behind the body
+/// a continue goes on with the condition behind the body
 const CONTINUES_DO: &str =
     "void worker(int self) { int i = 0; do { i++; if (i == 1) continue; printf(\"%d\", i); } while (i < 2); }";
-// a call's tick comes behind its arguments, and its body is no statement
+/// a call's tick comes behind its arguments, and its body is no statement
 const CALL: &str = "int f(int a) { return a; } void worker(int self) { f(f(1)); }";
 
 const CALL_PRINTS: &str = "int g(void) { printf(\"g\"); return 1; }
 int f(int a) { printf(\"f%d\", a); return a; }
 void worker(int self) { f(g()); }";
-// each piece takes one
+/// each piece takes one
 const PIECES: &str = "void worker(int self) { printf(\"a%d%%b\", 7); }";
-// no piece is printed
+/// no piece is printed
 const NO_PIECE: &str = "void worker(int self) { printf(\"\"); }";
-// a trap takes one, and the memory found is left
+/// a trap takes one, and the memory found is left
 const TRAPS: &str = "int x; void worker(int self) { __transaction_atomic { x = 1; x = x / 0; } }";
 
 const TRAPS_OUTSIDE: &str = "void worker(int self) { 1 % self; }";
-// a call for which no frame is left: 63 calls below `worker` with a statement each, and then the call's tick and the trap's
+/// a call for which no frame is left: 63 calls below `worker` with a statement each, and then the call's tick and the trap's
 const FRAMES: &str = "int f(int a) { return f(a); } void worker(int self) { f(0); }";
-// a cancel undoes cells and locals, and the tick of one left goes
+/// a cancel undoes cells and locals, and the tick of one left goes
 const CANCELS: &str =
     "int x; void worker(int self) { int k = 5; __transaction_atomic { x = 1; k = 6; __transaction_cancel; } printf(\"%d\", k); }";
-// an inner transaction takes no tick as it is left, and its cancel undoes what it did alone
+/// an inner transaction takes no tick as it is left, and its cancel undoes what it did alone
 const CANCELS_INNER: &str =
     "int x; void worker(int self) { __transaction_atomic { x = 1; __transaction_atomic { x = 2; __transaction_cancel; } } }";
-// an outer cancel undoes the outer transaction with the one in it, and only where that is the outermost one a tick is taken
+/// an outer cancel undoes the outer transaction with the one in it, and only where that is the outermost one a tick is taken
 const CANCELS_OUTER: &str =
     "int x, y; void worker(int self) { __transaction_atomic [[outer]] { x = 2; __transaction_atomic { y = x; __transaction_cancel [[outer]]; } y = 9; } }";
 
 const CANCELS_IN_RELAXED: &str =
     "int x, y; void worker(int self) { __transaction_relaxed { x = 1; printf(\"a\"); __transaction_atomic [[outer]] { x = 2; __transaction_atomic { y = 2; __transaction_cancel [[outer]]; } } y = x; } }";
-// both kinds of cancels give back the locals that their begin found
+/// both kinds of cancels give back the locals that their begin found
 const CANCELS_BOTH: &str =
     "int x; void worker(int self) { int v = 3; __transaction_atomic [[outer]] { v = 9; __transaction_atomic { __transaction_atomic { v = 8; __transaction_cancel; } x = v; __transaction_cancel [[outer]]; } } printf(\"%d\", v); }";
-// a return leaves both transactions
+/// a return leaves both transactions
 const RETURNS: &str =
     "int x; int f(void) { __transaction_atomic { __transaction_atomic { x = 7; return x; } } } void worker(int self) { printf(\"%d\", f()); }";
-// to want a memory takes no tick
+/// to want a memory takes no tick
 const TWICE: &str =
     "int x; void worker(int self) { __transaction_atomic { x = 1; } __transaction_atomic { x = 2; } }";
-// outside transactions one that is an expression takes a tick before it wants its memory, and one as it is left
+/// outside transactions one that is an expression takes a tick before it wants its memory, and one as it is left
 const READS: &str = "int x; void worker(int self) { int v = __transaction_atomic (x); }";
-// inside one it takes none
+/// inside one it takes none
 const READS_INSIDE: &str =
     "int x; void worker(int self) { __transaction_atomic { x = __transaction_atomic (x) + 1; } }";
-// so it is with those in its operand, and with one whose value is dropped
+/// so it is with those in its operand, and with one whose value is dropped
 const NESTS: &str =
     "int x; void worker(int self) { int v = __transaction_atomic (__transaction_atomic (__transaction_atomic (x)) + __transaction_atomic (x)); __transaction_relaxed (v); }";
-// a call's tick comes before that of the transaction which its function returns the value of
+/// a call's tick comes before that of the transaction which its function returns the value of
 const RETURNS_VALUE: &str =
     "int x; int f(int n) { return __transaction_atomic (x + n); } void worker(int self) { printf(\"%d\", f(3) + __transaction_relaxed (f(4))); }";
-// a trap in one leaves the memory that it found, for the trap's tick alone
+/// a trap in one leaves the memory that it found, for the trap's tick alone
 const TRAPS_IN_VALUE: &str =
     "int x; void worker(int self) { int v = __transaction_atomic (1 / x); }";
-// one in a loop's condition comes behind the tick of the turn
+/// one in a loop's condition comes behind the tick of the turn
 const TESTS: &str =
     "int x; void worker(int self) { while (__transaction_atomic (x < 1)) { __transaction_atomic { x = 1; } if (__transaction_atomic (x)) break; } }";
 
@@ -113,19 +113,19 @@ const BRANCH_TAKEN: &str =
 
 const BRANCH_MISSING: &str = "void worker(int self) { if (self) printf(\"a\"); }";
 
-// Whether a thread has left so many memories, of which the last one begins so.
+/// Whether a thread has left so many memories, of which the last one begins so.
 fn has_left(outcome: &ThreadOutcome, lefts: usize, first: u64) -> bool {
     outcome.lefts.len() == lefts && first_left(outcome) == (lefts > 0).then_some(first)
 }
 
-// Whether a thread has done what the row says.
+/// Whether a thread has done what the row says.
 fn has_done(outcome: &ThreadOutcome, row: &Row) -> bool {
     has_left(outcome, row.3, row.4)
         && outcome.text.as_slice() == row.5.as_bytes()
         && outcome.end == row.6
 }
 
-// Whether a thread of the row's text does it.
+/// Whether a thread of the row's text does it.
 fn is_so(alloc: Global, row: &Row) -> bool {
     match run(alloc, row.0, 0, row.1, row.2) {
         Some(outcome) => has_done(&outcome, row),
@@ -133,7 +133,7 @@ fn is_so(alloc: Global, row: &Row) -> bool {
     }
 }
 
-// The text and the ticks of the first row that is not so.
+/// The text and the ticks of the first row that is not so.
 fn first_other(alloc: Global, rows: &[Row]) -> Option<(&'static str, u64)> {
     for row in rows {
         if !is_so(alloc, row) {
@@ -143,7 +143,7 @@ fn first_other(alloc: Global, rows: &[Row]) -> Option<(&'static str, u64)> {
     None
 }
 
-// Asserts that each of these is so.
+/// Asserts that each of these is so.
 fn assert_all_so(rt: &impl Abort, alloc: Global, rows: &[Row]) {
     assert_eq!(rt; first_other(alloc, rows), None);
 }

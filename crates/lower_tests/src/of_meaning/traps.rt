@@ -112,7 +112,7 @@ fn traps() -> &'static [TrapRow] {
     &TRAPS
 }
 
-// How the thread of a text ends.
+/// How the thread of a text ends.
 fn end_of(alloc: Global, text: &str) -> Option<ThreadEnd> {
     match run(alloc, text, 0, 1, 1000) {
         Some(outcome) => Some(outcome.end),
@@ -120,12 +120,12 @@ fn end_of(alloc: Global, text: &str) -> Option<ThreadEnd> {
     }
 }
 
-// Whether the thread of the row's text ends in its trap.
+/// Whether the thread of the row's text ends in its trap.
 fn has_trap(alloc: Global, row: &TrapRow) -> bool {
     end_of(alloc, row.0) == Some(ThreadEnd::Trapped(row.1))
 }
 
-// The first text whose thread does not.
+/// The first text whose thread does not.
 fn first_without_trap(alloc: Global, rows: &[TrapRow]) -> Option<&'static str> {
     for row in rows {
         if !has_trap(alloc, row) {
@@ -156,7 +156,7 @@ void worker(int self) {
     do { int t = k; k = t - 1; } while (k != self);
 }";
 
-// Whether a thread has left three memories, of which these are the words of the last one.
+/// Whether a thread has left three memories, of which these are the words of the last one.
 fn has_left(outcome: &ThreadOutcome, words: &[u64]) -> bool {
     match outcome.lefts.last() {
         Some(memory) => outcome.lefts.len() == 3 && memory.as_slice() == words,
@@ -164,7 +164,7 @@ fn has_left(outcome: &ThreadOutcome, words: &[u64]) -> bool {
     }
 }
 
-// Whether the whole language is run: what is printed, and what is left.
+/// Whether the whole language is run: what is printed, and what is left.
 fn runs_whole(alloc: Global) -> bool {
     match run(alloc, WHOLE, 3, 3, 10000) {
         Some(outcome) => {
@@ -181,7 +181,7 @@ fn the_whole_language_runs(rt: HostRuntime) {
     assert_that(&rt, runs_whole(rt.alloc()));
 }
 
-// Whether `worker(t)` over these memories ends.
+/// Whether `worker(t)` over these memories ends.
 fn ends<A: Allocator + Copy>(
     alloc: A,
     accepted: &Accepted<A>,
@@ -194,8 +194,8 @@ fn ends<A: Allocator + Copy>(
     }
 }
 
-// Whether a thread comes to its end just where growth `nth` does not come, which is refused. The allocator is the one that
-// refuses.
+/// Whether a thread comes to its end just where growth `nth` does not come, which is refused. The allocator is the one that
+/// refuses.
 fn tells_in<A: Allocator, B: Allocator + Copy>(
     refusing: &Refusing<A>,
     alloc: B,
@@ -214,7 +214,7 @@ fn tells_in<A: Allocator, B: Allocator + Copy>(
     }
 }
 
-// Whether a thread of a text comes to its end just where growth `nth` does not come, which is refused.
+/// Whether a thread of a text comes to its end just where growth `nth` does not come, which is refused.
 fn tells(refusing: &Refusing<Global>, nth: u64, text: &str, t: u32, founds: usize) -> bool {
     match accepted_of(refusing, text) {
         Some(accepted) => tells_in(refusing, refusing, &accepted, t, founds, nth),
@@ -222,19 +222,19 @@ fn tells(refusing: &Refusing<Global>, nth: u64, text: &str, t: u32, founds: usiz
     }
 }
 
-// How many growths the thread of a text makes, each of which is refused once.
+/// How many growths the thread of a text makes, each of which is refused once.
 fn growths_of(inner: Global, text: &str, t: u32, founds: usize) -> Result<u64, u64> {
     growths(inner, 1000, |alloc, nth| tells(alloc, nth, text, t, founds))
 }
 
-// turns with a block, a local and a branch, ten of them
+/// turns with a block, a local and a branch, ten of them
 const FEW_TURNS: &str =
     "int x; void worker(int self) { __transaction_atomic { for (int i = 0; i < 10; i++) { int k = i; if (k & 1) { x = k; } } } }";
-// a thousand of them
+/// a thousand of them
 const MANY_TURNS: &str =
     "int x; void worker(int self) { __transaction_atomic { for (int i = 0; i < 1000; i++) { int k = i; if (k & 1) { x = k; } } } }";
 
-// Whether many turns make no more growths than few.
+/// Whether many turns make no more growths than few.
 fn take_no_more(alloc: Global) -> bool {
     match growths_of(alloc, FEW_TURNS, 0, 1) {
         Ok(few) => growths_of(alloc, MANY_TURNS, 0, 1) == Ok(few),

@@ -93,7 +93,7 @@ pub fn in_turns<A: Allocator + Copy>(
 /// should.
 pub type Came = (u64, Option<u64>, Option<End>, bool);
 
-// What thread 5 comes to by one call of so many instructions, over a cell that holds 9, where it should print this.
+/// What thread 5 comes to by one call of so many instructions, over a cell that holds 9, where it should print this.
 fn comes_to<A: Allocator + Copy>(alloc: A, code: &Code<A>, most: u32, text: &str) -> Option<Came> {
     match begin(alloc, code, 5) {
         None => None,
@@ -136,8 +136,8 @@ pub fn pieces<A: Allocator + Copy>(
     }
 }
 
-// What a thread comes to by so many calls, each of which finds what the one before left, and the first one this word: the word
-// that is left last, how many instructions it made, and how it is.
+/// What a thread comes to by so many calls, each of which finds what the one before left, and the first one this word: the word
+/// that is left last, how many instructions it made, and how it is.
 fn turns<A: Allocator + Copy>(
     alloc: A,
     code: &Code<A>,

@@ -10,11 +10,11 @@ use refusing::Refusing;
 use std::alloc::{AllocError, Allocator, Global};
 use written_codes::{Levels, NUMBERS, cancels_levels, code_of, over_x};
 
-// What a call comes to: how many instructions it makes, the word that it leaves, and how the thread is over.
+/// What a call comes to: how many instructions it makes, the word that it leaves, and how the thread is over.
 type Came = Option<(u64, Option<u64>, Option<End>)>;
 
-// What the cancel comes to, whose transaction has found 9; where the outermost one was among the levels and the lock is kept it
-// stands still.
+/// What the cancel comes to, whose transaction has found 9; where the outermost one was among the levels and the lock is kept it
+/// stands still.
 fn cancelled(levels: Levels) -> Came {
     if levels.left() == 0 && !levels.kept {
         Some((1, Some(9), None))
@@ -23,7 +23,7 @@ fn cancelled(levels: Levels) -> Came {
     }
 }
 
-// What the commits of the levels that are left come to.
+/// What the commits of the levels that are left come to.
 fn committed(levels: Levels) -> Came {
     let left = u64::from(levels.left());
     if left > 0 {
@@ -35,7 +35,7 @@ fn committed(levels: Levels) -> Came {
     }
 }
 
-// What it prints then: register 1, as it was at the begin of the outermost level that was cancelled.
+/// What it prints then: register 1, as it was at the begin of the outermost level that was cancelled.
 fn printed(levels: Levels) -> Option<&'static str> {
     if levels.left() == 0 && levels.kept {
         Some("")
@@ -44,7 +44,7 @@ fn printed(levels: Levels) -> Option<&'static str> {
     }
 }
 
-// Whether a thread that stands at the cancel makes it without a growth.
+/// Whether a thread that stands at the cancel makes it without a growth.
 fn cancels_in_place<A: Allocator + Copy, B: Allocator>(
     thread: &mut AtomicThread<A>,
     code: &Code<A>,
@@ -61,7 +61,7 @@ fn cancels_in_place<A: Allocator + Copy, B: Allocator>(
     waits && made == cancelled(levels)
 }
 
-// Whether a thread comes to what it should behind the cancel.
+/// Whether a thread comes to what it should behind the cancel.
 fn goes_on<A: Allocator + Copy>(
     thread: &mut AtomicThread<A>,
     code: &Code<A>,
@@ -75,7 +75,7 @@ fn goes_on<A: Allocator + Copy>(
     made == committed(levels) && Some(thread.output()) == printed(levels)
 }
 
-// Whether a thread opens its levels, makes the cancel without a growth, and comes to what it should.
+/// Whether a thread opens its levels, makes the cancel without a growth, and comes to what it should.
 fn does_both<A: Allocator + Copy, B: Allocator>(
     thread: &mut AtomicThread<A>,
     code: &Code<A>,
@@ -92,7 +92,7 @@ fn does_both<A: Allocator + Copy, B: Allocator>(
     cancels && goes_on(thread, code, levels)
 }
 
-// Whether thread 5 of a code does what it should with its levels.
+/// Whether thread 5 of a code does what it should with its levels.
 fn a_thread_does<A: Allocator + Copy, B: Allocator>(
     alloc: A,
     code: &Code<A>,
@@ -105,7 +105,7 @@ fn a_thread_does<A: Allocator + Copy, B: Allocator>(
     }
 }
 
-// Whether the code that cancels so many levels does what it should.
+/// Whether the code that cancels so many levels does what it should.
 fn a_code_does<A: Allocator + Copy, B: Allocator>(
     alloc: A,
     refusing: &Refusing<B>,
@@ -118,13 +118,13 @@ fn a_code_does<A: Allocator + Copy, B: Allocator>(
     }
 }
 
-// Whether the code that cancels so many levels does what it should over a new allocator.
+/// Whether the code that cancels so many levels does what it should over a new allocator.
 fn is_done(inner: Global, levels: Levels) -> bool {
     let alloc = Refusing::new(inner, 0);
     a_code_does(&alloc, &alloc, levels) == Ok(true)
 }
 
-// Whether so many levels of that depth are cancelled as they should be, with the lock kept and without.
+/// Whether so many levels of that depth are cancelled as they should be, with the lock kept and without.
 fn are_done(inner: Global, depth: u32, cancelled: u32) -> bool {
     let free = Levels {
         depth,
@@ -134,7 +134,7 @@ fn are_done(inner: Global, depth: u32, cancelled: u32) -> bool {
     is_done(inner, free) && is_done(inner, Levels { kept: true, ..free })
 }
 
-// The first depth at which a cancel comes to something else.
+/// The first depth at which a cancel comes to something else.
 fn done_otherwise(inner: Global) -> Option<u32> {
     for depth in 2..17u32 {
         for cancelled in 2..depth.saturating_add(1) {

@@ -8,7 +8,7 @@ use bytecode::{Code, Instr};
 use std::alloc::Allocator;
 use syntax::numbers::Status;
 
-// What thread 5 of a worker of these instructions comes to by so many calls, each of so many instructions.
+/// What thread 5 of a worker of these instructions comes to by so many calls, each of so many instructions.
 fn by_calls<A: Allocator + Copy>(
     alloc: A,
     instructions: &[Instr],
@@ -39,8 +39,8 @@ fn adds_in_a_transaction() -> &'static [Instr] {
     &CODE
 }
 
-// How many calls, of how many instructions each, and what they come to: the word left last, how many instructions, and how the
-// thread is.
+/// How many calls, of how many instructions each, and what they come to: the word left last, how many instructions, and how the
+/// thread is.
 type Calls = (u32, u32, Option<u64>, u64, Status);
 
 fn calls() -> &'static [Calls] {
@@ -53,7 +53,7 @@ fn calls() -> &'static [Calls] {
     &ROWS
 }
 
-// Whether these calls of that worker come to that.
+/// Whether these calls of that worker come to that.
 fn come_to<A: Allocator + Copy>(alloc: A, rows: &[Calls]) -> bool {
     for (calls, each, word, steps, status) in rows {
         let came = by_calls(alloc, adds_in_a_transaction(), *calls, *each);
@@ -69,7 +69,7 @@ fn a_transaction_goes_on_in_its_own_memory(rt: HostRuntime) {
     assert_that(&rt, come_to(rt.alloc(), calls()));
 }
 
-// x = x + r0, for ever
+/// x = x + r0, for ever
 fn adds_for_ever() -> &'static [Instr] {
     static CODE: [Instr; 6] = [
         Instr::Begin(4),
@@ -88,7 +88,7 @@ fn each_transaction_finds_the_memory_at_hand(rt: HostRuntime) {
     assert_that(&rt, found == Some((254, 293, Status::Running)));
 }
 
-// Whether one word below 2^32 alone is a memory of a code of one cell.
+/// Whether one word below 2^32 alone is a memory of a code of one cell.
 fn are_memories<A: Allocator>(code: &Code<A>) -> bool {
     is_memory(code, &[4_294_967_295])
         && !is_memory(code, &[4_294_967_296])
@@ -101,7 +101,7 @@ fn returns() -> &'static [Instr] {
     &CODE
 }
 
-// Whether one word below 2^32 alone is a memory of a worker that only returns.
+/// Whether one word below 2^32 alone is a memory of a worker that only returns.
 fn are_memories_of_one<A: Allocator + Copy>(alloc: A) -> bool {
     match code_of(alloc, returns(), None) {
         None => false,

@@ -7,10 +7,10 @@ use bytecode::Instr;
 use std::alloc::Allocator;
 use syntax::numbers::{Status, Trap};
 
-// What a thread comes to: how many instructions it makes, how it is over, and what it has printed.
+/// What a thread comes to: how many instructions it makes, how it is over, and what it has printed.
 type Came = (u64, Option<End>, &'static str);
 
-// Whether thread 5 of a worker, and of a function where it is said where that begins, comes to this within so many instructions.
+/// Whether thread 5 of a worker, and of a function where it is said where that begins, comes to this within so many instructions.
 fn of<A: Allocator + Copy>(
     alloc: A,
     instructions: &[Instr],
@@ -22,7 +22,7 @@ fn of<A: Allocator + Copy>(
     code_comes_to(alloc, instructions, second, most, text) == Some((steps, None, end, true))
 }
 
-// r1 = f(r0), and f gives minus its parameter
+/// r1 = f(r0), and f gives minus its parameter
 fn gives_back() -> &'static [Instr] {
     static CODE: [Instr; 5] = [
         Instr::Call(1, 1, 1, 0),
@@ -34,7 +34,7 @@ fn gives_back() -> &'static [Instr] {
     &CODE
 }
 
-// f gives 0
+/// f gives 0
 fn gives_none() -> &'static [Instr] {
     static CODE: [Instr; 5] = [
         Instr::Constant(1, 3),
@@ -46,7 +46,7 @@ fn gives_none() -> &'static [Instr] {
     &CODE
 }
 
-// f calls itself
+/// f calls itself
 fn calls_for_ever() -> &'static [Instr] {
     static CODE: [Instr; 4] = [
         Instr::Call(1, 1, 1, 0),
@@ -88,7 +88,7 @@ fn texts_and_numbers_are_printed(rt: HostRuntime) {
     assert_that(&rt, of(rt.alloc(), prints(), None, 100, came));
 }
 
-// r1: the sum; r2: the number; r3: one
+/// r1: the sum; r2: the number; r3: one
 fn sums() -> &'static [Instr] {
     static CODE: [Instr; 8] = [
         Instr::Constant(2, 1000),
@@ -111,7 +111,7 @@ fn the_sum_of_the_first_thousand(rt: HostRuntime) {
     assert_all(&rt, &[("to its end", ended), ("cut short", cut)]);
 }
 
-// f(n) adds n to the cell where n < 2, and otherwise calls f(n - 1) and f(n - 2): 89 calls of 7 instructions and 88 of 10
+/// f(n) adds n to the cell where n < 2, and otherwise calls f(n - 1) and f(n - 2): 89 calls of 7 instructions and 88 of 10
 fn fibonacci() -> &'static [Instr] {
     static CODE: [Instr; 20] = [
         Instr::Begin(5),

@@ -7,8 +7,8 @@ use bytecode::Instr;
 use std::alloc::Allocator;
 use syntax::numbers::Trap;
 
-// Instructions of a worker, and what its thread 5 comes to, whose transaction finds 9 in the one cell: how many it makes, the word
-// that it leaves, how it is over, and what it has printed.
+/// Instructions of a worker, and what its thread 5 comes to, whose transaction finds 9 in the one cell: how many it makes, the word
+/// that it leaves, how it is over, and what it has printed.
 type Row = (
     &'static [Instr],
     u64,
@@ -17,13 +17,13 @@ type Row = (
     &'static str,
 );
 
-// Whether a thread comes to this.
+/// Whether a thread comes to this.
 fn is_so<A: Allocator + Copy>(alloc: A, row: &Row) -> bool {
     let (instructions, steps, left, end, text) = *row;
     code_comes_to(alloc, instructions, None, 100, text) == Some((steps, left, end, true))
 }
 
-// Whether all do.
+/// Whether all do.
 fn are_so<A: Allocator + Copy>(alloc: A, rows: &[Row]) -> bool {
     for row in rows {
         if !is_so(alloc, row) {
@@ -254,7 +254,7 @@ fn an_inner_one_is_cancelled_after_an_irrevocable(rt: HostRuntime) {
     assert_that(&rt, are_so(rt.alloc(), late_inner_cancels()));
 }
 
-// Threads that do all their instructions at one place, and leave nothing.
+/// Threads that do all their instructions at one place, and leave nothing.
 fn standing_still() -> &'static [Row] {
     static ROWS: [Row; 4] = [
         // a shared access outside transactions

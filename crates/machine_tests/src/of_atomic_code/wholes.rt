@@ -11,7 +11,7 @@ use syntax::numbers::{Halt, Trap};
 /// this.
 type Shown = (Option<u64>, Option<u64>, ThreadEnd, bool);
 
-// The first word of the memory that was left under this number.
+/// The first word of the memory that was left under this number.
 fn first_word(lefts: &[Vec<u64>], number: usize) -> Option<u64> {
     match lefts.get(number) {
         None => None,
@@ -29,7 +29,7 @@ fn shown(outcome: &ThreadOutcome, text: &str) -> Shown {
     )
 }
 
-// The outcome of thread 5 over two memories, if they are memories of the code.
+/// The outcome of thread 5 over two memories, if they are memories of the code.
 fn outcome(
     alloc: Global,
     code: &Code,
@@ -49,12 +49,12 @@ fn outcome(
     }
 }
 
-// A memory of one cell.
+/// A memory of one cell.
 fn memory(alloc: Global, word: u64) -> Result<Vec<u64>, AllocError> {
     Vec::from_slice(alloc, &[word])
 }
 
-// Two of them.
+/// Two of them.
 fn memories(alloc: Global, first: u64, second: u64) -> Option<[Vec<u64>; 2]> {
     match memory(alloc, first) {
         Ok(first) => match memory(alloc, second) {
@@ -65,7 +65,7 @@ fn memories(alloc: Global, first: u64, second: u64) -> Option<[Vec<u64>; 2]> {
     }
 }
 
-// What thread 5 of a code comes to, whose transactions find these words in the one cell.
+/// What thread 5 of a code comes to, whose transactions find these words in the one cell.
 fn of_code(
     alloc: Global,
     code: &Code,
@@ -79,8 +79,8 @@ fn of_code(
     }
 }
 
-// Words that the transactions of thread 5 find in the one cell, for how many instructions at most it runs, and what it comes to: the
-// words left in its first transaction and in its second, how it is found, and what it has printed.
+/// Words that the transactions of thread 5 find in the one cell, for how many instructions at most it runs, and what it comes to: the
+/// words left in its first transaction and in its second, how it is found, and what it has printed.
 type Row = (
     (u64, u64),
     u64,
@@ -90,13 +90,13 @@ type Row = (
     &'static str,
 );
 
-// Whether a code's thread comes to this.
+/// Whether a code's thread comes to this.
 fn is_so(alloc: Global, code: &Code, row: &Row) -> bool {
     let (founds, steps, first, second, end, text) = *row;
     of_code(alloc, code, founds, steps, text) == Some((first, second, end, true))
 }
 
-// Whether a code's thread comes to all these.
+/// Whether a code's thread comes to all these.
 fn are_so(alloc: Global, code: &Code, rows: &[Row]) -> bool {
     for row in rows {
         if !is_so(alloc, code, row) {
@@ -106,7 +106,7 @@ fn are_so(alloc: Global, code: &Code, rows: &[Row]) -> bool {
     true
 }
 
-// Whether the thread of a worker of these instructions comes to all these.
+/// Whether the thread of a worker of these instructions comes to all these.
 fn comes_to(alloc: Global, instructions: &[Instr], rows: &[Row]) -> bool {
     match code_of(alloc, instructions, None) {
         None => false,
@@ -114,7 +114,7 @@ fn comes_to(alloc: Global, instructions: &[Instr], rows: &[Row]) -> bool {
     }
 }
 
-// x = x + r0, and then a print; for ever
+/// x = x + r0, and then a print; for ever
 fn loops() -> &'static [Instr] {
     static CODE: [Instr; 7] = [
         Instr::Begin(4),
@@ -191,7 +191,7 @@ fn ended() -> &'static [Row] {
     &ROWS
 }
 
-// Traps at a cell that holds 0.
+/// Traps at a cell that holds 0.
 fn traps() -> &'static [Instr] {
     static CODE: [Instr; 5] = [
         Instr::Begin(3),

@@ -9,7 +9,7 @@ use written_codes::{
     WideOperator, WideRow, code_over_both, shown_operator, wide_cells, wide_operators, wide_steps,
 };
 
-// Whether a thread has come to its end and has printed this, or has trapped so.
+/// Whether a thread has come to its end and has printed this, or has trapped so.
 fn is_given(outcome: &ThreadOutcome, given: Result<&str, Trap>) -> bool {
     match given {
         Ok(text) => outcome.end == ThreadEnd::Ended && outcome.text.as_str() == text,
@@ -17,7 +17,7 @@ fn is_given(outcome: &ThreadOutcome, given: Result<&str, Trap>) -> bool {
     }
 }
 
-// Whether its transaction has left these words, where it has made one, and else 0 in each cell.
+/// Whether its transaction has left these words, where it has made one, and else 0 in each cell.
 fn leaves(outcome: &ThreadOutcome, words: [u64; 2]) -> bool {
     match outcome.lefts.as_slice().first() {
         Some(memory) => memory.as_slice() == words.as_slice(),
@@ -25,7 +25,7 @@ fn leaves(outcome: &ThreadOutcome, words: [u64; 2]) -> bool {
     }
 }
 
-// The outcome of thread 0 over this memory, if it is one of the code.
+/// The outcome of thread 0 over this memory, if it is one of the code.
 fn over(alloc: Global, code: &Code, founds: &[Vec<u64>; 1]) -> Option<ThreadOutcome> {
     if !is_memory(code, founds[0].as_slice()) {
         return None;
@@ -36,7 +36,7 @@ fn over(alloc: Global, code: &Code, founds: &[Vec<u64>; 1]) -> Option<ThreadOutc
     }
 }
 
-// The outcome of thread 0 of these instructions, whose transaction finds 0 in each cell.
+/// The outcome of thread 0 of these instructions, whose transaction finds 0 in each cell.
 fn outcome(alloc: Global, instructions: &[Instr], begin: Option<u32>) -> Option<ThreadOutcome> {
     match code_over_both(alloc, instructions, begin) {
         Some(code) => match Vec::from_slice(alloc, &[0u64, 0]) {
@@ -47,7 +47,7 @@ fn outcome(alloc: Global, instructions: &[Instr], begin: Option<u32>) -> Option<
     }
 }
 
-// Whether a thread gives what an operator should.
+/// Whether a thread gives what an operator should.
 fn is_computed(alloc: Global, row: &WideOperator) -> bool {
     match outcome(alloc, &shown_operator(row), None) {
         Some(outcome) => is_given(&outcome, row.3),
@@ -55,7 +55,7 @@ fn is_computed(alloc: Global, row: &WideOperator) -> bool {
     }
 }
 
-// Whether threads do of each of these.
+/// Whether threads do of each of these.
 fn are_computed(alloc: Global, rows: &[WideOperator]) -> bool {
     for row in rows {
         if !is_computed(alloc, row) {
@@ -65,7 +65,7 @@ fn are_computed(alloc: Global, rows: &[WideOperator]) -> bool {
     true
 }
 
-// The first operators of which a thread does not.
+/// The first operators of which a thread does not.
 fn computed_otherwise(alloc: Global) -> Option<&'static str> {
     for (name, rows) in wide_operators() {
         if !are_computed(alloc, *rows) {
@@ -80,7 +80,7 @@ fn operators_on_words_of_64_bits(rt: HostRuntime) {
     assert_none(&rt, computed_otherwise(rt.alloc()));
 }
 
-// Whether a thread does what a row says.
+/// Whether a thread does what a row says.
 fn is_so(alloc: Global, row: &WideRow) -> bool {
     let (_, instructions, begin, given, words) = *row;
     match outcome(alloc, instructions, begin) {
@@ -89,7 +89,7 @@ fn is_so(alloc: Global, row: &WideRow) -> bool {
     }
 }
 
-// The first row that a thread does not do.
+/// The first row that a thread does not do.
 fn done_otherwise(alloc: Global, rows: &[WideRow]) -> Option<&'static str> {
     for row in rows {
         if !is_so(alloc, row) {
@@ -109,7 +109,7 @@ fn cells_of_32_and_of_64_bits(rt: HostRuntime) {
     assert_none(&rt, done_otherwise(rt.alloc(), wide_cells()));
 }
 
-// Whether these are a memory of a code over both variables.
+/// Whether these are a memory of a code over both variables.
 fn is_one(alloc: Global, words: &[u64]) -> Option<bool> {
     match code_over_both(alloc, &[Instr::Return], None) {
         Some(code) => Some(is_memory(&code, words)),

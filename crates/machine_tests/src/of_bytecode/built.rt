@@ -16,7 +16,7 @@ pub const WORKER: Function<'static> = ("worker", 0, 2, 1);
 /// Two texts to print.
 pub const TEXTS: [&str; 2] = ["\"\t\"", "\\\n"];
 
-// Parts with nothing in them.
+/// Parts with nothing in them.
 fn nothing<A: Allocator + Copy>(alloc: A) -> Parts<A> {
     Parts {
         functions: Items::new(alloc),
@@ -27,7 +27,7 @@ fn nothing<A: Allocator + Copy>(alloc: A) -> Parts<A> {
     }
 }
 
-// Appends a function.
+/// Appends a function.
 fn push_function<A: Allocator + Copy>(
     alloc: A,
     to: &mut Items<FunctionCode<A>, A>,
@@ -42,7 +42,7 @@ fn push_function<A: Allocator + Copy>(
     })
 }
 
-// Appends functions.
+/// Appends functions.
 fn push_functions<A: Allocator + Copy>(
     alloc: A,
     to: &mut Items<FunctionCode<A>, A>,
@@ -54,7 +54,7 @@ fn push_functions<A: Allocator + Copy>(
     Ok(())
 }
 
-// Appends items.
+/// Appends items.
 fn push_each<T: Copy, A: Allocator>(to: &mut Items<T, A>, each: &[T]) -> Result<(), AllocError> {
     for item in each {
         to.push(*item)?;
@@ -62,7 +62,7 @@ fn push_each<T: Copy, A: Allocator>(to: &mut Items<T, A>, each: &[T]) -> Result<
     Ok(())
 }
 
-// Appends a text.
+/// Appends a text.
 fn push_text<A: Allocator + Copy>(
     alloc: A,
     to: &mut Items<Text<A>, A>,
@@ -71,7 +71,7 @@ fn push_text<A: Allocator + Copy>(
     to.push(Text::from_str(alloc, text)?)
 }
 
-// Appends texts.
+/// Appends texts.
 fn push_texts<A: Allocator + Copy>(
     alloc: A,
     to: &mut Items<Text<A>, A>,
@@ -104,7 +104,7 @@ pub fn global<A: Allocator + Copy>(
     })
 }
 
-// Appends the variable `x`.
+/// Appends the variable `x`.
 fn push_variable<A: Allocator + Copy>(
     alloc: A,
     to: &mut Items<tree::Global<A>, A>,
@@ -112,7 +112,7 @@ fn push_variable<A: Allocator + Copy>(
     to.push(global(alloc, None)?)
 }
 
-// Appends functions, texts and the variable `x`.
+/// Appends functions, texts and the variable `x`.
 fn push_names<A: Allocator + Copy>(
     alloc: A,
     to: &mut Parts<A>,
@@ -124,7 +124,7 @@ fn push_names<A: Allocator + Copy>(
     push_variable(alloc, &mut to.globals)
 }
 
-// Appends registers that calls hand over and instructions.
+/// Appends registers that calls hand over and instructions.
 fn push_code<A: Allocator>(
     to: &mut Parts<A>,
     arguments: &[u16],

@@ -17,13 +17,13 @@ type Row = (
     &'static [u32],
 );
 
-// Whether a code's words, and its instructions' first words, are these.
+/// Whether a code's words, and its instructions' first words, are these.
 fn is_flat(code: &Code, words: &[u32], firsts: &[u32]) -> bool {
     let flat = code.flat();
     flat.0 == words && flat.1 == firsts
 }
 
-// Whether a row's words are those of its code and of a copy of it.
+/// Whether a row's words are those of its code and of a copy of it.
 fn is_told(alloc: Global, row: &Row) -> bool {
     let (_, functions, instructions, words, firsts) = *row;
     match code_of_parts(alloc, functions, &[1, 0], instructions, &TEXTS) {
@@ -80,7 +80,7 @@ const OTHER_SUMS_WORDS: [u32; 17] = [770, 1, 1, 2, 789, 3, 1, 4, 770, 0, 0, 3, 7
 
 const OTHER_SUMS_FIRSTS: [u32; 5] = [0, 4, 8, 12, 16];
 
-// The rows stand in a function, so that no proof but its own looks at them.
+/// The rows stand in a function, so that no proof but its own looks at them.
 fn rows() -> &'static [Row] {
     static ROWS: [Row; 7] = [
         (
@@ -124,7 +124,7 @@ fn rows() -> &'static [Row] {
     &ROWS
 }
 
-// The first row that is not told.
+/// The first row that is not told.
 fn told_otherwise(alloc: Global) -> Option<&'static str> {
     for row in rows() {
         if !is_told(alloc, row) {
@@ -139,7 +139,7 @@ fn every_instruction_has_its_words(rt: HostRuntime) {
     assert_none(&rt, told_otherwise(rt.alloc()));
 }
 
-// Writes over a variable of 32 bits and one of 64.
+/// Writes over a variable of 32 bits and one of 64.
 const WRITES: [Instr; 6] = [
     Instr::Write(1, 0),
     Instr::Write(1, 1),
@@ -163,7 +163,7 @@ fn writes_tell_how_many_bits_their_cells_have(rt: HostRuntime) {
     }
 }
 
-// Whether the instruction at a place is read as one of this kind with these operands.
+/// Whether the instruction at a place is read as one of this kind with these operands.
 fn is_read(code: &Code, place: usize, kind: u32, operands: &[u32]) -> bool {
     match code.kind_and_operands(place) {
         Some((found, lent)) => found == kind && lent == operands,
@@ -171,7 +171,7 @@ fn is_read(code: &Code, place: usize, kind: u32, operands: &[u32]) -> bool {
     }
 }
 
-// Whether the instructions of a code are read as these kinds with these operands, and nothing is behind the last.
+/// Whether the instructions of a code are read as these kinds with these operands, and nothing is behind the last.
 fn are_read(code: &Code, wanted: &[(u32, &[u32])]) -> bool {
     for place in 0..wanted.len() {
         if !is_read(code, place, wanted[place].0, wanted[place].1) {
@@ -204,7 +204,7 @@ const LEADS_READ: [(u32, &[u32]); 20] = [
     (kinds::RETURN_VALUE, &[0]),
 ];
 
-// The code of `worker` and of `f`, with one instruction of each kind that does not compute.
+/// The code of `worker` and of `f`, with one instruction of each kind that does not compute.
 fn leading(alloc: Global) -> Option<Code> {
     code_of_parts(alloc, &[WORKER, ("f", 19, 1, 1)], &[1, 0], &LEADS, &TEXTS)
 }

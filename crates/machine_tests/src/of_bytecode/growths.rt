@@ -16,7 +16,7 @@ const INSTRUCTIONS: [Instr; 5] = [
     Instr::ReturnValue(0),
 ];
 
-// That parts which came back are valid, as `false`: they were not found so at once.
+/// That parts which came back are valid, as `false`: they were not found so at once.
 fn are_valid_later<A: Allocator + Copy>(alloc: A, fault: PartsFault<A>) -> Option<bool> {
     let PartsFault::OutOfMemory(parts) = fault;
     match is_valid(alloc, parts) {
@@ -25,7 +25,7 @@ fn are_valid_later<A: Allocator + Copy>(alloc: A, fault: PartsFault<A>) -> Optio
     }
 }
 
-// Whether parts are found valid at once, or else when they come back; `None` where they are found not to be.
+/// Whether parts are found valid at once, or else when they come back; `None` where they are found not to be.
 fn are_valid_at_once<A: Allocator + Copy>(alloc: A, parts: Parts<A>) -> Option<bool> {
     match validate(alloc, parts) {
         Ok(Some(_)) => Some(true),
@@ -34,8 +34,8 @@ fn are_valid_at_once<A: Allocator + Copy>(alloc: A, parts: Parts<A>) -> Option<b
     }
 }
 
-// Whether parts are valid at once just where growth `nth` does not come, which is refused. Their allocator is the one
-// that refuses.
+/// Whether parts are valid at once just where growth `nth` does not come, which is refused. Their allocator is the one
+/// that refuses.
 fn tells_of<A: Allocator, B: Allocator + Copy>(
     refusing: &Refusing<A>,
     alloc: B,
@@ -46,7 +46,7 @@ fn tells_of<A: Allocator, B: Allocator + Copy>(
     are_valid_at_once(alloc, parts) == Some(refusing.is_waiting())
 }
 
-// Whether the sample is valid at once just where growth `nth` does not come, which is refused.
+/// Whether the sample is valid at once just where growth `nth` does not come, which is refused.
 fn tells(refusing: &Refusing<Global>, nth: u64) -> bool {
     match parts_of(refusing, &FUNCTIONS, &[], &INSTRUCTIONS, &TEXTS) {
         Ok(parts) => tells_of(refusing, refusing, parts, nth),

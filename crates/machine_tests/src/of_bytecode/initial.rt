@@ -9,7 +9,7 @@ use std::alloc::{AllocError, Allocator, Global};
 use syntax::tree;
 use syntax::tree::First;
 
-// Appends a first word to a variable's.
+/// Appends a first word to a variable's.
 fn push_first<A: Allocator>(
     to: &mut tree::Global<A>,
     negative: bool,
@@ -23,30 +23,30 @@ fn push_first<A: Allocator>(
     })
 }
 
-// Appends the first words -1 and 7.
+/// Appends the first words -1 and 7.
 fn push_two<A: Allocator>(to: &mut tree::Global<A>) -> Result<(), AllocError> {
     push_first(to, true, 1)?;
     push_first(to, false, 7)
 }
 
-// An array of so many cells, with the first words -1 and 7.
+/// An array of so many cells, with the first words -1 and 7.
 fn array<A: Allocator + Copy>(alloc: A, cells: u32) -> Result<tree::Global<A>, AllocError> {
     let mut array = global(alloc, Some(cells))?;
     push_two(&mut array)?;
     Ok(array)
 }
 
-// A worker over a variable and that array.
+/// A worker over a variable and that array.
 fn over<A: Allocator + Copy>(alloc: A, cells: u32) -> Result<Parts<A>, AllocError> {
     parts_over(alloc, array(alloc, cells)?)
 }
 
-// A worker over a variable and an array of three cells, of which -1 and 7 are the first words of two.
+/// A worker over a variable and an array of three cells, of which -1 and 7 are the first words of two.
 fn over_an_array<A: Allocator + Copy>(alloc: A) -> Result<Parts<A>, AllocError> {
     over(alloc, 3)
 }
 
-// What `validate` says of a worker over an array of so many cells with two first words.
+/// What `validate` says of a worker over an array of so many cells with two first words.
 fn is_valid_over(alloc: Global, cells: u32) -> Option<bool> {
     match over(alloc, cells) {
         Ok(parts) => is_valid(alloc, parts),
@@ -60,7 +60,7 @@ fn each_first_word_has_a_cell(rt: HostRuntime) {
     assert_that(&rt, is_valid_over(rt.alloc(), 1) == Some(false));
 }
 
-// The code over the array.
+/// The code over the array.
 fn code_over_an_array<A: Allocator + Copy>(alloc: A) -> Option<Code<A>> {
     match over_an_array(alloc) {
         Ok(parts) => code_of(alloc, parts),
@@ -68,7 +68,7 @@ fn code_over_an_array<A: Allocator + Copy>(alloc: A) -> Option<Code<A>> {
     }
 }
 
-// Whether these are the first words of a code's cells, if memory is there.
+/// Whether these are the first words of a code's cells, if memory is there.
 fn begins_with<A: Allocator + Copy>(alloc: A, code: &Code<A>, wanted: &[u64]) -> Option<bool> {
     let mut words = Vec::new(alloc);
     match code.push_initial(&mut words) {
@@ -77,8 +77,8 @@ fn begins_with<A: Allocator + Copy>(alloc: A, code: &Code<A>, wanted: &[u64]) ->
     }
 }
 
-// Whether the first words of a code's cells are 0, 4294967295, 7 and 0, and growth `nth` is not met, or else that is
-// told. The allocator of the code is the one that refuses.
+/// Whether the first words of a code's cells are 0, 4294967295, 7 and 0, and growth `nth` is not met, or else that is
+/// told. The allocator of the code is the one that refuses.
 fn tells_of<A: Allocator, B: Allocator + Copy>(
     refusing: &Refusing<A>,
     alloc: B,
@@ -92,8 +92,8 @@ fn tells_of<A: Allocator, B: Allocator + Copy>(
     }
 }
 
-// Whether the array's code begins with these words where growth `nth` is not met, and else that is told. The
-// allocator is the one that refuses.
+/// Whether the array's code begins with these words where growth `nth` is not met, and else that is told. The
+/// allocator is the one that refuses.
 fn tells(refusing: &Refusing<Global>, nth: u64) -> bool {
     match code_over_an_array(refusing) {
         Some(code) => tells_of(refusing, refusing, &code, nth),
@@ -106,14 +106,14 @@ fn each_cell_has_its_first_word(rt: HostRuntime) {
     assert_that(&rt, growths(rt.alloc(), 20, tells).ok() >= Some(1));
 }
 
-// A worker over a variable and an array of three cells of type `long long`, with the first words -1 and 7.
+/// A worker over a variable and an array of three cells of type `long long`, with the first words -1 and 7.
 fn over_a_long_array<A: Allocator + Copy>(alloc: A) -> Result<Parts<A>, AllocError> {
     let mut array = array(alloc, 3)?;
     array.of = Scalar::LongLong;
     parts_over(alloc, array)
 }
 
-// Whether the first words of that array's code are -1 in 64 bits and 7, and 0 in the other cells.
+/// Whether the first words of that array's code are -1 in 64 bits and 7, and 0 in the other cells.
 fn is_long(alloc: Global) -> Option<bool> {
     match over_a_long_array(alloc) {
         Ok(parts) => match code_of(alloc, parts) {

@@ -7,7 +7,7 @@ use containers::Text;
 use std::alloc::{AllocError, Global};
 use std::mem::size_of;
 
-// Instructions of which so many are jumps, and the last is a return.
+/// Instructions of which so many are jumps, and the last is a return.
 fn jumps(alloc: Global, count: usize) -> Result<Vec<Instr>, AllocError> {
     let mut instructions = Vec::new(alloc);
     for _ in 0..count {
@@ -17,7 +17,7 @@ fn jumps(alloc: Global, count: usize) -> Result<Vec<Instr>, AllocError> {
     Ok(instructions)
 }
 
-// What `validate` says of a worker of so many instructions.
+/// What `validate` says of a worker of so many instructions.
 fn is_valid_at(alloc: Global, count: usize) -> Option<bool> {
     match jumps(alloc, count.saturating_sub(1)) {
         Ok(instructions) => of(alloc, instructions.as_slice()),
@@ -46,7 +46,7 @@ fn a_longer_code_is_not_valid(rt: HostRuntime) {
 /// it one factor is 0.
 const COLLIDING: &str = "aaaaaaaaaaaaassTNo3qMD1o";
 
-// Appends a function that returns at once, whose name begins so and ends in its number, and whose instruction stands at `first`.
+/// Appends a function that returns at once, whose name begins so and ends in its number, and whose instruction stands at `first`.
 fn push_function(
     alloc: Global,
     to: &mut Parts,
@@ -64,14 +64,14 @@ fn push_function(
     to.instructions.push(Instr::Return)
 }
 
-// Appends a text of this number.
+/// Appends a text of this number.
 fn push_text(alloc: Global, to: &mut Parts, number: u32) -> Result<(), AllocError> {
     let text = format!(in alloc; "{number},")?;
     to.texts.push(Text::from_string(text))
 }
 
-// `worker`, which prints text `at` and calls function `at`, as many functions behind it, each with a name of its own, and as
-// many texts.
+/// `worker`, which prints text `at` and calls function `at`, as many functions behind it, each with a name of its own, and as
+/// many texts.
 fn many(alloc: Global, count: u32, at: u32) -> Result<Parts, AllocError> {
     let body = [
         Instr::PrintText(at),
@@ -86,14 +86,14 @@ fn many(alloc: Global, count: u32, at: u32) -> Result<Parts, AllocError> {
     Ok(parts)
 }
 
-// Parts as `many` gives them, and behind them one more function with this number.
+/// Parts as `many` gives them, and behind them one more function with this number.
 fn one_more(alloc: Global, count: u32, number: u32) -> Result<Parts, AllocError> {
     let mut parts = many(alloc, count, 1)?;
     push_function(alloc, &mut parts, "f", number, count.saturating_add(3))?;
     Ok(parts)
 }
 
-// `worker`, 31,000 functions behind it whose names all collide, and one more with this number.
+/// `worker`, 31,000 functions behind it whose names all collide, and one more with this number.
 fn colliding(alloc: Global, last: u32) -> Result<Parts, AllocError> {
     let mut parts = parts_of(alloc, &[WORKER], &[], &[Instr::Return], &[])?;
     for number in 0..31_000u32 {
@@ -109,7 +109,7 @@ fn colliding(alloc: Global, last: u32) -> Result<Parts, AllocError> {
     Ok(parts)
 }
 
-// What `validate` says of parts, where there was memory for them.
+/// What `validate` says of parts, where there was memory for them.
 fn is_valid_made(alloc: Global, parts: Result<Parts, AllocError>) -> Option<bool> {
     match parts {
         Ok(parts) => is_valid(alloc, parts),

@@ -5,7 +5,7 @@ use crate::of_bytecode::built::{Function, TEXTS, WORKER, code_of_parts};
 use bytecode::{Code, Instr, listing};
 use std::alloc::Global;
 
-// Whether this is a code's listing, and memory is there.
+/// Whether this is a code's listing, and memory is there.
 fn is_listed(alloc: Global, code: &Code, wanted: &str) -> bool {
     match listing(alloc, code) {
         Ok(text) => text.as_str() == wanted,
@@ -16,7 +16,7 @@ fn is_listed(alloc: Global, code: &Code, wanted: &str) -> bool {
 /// How many functions, instructions, texts and globals a code has.
 type Counts = (usize, usize, usize, usize);
 
-// The counts of a code.
+/// The counts of a code.
 fn counts(code: &Code) -> Counts {
     (
         code.functions().len(),
@@ -26,7 +26,7 @@ fn counts(code: &Code) -> Counts {
     )
 }
 
-// The counts of a code with this listing.
+/// The counts of a code with this listing.
 fn counted(alloc: Global, code: &Code, wanted: &str) -> Option<Counts> {
     if is_listed(alloc, code, wanted) {
         Some(counts(code))
@@ -35,7 +35,7 @@ fn counted(alloc: Global, code: &Code, wanted: &str) -> Option<Counts> {
     }
 }
 
-// The counts of a code's copy with this listing.
+/// The counts of a code's copy with this listing.
 fn copied(alloc: Global, code: &Code, wanted: &str) -> Option<Counts> {
     match code.copy(alloc) {
         Err(_) => None,
@@ -43,7 +43,7 @@ fn copied(alloc: Global, code: &Code, wanted: &str) -> Option<Counts> {
     }
 }
 
-// The counts of a code's copy where both have this listing.
+/// The counts of a code's copy where both have this listing.
 fn listed_twice(alloc: Global, code: &Code, wanted: &str) -> Option<Counts> {
     if is_listed(alloc, code, wanted) {
         copied(alloc, code, wanted)
@@ -52,7 +52,7 @@ fn listed_twice(alloc: Global, code: &Code, wanted: &str) -> Option<Counts> {
     }
 }
 
-// The counts of a copy of these functions' code, where both have this listing.
+/// The counts of a copy of these functions' code, where both have this listing.
 fn listed(
     alloc: Global,
     functions: &[Function],
@@ -75,7 +75,7 @@ type Row = (
     Counts,
 );
 
-// Whether the listing and the counts are those of a row.
+/// Whether the listing and the counts are those of a row.
 fn is_told(alloc: Global, row: &Row) -> bool {
     let (functions, instructions, texts, wanted, counts) = *row;
     listed(alloc, functions, instructions, texts, wanted) == Some(counts)
@@ -288,7 +288,7 @@ fn instructions() -> &'static [Row] {
     &ROWS
 }
 
-// The first listing of a row that is not told.
+/// The first listing of a row that is not told.
 fn told_otherwise(alloc: Global, rows: &[Row]) -> Option<&'static str> {
     for row in rows {
         if !is_told(alloc, row) {

@@ -14,7 +14,7 @@ type Row = (
     bool,
 );
 
-// The first row of which `validate` says something else.
+/// The first row of which `validate` says something else.
 fn has_another(alloc: Global, rows: &[Row]) -> Option<&'static str> {
     for (what, functions, arguments, instructions, valid) in rows {
         if of_functions(alloc, functions, arguments, instructions) != Some(*valid) {
@@ -97,12 +97,12 @@ fn not_there() -> &'static [Instr] {
     &NOT_THERE
 }
 
-// What `validate` says of an instruction behind a return.
+/// What `validate` says of an instruction behind a return.
 fn of_unreached(alloc: Global, instr: Instr) -> Option<bool> {
     of(alloc, &[Instr::Return, instr])
 }
 
-// Whether none of these is valid there.
+/// Whether none of these is valid there.
 fn none_is_valid(alloc: Global, instrs: &[Instr]) -> bool {
     for instr in instrs {
         if of_unreached(alloc, *instr) != Some(false) {
@@ -112,7 +112,7 @@ fn none_is_valid(alloc: Global, instrs: &[Instr]) -> bool {
     true
 }
 
-// what no way comes to names what is there, too
+/// what no way comes to names what is there, too
 #[test]
 fn what_no_way_comes_to_is_there(rt: HostRuntime) {
     let there = of_unreached(rt.alloc(), Instr::Move(0, 1));
@@ -287,7 +287,7 @@ fn cancels() -> &'static [Row] {
     &ROWS
 }
 
-// a cancel goes on where its begin says, under the enclosing one
+/// a cancel goes on where its begin says, under the enclosing one
 #[test]
 fn cancels_go_on_under_the_enclosing_begin(rt: HostRuntime) {
     assert_none(&rt, has_another(rt.alloc(), cancels()));
@@ -464,7 +464,7 @@ fn outer_cancels() -> &'static [Row] {
     &ROWS
 }
 
-// a cancel of several levels goes on where the outermost of these says, under those outside it
+/// a cancel of several levels goes on where the outermost of these says, under those outside it
 #[test]
 fn outer_cancels_go_on_where_the_outermost_begin_says(rt: HostRuntime) {
     assert_none(&rt, has_another(rt.alloc(), outer_cancels()));
@@ -616,12 +616,12 @@ fn widths() -> &'static [Row] {
     &ROWS
 }
 
-// A worker over a variable and an array of that length.
+/// A worker over a variable and an array of that length.
 fn over_an_array(alloc: Global, length: u32) -> Result<Parts, AllocError> {
     parts_over(alloc, global(alloc, Some(length))?)
 }
 
-// What `validate` says of it.
+/// What `validate` says of it.
 fn of_array(alloc: Global, length: u32) -> Option<bool> {
     match over_an_array(alloc, length) {
         Ok(parts) => is_valid(alloc, parts),

@@ -9,7 +9,7 @@ use frames::{Doing, Frames, push_piece};
 use local_steps::NoAccess;
 use std::alloc::{AllocError, Allocator};
 
-// The word of a cell.
+/// The word of a cell.
 fn word_at(memory: &[u64], cell: u32) -> u64
     ensures { result < 2 ^ 64 }
 {
@@ -70,7 +70,7 @@ fn carry_out<A: Allocator + Copy>(
     Ok(true)
 }
 
-// Makes the call or the return that stands here, if one does: whether it did. There may be no room for a call.
+/// Makes the call or the return that stands here, if one does: whether it did. There may be no room for a call.
 fn pass<A: Allocator + Copy>(frames: &mut Frames<A>, code: &Code<A>, doing: Doing) -> bool
     requires of { IsConfigurationOf code.now frames.old.configuration }
     requires told { Tells code.now frames.old.configuration doing }
@@ -88,7 +88,7 @@ fn pass<A: Allocator + Copy>(frames: &mut Frames<A>, code: &Code<A>, doing: Doin
     }
 }
 
-// Local steps, at most 1,000, and the call or the return that stands there then: how many they were, and whether there was one.
+/// Local steps, at most 1,000, and the call or the return that stands there then: how many they were, and whether there was one.
 fn go_once<A: Allocator + Copy>(frames: &mut Frames<A>, code: &Code<A>) -> (u64, bool)
     requires { IsConfigurationOf code.now frames.old.configuration }
     ensures { IsConfigurationOf code.now frames.new.configuration }
@@ -102,7 +102,7 @@ fn go_once<A: Allocator + Copy>(frames: &mut Frames<A>, code: &Code<A>) -> (u64,
     }
 }
 
-// Steps in the frames, as far as they go: how many they were.
+/// Steps in the frames, as far as they go: how many they were.
 fn go_far<A: Allocator + Copy>(frames: &mut Frames<A>, code: &Code<A>) -> u64
     requires { IsConfigurationOf code.now frames.old.configuration }
     ensures { IsConfigurationOf code.now frames.new.configuration }

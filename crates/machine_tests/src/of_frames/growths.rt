@@ -8,7 +8,7 @@ use frames::Doing;
 use refusing::{Refusing, growths};
 use std::alloc::{Allocator, Global};
 
-// Whether thread 7 ends and has printed this, if memory is there.
+/// Whether thread 7 ends and has printed this, if memory is there.
 fn ends<A: Allocator + Copy>(alloc: A, code: &Code<A>, printed: &str) -> Option<bool> {
     let mut memory = [0u64; 1];
     let mut text = String::new(alloc);
@@ -18,7 +18,7 @@ fn ends<A: Allocator + Copy>(alloc: A, code: &Code<A>, printed: &str) -> Option<
     }
 }
 
-// `f` gives its parameter back.
+/// `f` gives its parameter back.
 fn prints_and_calls() -> &'static [Instr] {
     static CODE: [Instr; 5] = [
         Instr::Call(1, 1, 1, 0),
@@ -30,8 +30,8 @@ fn prints_and_calls() -> &'static [Instr] {
     &CODE
 }
 
-// Whether the thread ends, having printed both, where growth `nth` behind its code's is not met, and else that is
-// told.
+/// Whether the thread ends, having printed both, where growth `nth` behind its code's is not met, and else that is
+/// told.
 fn tells_in<A: Allocator + Copy, B: Allocator>(alloc: A, refusing: &Refusing<B>, nth: u64) -> bool {
     match code_of_two(alloc, prints_and_calls(), 4, (2, 1)) {
         Some(code) => {
@@ -45,8 +45,8 @@ fn tells_in<A: Allocator + Copy, B: Allocator>(alloc: A, refusing: &Refusing<B>,
     }
 }
 
-// Whether the thread ends where growth `nth` of its allocator, counted behind its code's, is not met, and else that
-// is told.
+/// Whether the thread ends where growth `nth` of its allocator, counted behind its code's, is not met, and else that
+/// is told.
 fn tells(refusing: &Refusing<Global>, nth: u64) -> bool {
     tells_in(refusing, refusing, nth)
 }

@@ -8,17 +8,17 @@ use frames::Doing;
 use std::alloc::Allocator;
 use syntax::numbers::Trap;
 
-// What thread 5 comes to, its local steps and its first two registers.
+/// What thread 5 comes to, its local steps and its first two registers.
 type Found = (Doing, u64, Option<u64>, Option<u64>);
 
-// What is found, with the first two of these registers.
+/// What is found, with the first two of these registers.
 fn with_registers(doing: Doing, made: u64, registers: &[u64]) -> Found {
     let first = registers.get(0).copied();
     let second = registers.get(1).copied();
     (doing, made, first, second)
 }
 
-// What is found of a code over a cell that holds 9, where it has printed this.
+/// What is found of a code over a cell that holds 9, where it has printed this.
 fn prints<A: Allocator + Copy>(alloc: A, code: &Code<A>, printed: &str) -> Option<Found> {
     let mut memory = [9u64; 1];
     let mut text = String::new(alloc);
@@ -30,7 +30,7 @@ fn prints<A: Allocator + Copy>(alloc: A, code: &Code<A>, printed: &str) -> Optio
     }
 }
 
-// What is found of a code, if there is one, over a cell that holds 9, where it has printed this.
+/// What is found of a code, if there is one, over a cell that holds 9, where it has printed this.
 fn found<A: Allocator + Copy>(alloc: A, code: Option<Code<A>>, printed: &str) -> Option<Found> {
     match code {
         Some(code) => prints(alloc, &code, printed),
@@ -38,8 +38,8 @@ fn found<A: Allocator + Copy>(alloc: A, code: Option<Code<A>>, printed: &str) ->
     }
 }
 
-// What thread 5 comes to in a worker of these instructions, which prints nothing, the local steps that it makes, and its
-// register 1.
+/// What thread 5 comes to in a worker of these instructions, which prints nothing, the local steps that it makes, and its
+/// register 1.
 fn of<A: Allocator + Copy>(alloc: A, instructions: &[Instr]) -> Option<(Doing, u64, u64)> {
     match found(alloc, code_of_worker(alloc, instructions), "") {
         Some((doing, made, _, Some(word))) => Some((doing, made, word)),
@@ -47,11 +47,11 @@ fn of<A: Allocator + Copy>(alloc: A, instructions: &[Instr]) -> Option<(Doing, u
     }
 }
 
-// Two words, an operator of registers 2 and 3, which hold them, into register 1, and the word that it gives or why it traps.
+/// Two words, an operator of registers 2 and 3, which hold them, into register 1, and the word that it gives or why it traps.
 type Computed = (u64, u64, Instr, Result<u64, Trap>);
 
-// What a thread comes to behind an operator that gives this: it ends after three local steps, or traps at the third with nothing
-// written.
+/// What a thread comes to behind an operator that gives this: it ends after three local steps, or traps at the third with nothing
+/// written.
 fn wanted(given: Result<u64, Trap>) -> (Doing, u64, u64) {
     match given {
         Ok(word) => (Doing::End, 3, word),
@@ -59,7 +59,7 @@ fn wanted(given: Result<u64, Trap>) -> (Doing, u64, u64) {
     }
 }
 
-// Whether an operator gives this.
+/// Whether an operator gives this.
 fn is_computed<A: Allocator + Copy>(alloc: A, row: &Computed) -> bool {
     let (first, second, operator, given) = *row;
     let instructions = [
@@ -71,7 +71,7 @@ fn is_computed<A: Allocator + Copy>(alloc: A, row: &Computed) -> bool {
     of(alloc, &instructions) == Some(wanted(given))
 }
 
-// Whether each of these does.
+/// Whether each of these does.
 fn are_computed<A: Allocator + Copy>(alloc: A, rows: &[Computed]) -> bool {
     for row in rows {
         if !is_computed(alloc, row) {
@@ -227,7 +227,7 @@ fn bits() -> &'static [Computed] {
     &ROWS
 }
 
-// Instructions of narrow types see what lies in a register modulo 2^32, but a shift's count whole.
+/// Instructions of narrow types see what lies in a register modulo 2^32, but a shift's count whole.
 fn narrow_of_wide() -> &'static [Computed] {
     static ROWS: [Computed; 13] = [
         (4294967301, 1, Instr::AddSigned(1, 2, 3), Ok(6)),
@@ -301,7 +301,7 @@ fn bits_and_comparisons(rt: HostRuntime) {
     assert_all(&rt, &[("bits", bits), ("comparisons", comparisons)]);
 }
 
-// Constants of 2^32 or above, and operators that see all of their bits or the lower 32.
+/// Constants of 2^32 or above, and operators that see all of their bits or the lower 32.
 fn wide_constants() -> &'static [Computed] {
     static ROWS: [Computed; 5] = [
         (4294967296, 0, Instr::Move(1, 2), Ok(4294967296)),
@@ -324,16 +324,16 @@ fn constants_of_two_words(rt: HostRuntime) {
     assert_that(&rt, wide);
 }
 
-// Instructions, what thread 5 comes to in a worker of them, the local steps that it makes, and its register 1.
+/// Instructions, what thread 5 comes to in a worker of them, the local steps that it makes, and its register 1.
 type Row = (&'static [Instr], Doing, u64, u64);
 
-// Whether a thread comes to this.
+/// Whether a thread comes to this.
 fn is_so<A: Allocator + Copy>(alloc: A, row: &Row) -> bool {
     let (instructions, doing, made, word) = *row;
     of(alloc, instructions) == Some((doing, made, word))
 }
 
-// Whether each comes to this.
+/// Whether each comes to this.
 fn are_so<A: Allocator + Copy>(alloc: A, rows: &[Row]) -> bool {
     for row in rows {
         if !is_so(alloc, row) {
@@ -530,12 +530,12 @@ fn texts_and_numbers_are_printed(rt: HostRuntime) {
     );
 }
 
-// What is found of a worker behind which a function begins at this place.
+/// What is found of a worker behind which a function begins at this place.
 fn calls<A: Allocator + Copy>(alloc: A, instructions: &[Instr], second: u32) -> Option<Found> {
     found(alloc, code_of_two(alloc, instructions, second, (2, 1)), "")
 }
 
-// r1 = f(r0), and f gives minus its parameter
+/// r1 = f(r0), and f gives minus its parameter
 fn calls_once() -> &'static [Instr] {
     static CODE: [Instr; 4] = [
         Instr::Call(1, 1, 1, 0),
@@ -546,7 +546,7 @@ fn calls_once() -> &'static [Instr] {
     &CODE
 }
 
-// The second call finds the room that was made for the first, so that it is a step in the frames.
+/// The second call finds the room that was made for the first, so that it is a step in the frames.
 fn calls_twice() -> &'static [Instr] {
     static CODE: [Instr; 5] = [
         Instr::Call(1, 1, 1, 0),
@@ -558,7 +558,7 @@ fn calls_twice() -> &'static [Instr] {
     &CODE
 }
 
-// What is found where `f` has given minus 5, after so many steps.
+/// What is found where `f` has given minus 5, after so many steps.
 fn given(made: u64) -> Option<Found> {
     Some((Doing::End, made, Some(5), Some(4294967291)))
 }
@@ -570,7 +570,7 @@ fn calls_return_what_they_give(rt: HostRuntime) {
     assert_all(&rt, &[("once", once), ("twice", twice)]);
 }
 
-// f calls itself with its own parameter, which is the thread's number in each frame
+/// f calls itself with its own parameter, which is the thread's number in each frame
 fn calls_for_ever() -> &'static [Instr] {
     static CODE: [Instr; 4] = [
         Instr::Call(1, 1, 1, 0),
@@ -581,8 +581,8 @@ fn calls_for_ever() -> &'static [Instr] {
     &CODE
 }
 
-// Whether a thread traps at its frames, with this one register in the last of them. How many of the calls are made in the frames
-// depends on the room that a growth makes, so that the number of steps is left open.
+/// Whether a thread traps at its frames, with this one register in the last of them. How many of the calls are made in the frames
+/// depends on the room that a growth makes, so that the number of steps is left open.
 fn traps_at_frames(found: Option<Found>, word: u64) -> bool {
     match found {
         Some((doing, _, first, second)) => {

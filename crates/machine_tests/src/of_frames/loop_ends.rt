@@ -13,7 +13,7 @@ use std::alloc::Allocator;
 /// In each code register 0 is at first the thread's number, 5.
 type Row = (&'static str, &'static [Instr], u64);
 
-// Steps in the frames, at most so many: how many they were.
+/// Steps in the frames, at most so many: how many they were.
 fn go<A: Allocator + Copy>(frames: &mut Frames<A>, code: &Code<A>, most: u64) -> u64
     requires { IsConfigurationOf code.now frames.old.configuration }
     ensures { IsConfigurationOf code.now frames.new.configuration }
@@ -24,7 +24,7 @@ fn go<A: Allocator + Copy>(frames: &mut Frames<A>, code: &Code<A>, most: u64) ->
     made
 }
 
-// Steps in the frames, each in a call of its own, at most so many: how many they were.
+/// Steps in the frames, each in a call of its own, at most so many: how many they were.
 fn go_singly<A: Allocator + Copy>(frames: &mut Frames<A>, code: &Code<A>, most: u64) -> u64
     requires { IsConfigurationOf code.now frames.old.configuration }
     ensures { IsConfigurationOf code.now frames.new.configuration }
@@ -36,7 +36,7 @@ fn go_singly<A: Allocator + Copy>(frames: &mut Frames<A>, code: &Code<A>, most: 
     made
 }
 
-// Whether so many steps at once come to the same as one by one, and are so many at most.
+/// Whether so many steps at once come to the same as one by one, and are so many at most.
 fn agree<A: Allocator + Copy>(alloc: A, code: &Code<A>, most: u64, last: u64) -> bool {
     match first(alloc, code, 5) {
         Ok(mut whole) => match first(alloc, code, 5) {
@@ -53,7 +53,7 @@ fn agree<A: Allocator + Copy>(alloc: A, code: &Code<A>, most: u64, last: u64) ->
     }
 }
 
-// Whether they do for each number of steps up to 40, where a code makes as many as this before it pauses.
+/// Whether they do for each number of steps up to 40, where a code makes as many as this before it pauses.
 fn is_so<A: Allocator + Copy>(alloc: A, row: &Row) -> bool {
     let (_, instructions, last) = *row;
     match code_of_worker(alloc, instructions) {
@@ -78,7 +78,7 @@ const COUNTS: [Instr; 6] = [
     Instr::Return,
 ];
 
-// The addend of the first sum is the comparison's register, and what is summed is it too.
+/// The addend of the first sum is the comparison's register, and what is summed is it too.
 const SUMS: [Instr; 8] = [
     Instr::Constant(1, 0),
     Instr::Constant(2, 1),
@@ -98,7 +98,7 @@ const DOUBLES: [Instr; 5] = [
     Instr::Return,
 ];
 
-// The comparison's register is what is added.
+/// The comparison's register is what is added.
 const ADDS_ITS_FLAG: [Instr; 6] = [
     Instr::Constant(1, 0),
     Instr::Constant(3, 4),
@@ -108,7 +108,7 @@ const ADDS_ITS_FLAG: [Instr; 6] = [
     Instr::Return,
 ];
 
-// The sum is compared with itself.
+/// The sum is compared with itself.
 const NEVER: [Instr; 6] = [
     Instr::Constant(1, 0),
     Instr::Constant(2, 1),
@@ -118,7 +118,7 @@ const NEVER: [Instr; 6] = [
     Instr::Return,
 ];
 
-// A loop end whose second sum traps.
+/// A loop end whose second sum traps.
 const TRAPS: [Instr; 7] = [
     Instr::Constant(0, 2147483647),
     Instr::Constant(1, 500),
@@ -129,7 +129,7 @@ const TRAPS: [Instr; 7] = [
     Instr::Return,
 ];
 
-// The sum behind the first one traps.
+/// The sum behind the first one traps.
 const TRAPS_BEHIND: [Instr; 8] = [
     Instr::Constant(1, 2147483647),
     Instr::Constant(2, 1),

@@ -9,7 +9,7 @@ use crate::of_workers::programs::prints;
 use std::alloc::Global;
 use workers::{CloseFault, CloseReason, Hall, Status, Worker};
 
-// Worker 0 up to its won swap, a step at a time, and a thousand steps of worker 1, which waits for the lock in vain.
+/// Worker 0 up to its won swap, a step at a time, and a thousand steps of worker 1, which waits for the lock in vain.
 fn up_to_the_lock() -> &'static [Turn] {
     static TURNS: [Turn; 9] = [
         Turn::Run(0, 0, Status::Budget, 0, 0),
@@ -25,7 +25,7 @@ fn up_to_the_lock() -> &'static [Turn] {
     &TURNS
 }
 
-// Both workers come to their ends, and stay there.
+/// Both workers come to their ends, and stay there.
 fn to_the_ends() -> &'static [Turn] {
     static TURNS: [Turn; 3] = [
         Turn::Run(0, 100, Status::Ended, 13, 6),
@@ -35,12 +35,12 @@ fn to_the_ends() -> &'static [Turn] {
     &TURNS
 }
 
-// Whether all was right so far, and this is the reason.
+/// Whether all was right so far, and this is the reason.
 fn is_still(right: bool, reason: CloseReason, wanted: CloseReason) -> bool {
     right && reason == wanted
 }
 
-// Whether both workers go on to their ends, and the hall is closed.
+/// Whether both workers go on to their ends, and the hall is closed.
 fn ends(alloc: Global, hall: Hall, mut workers: Vec<Worker>, right: bool) -> bool
     requires { AreWorkersOf (table_of hall) (setup_of hall) workers.items }
 {
@@ -49,7 +49,7 @@ fn ends(alloc: Global, hall: Hall, mut workers: Vec<Worker>, right: bool) -> boo
     right && goes_on && closes
 }
 
-// Worker 0 has the lock, and the hall is not closed.
+/// Worker 0 has the lock, and the hall is not closed.
 fn is_held(alloc: Global, hall: Hall, workers: Vec<Worker>, right: bool) -> bool
     requires { AreWorkersOf (table_of hall) (setup_of hall) workers.items }
 {
@@ -67,7 +67,7 @@ fn is_held(alloc: Global, hall: Hall, workers: Vec<Worker>, right: bool) -> bool
     }
 }
 
-// Worker 1 is missing, which comes before that worker 0 has the lock. Then it is there again.
+/// Worker 1 is missing, which comes before that worker 0 has the lock. Then it is there again.
 fn is_missing(alloc: Global, hall: Hall, workers: Vec<Worker>, second: Worker, right: bool) -> bool
     requires list { AreWorkersOf (table_of hall) (setup_of hall) workers.items }
     requires second { IsWorkerOf (table_of hall) (setup_of hall) second }
@@ -87,7 +87,7 @@ fn is_missing(alloc: Global, hall: Hall, workers: Vec<Worker>, second: Worker, r
     }
 }
 
-// Worker 1 is taken away.
+/// Worker 1 is taken away.
 fn loses_one(alloc: Global, hall: Hall, mut workers: Vec<Worker>, right: bool) -> bool
     requires { AreWorkersOf (table_of hall) (setup_of hall) workers.items }
 {
@@ -97,7 +97,7 @@ fn loses_one(alloc: Global, hall: Hall, mut workers: Vec<Worker>, right: bool) -
     }
 }
 
-// Worker 0 has the lock: whether the hall is closed at last, after all that.
+/// Worker 0 has the lock: whether the hall is closed at last, after all that.
 fn closes_at_last(alloc: Global) -> bool {
     match opened(alloc, prints(), 2) {
         Ok((hall, mut workers)) => {
@@ -108,7 +108,7 @@ fn closes_at_last(alloc: Global) -> bool {
     }
 }
 
-// A hall is not closed without workers.
+/// A hall is not closed without workers.
 fn wants_workers(alloc: Global, hall: Hall) -> bool {
     match hall.close(alloc, Vec::new(alloc)) {
         Ok(_) => false,
@@ -116,7 +116,7 @@ fn wants_workers(alloc: Global, hall: Hall) -> bool {
     }
 }
 
-// A hall of 64 is not closed without workers.
+/// A hall of 64 is not closed without workers.
 fn is_kept_open(alloc: Global) -> bool {
     match opened(alloc, prints(), 64) {
         Ok((hall, _)) => wants_workers(alloc, hall),

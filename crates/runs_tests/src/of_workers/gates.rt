@@ -11,7 +11,7 @@ use std::thread::Threads;
 use syntax::numbers::Status;
 use workers::Gate;
 
-// Whether a flag is set within so many looks, between which other threads run.
+/// Whether a flag is set within so many looks, between which other threads run.
 fn sees(flag: &AtomicBool, looks: u64) -> bool {
     for _ in 0..looks {
         if flag.load(Ordering::SeqCst) {
@@ -22,8 +22,8 @@ fn sees(flag: &AtomicBool, looks: u64) -> bool {
     false
 }
 
-// Holds a thread at so many accesses until another one has ended, and that one at its beginning until the first has come there. Each
-// question looks up to 1,000 times.
+/// Holds a thread at so many accesses until another one has ended, and that one at its beginning until the first has come there. Each
+/// question looks up to 1,000 times.
 #[derive(Drop)]
 struct Until {
     thread: u32,
@@ -62,8 +62,8 @@ fn made_until(thread: u32, accesses: u64, other: u32) -> Until {
     }
 }
 
-// One thread has read x when the other one adds one: it is held until that one has ended, and has to begin anew: its accesses
-// show that.
+/// One thread has read x when the other one adds one: it is held until that one has ended, and has to begin anew: its accesses
+/// show that.
 fn adds_late<R: Threads + Wait + Sync>(rt: &R, alloc: Global, held: u32, other: u32) -> bool {
     let threads = [(held, "", Status::Ended, 12), (other, "", Status::Ended, 6)];
     let wanted = Wanted {
@@ -93,7 +93,7 @@ fn read_late() -> &'static Wanted<'static> {
     &WANTED
 }
 
-// Thread 1 is held at its beginning until thread 0 has ended, and reads what that one wrote.
+/// Thread 1 is held at its beginning until thread 0 has ended, and reads what that one wrote.
 fn reads_late<R: Threads + Wait + Sync>(rt: &R, alloc: Global) -> bool {
     let gate = made_until(1, 0, 0);
     runs_as(rt, alloc, looks(), 2, 1000, &gate, read_late()) == Ok(true)
@@ -104,7 +104,7 @@ fn what_one_wrote_the_next_reads(rt: HostRuntime) {
     assert_that(&rt, reads_late(&rt, rt.alloc()));
 }
 
-// Always holds.
+/// Always holds.
 #[derive(Drop)]
 struct Always;
 
@@ -130,7 +130,7 @@ fn held_to_the_end() -> &'static Wanted<'static> {
     &WANTED
 }
 
-// Whether thread 0 is held to the end of the gate's patience, and then ends.
+/// Whether thread 0 is held to the end of the gate's patience, and then ends.
 fn is_overheld<R: Threads + Wait + Sync>(rt: &R, alloc: Global) -> bool {
     runs_as(rt, alloc, nothing(), 1, 1000, &Always, held_to_the_end()) == Ok(true)
 }
@@ -140,7 +140,7 @@ fn a_gate_that_always_holds_is_left_behind(rt: HostRuntime) {
     assert_that(&rt, is_overheld(&rt, rt.alloc()));
 }
 
-// Two threads look at their first questions for each other's.
+/// Two threads look at their first questions for each other's.
 #[derive(Drop)]
 struct Meeting {
     first: AtomicBool,
@@ -149,7 +149,7 @@ struct Meeting {
     second_saw: AtomicBool,
 }
 
-// The first question of a thread: it shows itself, and looks for the other one.
+/// The first question of a thread: it shows itself, and looks for the other one.
 fn shows_and_looks(mine: &AtomicBool, theirs: &AtomicBool, saw: &AtomicBool) {
     if !mine.load(Ordering::SeqCst) {
         mine.store(true, Ordering::SeqCst);
@@ -183,7 +183,7 @@ fn both_added() -> &'static Wanted<'static> {
     &WANTED
 }
 
-// Whether two threads add, and both saw each other at their first questions.
+/// Whether two threads add, and both saw each other at their first questions.
 fn meet_at_once<R: Threads + Wait + Sync>(rt: &R, alloc: Global) -> bool {
     let gate = Meeting {
         first: AtomicBool::new(false),

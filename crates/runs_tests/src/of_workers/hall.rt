@@ -23,7 +23,7 @@ pub enum Turn {
     Meet,
 }
 
-// A hall of so many workers of a code.
+/// A hall of so many workers of a code.
 fn open<A: Allocator + Copy>(
     alloc: A,
     code: &Code<A>,
@@ -67,7 +67,7 @@ pub fn take<A: Allocator + Copy>(
     }
 }
 
-// One more worker at the end of the list. At an `Err` the list is as it was.
+/// One more worker at the end of the list. At an `Err` the list is as it was.
 fn push<A: Allocator + Copy>(
     hall: &Hall<A>,
     workers: &mut Vec<Worker<A>, A>,
@@ -95,7 +95,7 @@ pub fn put<A: Allocator + Copy>(
     push(hall, workers, worker).is_ok()
 }
 
-// So many steps of a worker that has made few so far.
+/// So many steps of a worker that has made few so far.
 fn run<A: Allocator + Copy>(
     hall: &Hall<A>,
     worker: &mut Worker<A>,
@@ -110,7 +110,7 @@ fn run<A: Allocator + Copy>(
     Some(worker.run(hall, budget))
 }
 
-// Whether a worker's run ends so, and it then has made so many steps and accesses.
+/// Whether a worker's run ends so, and it then has made so many steps and accesses.
 fn is_run<A: Allocator + Copy>(
     hall: &Hall<A>,
     worker: &mut Worker<A>,
@@ -130,7 +130,7 @@ fn is_run<A: Allocator + Copy>(
     }
 }
 
-// Whether two workers make a turn.
+/// Whether two workers make a turn.
 fn is_made<A: Allocator + Copy>(
     hall: &Hall<A>,
     first: &mut Worker<A>,
@@ -157,7 +157,7 @@ fn is_made<A: Allocator + Copy>(
     }
 }
 
-// Two more workers at the end of the list, if there was room for them.
+/// Two more workers at the end of the list, if there was room for them.
 fn put_both<A: Allocator + Copy>(
     hall: &Hall<A>,
     workers: &mut Vec<Worker<A>, A>,
@@ -174,7 +174,7 @@ fn put_both<A: Allocator + Copy>(
     one && other
 }
 
-// Whether worker 0, the second last of the list, and this one, which was the last, make a turn.
+/// Whether worker 0, the second last of the list, and this one, which was the last, make a turn.
 fn is_turn_beside<A: Allocator + Copy>(
     hall: &Hall<A>,
     workers: &mut Vec<Worker<A>, A>,
@@ -195,7 +195,7 @@ fn is_turn_beside<A: Allocator + Copy>(
     }
 }
 
-// Whether two workers make a turn.
+/// Whether two workers make a turn.
 fn is_turn<A: Allocator + Copy>(hall: &Hall<A>, workers: &mut Vec<Worker<A>, A>, turn: Turn) -> bool
     requires { AreWorkersOf (table_of hall.now) (setup_of hall.now) workers.old.items }
     ensures { AreWorkersOf (table_of hall.now) (setup_of hall.now) workers.new.items }
@@ -226,7 +226,7 @@ pub fn are_turns<A: Allocator + Copy>(
 /// What a closed hall leaves: the word of `x`, and what the threads 0 and 1 have printed.
 pub type Left<'a> = (u64, &'a str, &'a str);
 
-// Whether a thread of a closed hall has printed this.
+/// Whether a thread of a closed hall has printed this.
 fn shows<A: Allocator + Copy>(outcome: &Outcome<A>, number: u32, text: &str) -> bool {
     for thread in &outcome.threads {
         if thread.thread() == number {
@@ -236,7 +236,7 @@ fn shows<A: Allocator + Copy>(outcome: &Outcome<A>, number: u32, text: &str) -> 
     false
 }
 
-// Whether this is left.
+/// Whether this is left.
 fn is_left<A: Allocator + Copy>(outcome: &Outcome<A>, left: Left) -> bool {
     if outcome.words.as_slice() != [left.0].as_slice() || outcome.threads.len() != 2 {
         return false;

@@ -11,7 +11,7 @@ use std::thread::Threads;
 use syntax::numbers::Status;
 use written_codes::{Levels, cancels_levels};
 
-// Whether three threads all end, and leave x with this number.
+/// Whether three threads all end, and leave x with this number.
 fn all_end<R: Threads + Wait + Sync>(rt: &R, alloc: Global, program: Program, left: u32) -> bool {
     let wanted = Wanted {
         ended: Some(3),
@@ -22,7 +22,7 @@ fn all_end<R: Threads + Wait + Sync>(rt: &R, alloc: Global, program: Program, le
     runs_as(rt, alloc, program, 3, 1 << 40, &Never, &wanted) == Ok(true)
 }
 
-// A thread that stands still with the lock kept has made two accesses: it has loaded the lock and swapped it.
+/// A thread that stands still with the lock kept has made two accesses: it has loaded the lock and swapped it.
 fn standing_still() -> &'static Wanted<'static> {
     static WANTED: Wanted<'static> = Wanted {
         ended: None,
@@ -33,12 +33,12 @@ fn standing_still() -> &'static Wanted<'static> {
     &WANTED
 }
 
-// Whether a thread of a thousand steps does so.
+/// Whether a thread of a thousand steps does so.
 fn stands_still<R: Threads + Wait + Sync>(rt: &R, alloc: Global, program: Program) -> bool {
     runs_as(rt, alloc, program, 1, 1000, &Never, standing_still()) == Ok(true)
 }
 
-// Whether threads that cancel so many levels do what they should: where levels are left they leave x with the number of these.
+/// Whether threads that cancel so many levels do what they should: where levels are left they leave x with the number of these.
 fn run<R: Threads + Wait + Sync>(
     rt: &R,
     alloc: Global,
@@ -53,7 +53,7 @@ fn run<R: Threads + Wait + Sync>(
     }
 }
 
-// Whether threads that cancel so many levels of that depth do what they should, with the lock kept and without.
+/// Whether threads that cancel so many levels of that depth do what they should, with the lock kept and without.
 fn both_run<R: Threads + Wait + Sync>(rt: &R, alloc: Global, depth: u32, cancelled: u32) -> bool {
     let free = Levels {
         depth,
@@ -64,7 +64,7 @@ fn both_run<R: Threads + Wait + Sync>(rt: &R, alloc: Global, depth: u32, cancell
     run(rt, alloc, free) == Ok(true) && run(rt, alloc, kept) == Ok(true)
 }
 
-// The first depth at which threads do something else, where two levels, all but one and all are cancelled.
+/// The first depth at which threads do something else, where two levels, all but one and all are cancelled.
 fn run_otherwise<R: Threads + Wait + Sync>(rt: &R, alloc: Global) -> Option<u32> {
     for depth in 2..17u32 {
         for cancelled in [2, depth.saturating_sub(1).max(2), depth] {

@@ -24,7 +24,7 @@ pub struct Wanted<'a> {
     pub overheld: &'a [u32],
 }
 
-// Whether so many threads ended, each by itself.
+/// Whether so many threads ended, each by itself.
 fn all_ended(report: &RunReport, threads: usize) -> bool {
     for thread in &report.threads {
         if thread.status() != Status::Ended {
@@ -39,7 +39,7 @@ fn all_ended(report: &RunReport, threads: usize) -> bool {
     report.threads.len() == threads && report.ends.len() == threads
 }
 
-// Whether memory is this one word, or thread 0 has the lock.
+/// Whether memory is this one word, or thread 0 has the lock.
 fn leaves(memory: &RunMemory, word: Option<u64>) -> bool {
     match (memory, word) {
         (RunMemory::Words(words), Some(word)) => words.as_slice() == [word].as_slice(),
@@ -48,7 +48,7 @@ fn leaves(memory: &RunMemory, word: Option<u64>) -> bool {
     }
 }
 
-// Whether a thread is found so.
+/// Whether a thread is found so.
 fn is_shown(report: &RunReport, shown: &Shown) -> bool {
     for thread in &report.threads {
         if thread.thread() == shown.0 {
@@ -59,7 +59,7 @@ fn is_shown(report: &RunReport, shown: &Shown) -> bool {
     false
 }
 
-// Whether each of these is.
+/// Whether each of these is.
 fn are_shown(report: &RunReport, threads: &[Shown]) -> bool {
     for shown in threads {
         if !is_shown(report, shown) {
@@ -69,7 +69,7 @@ fn are_shown(report: &RunReport, threads: &[Shown]) -> bool {
     true
 }
 
-// Whether a report is as wanted.
+/// Whether a report is as wanted.
 fn is_as(report: &RunReport, wanted: &Wanted) -> bool {
     let ended = match wanted.ended {
         Some(threads) => all_ended(report, threads),
@@ -81,7 +81,7 @@ fn is_as(report: &RunReport, wanted: &Wanted) -> bool {
         && are_shown(report, wanted.threads)
 }
 
-// Whether the report of so many threads of a code, each of which makes so many steps at most, is as wanted.
+/// Whether the report of so many threads of a code, each of which makes so many steps at most, is as wanted.
 fn reports<R: Threads + Wait + Sync, G: Gate + Sync>(
     rt: &R,
     alloc: Global,

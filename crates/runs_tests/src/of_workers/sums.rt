@@ -27,7 +27,7 @@ impl Gate for Never {
     }
 }
 
-// Whether so many threads that each add one so often all end, and leave this sum.
+/// Whether so many threads that each add one so often all end, and leave this sum.
 fn adds_up<R: Threads + Wait + Sync>(
     rt: &R,
     alloc: Global,
@@ -53,7 +53,7 @@ fn adds_up<R: Threads + Wait + Sync>(
     ) == Ok(true)
 }
 
-// A million commits in all tests together.
+/// A million commits in all tests together.
 #[test]
 fn no_addition_of_two_threads_is_lost(rt: HostRuntime) {
     assert_that(&rt, adds_up(&rt, rt.alloc(), 2, 200_000, 400_000));
@@ -86,7 +86,7 @@ fn unmoved() -> &'static Wanted<'static> {
     &WANTED
 }
 
-// Whether two threads without a step leave all as it was.
+/// Whether two threads without a step leave all as it was.
 fn makes_no_step<R: Threads + Wait + Sync>(rt: &R, alloc: Global) -> bool {
     runs_as(rt, alloc, prints(), 2, 0, &Never, unmoved()) == Ok(true)
 }
@@ -101,7 +101,7 @@ fn in_its_commit() -> &'static Wanted<'static> {
     &WANTED
 }
 
-// Whether a thread that is cut in the middle of its commit has the lock, and has printed.
+/// Whether a thread that is cut in the middle of its commit has the lock, and has printed.
 fn keeps_the_lock<R: Threads + Wait + Sync>(rt: &R, alloc: Global) -> bool {
     runs_as(rt, alloc, prints(), 1, 9, &Never, in_its_commit()) == Ok(true)
 }
@@ -126,7 +126,7 @@ fn one_trapped() -> &'static Wanted<'static> {
     &WANTED
 }
 
-// Whether a run of so many threads, of which the first traps, is reported so.
+/// Whether a run of so many threads, of which the first traps, is reported so.
 fn one_traps<R: Threads + Wait + Sync>(
     rt: &R,
     alloc: Global,

@@ -10,7 +10,7 @@ use std::alloc::Global;
 use syntax::numbers::Trap;
 use workers::{Hall, HallFault, Status, Worker};
 
-// Worker 0 to its end, and then worker 1.
+/// Worker 0 to its end, and then worker 1.
 fn in_order() -> &'static [Turn] {
     static TURNS: [Turn; 2] = [
         Turn::Run(0, 100, Status::Ended, 10, 4),
@@ -19,7 +19,7 @@ fn in_order() -> &'static [Turn] {
     &TURNS
 }
 
-// Worker 0 to its end, a meeting, and then worker 1.
+/// Worker 0 to its end, a meeting, and then worker 1.
 fn in_order_with_a_meeting() -> &'static [Turn] {
     static TURNS: [Turn; 3] = [
         Turn::Run(0, 100, Status::Ended, 10, 4),
@@ -29,7 +29,7 @@ fn in_order_with_a_meeting() -> &'static [Turn] {
     &TURNS
 }
 
-// Whether worker 1 reads what worker 0 wrote.
+/// Whether worker 1 reads what worker 0 wrote.
 fn reads_it(alloc: Global, turns: &[Turn]) -> bool {
     match opened(alloc, looks(), 2) {
         Ok((hall, mut workers)) => {
@@ -48,7 +48,7 @@ fn what_one_wrote_the_next_reads(rt: HostRuntime) {
     assert_all(&rt, &[("in order", in_turn), ("with a meeting", met)]);
 }
 
-// Worker 0 traps, and stays there.
+/// Worker 0 traps, and stays there.
 fn trapped() -> &'static [Turn] {
     static TURNS: [Turn; 2] = [
         Turn::Run(0, 100, Status::Trapped(Trap::ZeroDivisor), 3, 0),
@@ -69,13 +69,13 @@ fn a_trap_is_told(rt: HostRuntime) {
     assert_that(&rt, traps(rt.alloc()));
 }
 
-// A step of worker 1.
+/// A step of worker 1.
 fn one_step() -> &'static [Turn] {
     static TURNS: [Turn; 1] = [Turn::Run(1, 1, Status::Budget, 1, 1)];
     &TURNS
 }
 
-// Whether another hall is opened, and a step is made in each.
+/// Whether another hall is opened, and a step is made in each.
 fn opens_another(alloc: Global, hall: &Hall, workers: &mut Vec<Worker>) -> bool
     requires { AreWorkersOf (table_of hall.now) (setup_of hall.now) workers.old.items }
 {
@@ -89,7 +89,7 @@ fn opens_another(alloc: Global, hall: &Hall, workers: &mut Vec<Worker>) -> bool
     }
 }
 
-// Whether there are two halls at one time.
+/// Whether there are two halls at one time.
 fn are_two(alloc: Global) -> bool {
     match opened(alloc, adds(), 2) {
         Ok((hall, mut workers)) => opens_another(alloc, &hall, &mut workers),
@@ -97,7 +97,7 @@ fn are_two(alloc: Global) -> bool {
     }
 }
 
-// Why a hall of so many threads is refused, if it is.
+/// Why a hall of so many threads is refused, if it is.
 fn refusal(alloc: Global, threads: u32) -> Option<HallFault> {
     match opened(alloc, adds(), threads) {
         Ok(_) => None,
@@ -105,7 +105,7 @@ fn refusal(alloc: Global, threads: u32) -> Option<HallFault> {
     }
 }
 
-// Two halls are opened, and none of 65 threads and none of no thread.
+/// Two halls are opened, and none of 65 threads and none of no thread.
 #[test]
 fn halls_are_opened(rt: HostRuntime) {
     let two = are_two(rt.alloc());

@@ -6,7 +6,7 @@ use crate::of_workers::programs::{Program, adds, reads_again};
 use std::alloc::Global;
 use workers::{Status, Tally, Worker};
 
-// What a worker counts.
+/// What a worker counts.
 fn tally(begun: u64, dropped: u64, retried: u64) -> Tally {
     Tally {
         begun,
@@ -15,7 +15,7 @@ fn tally(begun: u64, dropped: u64, retried: u64) -> Tally {
     }
 }
 
-// Whether worker 0 has counted this.
+/// Whether worker 0 has counted this.
 fn has_counted(workers: &[Worker], wanted: Tally) -> bool {
     match workers.iter().find(|worker| worker.thread() == 0) {
         Some(worker) => worker.tally() == wanted,
@@ -23,7 +23,7 @@ fn has_counted(workers: &[Worker], wanted: Tally) -> bool {
     }
 }
 
-// Whether two workers of a program make these turns, this word is left, and worker 0 has counted this.
+/// Whether two workers of a program make these turns, this word is left, and worker 0 has counted this.
 fn makes(alloc: Global, program: Program, turns: &[Turn], word: u64, wanted: Tally) -> bool {
     match opened(alloc, program, 2) {
         Ok((hall, mut workers)) => {
@@ -36,8 +36,8 @@ fn makes(alloc: Global, program: Program, turns: &[Turn], word: u64, wanted: Tal
     }
 }
 
-// Whether two workers, of which worker 0 reads four times and worker 1 writes this word, make these turns, the word
-// is left, and worker 0 has counted this.
+/// Whether two workers, of which worker 0 reads four times and worker 1 writes this word, make these turns, the word
+/// is left, and worker 0 has counted this.
 fn makes_reading(alloc: Global, written: u32, turns: &[Turn], wanted: Tally) -> bool {
     makes(
         alloc,
@@ -48,7 +48,7 @@ fn makes_reading(alloc: Global, written: u32, turns: &[Turn], wanted: Tally) -> 
     )
 }
 
-// Worker 1 writes the word that is there before the last of the reads: validation finds all three entries unchanged.
+/// Worker 1 writes the word that is there before the last of the reads: validation finds all three entries unchanged.
 fn goes_on() -> &'static [Turn] {
     static TURNS: [Turn; 3] = [
         Turn::Run(0, 9, Status::Budget, 9, 7),
@@ -58,8 +58,8 @@ fn goes_on() -> &'static [Turn] {
     &TURNS
 }
 
-// Worker 1 writes the word that is there before the last of the reads, and the runs of worker 0 end after the lock's
-// load, after the second entry, and after the last one.
+/// Worker 1 writes the word that is there before the last of the reads, and the runs of worker 0 end after the lock's
+/// load, after the second entry, and after the last one.
 fn goes_on_in_pieces() -> &'static [Turn] {
     static TURNS: [Turn; 6] = [
         Turn::Run(0, 9, Status::Budget, 9, 7),
@@ -72,8 +72,8 @@ fn goes_on_in_pieces() -> &'static [Turn] {
     &TURNS
 }
 
-// Worker 1 has the lock before the last of the reads, and writes the word that is there: validation waits for its
-// release.
+/// Worker 1 has the lock before the last of the reads, and writes the word that is there: validation waits for its
+/// release.
 fn waits() -> &'static [Turn] {
     static TURNS: [Turn; 5] = [
         Turn::Run(0, 9, Status::Budget, 9, 7),
@@ -85,7 +85,7 @@ fn waits() -> &'static [Turn] {
     &TURNS
 }
 
-// Worker 1 has the lock where worker 0 begins, which waits for its release.
+/// Worker 1 has the lock where worker 0 begins, which waits for its release.
 fn begins_late() -> &'static [Turn] {
     static TURNS: [Turn; 4] = [
         Turn::Run(1, 6, Status::Budget, 6, 2),
@@ -96,7 +96,7 @@ fn begins_late() -> &'static [Turn] {
     &TURNS
 }
 
-// Worker 1 writes another word: validation drops the attempt at its first entry.
+/// Worker 1 writes another word: validation drops the attempt at its first entry.
 fn begins_anew() -> &'static [Turn] {
     static TURNS: [Turn; 3] = [
         Turn::Run(0, 9, Status::Budget, 9, 7),
@@ -106,7 +106,7 @@ fn begins_anew() -> &'static [Turn] {
     &TURNS
 }
 
-// Both add, and worker 1 between the reads of worker 0 and its commit, which loses its swap.
+/// Both add, and worker 1 between the reads of worker 0 and its commit, which loses its swap.
 fn loses_its_swap() -> &'static [Turn] {
     static TURNS: [Turn; 3] = [
         Turn::Run(0, 6, Status::Budget, 6, 3),
