@@ -68,7 +68,7 @@ def transcript(path):
 def tests():
     examples = [row([literal(name), data(read(name)), data(read(name[:-2] + ".out"))], 8) for name in programs()]
     transcripts = [row([literal(words), *map(data, shown)], 8) for words, *shown in map(transcript, names("examples/transcripts/*.txt"))]
-    return f"""//! The programs of examples/, with what each prints, and the transcripts of examples/transcripts/: written by scripts/examples.py.
+    return f"""//! The programs of examples/ with what each prints, and its transcripts: written by scripts/examples.py.
 
 use serving_in_memory::{{Served, serve_line}};
 use std::alloc::Global;

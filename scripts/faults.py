@@ -99,7 +99,8 @@ def explanations(page):
     arms = "".join(f"        {number} => Some(\n            {literal(text)},\n        ),\n" for number, text in rows)
     return f"""//! What each fault means, as docs/FAULTS.md says it: written by scripts/faults.py.
 
-/// What a fault means, when it comes, with its place and an example: lines that end with LF. `None` where no fault has the number.
+/// What a fault means, when it comes, with its place and an example: lines that end with LF. `None` where no fault has
+/// the number.
 pub fn explanation(number: u32) -> Option<&'static str> {{
     match number {{
 {arms}        _ => None,

@@ -85,8 +85,8 @@ impl<A: Allocator + Copy> AtomicThread<A> {
     /// over. An outermost transaction finds `found`, for each cell a word of its type; a thread that stands inside one
     /// goes on in its own memory. A thread that is over makes no instruction.
     ///
-    /// The error comes only where memory is refused: the instructions before are made and counted, and the one that was not made
-    /// leaves no trace.
+    /// The error comes only where memory is refused: the instructions before are made and counted, and the one that was
+    /// not made leaves no trace.
     pub fn go<B: Allocator>(
         &mut self,
         code: &Code<B>,
@@ -96,7 +96,8 @@ impl<A: Allocator + Copy> AtomicThread<A> {
         requires of { IsThreadOf code.now self.old.thread }
         requires found { IsMemory (bounds_of code.now) found.now }
         requires count { self.old.steps + steps < 2 ^ 64 }
-        ensures ok { IfOk result (λ r. CarriesOn code.now found.now steps self.old.thread r.steps (memory_of r.left) self.new.thread) }
+        ensures ok { IfOk result
+            (λ r. CarriesOn code.now found.now steps self.old.thread r.steps (memory_of r.left) self.new.thread) }
         ensures steps { IfOk result (λ r. self.new.steps ≡ self.old.steps + r.steps) }
         ensures end { IfOk result (λ r. r.end ≡ end_by self.new.thread.status) }
         ensures left { IfOk result (λ r. IfSome r.left (λ m. IsMemory (bounds_of code.now) m.items)) }

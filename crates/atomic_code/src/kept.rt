@@ -9,7 +9,8 @@ ghost use Rattle.bytecode.specs.Valid.{IsValid, bounds_of};
 ghost use Rattle.frames.specs.Open.{CanRestore, IsConfigurationOf, restored};
 ghost use Rattle.frames.specs.Told.{IsCall, IsLocalStep, piece_of};
 ghost use Rattle.atomic_code.specs.Threads.{Runs, cancelled_from};
-ghost use Rattle.atomic_code.specs.inner.Making.{Cancels, HasMemoryAtHand, Makes, MayPrint, at_hand, thread_of, saved_by, transaction_of};
+ghost use Rattle.atomic_code.specs.inner.Making.{Cancels, HasMemoryAtHand, Makes, MayPrint, at_hand, thread_of};
+ghost use Rattle.atomic_code.specs.inner.Making.{saved_by, transaction_of};
 
 use crate::open::{
     Begun, Open, close_inner, close_several, open_inner, open_outermost, set_word, word_in,
@@ -44,7 +45,8 @@ pub(crate) enum Signal<A: Allocator> {
 /// Goes on where a cancel of the begin that stands here does.
 fn cancel_here<A: Allocator + Copy, B: Allocator>(frames: &mut Frames<A>, code: &Code<B>)
     requires { IsConfigurationOf code.now frames.old.configuration }
-    ensures { frames.new.configuration ≡ after_cancel (effect code.now frames.old.configuration) frames.old.configuration }
+    ensures { frames.new.configuration ≡ after_cancel (effect code.now frames.old.configuration)
+        frames.old.configuration }
 {
     if let Doing::Begin(to) = frames.doing(code) {
         frames.go_to(to);
@@ -93,7 +95,8 @@ impl<A: Allocator + Copy> KeptThread<A> {
         requires running { self.old.status ≡ Running }
         requires runs { Runs code.now (thread_of self.old) }
         requires told { IsCall code.now self.old.frames.configuration }
-        ensures ok { IfOk result (λ s. (m : Option Memory) → Makes code.now m (thread_of self.old) s (thread_of self.new)) }
+        ensures ok { IfOk result (λ s. (m : Option Memory)
+            → Makes code.now m (thread_of self.old) s (thread_of self.new)) }
         ensures err { OnErr result (thread_of self.new ≡ thread_of self.old) }
     {
         self.frames.prepare_call(code)?;
@@ -105,7 +108,8 @@ impl<A: Allocator + Copy> KeptThread<A> {
         requires valid { IsValid code.now }
         requires running { self.old.status ≡ Running }
         requires runs { Runs code.now (thread_of self.old) }
-        requires returns { effect code.now self.old.frames.configuration ≡ returned self.old.frames.configuration.frames word }
+        requires returns { effect code.now self.old.frames.configuration
+            ≡ returned self.old.frames.configuration.frames word }
         requires caller { 0 < length self.old.frames.configuration.frames }
         ensures { (m : Option Memory) → Makes code.now m (thread_of self.old) result (thread_of self.new) }
     {
@@ -118,8 +122,10 @@ impl<A: Allocator + Copy> KeptThread<A> {
         requires valid { IsValid code.now }
         requires running { self.old.status ≡ Running }
         requires runs { Runs code.now (thread_of self.old) }
-        requires prints { effect code.now self.old.frames.configuration ≡ Effect.Print (piece_of code.now doing) (onward self.old.frames.configuration) }
-        ensures ok { IfOk result (λ s. (m : Option Memory) → Makes code.now m (thread_of self.old) s (thread_of self.new)) }
+        requires prints { effect code.now self.old.frames.configuration
+            ≡ Effect.Print (piece_of code.now doing) (onward self.old.frames.configuration) }
+        ensures ok { IfOk result (λ s. (m : Option Memory)
+            → Makes code.now m (thread_of self.old) s (thread_of self.new)) }
         ensures err { OnErr result (thread_of self.new ≡ thread_of self.old) }
     {
         if !may_print(&self.open_in) {
@@ -143,8 +149,10 @@ impl<A: Allocator + Copy> KeptThread<A> {
         requires runs { Runs code.now (thread_of self.old) }
         requires outside { option_map transaction_of self.old.open_in ≡ None }
         requires found { HasMemoryAtHand (bounds_of code.now) (at_hand (λ m. m.now) found) }
-        requires begins { effect code.now self.old.frames.configuration ≡ Effect.Begin (onward self.old.frames.configuration) (going self.old.frames.configuration to) }
-        ensures ok { IfOk result (λ s. Makes code.now (at_hand (λ m. m.now) found.entry) (thread_of self.old) s (thread_of self.new)) }
+        requires begins { effect code.now self.old.frames.configuration
+            ≡ Effect.Begin (onward self.old.frames.configuration) (going self.old.frames.configuration to) }
+        ensures ok { IfOk result
+            (λ s. Makes code.now (at_hand (λ m. m.now) found.entry) (thread_of self.old) s (thread_of self.new)) }
         ensures err { OnErr result (thread_of self.new ≡ thread_of self.old) }
     {
         // The prover names by it where a cancel goes on.
@@ -171,8 +179,10 @@ impl<A: Allocator + Copy> KeptThread<A> {
         requires running { self.old.status ≡ Running }
         requires runs { Runs code.now (thread_of self.old) }
         requires found { HasMemoryAtHand (bounds_of code.now) (at_hand (λ m. m.now) found) }
-        requires begins { effect code.now self.old.frames.configuration ≡ Effect.Begin (onward self.old.frames.configuration) (going self.old.frames.configuration to) }
-        ensures ok { IfOk result (λ s. Makes code.now (at_hand (λ m. m.now) found.entry) (thread_of self.old) s (thread_of self.new)) }
+        requires begins { effect code.now self.old.frames.configuration
+            ≡ Effect.Begin (onward self.old.frames.configuration) (going self.old.frames.configuration to) }
+        ensures ok { IfOk result
+            (λ s. Makes code.now (at_hand (λ m. m.now) found.entry) (thread_of self.old) s (thread_of self.new)) }
         ensures err { OnErr result (thread_of self.new ≡ thread_of self.old) }
     {
         match &mut self.open_in {
@@ -190,7 +200,8 @@ impl<A: Allocator + Copy> KeptThread<A> {
         requires valid { IsValid code.now }
         requires running { self.old.status ≡ Running }
         requires runs { Runs code.now (thread_of self.old) }
-        requires reads { effect code.now self.old.frames.configuration ≡ Effect.Read cell (setting self.old.frames.configuration d) }
+        requires reads { effect code.now self.old.frames.configuration
+            ≡ Effect.Read cell (setting self.old.frames.configuration d) }
         requires there { d < length self.old.frames.configuration.registers }
         ensures { (m : Option Memory) → Makes code.now m (thread_of self.old) result (thread_of self.new) }
     {
@@ -208,7 +219,8 @@ impl<A: Allocator + Copy> KeptThread<A> {
         requires valid { IsValid code.now }
         requires running { self.old.status ≡ Running }
         requires runs { Runs code.now (thread_of self.old) }
-        requires writes { effect code.now self.old.frames.configuration ≡ Effect.Write cell word (onward self.old.frames.configuration) }
+        requires writes { effect code.now self.old.frames.configuration
+            ≡ Effect.Write cell word (onward self.old.frames.configuration) }
         ensures { (m : Option Memory) → Makes code.now m (thread_of self.old) result (thread_of self.new) }
     {
         match &mut self.open_in {
@@ -225,7 +237,8 @@ impl<A: Allocator + Copy> KeptThread<A> {
         requires valid { IsValid code.now }
         requires running { self.old.status ≡ Running }
         requires runs { Runs code.now (thread_of self.old) }
-        requires told { effect code.now self.old.frames.configuration ≡ Effect.Irrevocable (onward self.old.frames.configuration) }
+        requires told { effect code.now self.old.frames.configuration
+            ≡ Effect.Irrevocable (onward self.old.frames.configuration) }
         ensures { (m : Option Memory) → Makes code.now m (thread_of self.old) result (thread_of self.new) }
     {
         self.frames.go_on(code);
@@ -243,7 +256,8 @@ impl<A: Allocator + Copy> KeptThread<A> {
         requires valid { IsValid code.now }
         requires running { self.old.status ≡ Running }
         requires runs { Runs code.now (thread_of self.old) }
-        requires commits { effect code.now self.old.frames.configuration ≡ Effect.Commit (onward self.old.frames.configuration) }
+        requires commits { effect code.now self.old.frames.configuration
+            ≡ Effect.Commit (onward self.old.frames.configuration) }
         ensures { (m : Option Memory) → Makes code.now m (thread_of self.old) result (thread_of self.new) }
     {
         match self.open_in.take() {
@@ -261,8 +275,8 @@ impl<A: Allocator + Copy> KeptThread<A> {
         }
     }
 
-    /// A cancel of so many levels stands still outside transactions, and where it would undo the outermost one after that was
-    /// made irrevocable.
+    /// A cancel of so many levels stands still outside transactions, and where it would undo the outermost one after
+    /// that was made irrevocable.
     fn cancel<B: Allocator>(&mut self, code: &Code<B>, levels: u32) -> Signal<A>
         requires valid { IsValid code.now }
         requires running { self.old.status ≡ Running }
@@ -323,7 +337,8 @@ impl<A: Allocator + Copy> KeptThread<A> {
         Signal::Goes
     }
 
-    /// Makes one instruction, with this memory at hand. The error comes only where memory is refused; nothing is changed then.
+    /// Makes one instruction, with this memory at hand. The error comes only where memory is refused; nothing is
+    /// changed then.
     pub(crate) fn step<B: Allocator>(
         &mut self,
         alloc: A,
@@ -334,7 +349,8 @@ impl<A: Allocator + Copy> KeptThread<A> {
         requires running { self.old.status ≡ Running }
         requires runs { Runs code.now (thread_of self.old) }
         requires found { HasMemoryAtHand (bounds_of code.now) (at_hand (λ m. m.now) found) }
-        ensures ok { IfOk result (λ s. Makes code.now (at_hand (λ m. m.now) found.entry) (thread_of self.old) s (thread_of self.new)) }
+        ensures ok { IfOk result
+            (λ s. Makes code.now (at_hand (λ m. m.now) found.entry) (thread_of self.old) s (thread_of self.new)) }
         ensures err { OnErr result (thread_of self.new ≡ thread_of self.old) }
     {
         match self.frames.doing(code) {

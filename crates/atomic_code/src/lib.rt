@@ -1,7 +1,7 @@
 //! Threads of register code, with transactions as single steps.
 //!
-//! An `AtomicThread` carries a thread on in pieces. Nothing interrupts a transaction: it finds a memory as it begins and leaves
-//! one as it ends, as the code's meaning has it.
+//! An `AtomicThread` carries a thread on in pieces. Nothing interrupts a transaction: it finds a memory as it begins
+//! and leaves one as it ends, as the code's meaning has it.
 #![tactic(auto)]
 
 mod atomic;

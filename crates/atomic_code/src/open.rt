@@ -1,13 +1,15 @@
 //! Open transactions.
 
-ghost use Rattle.std.specs.Prelude.{◌≡◌, ◌∷◌, ◌-◌, ◌<◌, ◌≤◌, [], List, ℕ, length, drop, IfOk, IfSome, IfNone, OnOk, OnErr, slice_index, slice_set};
+ghost use Rattle.std.specs.Prelude.{◌≡◌, ◌∷◌, ◌-◌, ◌<◌, ◌≤◌, [], List, ℕ, length, drop, IfOk, IfSome, IfNone, OnOk};
+ghost use Rattle.std.specs.Prelude.{OnErr, slice_index, slice_set};
 ghost use Rattle.frames.specs.Open.{saved_in};
 ghost use Rattle.atomic_code.specs.inner.Making.{begun_in, inner_of, saved_by, transaction_of, with_memory};
 
 use frames::Frames;
 use std::alloc::{AllocError, Allocator};
 
-/// What a begin keeps: the registers of the frame on top, the number of frames, its place, and the memory that it found.
+/// What a begin keeps: the registers of the frame on top, the number of frames, its place, and the memory that it
+/// found.
 #[derive(Drop)]
 pub(crate) struct Begun<A: Allocator> {
     pub registers: Vec<u64, A>,
@@ -72,7 +74,10 @@ pub(crate) fn open_inner<A: Allocator + Copy>(
     transaction: &mut Open<A>,
 ) -> Result<(), AllocError>
     requires { length frames.now.configuration.frames < 64 }
-    ensures ok { OnOk result (transaction_of transaction.new ≡ with_memory (transaction_of transaction.old) (transaction_of transaction.old).mem (record { cancelled = saved_in frames.now.configuration; mem = (transaction_of transaction.old).mem } ∷ (transaction_of transaction.old).inner)) }
+    ensures ok { OnOk result (transaction_of transaction.new
+        ≡ with_memory (transaction_of transaction.old) (transaction_of transaction.old).mem
+        (record { cancelled = saved_in frames.now.configuration; mem = (transaction_of transaction.old).mem }
+        ∷ (transaction_of transaction.old).inner)) }
     ensures err { OnErr result (transaction_of transaction.new ≡ transaction_of transaction.old) }
 {
     transaction.inner.reserve(1)?;
@@ -83,7 +88,9 @@ pub(crate) fn open_inner<A: Allocator + Copy>(
 
 /// Closes the innermost inner transaction, if there is one: what its begin saved.
 pub(crate) fn close_inner<A: Allocator>(transaction: &mut Open<A>) -> Option<Begun<A>>
-    ensures some { IfSome result (λ b. transaction_of transaction.old ≡ with_memory (transaction_of transaction.new) (transaction_of transaction.new).mem (inner_of b ∷ (transaction_of transaction.new).inner)) }
+    ensures some { IfSome result (λ b. transaction_of transaction.old
+        ≡ with_memory (transaction_of transaction.new) (transaction_of transaction.new).mem
+        (inner_of b ∷ (transaction_of transaction.new).inner)) }
     ensures none { IfNone result ((transaction_of transaction.old).inner ≡ []) }
     ensures same { IfNone result (transaction_of transaction.new ≡ transaction_of transaction.old) }
 {
@@ -93,18 +100,24 @@ pub(crate) fn close_inner<A: Allocator>(transaction: &mut Open<A>) -> Option<Beg
 /// Closes so many inner transactions, the innermost ones.
 fn close_inside<A: Allocator>(transaction: &mut Open<A>, count: usize)
     requires { count ≤ length (transaction_of transaction.old).inner }
-    ensures { transaction_of transaction.new ≡ with_memory (transaction_of transaction.old) (transaction_of transaction.old).mem (drop count (transaction_of transaction.old).inner) }
+    ensures { transaction_of transaction.new ≡ with_memory (transaction_of transaction.old)
+        (transaction_of transaction.old).mem (drop count (transaction_of transaction.old).inner) }
 {
     let left = transaction.inner.len() - count;
     transaction.inner.truncate(left);
 }
 
-/// Closes so many inner transactions, the innermost ones, if there are as many: what the begin of the outermost of these saved.
+/// Closes so many inner transactions, the innermost ones, if there are as many: what the begin of the outermost of
+/// these saved.
 pub(crate) fn close_several<A: Allocator>(
     transaction: &mut Open<A>,
     levels: u32,
 ) -> Option<Begun<A>>
-    ensures some { IfSome result (λ b. with_memory (transaction_of transaction.old) (transaction_of transaction.old).mem (drop (levels - 1) (transaction_of transaction.old).inner) ≡ with_memory (transaction_of transaction.new) (transaction_of transaction.new).mem (inner_of b ∷ (transaction_of transaction.new).inner)) }
+    ensures some { IfSome result
+        (λ b. with_memory (transaction_of transaction.old) (transaction_of transaction.old).mem
+        (drop (levels - 1) (transaction_of transaction.old).inner)
+        ≡ with_memory (transaction_of transaction.new) (transaction_of transaction.new).mem
+        (inner_of b ∷ (transaction_of transaction.new).inner)) }
     ensures none { IfNone result (drop (levels - 1) (transaction_of transaction.old).inner ≡ []) }
     ensures same { IfNone result (transaction_of transaction.new ≡ transaction_of transaction.old) }
 {
@@ -127,7 +140,8 @@ pub(crate) fn word_in<A: Allocator>(transaction: &Open<A>, cell: u32) -> u64
 /// Sets the word of a cell.
 pub(crate) fn set_word<A: Allocator>(transaction: &mut Open<A>, cell: u32, word: u64)
     requires { cell < length (transaction_of transaction.old).mem }
-    ensures { transaction_of transaction.new ≡ with_memory (transaction_of transaction.old) (slice_set (transaction_of transaction.old).mem cell word) (transaction_of transaction.old).inner }
+    ensures { transaction_of transaction.new ≡ with_memory (transaction_of transaction.old)
+        (slice_set (transaction_of transaction.old).mem cell word) (transaction_of transaction.old).inner }
 {
     transaction.memory[cell as usize] = word;
 }

@@ -58,8 +58,8 @@ fn memory_at<A: Allocator>(founds: &[Vec<u64, A>], number: usize) -> Option<&[u6
     }
 }
 
-/// What thread `number` of a code does within so many instructions, where the i-th of its outermost transactions finds the i-th
-/// of these memories of the code. The error comes only where memory is refused.
+/// What thread `number` of a code does within so many instructions, where the i-th of its outermost transactions finds
+/// the i-th of these memories of the code. The error comes only where memory is refused.
 pub fn thread<A: Allocator + Copy, B: Allocator>(
     alloc: A,
     code: &Code<B>,
@@ -68,7 +68,8 @@ pub fn thread<A: Allocator + Copy, B: Allocator>(
     steps: u64,
 ) -> Result<ThreadOutcome<A>, AllocError>
     requires { AllByRecursion (IsMemory (bounds_of code.now)) (memories_in founds.now) }
-    ensures { IfOk result (λ o. outcome_in o ≡ meaning (effect code.now) (beginning code.now) number (memories_in founds.now) steps) }
+    ensures { IfOk result (λ o. outcome_in o ≡ meaning (effect code.now) (beginning code.now) number
+        (memories_in founds.now) steps) }
 {
     // The prover learns here that the code is valid.
     code.known();

@@ -220,7 +220,8 @@ fn insist_twice<A: Allocator + Copy>(core: &mut Core<A>) -> Option<u64> {
     }
 }
 
-/// Whether steps are made where a growth may be refused: then one is, unless it is still to come, and a transaction follows.
+/// Whether steps are made where a growth may be refused: then one is, unless it is still to come, and a transaction
+/// follows.
 fn insists<A: Allocator + Copy, B: Allocator>(core: &mut Core<A>, refusing: &Refusing<B>) -> bool {
     let refused = insist_twice(core);
     if refusing.is_waiting() {
@@ -352,7 +353,8 @@ fn reads<A: Allocator + Copy>(
     }
 }
 
-/// Whether a read is made whole where nothing disturbs it, leaves validation where the lock has moved, and is not made there.
+/// Whether a read is made whole where nothing disturbs it, leaves validation where the lock has moved, and is not made
+/// there.
 fn reads_up_to_validation<A: Allocator + Copy>(core: &mut Core<A>) -> bool {
     reads(core, 5, 7, 2) == Some(Outcome::Read(7))
         && reads(core, 6, 7, 4) == Some(Outcome::Going)

@@ -1,5 +1,6 @@
-//! Tests of the containers, of the lexer, of what is told of faults, of the logs and the core, and of the words of a command line,
-//! in a crate of their own: a crate with tests is proved twice, and each crate of tests reads and links all that it stands on.
+//! Tests of the containers, of the lexer, of what is told of faults, of the logs and the core, and of the words of a
+//! command line, in a crate of their own: a crate with tests is proved twice, and each crate of tests reads and links
+//! all that it stands on.
 #![tactic(auto)]
 
 #[cfg(test)]

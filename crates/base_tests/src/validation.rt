@@ -71,7 +71,8 @@ fn compares_all<A: Allocator + Copy>(core: &mut Core<A>) -> bool {
         && compares(core, Some(7), 70)
 }
 
-/// Whether validation does that, finds the lock changed again, and then not, and the read is made at the new lock value.
+/// Whether validation does that, finds the lock changed again, and then not, and the read is made at the new lock
+/// value.
 fn goes_on<A: Allocator + Copy>(core: &mut Core<A>) -> bool {
     comes_to_validation(core)
         && compares_all(core)

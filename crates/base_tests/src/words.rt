@@ -1,5 +1,5 @@
-//! Command lines, and what they ask. In a line a bar stands between two words; what is asked, or why nothing is, stands as
-//! Rust's `{:?}` writes it.
+//! Command lines, and what they ask. In a line a bar stands between two words; what is asked, or why nothing is, stands
+//! as Rust's `{:?}` writes it.
 
 use crate::asserted::{assert_none, assert_that};
 use command::command;

@@ -1,10 +1,13 @@
 -- The listing of a code: its text, byte by byte.
-use Rattle.std.specs.Prelude.{ℕ, suc, ◌-◌, ◌==◌, List, [], ◌∷◌, ◌++◌, take, drop, codes, decimal, flat_map, Option, Some, None, slice_get, unwrap_or}
+use Rattle.std.specs.Prelude.{ℕ, suc, ◌-◌, ◌==◌, List, [], ◌∷◌, ◌++◌, take, drop, codes, decimal, flat_map, Option}
+use Rattle.std.specs.Prelude.{Some, None, slice_get, unwrap_or}
 use Rattle.std.specs.Map.{lookup}
 use Rattle.lex.specs.declared.token.Scalar.{Scalar}
 use Rattle.lex.specs.declared.token.Scalar.TheVariants.{Int, Unsigned, LongLong}
 use Rattle.syntax.specs.declared.tree.BinaryOp.{BinaryOp}
-use Rattle.syntax.specs.declared.tree.BinaryOp.TheVariants.{Or, Xor, And, Equal, NotEqual, Less, Greater, LessEqual, GreaterEqual, ShiftLeft, ShiftRight, Add, Subtract, Multiply, Divide, Remainder}
+use Rattle.syntax.specs.declared.tree.BinaryOp.TheVariants.{Or, Xor, And, Equal, NotEqual, Less, Greater, LessEqual}
+use Rattle.syntax.specs.declared.tree.BinaryOp.TheVariants.{GreaterEqual, ShiftLeft, ShiftRight, Add, Subtract}
+use Rattle.syntax.specs.declared.tree.BinaryOp.TheVariants.{Multiply, Divide, Remainder}
 use Rattle.bytecode.specs.Code.{Instr, FunctionCode, Code}
 use Rattle.bytecode.specs.Valid.{end_before}
 

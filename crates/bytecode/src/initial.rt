@@ -22,8 +22,8 @@ fn seen(of: Scalar, word: u64) -> u64
 }
 
 impl<A: Allocator> Code<A> {
-    /// Adds the first word of each cell, in order: the one that its initialiser gives, or else 0. After an `Err`, which comes
-    /// only where a growth is refused, some of them are added.
+    /// Adds the first word of each cell, in order: the one that its initialiser gives, or else 0. After an `Err`, which
+    /// comes only where a growth is refused, some of them are added.
     pub fn push_initial<B: Allocator>(&self, words: &mut Vec<u64, B>) -> Result<(), AllocError>
         ensures words { OnOk result (words.new.items ≡ words.old.items ++ initial_of self.now) }
         ensures valid { IsValid self.now }

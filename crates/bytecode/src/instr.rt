@@ -10,8 +10,8 @@ ghost use Rattle.bytecode.specs.Views.{instr_of};
 use lex::token::Scalar;
 use syntax::tree::BinaryOp;
 
-/// An instruction: the line that a listing shows of it, and what it does. Trap 1 is a result out of range, 2 a division by
-/// zero, 3 an index, 4 a frame too many, 5 a shift count.
+/// An instruction: the line that a listing shows of it, and what it does. Trap 1 is a result out of range, 2 a division
+/// by zero, 3 an index, 4 a frame too many, 5 a shift count.
 #[derive(Clone, Copy)]
 pub enum Instr {
     /// `const rD #K`: rD = K.
@@ -177,8 +177,8 @@ pub enum Instr {
     /// `irrevocable`: takes the lock, so that a print can follow.
     Irrevocable,
 
-    /// `call NAME rD rA ..`, as `(d, count, f, first)`: calls function f with so many arguments, whose registers stand in
-    /// the code's list of arguments from `first` on; rD = what it gives. Trap 4 where it would be the 65th frame.
+    /// `call NAME rD rA ..`, as `(d, count, f, first)`: calls function f with so many arguments, whose registers stand
+    /// in the code's list of arguments from `first` on; rD = what it gives. Trap 4 where it would be the 65th frame.
     Call(u16, u16, u32, u32),
 
     /// `ret`: gives 0.
@@ -201,8 +201,8 @@ pub enum Instr {
 }
 
 impl Instr {
-    /// The operator of two registers that the instruction is, its type, the register that takes the result, and these two;
-    /// none for any other instruction. Where words of all types have one operator, its type is `unsigned int`.
+    /// The operator of two registers that the instruction is, its type, the register that takes the result, and these
+    /// two; none for any other instruction. Where words of all types have one operator, its type is `unsigned int`.
     pub fn operator(&self) -> Option<(BinaryOp, Scalar, u16, u16, u16)>
         ensures { result ≡ operator_of (instr_of [] self.now) }
     {

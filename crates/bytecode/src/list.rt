@@ -1,6 +1,7 @@
 //! The listing of a code.
 
-ghost use Rattle.std.specs.Prelude.{◌≡◌, ◌+◌, ◌-◌, ◌<◌, ◌^◌, ◌++◌, ◌∷◌, [], OnOk, IfOk, string_bytes, codes, decimal, flat_map, map, length};
+ghost use Rattle.std.specs.Prelude.{◌≡◌, ◌+◌, ◌-◌, ◌<◌, ◌^◌, ◌++◌, ◌∷◌, [], OnOk, IfOk, string_bytes, codes, decimal};
+ghost use Rattle.std.specs.Prelude.{flat_map, map, length};
 ghost use Rattle.bytecode.specs.Flat.{decoded};
 ghost use Rattle.bytecode.specs.Listing.{cut_text, lines_from, escaped, functions_text, text_at, texts_text};
 ghost use Rattle.bytecode.specs.Listing as spec;
@@ -24,7 +25,8 @@ fn push_lines<A: Allocator>(
 ) -> Result<(), AllocError>
     requires whole { AreWhole words.now firsts.now }
     requires few { from + length firsts.now < 2 ^ 64 }
-    ensures { OnOk result (string_bytes text.new ≡ string_bytes text.old ++ lines_from (map function_of functions.now) from (map (decoded words.now) firsts.now)) }
+    ensures { OnOk result (string_bytes text.new ≡ string_bytes text.old
+        ++ lines_from (map function_of functions.now) from (map (decoded words.now) firsts.now)) }
 {
     let mut place = from;
     'each: for first in firsts {
@@ -57,7 +59,8 @@ fn push_function<A: Allocator>(
     f: &FunctionCode<A>,
     end: usize,
 ) -> Result<(), AllocError>
-    ensures { OnOk result (string_bytes text.new ≡ string_bytes text.old ++ codes "function " ++ f.now.name ++ codes " registers " ++ decimal f.now.registers ++ 10 ∷ cut_text code.now f.now.first (end - f.now.first)) }
+    ensures { OnOk result (string_bytes text.new ≡ string_bytes text.old ++ codes "function " ++ f.now.name
+        ++ codes " registers " ++ decimal f.now.registers ++ 10 ∷ cut_text code.now f.now.first (end - f.now.first)) }
 {
     text.push_str("function ")?;
     text.push_str(f.name.as_str())?;
@@ -96,7 +99,8 @@ fn push_texts<A: Allocator>(text: &mut String<A>, texts: &[Text<A>]) -> Result<(
 }
 
 fn push_functions<A: Allocator>(text: &mut String<A>, code: &Code<A>) -> Result<(), AllocError>
-    ensures { OnOk result (string_bytes text.new ≡ string_bytes text.old ++ functions_text code.now code.now.functions) }
+    ensures { OnOk result (string_bytes text.new ≡ string_bytes text.old
+        ++ functions_text code.now code.now.functions) }
 {
     let functions = code.functions();
     'each: for number in 0..functions.len() {

@@ -1,13 +1,15 @@
 //! Which parts are a valid code.
 
-ghost use Rattle.std.specs.Prelude.{◌≡◌, ◌<◌, ◌≤◌, ◌+◌, MatchOption, IfOk, IfErr, IsTrue, ◌↔◌, fold, flat_map, length, map};
+ghost use Rattle.std.specs.Prelude.{◌≡◌, ◌<◌, ◌≤◌, ◌+◌, MatchOption, IfOk, IfErr, IsTrue, ◌↔◌, fold, flat_map, length};
+ghost use Rattle.std.specs.Prelude.{map};
 ghost use Rattle.std.specs.Hash as fed;
 ghost use Rattle.std.specs.Hash.DefaultHasher as sip;
 ghost use Rattle.std.specs.List.{list_all};
 ghost use Rattle.syntax.specs.Names.{initial_from};
 ghost use Rattle.syntax.specs.Views.{global_of};
 ghost use Rattle.bytecode.specs.declared.valid.PartsFault.TheVariants.{OutOfMemory};
-ghost use Rattle.bytecode.specs.Valid.{cells_of, end_of, is_shaped, AreWritten, HasDistinctNames, HasWorker, IsValidFunction, AreValid, IsValid};
+ghost use Rattle.bytecode.specs.Valid.{cells_of, end_of, is_shaped, AreWritten, HasDistinctNames, HasWorker};
+ghost use Rattle.bytecode.specs.Valid.{IsValidFunction, AreValid, IsValid};
 ghost use Rattle.bytecode.specs.Views.{code_of, function_of};
 ghost use Rattle.bytecode.specs.inner.Layout.{AreLaidOut};
 
@@ -56,7 +58,8 @@ impl<A: Allocator> PartsFault<A> {
 
 /// The number of all cells, where they are not too many.
 fn count_cells<A: Allocator>(globals: &[Global<A>]) -> Option<usize>
-    ensures { MatchOption result (MOST_CELLS < length (initial_from (map global_of globals.now))) (λ n. (n ≡ length (initial_from (map global_of globals.now))) × (n ≤ MOST_CELLS)) }
+    ensures { MatchOption result (MOST_CELLS < length (initial_from (map global_of globals.now)))
+        (λ n. (n ≡ length (initial_from (map global_of globals.now))) × (n ≤ MOST_CELLS)) }
 {
     let mut count: usize = 0;
     'each: for g in globals {
@@ -228,18 +231,20 @@ fn is_valid<A: Allocator + Copy>(alloc: A, parts: &Parts<A>) -> Result<bool, All
     }
 }
 
-/// The code of these very parts, and `None` exactly where they are not valid. Takes memory for an arrival and a place for each of
-/// the longest function's instructions and a name for each function; and for the words of a valid code, and the first word of
-/// each of its instructions. Where that is refused, or these words are more than 2^32, the parts come back.
+/// The code of these very parts, and `None` exactly where they are not valid. Takes memory for an arrival and a place
+/// for each of the longest function's instructions and a name for each function; and for the words of a valid code, and
+/// the first word of each of its instructions. Where that is refused, or these words are more than 2^32, the parts come
+/// back.
 ///
-/// Takes time for the parts' size, and for each `cancelx #K` that a way comes to for K more, or for the number of begins that are
-/// open there where that is less. So N instructions may take time for the square of N: where a third of them are begins that stay
-/// open, and another third cancels of them all.
+/// Takes time for the parts' size, and for each `cancelx #K` that a way comes to for K more, or for the number of
+/// begins that are open there where that is less. So N instructions may take time for the square of N: where a third of
+/// them are begins that stay open, and another third cancels of them all.
 pub fn validate<A: Allocator + Copy>(
     alloc: A,
     parts: Parts<A>,
 ) -> Result<Option<Code<A>>, PartsFault<A>>
-    ensures valid { IfOk result (λ o. MatchOption o (¬ IsValid (code_of parts)) (λ c. (c ≡ code_of parts) × IsValid (code_of parts))) }
+    ensures valid { IfOk result
+        (λ o. MatchOption o (¬ IsValid (code_of parts)) (λ c. (c ≡ code_of parts) × IsValid (code_of parts))) }
     ensures refused { IfErr result (λ e. e ≡ OutOfMemory parts) }
 {
     match is_valid(alloc, &parts) {

@@ -1,11 +1,13 @@
 //! Ways through a function.
 
-ghost use Rattle.std.specs.Prelude.{◌≡◌, ◌+◌, ◌≤◌, ◌<◌, ◌^◌, IfOk, IfSome, IsTrue, ◌↔◌, length, slice_get, Some, None, map, option_map, replicate, ◌-◌, ℕ, List, []};
+ghost use Rattle.std.specs.Prelude.{◌≡◌, ◌+◌, ◌≤◌, ◌<◌, ◌^◌, IfOk, IfSome, IsTrue, ◌↔◌, length, slice_get, Some, None};
+ghost use Rattle.std.specs.Prelude.{map, option_map, replicate, ◌-◌, ℕ, List, []};
 ghost use Rattle.bytecode.specs.Valid.{KeepsOpen};
 ghost use Rattle.bytecode.specs.Views.{code_of, function_of, instr_of};
 ghost use Rattle.bytecode.specs.Code.{Code as Plain, FunctionCode as FunctionPlain, Instr as PlainInstr};
 ghost use Rattle.bytecode.specs.declared.walk.Arrival.TheVariants.{Unseen};
-ghost use Rattle.bytecode.specs.inner.Walking.{way_of, visited, given, arrival_at, reopened, begun_by, begun, cancelled, begin_round, cancelled_at, went_by};
+ghost use Rattle.bytecode.specs.inner.Walking.{way_of, visited, given, arrival_at, reopened, begun_by, begun};
+ghost use Rattle.bytecode.specs.inner.Walking.{cancelled, begin_round, cancelled_at, went_by};
 
 use crate::code::{FunctionCode, Parts};
 use crate::instr::Instr;
@@ -63,7 +65,8 @@ fn visit<A: Allocator>(
     to: usize,
     arrival: Arrival,
 ) -> Result<bool, AllocError>
-    ensures visited { IfOk result (λ b. visited first arrivals.old work.old.items to arrival ≡ given b arrivals.new work.new.items) }
+    ensures visited { IfOk result (λ b. visited first arrivals.old work.old.items to arrival
+        ≡ given b arrivals.new work.new.items) }
     ensures len { length arrivals.new ≡ length arrivals.old }
 {
     if to < first {
@@ -105,7 +108,9 @@ fn reopen<A: Allocator>(
     to: usize,
     under: usize,
 ) -> Result<bool, AllocError>
-    ensures reopened { IfOk result (λ b. reopened first arrivals.old work.old.items to (arrival_at first arrivals.old under) ≡ given b arrivals.new work.new.items) }
+    ensures reopened { IfOk result
+        (λ b. reopened first arrivals.old work.old.items to (arrival_at first arrivals.old under)
+        ≡ given b arrivals.new work.new.items) }
     ensures len { length arrivals.new ≡ length arrivals.old }
 {
     match arrival_of(arrivals, first, under) {
@@ -141,7 +146,9 @@ fn cancel<A: Allocator>(
     first: usize,
     begin: usize,
 ) -> Result<bool, AllocError>
-    ensures cancelled { (arguments : List ℕ) → IfOk result (λ b. cancelled first arrivals.old work.old.items (arrival_at first arrivals.old begin) (begun (slice_get (map (instr_of arguments) instrs.now) begin)) ≡ given b arrivals.new work.new.items) }
+    ensures cancelled { (arguments : List ℕ)
+        → IfOk result (λ b. cancelled first arrivals.old work.old.items (arrival_at first arrivals.old begin)
+        (begun (slice_get (map (instr_of arguments) instrs.now) begin)) ≡ given b arrivals.new work.new.items) }
     ensures len { length arrivals.new ≡ length arrivals.old }
 {
     match cancel_at(instrs, begin) {
@@ -166,8 +173,8 @@ fn begin_round(arrivals: &[Arrival], first: usize, times: u32, begin: usize) -> 
     Some(round)
 }
 
-/// Goes on where a cancel of so many levels does, the innermost of which is the begin at a place: whether there are so many, and a
-/// way may come there. Takes a look at an arrival for each level.
+/// Goes on where a cancel of so many levels does, the innermost of which is the begin at a place: whether there are so
+/// many, and a way may come there. Takes a look at an arrival for each level.
 fn cancel_outer<A: Allocator>(
     instrs: &[Instr],
     arrivals: &mut [Arrival],
@@ -176,7 +183,9 @@ fn cancel_outer<A: Allocator>(
     begin: usize,
     levels: u32,
 ) -> Result<bool, AllocError>
-    ensures cancelled { (arguments : List ℕ) → IfOk result (λ b. cancelled_at (map (instr_of arguments) instrs.now) first arrivals.old work.old.items (begin_round first arrivals.old (levels - 1) begin) ≡ given b arrivals.new work.new.items) }
+    ensures cancelled { (arguments : List ℕ)
+        → IfOk result (λ b. cancelled_at (map (instr_of arguments) instrs.now) first arrivals.old work.old.items
+        (begin_round first arrivals.old (levels - 1) begin) ≡ given b arrivals.new work.new.items) }
     ensures len { length arrivals.new ≡ length arrivals.old }
 {
     match begin_round(arrivals, first, levels.saturating_sub(1), begin) {
@@ -196,7 +205,10 @@ fn go_by<A: Allocator>(
     way: Way,
 ) -> Result<bool, AllocError>
     requires { at < length instrs.now }
-    ensures went { (arguments : List ℕ) → IfOk result (λ b. went_by (map (instr_of arguments) instrs.now) first arrivals.old work.old.items at arrival way ≡ given b arrivals.new work.new.items) }
+    ensures went { (arguments : List ℕ)
+        → IfOk result
+        (λ b. went_by (map (instr_of arguments) instrs.now) first arrivals.old work.old.items at arrival way
+        ≡ given b arrivals.new work.new.items) }
     ensures len { length arrivals.new ≡ length arrivals.old }
 {
     match way {
@@ -239,7 +251,9 @@ fn go_on<A: Allocator>(
     arrival: Arrival,
 ) -> Result<bool, AllocError>
     requires { at < length instrs.now }
-    ensures went { (arguments : List ℕ) → (i : PlainInstr) → slice_get (map (instr_of arguments) instrs.now) at ≡ Some i → IfOk result (λ b. went_by (map (instr_of arguments) instrs.now) first arrivals.old work.old.items at arrival (way_of i) ≡ given b arrivals.new work.new.items) }
+    ensures went { (arguments : List ℕ) → (i : PlainInstr) → slice_get (map (instr_of arguments) instrs.now) at ≡ Some i
+        → IfOk result (λ b. went_by (map (instr_of arguments) instrs.now) first arrivals.old work.old.items at arrival
+        (way_of i) ≡ given b arrivals.new work.new.items) }
     ensures len { length arrivals.new ≡ length arrivals.old }
 {
     let way = way_on(&instrs[at]);
@@ -258,7 +272,9 @@ fn walk_over<A: Allocator>(
     requires ends { behind ≤ length instrs.now }
     requires arrivals { arrivals.old ≡ replicate (behind - first) Unseen }
     requires work { work.old.items ≡ [] }
-    ensures { IfOk result (λ b. (code : Plain) → (arguments : List ℕ) → (f : FunctionPlain) → code.instructions ≡ map (instr_of arguments) instrs.now → f.first ≡ first → IsTrue b ↔ KeepsOpen code f behind) }
+    ensures { IfOk result (λ b. (code : Plain) → (arguments : List ℕ) → (f : FunctionPlain)
+        → code.instructions ≡ map (instr_of arguments) instrs.now → f.first ≡ first
+        → IsTrue b ↔ KeepsOpen code f behind) }
 {
     if !visit(arrivals, work, first, first, Arrival::Outside)? {
         return Ok(false);
@@ -279,9 +295,9 @@ fn walk_over<A: Allocator>(
     Ok(true)
 }
 
-/// Whether the ways through a function stay in it, come to each place with one list of open begins, and have the begins that
-/// its instructions ask for. Takes time for the function's length, and for a cancel of several levels that a way comes to for so many
-/// more, or for the begins that are open there where these are fewer.
+/// Whether the ways through a function stay in it, come to each place with one list of open begins, and have the begins
+/// that its instructions ask for. Takes time for the function's length, and for a cancel of several levels that a way
+/// comes to for so many more, or for the begins that are open there where these are fewer.
 pub(crate) fn walk<A: Allocator + Copy>(
     alloc: A,
     parts: &Parts<A>,

@@ -69,7 +69,8 @@ pub(crate) fn is_written<A: Allocator>(
     instr: &Instr,
 ) -> bool
     requires { cells ≡ cells_of (code_of parts.now) }
-    ensures { IsTrue result ↔ IsWritten (code_of parts.now) (function_of f.now) end (instr_of parts.now.arguments instr.now) }
+    ensures { IsTrue result ↔ IsWritten (code_of parts.now) (function_of f.now) end
+        (instr_of parts.now.arguments instr.now) }
 {
     match instr {
         Instr::Constant(d, value) => {

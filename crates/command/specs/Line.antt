@@ -26,7 +26,8 @@ fault_rule = record (new_rule (codes "NN")) { required = true; action = Some Set
 -- a command over a file
 abbrev pub file_app : Text → App
 file_app name =
-    with_rule (with_rule (with_rule (new_app name) file_rule) (flag_rule (codes "verbose"))) (text_rule (codes "format"))
+    with_rule (with_rule (with_rule (new_app name) file_rule) (flag_rule (codes "verbose")))
+    (text_rule (codes "format"))
 
 abbrev pub check_app : App
 check_app = file_app (codes "check")

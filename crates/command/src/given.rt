@@ -1,6 +1,7 @@
 //! What words give for the arguments of a command.
 
-ghost use Rattle.std.specs.Prelude.{◌≡◌, ◌↔◌, ℕ, IsTrue, IsSomeAnd, Some, None, IfOk, IfErr, OnErr, codes, option_map, string_bytes};
+ghost use Rattle.std.specs.Prelude.{◌≡◌, ◌↔◌, ℕ, IsTrue, IsSomeAnd, Some, None, IfOk, IfErr, OnErr, codes, option_map};
+ghost use Rattle.std.specs.Prelude.{string_bytes};
 ghost use Rattle.clap.specs.Words.{first_of, found_of, one_of, rows_of};
 ghost use Rattle.command.specs.Asked.{IsGiven};
 ghost use Rattle.command.specs.inner.Refusals.{IsNoNumber, IsOwn, IsRead};
@@ -88,7 +89,8 @@ pub(crate) fn out_of_range(alloc: Global, id: &str, least: u32, most: u32) -> Us
     }
 }
 
-/// The number that is given for an argument, if one is given. Where it is none, it is said which numbers the argument takes.
+/// The number that is given for an argument, if one is given. Where it is none, it is said which numbers the argument
+/// takes.
 pub(crate) fn number_given(
     alloc: Global,
     given: &ArgMatches<'_>,

@@ -3,7 +3,9 @@
 ghost use Rattle.std.specs.Prelude.{◌≡◌, IfOk, codes, false};
 ghost use Rattle.clap.specs.Words.{App, Rule, app_of, new_app, rule_of, with_rule, with_subcommand};
 ghost use Rattle.command.specs.inner.Made.{IsMade};
-ghost use Rattle.command.specs.Line.{file_rule, flag_rule, fault_rule, text_rule, order_rule, file_app, check_app, listing_app, run_app, replay_steps_app, replay_app, source_app, outcomes_app, explain_app, commandless_app, program_app};
+ghost use Rattle.command.specs.Line.{file_rule, flag_rule, fault_rule, text_rule, order_rule, file_app, check_app};
+ghost use Rattle.command.specs.Line.{listing_app, run_app, replay_steps_app, replay_app, source_app, outcomes_app};
+ghost use Rattle.command.specs.Line.{explain_app, commandless_app, program_app};
 
 use clap::{Arg, ArgAction, Command};
 use std::alloc::{AllocError, Global};

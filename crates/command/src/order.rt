@@ -25,7 +25,8 @@ fn thread_number(piece: &str) -> Option<u32>
 
 /// The numbers of the threads that pieces are.
 fn thread_numbers(alloc: Global, pieces: &[&str]) -> Result<Option<Vec<u32>>, AllocError>
-    ensures { let texts = map (λ p. p.now) pieces.now in IfOk result (λ o. MatchOption o ((ns : List ℕ) → AreThreads texts ns → ⊥) (λ v. AreThreads texts v.items)) }
+    ensures { let texts = map (λ p. p.now) pieces.now
+        in IfOk result (λ o. MatchOption o ((ns : List ℕ) → AreThreads texts ns → ⊥) (λ v. AreThreads texts v.items)) }
 {
     let mut numbers = Vec::new(alloc);
     'pieces: for piece in pieces {
@@ -39,7 +40,8 @@ fn thread_numbers(alloc: Global, pieces: &[&str]) -> Result<Option<Vec<u32>>, Al
 
 /// The thread numbers that a text lists, joined by commas; an empty text lists none.
 pub fn order(alloc: Global, text: &str) -> Result<Option<Vec<u32>>, AllocError>
-    ensures { IfOk result (λ o. MatchOption o ((ns : List ℕ) → IsOrder text.now ns → ⊥) (λ v. IsOrder text.now v.items)) }
+    ensures { IfOk result (λ o. MatchOption o ((ns : List ℕ) → IsOrder text.now ns → ⊥)
+        (λ v. IsOrder text.now v.items)) }
 {
     if text.is_empty() {
         return Ok(Some(Vec::new(alloc)));

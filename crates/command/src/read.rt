@@ -17,7 +17,8 @@ use std::alloc::Global;
 
 /// Reads the words of a command line, the program's own name first.
 ///
-/// A command or an option that the program does not have is `Wrong`. Memory is taken from the global allocator, as `clap` does.
+/// A command or an option that the program does not have is `Wrong`. Memory is taken from the global allocator, as
+/// `clap` does.
 pub fn command(alloc: Global, words: &[&str]) -> Result<Request, UsageFault>
     ensures ok { IfOk result (Asks (map (λ w. w.now) words.now)) }
     ensures err { IfErr result (Refuses (map (λ w. w.now) words.now)) }
@@ -57,7 +58,8 @@ fn request(alloc: Global, matches: &ArgMatches<'_>) -> Result<Request, UsageFaul
 /// How faults are to be told.
 fn format_given(alloc: Global, given: &ArgMatches<'_>) -> Result<Format, UsageFault>
     ensures ok { IfOk result (IsFormat (first_of (codes "format") (rows_of (found_of given.now)))) }
-    ensures err { IfErr result (IsOwn ((f : Format) → IsFormat (first_of (codes "format") (rows_of (found_of given.now))) f → ⊥)) }
+    ensures err { IfErr result
+        (IsOwn ((f : Format) → IsFormat (first_of (codes "format") (rows_of (found_of given.now))) f → ⊥)) }
 {
     match text_given(given, "format") {
         None => Ok(Format::Plain),

@@ -72,7 +72,8 @@ pub enum Task {
         order: Vec<u32>,
         ticks: u32,
     },
-    /// Lists the outcomes of 1 to 64 threads in all orders, each with 0 to 1,000,000 ticks, over at most so many states.
+    /// Lists the outcomes of 1 to 64 threads in all orders, each with 0 to 1,000,000 ticks, over at most so many
+    /// states.
     Outcomes {
         threads: u32,
         ticks: u32,

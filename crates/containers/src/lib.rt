@@ -5,8 +5,8 @@
 //! over them is plain data, `≡` on it means "the same tree", and a refused call can promise to hand back the very value
 //! that it was given. A type may hold itself through a `Boxed` or an `Items` (`specs/formers`).
 //!
-//! `Same` and `Copied` are equality and copies of what is built from these three: their contracts say `≡`, where that of
-//! `==` says no more than that two values compare as equal.
+//! `Same` and `Copied` are equality and copies of what is built from these three: their contracts say `≡`, where that
+//! of `==` says no more than that two values compare as equal.
 #![tactic(auto)]
 
 mod boxed;

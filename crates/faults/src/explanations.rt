@@ -1,6 +1,7 @@
 //! What each fault means, as docs/FAULTS.md says it: written by scripts/faults.py.
 
-/// What a fault means, when it comes, with its place and an example: lines that end with LF. `None` where no fault has the number.
+/// What a fault means, when it comes, with its place and an example: lines that end with LF. `None` where no fault has
+/// the number.
 pub fn explanation(number: u32) -> Option<&'static str> {
     match number {
         0 => Some(

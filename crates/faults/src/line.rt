@@ -77,8 +77,8 @@ fn push_under<A: Allocator>(
     Ok(())
 }
 
-/// The line of a text that a span begins in, and a line with a caret under each character of the span in it, or one caret
-/// where there is none.
+/// The line of a text that a span begins in, and a line with a caret under each character of the span in it, or one
+/// caret where there is none.
 ///
 /// Of a long line at most 100 bytes before the place and 200 from it on are shown. Both lines end with LF.
 pub fn underlined<A: Allocator>(

@@ -20,7 +20,9 @@ pub(crate) struct Call<'c, A: Allocator> {
 /// The call that stands at a place, if one does.
 #[inline(always)]
 pub(crate) fn called_at<A: Allocator>(code: &Code<A>, place: u32) -> Option<Call<'_, A>>
-    ensures some { IfSome result (λ call. (f : ℕ) × (slice_get code.now.instructions place ≡ Some (PlainInstr.Call f call.result call.args.now)) × Has code.now f (function_of call.callee.now)) }
+    ensures some { IfSome result
+        (λ call. (f : ℕ) × (slice_get code.now.instructions place ≡ Some (PlainInstr.Call f call.result call.args.now))
+        × Has code.now f (function_of call.callee.now)) }
     ensures none { IfNone result (callee_of code.now (slice_get code.now.instructions place) ≡ None) }
 {
     let (words, firsts) = code.flat();

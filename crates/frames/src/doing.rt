@@ -1,6 +1,7 @@
 //! What stands at a thread's place to be done.
 
-ghost use Rattle.std.specs.Prelude.{◌≡◌, ◌+◌, ◌≤◌, ◌<◌, ◌^◌, ◌++◌, OnOk, OnErr, length, string_bytes, string_len, string_capacity};
+ghost use Rattle.std.specs.Prelude.{◌≡◌, ◌+◌, ◌≤◌, ◌<◌, ◌^◌, ◌++◌, OnOk, OnErr, length, string_bytes, string_len};
+ghost use Rattle.std.specs.Prelude.{string_capacity};
 ghost use Rattle.frames.specs.Told.{piece_of};
 
 use bytecode::Code;
@@ -8,7 +9,8 @@ use itoa::Buffer;
 use std::alloc::{AllocError, Allocator};
 use syntax::numbers::Trap;
 
-/// What stands at a thread's place to be done. Indices of arrays have been tested, and values of registers are given with it.
+/// What stands at a thread's place to be done. Indices of arrays have been tested, and values of registers are given
+/// with it.
 #[derive(Clone, Copy, PartialEq, Eq)]
 pub enum Doing {
     /// A local step, which does not trap.
@@ -83,8 +85,8 @@ pub fn prepare_piece<A: Allocator, B: Allocator>(
     text.reserve(piece(code, doing, &mut digits).len())
 }
 
-/// Appends the piece that a print shows. The error comes only where there is no room and the allocator refuses it; the text
-/// is then as it was.
+/// Appends the piece that a print shows. The error comes only where there is no room and the allocator refuses it; the
+/// text is then as it was.
 pub fn push_piece<A: Allocator, B: Allocator>(
     text: &mut String<A>,
     code: &Code<B>,

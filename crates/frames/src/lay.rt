@@ -1,6 +1,7 @@
 //! Registers laid at the end of those of the frames below.
 
-ghost use Rattle.std.specs.Prelude.{◌≡◌, ◌+◌, ◌<◌, ◌≤◌, ◌++◌, ◌∷◌, [], All, OnOk, map, length, drop, replicate, slice_index, vec_len, vec_capacity};
+ghost use Rattle.std.specs.Prelude.{◌≡◌, ◌+◌, ◌<◌, ◌≤◌, ◌++◌, ◌∷◌, [], All, OnOk, map, length, drop, replicate};
+ghost use Rattle.std.specs.Prelude.{slice_index, vec_len, vec_capacity};
 
 use std::alloc::{AllocError, Allocator};
 
@@ -15,8 +16,8 @@ fn push_zeros<A: Allocator>(registers: &mut Vec<u64, A>, count: usize)
     }
 }
 
-/// The registers of a thread's first frame: the thread's number, and so many zeros. The error comes only where the allocator
-/// refuses the memory.
+/// The registers of a thread's first frame: the thread's number, and so many zeros. The error comes only where the
+/// allocator refuses the memory.
 pub(crate) fn lay_first<A: Allocator>(
     registers: &mut Vec<u64, A>,
     thread: u64,
@@ -36,7 +37,8 @@ fn push_arguments<A: Allocator>(registers: &mut Vec<u64, A>, base: usize, args: 
     requires room { vec_len registers.old + length args.now ≤ vec_capacity registers.old }
     requires base { base ≤ vec_len registers.old }
     requires there { All (λ r. r < length (drop base registers.old.items)) args.now }
-    ensures items { registers.new.items ≡ registers.old.items ++ map (λ r. slice_index (drop base registers.old.items) r) args.now }
+    ensures items { registers.new.items ≡ registers.old.items
+        ++ map (λ r. slice_index (drop base registers.old.items) r) args.now }
     ensures capacity { vec_capacity registers.new ≡ vec_capacity registers.old }
 {
     'each: for arg in args {
@@ -56,7 +58,8 @@ pub(crate) fn lay_frame<A: Allocator>(
     requires room { vec_len registers.old + (length args.now + zeros) ≤ vec_capacity registers.old }
     requires base { base ≤ vec_len registers.old }
     requires there { All (λ r. r < length (drop base registers.old.items)) args.now }
-    ensures { registers.new.items ≡ registers.old.items ++ map (λ r. slice_index (drop base registers.old.items) r) args.now ++ replicate zeros 0 }
+    ensures { registers.new.items ≡ registers.old.items
+        ++ map (λ r. slice_index (drop base registers.old.items) r) args.now ++ replicate zeros 0 }
 {
     push_arguments(registers, base, args);
     push_zeros(registers, zeros);

@@ -1,6 +1,6 @@
-//! Tests of the parser, of the trees of `syntax`, and of the checks that accept a program, of names and types, of safety and of
-//! separation, in a crate of their own: a crate with tests is proved twice, and each crate of tests reads and links all that it
-//! stands on.
+//! Tests of the parser, of the trees of `syntax`, and of the checks that accept a program, of names and types, of
+//! safety and of separation, in a crate of their own: a crate with tests is proved twice, and each crate of tests reads
+//! and links all that it stands on.
 #![tactic(auto)]
 
 #[cfg(test)]

@@ -151,8 +151,8 @@ fn other_names_are_another_key(rt: HostRuntime) {
     );
 }
 
-/// A program with 10,000 globals, whose names have 32 letters: all that begin so have one hash, where a hash multiplies eight bytes
-/// by eight with a constant and no key, since behind this beginning one factor is 0.
+/// A program with 10,000 globals, whose names have 32 letters: all that begin so have one hash, where a hash multiplies
+/// eight bytes by eight with a constant and no key, since behind this beginning one factor is 0.
 fn colliding(alloc: Global) -> Result<String, AllocError> {
     let mut text = String::new(alloc);
     text.push_str("int ")?;
@@ -170,7 +170,8 @@ fn name_at(text: &str, place: usize) -> Option<&str> {
     text.get(start..start.checked_add(32)?)
 }
 
-/// Declares each name in a table and in a scope, and the oldest once more, in a block behind them; none where one is refused.
+/// Declares each name in a table and in a scope, and the oldest once more, in a block behind them; none where one is
+/// refused.
 fn declare_each<'a>(
     text: &'a str,
     table: &mut Table<'a, usize, Global>,
@@ -224,8 +225,8 @@ fn colliding_names_are_found(rt: HostRuntime) {
     assert_all(&rt, &[("each", many_are_found(rt.alloc()))]);
 }
 
-/// Declares a name in a table, a second time where it is refused, and says whether it was; none where the table did not stay as it
-/// was, or the name is not new.
+/// Declares a name in a table, a second time where it is refused, and says whether it was; none where the table did not
+/// stay as it was, or the name is not new.
 fn declare_again(
     table: &mut Table<'static, u32, &Refusing<Global>>,
     name: &'static str,
@@ -239,8 +240,8 @@ fn declare_again(
     (kept && table.declare(name, 1) == Ok(true)).then_some(true)
 }
 
-/// Declares a name in a scope, a second time where it is refused, and says whether it was; none where the scope did not stay as it
-/// was.
+/// Declares a name in a scope, a second time where it is refused, and says whether it was; none where the scope did not
+/// stay as it was.
 fn hide_again(
     scope: &mut Scope<'static, u32, &Refusing<Global>>,
     name: &'static str,
@@ -259,8 +260,8 @@ fn names() -> &'static [&'static str] {
     &NAMES
 }
 
-/// How many declarations of a table were refused, the next growth being refused before each; none where one did not leave the
-/// table as it was.
+/// How many declarations of a table were refused, the next growth being refused before each; none where one did not
+/// leave the table as it was.
 fn refused_in_a_table(alloc: &Refusing<Global>) -> Option<u32> {
     let mut table = Table::new(alloc, 3);
     let mut refused = 0u32;
@@ -273,8 +274,8 @@ fn refused_in_a_table(alloc: &Refusing<Global>) -> Option<u32> {
     (table.len() == 9).then_some(refused)
 }
 
-/// How many declarations of a scope were refused, growth `nth` being refused before each; none where one did not leave the scope as
-/// it was.
+/// How many declarations of a scope were refused, growth `nth` being refused before each; none where one did not leave
+/// the scope as it was.
 fn refused_in_a_scope(alloc: &Refusing<Global>, nth: u64) -> Option<u32> {
     let mut scope = Scope::new(alloc, 3);
     let mut refused = 0u32;

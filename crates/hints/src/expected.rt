@@ -163,7 +163,8 @@ fn all_go_on<'t, A: Allocator + Copy>(
     Ok(true)
 }
 
-/// What could stand behind tokens that begin a program, as it is told: single tokens, and then what has many beginnings.
+/// What could stand behind tokens that begin a program, as it is told: single tokens, and then what has many
+/// beginnings.
 pub(crate) fn expected<'t, A: Allocator + Copy>(
     alloc: A,
     tokens: &mut Vec<Token<'t>, A>,

@@ -179,8 +179,8 @@ fn put_hints<A: Allocator + Copy>(
     }
 }
 
-/// The lines that are told beside the fault of a number at a place of a text: what could stand there, and what is meant. Each ends
-/// with LF.
+/// The lines that are told beside the fault of a number at a place of a text: what could stand there, and what is
+/// meant. Each ends with LF.
 pub fn hints<A: Allocator + Copy>(
     alloc: A,
     text: &str,

@@ -1,5 +1,6 @@
 -- Classes of bytes, as pieces of a text are made of them. Letters and digits are those of ASCII.
-use Rattle.std.specs.Prelude.{◌≡◌, ℕ, ◌<◌, Bool, true, false, not, ◌&&◌, ◌||◌, ◌==◌, nat_le, nat_lt, List, [], ◌∷◌, length, slice_index}
+use Rattle.std.specs.Prelude.{◌≡◌, ℕ, ◌<◌, Bool, true, false, not, ◌&&◌, ◌||◌, ◌==◌, nat_le, nat_lt, List, [], ◌∷◌}
+use Rattle.std.specs.Prelude.{length, slice_index}
 
 -- space, tab, LF, vertical tab, form feed, CR
 abbrev pub is_white : ℕ → Bool

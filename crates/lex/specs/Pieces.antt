@@ -1,6 +1,7 @@
 -- How a text is cut into tokens: at each place the longest piece that has a shape, and what it says. The shapes are
 -- those of C11 6.4, as far as this language has them.
-use Rattle.std.specs.Prelude.{◌≡◌, ◌≢◌, ℕ, ◌+◌, ◌-◌, ◌*◌, ◌^◌, ◌<◌, ◌≤◌, Bool, true, false, ◌⊎◌, nat_lt, if◌then◌else◌, List, [], ◌∷◌, ◌++◌, length, take, drop, slice_index, codes, Option, Some, None}
+use Rattle.std.specs.Prelude.{◌≡◌, ◌≢◌, ℕ, ◌+◌, ◌-◌, ◌*◌, ◌^◌, ◌<◌, ◌≤◌, Bool, true, false, ◌⊎◌, nat_lt, if◌then◌else◌}
+use Rattle.std.specs.Prelude.{List, [], ◌∷◌, ◌++◌, length, take, drop, slice_index, codes, Option, Some, None}
 use Rattle.std.specs.Char.{digit_value}
 use Rattle.lex.specs.declared.constant.Base.{Base}
 use Rattle.lex.specs.declared.constant.Base.TheVariants.{Decimal, Octal, Hexadecimal}
@@ -10,7 +11,8 @@ use Rattle.lex.specs.declared.lexer.TheConstants.{MOST_BYTES}
 use Rattle.lex.specs.declared.token.Fixed.{Fixed}
 use Rattle.lex.specs.declared.token.Scalar.{Scalar}
 use Rattle.lex.specs.declared.token.Scalar.TheVariants.{Int, Unsigned, LongLong}
-use Rattle.lex.specs.Bytes.{is_white, is_blank, is_digit, is_octal, is_hexadecimal, is_letter, is_part, is_glue, in_line, is_plain, is_escape, Only, starts}
+use Rattle.lex.specs.Bytes.{is_white, is_blank, is_digit, is_octal, is_hexadecimal, is_letter, is_part, is_glue}
+use Rattle.lex.specs.Bytes.{in_line, is_plain, is_escape, Only, starts}
 use Rattle.lex.specs.Spelling.{spelling, Reserved}
 use Rattle.lex.specs.Tokens.{Terminal, Tok}
 use Rattle.lex.specs.Tokens as tokens

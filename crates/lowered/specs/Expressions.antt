@@ -1,15 +1,18 @@
 -- Which instructions stand for an expression: by cases on the tree. A code may choose its registers: below `free` stand
--- the locals and what is still needed, and what an expression writes lies at or above it, or is the value's home. Behind
--- all registers that are written may lie constants.
-use Rattle.std.specs.Prelude.{◌≡◌, ◌⊎◌, ℕ, suc, ◌<◌, ◌≤◌, ◌+◌, pos, List, [], ◌∷◌, ◌++◌, length, map, Option, Some, None, is_some, unwrap_or, slice_get, if◌then◌else◌}
+-- the locals and what is still needed, and what an expression writes lies at or above it, or is the value's home.
+-- Behind all registers that are written may lie constants.
+use Rattle.std.specs.Prelude.{◌≡◌, ◌⊎◌, ℕ, suc, ◌<◌, ◌≤◌, ◌+◌, pos, List, [], ◌∷◌, ◌++◌, length, map, Option, Some}
+use Rattle.std.specs.Prelude.{None, is_some, unwrap_or, slice_get, if◌then◌else◌}
 use Rattle.lex.specs.declared.token.Span.{Span}
 use Rattle.lex.specs.declared.token.Scalar.{Scalar}
 use Rattle.lex.specs.declared.token.Scalar.TheVariants.{Int, Unsigned, LongLong}
 use Rattle.syntax.specs.declared.tree.UnaryOp.TheVariants.{Negate, Keep, Not, Complement}
 use Rattle.syntax.specs.declared.tree.BinaryOp.{BinaryOp}
-use Rattle.syntax.specs.declared.tree.BinaryOp.TheVariants.{And, Or, Xor, Equal, NotEqual, Less, Greater, LessEqual, GreaterEqual}
+use Rattle.syntax.specs.declared.tree.BinaryOp.TheVariants.{And, Or, Xor, Equal, NotEqual, Less, Greater, LessEqual}
+use Rattle.syntax.specs.declared.tree.BinaryOp.TheVariants.{GreaterEqual}
 use Rattle.syntax.specs.declared.tree.LogicalOp.TheVariants.{AndThen, OrElse}
-use Rattle.syntax.specs.Tree.{Expr, Exprs, Variable, Constant, Element, Call, Parenthesized, Cast, Unary, Binary, Logical, Conditional, InTransaction, Stmts, Parameter, Function, Program}
+use Rattle.syntax.specs.Tree.{Expr, Exprs, Variable, Constant, Element, Call, Parenthesized, Cast, Unary, Binary}
+use Rattle.syntax.specs.Tree.{Logical, Conditional, InTransaction, Stmts, Parameter, Function, Program}
 use Rattle.syntax.specs.Numbers.{word_of, number, operand_type, result_type}
 use Rattle.syntax.specs.Names.{Local, newest, global_of, cells, GlobalCells, definition_of}
 use Rattle.syntax.specs.Types.{type_of, running_scope}
@@ -98,8 +101,8 @@ nameless_ones qs rs = []
 abbrev pub arranged : List Parameter → List ℕ → List ℕ
 arranged qs rs = named_ones qs rs ++ nameless_ones qs rs
 
--- how a function uses its registers: those below `writable` are its locals' and its values', and those from there on hold
--- these words from its beginning to its end
+-- how a function uses its registers: those below `writable` are its locals' and its values', and those from there on
+-- hold these words from its beginning to its end
 pub record Layout : Type 0 where
   pub writable : ℕ
   pub constants : List ℕ
@@ -360,8 +363,8 @@ module _ (code : Code) (layout : Layout) where
           × ((ls : List Local) → IsLike scope ls → type_of (running_scope p ls) (Conditional c a b at) ≡ Some t)
       ExprCode home scope (InTransaction mode keyword e at) = ValueTransactionCode (ExprCode home scope e)
 
-      -- a condition whose operator leads on by itself, without a value: that would be 0 or 1, of which each type has a word,
-      -- so that no cast changes what is tested
+      -- a condition whose operator leads on by itself, without a value: that would be 0 or 1, of which each type has a
+      -- word, so that no cast changes what is tested
       pub OwnTests : LocalScope → Expr → Branching
       OwnTests scope (Parenthesized e at) = OwnTests scope e
       OwnTests scope (Cast u e at) = OwnTests scope e

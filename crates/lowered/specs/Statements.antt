@@ -1,5 +1,6 @@
 -- Which instructions stand for a statement: by cases on the tree. Locals lie in registers 0, 1, .. as they come.
-use Rattle.std.specs.Prelude.{◌≡◌, ◌⊎◌, ℕ, zero, suc, ◌<◌, ◌≤◌, List, [], ◌∷◌, ◌++◌, length, Option, Some, None, slice_get, option_map}
+use Rattle.std.specs.Prelude.{◌≡◌, ◌⊎◌, ℕ, zero, suc, ◌<◌, ◌≤◌, List, [], ◌∷◌, ◌++◌, length, Option, Some, None}
+use Rattle.std.specs.Prelude.{slice_get, option_map}
 use Rattle.lex.specs.declared.token.Scalar.{Scalar}
 use Rattle.lex.specs.declared.token.Scalar.TheVariants.{Int}
 use Rattle.syntax.specs.declared.tree.BinaryOp.{BinaryOp}
@@ -7,12 +8,16 @@ use Rattle.syntax.specs.declared.tree.Mode.{Mode}
 use Rattle.syntax.specs.declared.tree.Mode.TheVariants.{Atomic}
 use Rattle.syntax.specs.declared.tree.Kind.{Kind}
 use Rattle.syntax.specs.declared.tree.Kind.TheVariants.{Plain, Outer}
-use Rattle.syntax.specs.Tree.{Expr, Exprs, Variable, Constant, Element, Simple, Evaluate, Assign, Adjust, Declarator, Start, Nothing, Declares, Does, Stmt, Stmts, Empty, Declare, Do, Block, Print, If, IfElse, While, DoWhile, For, Break, Continue, Return, Transaction, Cancel, CancelOuter, Program}
+use Rattle.syntax.specs.Tree.{Expr, Exprs, Variable, Constant, Element, Simple, Evaluate, Assign, Adjust, Declarator}
+use Rattle.syntax.specs.Tree.{Start, Nothing, Declares, Does, Stmt, Stmts, Empty, Declare, Do, Block, Print, If, IfElse}
+use Rattle.syntax.specs.Tree.{While, DoWhile, For, Break, Continue, Return, Transaction, Cancel, CancelOuter, Program}
 use Rattle.syntax.specs.Meaning.{op_of, mode_of}
 use Rattle.syntax.specs.Formats.{Piece, Literal, Figure, pieces}
 use Rattle.syntax.specs.Names.{newest, global_of, cells, GlobalCells}
 use Rattle.bytecode.specs.Code.{Instr, Code}
-use Rattle.lowered.specs.Expressions.{LocalScope, Layout, At, LeadsTo, Coded, Due, Branching, converting, widening, constant_in, GivenBy, ConvertedBy, ConvertedCode, TypedCode, WordCode, OperandCode, BinaryCode, ExprCode, CondCode, ArgsCode}
+use Rattle.lowered.specs.Expressions.{LocalScope, Layout, At, LeadsTo, Coded, Due, Branching, converting, widening}
+use Rattle.lowered.specs.Expressions.{constant_in, GivenBy, ConvertedBy, ConvertedCode, TypedCode, WordCode}
+use Rattle.lowered.specs.Expressions.{OperandCode, BinaryCode, ExprCode, CondCode, ArgsCode}
 
 -- where an assignment goes: a local's register, a cell, or an element whose index lies in a register
 pub data Target : Type 0 where

@@ -1,6 +1,7 @@
 //! Laws of code that stands for a program. A law has no code: its contract is what it says.
 
-ghost use Rattle.lowered.specs.Laws.{AcceptedCodeMeans, AcceptedCodeMeetsMachine, LoweredCodeHasItsCells, LoweredCodeMeans};
+ghost use Rattle.lowered.specs.Laws.{AcceptedCodeMeans, AcceptedCodeMeetsMachine, LoweredCodeHasItsCells};
+ghost use Rattle.lowered.specs.Laws.{LoweredCodeMeans};
 
 use bytecode::laws::valid_code_fits_its_cells;
 use separation::laws::never_astray;
@@ -26,9 +27,9 @@ pub fn lowered_code_has_its_cells()
     ensures { LoweredCodeHasItsCells }
 {}
 
-/// Of a valid code that stands for an accepted program, and of the program's first memory, all that the theorems about the
-/// machine ask: the code uses the program's cells alone and writes words below their bounds, the first memory is a memory
-/// of the program, and the code means the program.
+/// Of a valid code that stands for an accepted program, and of the program's first memory, all that the theorems about
+/// the machine ask: the code uses the program's cells alone and writes words below their bounds, the first memory is a
+/// memory of the program, and the code means the program.
 pub fn accepted_code_meets_the_machine()
     ensures { AcceptedCodeMeetsMachine }
 {

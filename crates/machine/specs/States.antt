@@ -1,5 +1,6 @@
 -- A thread as its contracts see it.
-use Rattle.std.specs.Prelude.{◌≡◌, ◌<◌, ◌≤◌, ℕ, Bool, false, List, [], Option, None, Some, IsSomeAnd, length, slice_index}
+use Rattle.std.specs.Prelude.{◌≡◌, ◌<◌, ◌≤◌, ℕ, Bool, false, List, [], Option, None, Some, IsSomeAnd, length}
+use Rattle.std.specs.Prelude.{slice_index}
 use Rattle.syntax.specs.declared.numbers.Status.{Status}
 use Rattle.syntax.specs.declared.numbers.Status.TheVariants.{Running}
 use Rattle.nesting.specs.Begins.{Saved}
@@ -70,8 +71,8 @@ pub record IsPrepared (code : Code) (s : ThreadState) : Type 0 where
 abbrev pub StandsAt : Code → ThreadState → Doing → Type 0
 StandsAt code s doing = s.thread.status ≡ Running → Tells code s.thread.configuration doing
 
--- what a thread that runs leaves where it makes steps by itself: no local step in its registers, no return, and no commit
--- that makes no access and has not the lock
+-- what a thread that runs leaves where it makes steps by itself: no local step in its registers, no return, and no
+-- commit that makes no access and has not the lock
 abbrev pub IsLeft : {S : Type 0} → Option (Attempt S) → Doing → Type 0
 IsLeft o doing.Local = ⊥
 IsLeft o (doing.Return w) = ⊥

@@ -1,5 +1,5 @@
-//! What holds of every list of steps. A law has no code: its contract is what it says. C is what a code's next instruction
-//! depends on: the place, frames and registers of one thread. bounds are the bounds of the cells' words.
+//! What holds of every list of steps. A law has no code: its contract is what it says. C is what a code's next
+//! instruction depends on: the place, frames and registers of one thread. bounds are the bounds of the cells' words.
 
 ghost use Rattle.std.specs.Prelude.{◌≡◌, ◌≤◌, ◌^◌, ℕ, List, [], Some, None, length, replicate};
 ghost use Rattle.std.specs.List.{slice_get};
@@ -30,16 +30,16 @@ ghost use Rattle.machine.specs.Traces.{IsTraced, RunsOn, heard_run};
 ghost use Rattle.machine.specs.Moments.{BeginsPast};
 
 /// For every code, number of threads and list of steps the transactions that took effect can be put one after another
-/// (`IsSerializable`). There is a merge of them, each thread's own in their order, and every merge is a run of the code in
-/// which each transaction finds the memory that the one before it left and every thread stands: it has printed what it
-/// prints in that run, and ends or traps only where it does there. While the lock is even the words are the run's last
-/// memory and half of the lock is the number of transactions that took it; while it is odd one thread has it, and the words
-/// are that memory with what the thread has stored so far. Each attempt, also one that will be dropped, has a moment in the
-/// run whose memory has all that it has read.
+/// (`IsSerializable`). There is a merge of them, each thread's own in their order, and every merge is a run of the code
+/// in which each transaction finds the memory that the one before it left and every thread stands: it has printed what
+/// it prints in that run, and ends or traps only where it does there. While the lock is even the words are the run's
+/// last memory and half of the lock is the number of transactions that took it; while it is odd one thread has it, and
+/// the words are that memory with what the thread has stored so far. Each attempt, also one that will be dropped, has a
+/// moment in the run whose memory has all that it has read.
 ///
-/// Order in time (`IsInTime`): each transaction stands after all that stood in the run when its attempt began, as often as
-/// they stood there. Later runs extend earlier ones (`IsExtended`): the run of more steps holds the steps of the run of fewer
-/// in their order, and each thread's earlier steps come first among its own.
+/// Order in time (`IsInTime`): each transaction stands after all that stood in the run when its attempt began, as often
+/// as they stood there. Later runs extend earlier ones (`IsExtended`): the run of more steps holds the steps of the run
+/// of fewer in their order, and each thread's earlier steps come first among its own.
 ///
 /// All this holds for every program that the code means: of its runs, and of what its threads print and how they end.
 pub fn opaque<C>()
@@ -52,12 +52,13 @@ pub fn opaque<C>()
         IsOpaque code init program bounds m0 threads steps }
 {}
 
-/// Strict serializability, for all steps ts and all further ones us: the transactions that have taken effect are a run in
-/// which every thread stands, and all that a thread has begun since ts, where it had no attempt then, stands behind all that
-/// had taken effect by then. The same for every program that the code means.
+/// Strict serializability, for all steps ts and all further ones us: the transactions that have taken effect are a run
+/// in which every thread stands, and all that a thread has begun since ts, where it had no attempt then, stands behind
+/// all that had taken effect by then. The same for every program that the code means.
 ///
-/// Of threads of the program that run at one time the order of these lists is not known, so this is not said of them: only
-/// that what one of them begins after a meeting stands behind all that both had done (`attempts_begin_past_their_floor`).
+/// Of threads of the program that run at one time the order of these lists is not known, so this is not said of them:
+/// only that what one of them begins after a meeting stands behind all that both had done
+/// (`attempts_begin_past_their_floor`).
 pub fn strictly_serializable<C>()
     ensures code { (code : C → Effect C) (init : ℕ → C) (bounds : List ℕ) (m0 : Memory) (threads : ℕ)
         (ts us : List ℕ) → FitsCells code bounds → IsMemory bounds m0 →
@@ -68,30 +69,30 @@ pub fn strictly_serializable<C>()
         IsStrictlySerializable code init program bounds m0 threads ts us }
 {}
 
-/// Every attempt, also one that will be dropped, is where its code's meaning comes in the memory of its moment: the same
-/// registers, frames and place, the same text, and it sees that memory with its own writes over it.
+/// Every attempt, also one that will be dropped, is where its code's meaning comes in the memory of its moment: the
+/// same registers, frames and place, the same text, and it sees that memory with its own writes over it.
 pub fn attempts_compute<C>()
     ensures { (code : C → Effect C) (init : ℕ → C) (bounds : List ℕ) (m0 : Memory) (threads : ℕ) (steps : List ℕ) →
         FitsCells code bounds → IsMemory bounds m0 →
         AttemptsCompute code init m0 (world_after code init m0 threads steps) }
 {}
 
-/// All attempts stand in one order, the dropped ones too: those that took effect are the run in it, and each of the others
-/// leaves what it found. Each attempt finds what the one before it left, and it is where its code's meaning comes on that
-/// memory. It stands after all that had ended when it began, and so would one that has not ended yet; and more steps put
-/// further attempts in, and move none. So the order of attempts is the order of time, wherever one had ended when another
-/// began.
+/// All attempts stand in one order, the dropped ones too: those that took effect are the run in it, and each of the
+/// others leaves what it found. Each attempt finds what the one before it left, and it is where its code's meaning
+/// comes on that memory. It stands after all that had ended when it began, and so would one that has not ended yet; and
+/// more steps put further attempts in, and move none. So the order of attempts is the order of time, wherever one had
+/// ended when another began.
 ///
-/// Of threads of the program that run at one time, this holds of some list of steps that makes what they did, and not of the
-/// order in time in which they made it.
+/// Of threads of the program that run at one time, this holds of some list of steps that makes what they did, and not
+/// of the order in time in which they made it.
 pub fn attempts_stand_in_one_order<C>()
     ensures { (code : C → Effect C) (init : ℕ → C) (bounds : List ℕ) (m0 : Memory) (threads : ℕ) (steps : List ℕ) →
         FitsCells code bounds → IsMemory bounds m0 →
         IsInOneOrder code init m0 threads steps }
 {}
 
-/// A step drops an attempt only where validation has loaded the word of an entry of its read log and found another one. A
-/// thread that has taken the lock is never dropped, whatever other threads do.
+/// A step drops an attempt only where validation has loaded the word of an entry of its read log and found another one.
+/// A thread that has taken the lock is never dropped, whatever other threads do.
 pub fn aborts<C>()
     ensures changed { (code : C → Effect C) (th : Thread C) (a : Attempt C) (lock : ℕ) (words : List ℕ) →
         th.attempt ≡ Some a →
@@ -102,8 +103,8 @@ pub fn aborts<C>()
         HoldersGoOn code (world_after code init m0 threads steps) }
 {}
 
-/// A thread has been dropped at most as often as other threads have taken the lock, and once more while it is held, whatever
-/// the steps. Where an attempt is dropped, the lock has been taken since its last snapshot.
+/// A thread has been dropped at most as often as other threads have taken the lock, and once more while it is held,
+/// whatever the steps. Where an attempt is dropped, the lock has been taken since its last snapshot.
 pub fn drops_are_bounded<C>()
     ensures bounded { (code : C → Effect C) (init : ℕ → C) (bounds : List ℕ) (m0 : Memory) (threads : ℕ)
         (steps : List ℕ) → FitsCells code bounds → IsMemory bounds m0 →
@@ -124,46 +125,46 @@ pub fn alone<C>()
         Means bounds (meaning code init) (source program) → ReachesEnd code init (source program) m0 run n }
 {}
 
-/// How many accesses a transaction makes that nobody disturbs, counted by what its code means on the memory that it finds:
-/// no log, snapshot or validation occurs in the count. From an outermost begin under a free lock on, where no other thread
-/// makes an access, the attempt is never dropped, and makes
+/// How many accesses a transaction makes that nobody disturbs, counted by what its code means on the memory that it
+/// finds: no log, snapshot or validation occurs in the count. From an outermost begin under a free lock on, where no
+/// other thread makes an access, the attempt is never dropped, and makes
 ///
 /// - one access for its begin;
 /// - two for each read of a cell that it has not written then;
-/// - at a commit, where it has written, one for the lock's swap, one for each cell written, and one for the release. A write
-///   that a cancel has undone does not count, and a cell counts once;
-/// - where it carries out an irrevocable, one swap there; then one access, not two, for each such read, and no further swap;
-///   the release also where nothing is written, and at a trap, which stores no cell.
+/// - at a commit, where it has written, one for the lock's swap, one for each cell written, and one for the release. A
+///   write that a cancel has undone does not count, and a cell counts once;
+/// - where it carries out an irrevocable, one swap there; then one access, not two, for each such read, and no further
+///   swap; the release also where nothing is written, and at a trap, which stores no cell.
 ///
-/// So it is after each step on the way (`IsOpenAfter`) and at the end (`IsOverAfter`): the transaction has taken effect then,
-/// and its meaning has ended it too and comes where the thread is. Other threads may make local steps meanwhile. That a
-/// transaction comes to an end is not said.
+/// So it is after each step on the way (`IsOpenAfter`) and at the end (`IsOverAfter`): the transaction has taken effect
+/// then, and its meaning has ended it too and comes where the thread is. Other threads may make local steps meanwhile.
+/// That a transaction comes to an end is not said.
 pub fn accesses_are_tallied<C>()
     ensures { (code : C → Effect C) (init : ℕ → C) (bounds : List ℕ) (m0 : Memory) (threads : ℕ) (steps : List ℕ)
         (t : ℕ) → FitsCells code bounds → IsMemory bounds m0 →
         CountsByMeaning code (world_after code init m0 threads steps) t }
 {}
 
-/// A thread that has the lock, by the won swap of a commit or of an irrevocable, never aborts, whatever steps it and other
-/// threads make: after any of them it has the lock still, at the same snapshot, or the next of its transactions to have taken
-/// effect is the one for which it took the lock. That it ever takes effect is not said.
+/// A thread that has the lock, by the won swap of a commit or of an irrevocable, never aborts, whatever steps it and
+/// other threads make: after any of them it has the lock still, at the same snapshot, or the next of its transactions
+/// to have taken effect is the one for which it took the lock. That it ever takes effect is not said.
 pub fn a_holder_never_aborts<C>()
     ensures { (code : C → Effect C) (init : ℕ → C) (bounds : List ℕ) (m0 : Memory) (threads : ℕ) (steps : List ℕ) →
         FitsCells code bounds → IsMemory bounds m0 →
         HoldersNeverAbort code (world_after code init m0 threads steps) }
 {}
 
-/// What an event says of the step that it is told of: an abort dropped the attempt, and nothing took effect; a commit made a
-/// transaction take effect at a commit; a cancel cancelled inner transactions, or an outermost one without the lock kept;
-/// a trap left a running thread trapped by that cause. And the other way round: no such step goes untold.
+/// What an event says of the step that it is told of: an abort dropped the attempt, and nothing took effect; a commit
+/// made a transaction take effect at a commit; a cancel cancelled inner transactions, or an outermost one without the
+/// lock kept; a trap left a running thread trapped by that cause. And the other way round: no such step goes untold.
 pub fn events_tell<C>()
     ensures { (code : C → Effect C) (init : ℕ → C) (bounds : List ℕ) (m0 : Memory) (threads : ℕ) (steps : List ℕ) →
         FitsCells code bounds → IsMemory bounds m0 →
         EventsTell code (world_after code init m0 threads steps) }
 {}
 
-/// So many instructions of a running thread that work on its own registers and frames are as many local steps of the machine:
-/// none of them makes an access, and all that they change is where the thread stands.
+/// So many instructions of a running thread that work on its own registers and frames are as many local steps of the
+/// machine: none of them makes an access, and all that they change is where the thread stands.
 pub fn instructions_are_local_steps()
     ensures { (code : Plain) (th : Thread Configuration) (n : ℕ) (d : Configuration) → th.status ≡ Running →
         after_local code n th.configuration ≡ Some d →
@@ -185,10 +186,10 @@ pub fn reached_by_steps<C>()
         (steps : List ℕ) × (w ≡ world_after code init m0 threads steps) }
 {}
 
-/// In every world that steps which do not stop lead to, the lock values that a thread was answered never fall and are at
-/// most the lock, a lost swap found another value than the one it swaps from, and each word answered is, in every merge,
-/// that of a place of the run which has at least half of the last lock value's lock-taking steps before it, or that of a pair
-/// which the thread with the lock has stored so far.
+/// In every world that steps which do not stop lead to, the lock values that a thread was answered never fall and are
+/// at most the lock, a lost swap found another value than the one it swaps from, and each word answered is, in every
+/// merge, that of a place of the run which has at least half of the last lock value's lock-taking steps before it, or
+/// that of a pair which the thread with the lock has stored so far.
 pub fn answers_are_explained<C>()
     ensures { (code : C → Effect C) (init : ℕ → C) (bounds : List ℕ) (m0 : Memory) (threads : ℕ) (w : World C)
         (heard : List (List Heard)) → FitsCells code bounds → IsMemory bounds m0 →
@@ -197,8 +198,8 @@ pub fn answers_are_explained<C>()
         AnswersOk m0 w hs }
 {}
 
-/// A world with its answers is reached by steps that do not stop exactly where it is that of a trace of such steps. So what
-/// holds of the one holds of the other.
+/// A world with its answers is reached by steps that do not stop exactly where it is that of a trace of such steps. So
+/// what holds of the one holds of the other.
 pub fn answered_by_traces<C>()
     ensures { (code : C → Effect C) (init : ℕ → C) (m0 : Memory) (threads : ℕ) →
         ((w : World C) (heard : List (List Heard)) → Answered code init m0 threads w heard →
@@ -208,8 +209,8 @@ pub fn answered_by_traces<C>()
         (heard_run code steps (new_world init m0 threads) (replicate threads []))) }
 {}
 
-/// The moment of an attempt whose first snapshot is n or more stands after every step of the run that was made under a lock
-/// value below n.
+/// The moment of an attempt whose first snapshot is n or more stands after every step of the run that was made under a
+/// lock value below n.
 pub fn attempts_begin_past_their_floor<C>()
     ensures { (does : Behaviour) (bounds : List ℕ) (m0 : Memory) (threads : ℕ) (w : World C) (es : List Entry) →
         BeginsPast does bounds m0 threads w es }

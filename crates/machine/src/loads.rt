@@ -9,7 +9,8 @@ ghost use Rattle.machine.specs.Loads.{Counted, IsLoad, LoadsNext, MayLoad, loade
 
 /// Makes the two accesses of a read at which nothing disturbs a thread.
 pub trait Loads {
-    /// From the one, for a thread, so many steps lead to the other, for a thread: local ones, and reads with what was loaded here.
+    /// From the one, for a thread, so many steps lead to the other, for a thread: local ones, and reads with what was
+    /// loaded here.
     ghost leads: { Plain → Self → Counted → ℕ → Self → Counted → Type 0 };
 
     /// From it, for this thread, so many steps can be made.
@@ -19,8 +20,12 @@ pub trait Loads {
     fn load(&mut self, cell: u32) -> (u64, u64)
         requires { MayLoad leads can_step self.old cell }
         ensures word { result.0 < 2 ^ 64 }
-        ensures count { (code : Plain) → (s : Self) → (from : Counted) → (n : ℕ) → (m : ℕ) → (at : Counted) → IsLoad leads can_step code s from n m self.old at cell → at.accesses + 2 < 2 ^ 64 }
-        ensures leads { (code : Plain) → (s : Self) → (from : Counted) → (n : ℕ) → (at : Counted) → leads code s from n self.old at → LoadsNext code at.thread cell → IsThreadOf code (loaded code at result.0 result.1).thread → leads code s from (n + 2) self.new (loaded code at result.0 result.1) };
+        ensures count { (code : Plain) → (s : Self) → (from : Counted) → (n : ℕ) → (m : ℕ) → (at : Counted)
+            → IsLoad leads can_step code s from n m self.old at cell → at.accesses + 2 < 2 ^ 64 }
+        ensures leads { (code : Plain) → (s : Self) → (from : Counted) → (n : ℕ) → (at : Counted)
+            → leads code s from n self.old at → LoadsNext code at.thread cell
+            → IsThreadOf code (loaded code at result.0 result.1).thread
+            → leads code s from (n + 2) self.new (loaded code at result.0 result.1) };
 
     /// The prover learns here that no step leads nowhere; it does nothing.
     fn stays(&self)
@@ -28,5 +33,8 @@ pub trait Loads {
 
     /// The prover learns here that local steps lead on; it does nothing.
     fn goes_on(&self)
-        ensures { (code : Plain) → (s : Self) → (from : Counted) → (n : ℕ) → (at : Counted) → (k : ℕ) → (next : PlainThread Configuration) → leads code s from n self.now at → Replays (effect code) at.thread k [] next → IsThreadOf code next → leads code s from (n + k) self.now (record { thread = next; accesses = at.accesses }) };
+        ensures { (code : Plain) → (s : Self) → (from : Counted) → (n : ℕ) → (at : Counted) → (k : ℕ)
+            → (next : PlainThread Configuration) → leads code s from n self.now at
+            → Replays (effect code) at.thread k [] next → IsThreadOf code next
+            → leads code s from (n + k) self.now (record { thread = next; accesses = at.accesses }) };
 }

@@ -1,6 +1,7 @@
 //! A thread of the machine.
 
-ghost use Rattle.std.specs.Prelude.{◌≡◌, ◌≢◌, ◌+◌, ◌<◌, ◌≤◌, ◌^◌, ◌↔◌, ℕ, [], None, Some, true, false, IfOk, IfNone, IfSome, OnOk, OnErr, OnSome, length};
+ghost use Rattle.std.specs.Prelude.{◌≡◌, ◌≢◌, ◌+◌, ◌<◌, ◌≤◌, ◌^◌, ◌↔◌, ℕ, [], None, Some, true, false, IfOk, IfNone};
+ghost use Rattle.std.specs.Prelude.{IfSome, OnOk, OnErr, OnSome, length};
 ghost use Rattle.syntax.specs.declared.numbers.Status.TheVariants.{Running};
 ghost use Rattle.bytecode.specs.Beginning.{beginning};
 ghost use Rattle.bytecode.specs.Code.{effect};
@@ -11,7 +12,8 @@ ghost use Rattle.norec_core.specs.Phases.{entry_access};
 ghost use Rattle.machine.specs.Threads.{access, told as told_spec};
 ghost use Rattle.machine.specs.Standing.{IsThreadOf};
 ghost use Rattle.machine.specs.Loads.{counted};
-ghost use Rattle.machine.specs.States.{BeginsNext, ComparesEntry, ComparesNext, IsLeft, IsPrepared, IsWordOf, StandsAt, StandsStill, StoresNext, SwapsNext, WaitsNext, first_thread, thread_has_lock};
+ghost use Rattle.machine.specs.States.{BeginsNext, ComparesEntry, ComparesNext, IsLeft, IsPrepared, IsWordOf, StandsAt};
+ghost use Rattle.machine.specs.States.{StandsStill, StoresNext, SwapsNext, WaitsNext, first_thread, thread_has_lock};
 ghost use Rattle.machine.specs.inner.Kept.{cost_if};
 
 use crate::event::Event;
@@ -27,8 +29,8 @@ use syntax::numbers::Status;
 
 /// One thread of the machine. It keeps no code: each call is given the code of `new`.
 ///
-/// A step is made in two calls, with its one access to the lock or the words between them: `prepare` names the access and
-/// makes all room that the step needs, `told` takes the answer, and neither fails nor takes memory.
+/// A step is made in two calls, with its one access to the lock or the words between them: `prepare` names the access
+/// and makes all room that the step needs, `told` takes the answer, and neither fails nor takes memory.
 #[derive(Drop)]
 pub struct Thread<A: Allocator = Global> {
     held: KeptThread<A>,
@@ -44,7 +46,12 @@ impl<A: Allocator> Model for Thread<A> {
     ghost use Rattle.machine.specs.Standing.{begins_of};
     ghost use Rattle.machine.specs.inner.Kept.{AreWithin, kept, ready, shown};
 
-    ghost view = { λ t. record { thread = shown (kept t.held); prepared = t.prepared; accesses = t.accesses; ready = ready t.held } };
+    ghost view = { λ t. record {
+      thread = shown (kept t.held);
+      prepared = t.prepared;
+      accesses = t.accesses;
+      ready = ready t.held;
+    } };
 
     // The frames of all open begins are still there.
     ghost invariant = { λ t. AreWithin t.held.frames.configuration (begins_of t.held.core.attempt) };
@@ -109,10 +116,11 @@ impl<A: Allocator + Copy> Thread<A> {
         }
     }
 
-    /// Makes local steps, at most so many steps: those in its registers and frames, calls and returns too, writes in a transaction, reads
-    /// of what was written in it, and commits that make no access; and between them the two steps of each other read at which nothing
-    /// disturbs it, with what is loaded for it. It ends before the first instruction that does something else, or that wants memory which is refused: how many steps
-    /// it made, and where they are fewer what stands there to be done.
+    /// Makes local steps, at most so many steps: those in its registers and frames, calls and returns too, writes in a
+    /// transaction, reads of what was written in it, and commits that make no access; and between them the two steps of
+    /// each other read at which nothing disturbs it, with what is loaded for it. It ends before the first instruction
+    /// that does something else, or that wants memory which is refused: how many steps it made, and where they are
+    /// fewer what stands there to be done.
     #[inline(always)]
     pub fn advance<B: Allocator, L: Loads>(
         &mut self,
@@ -152,8 +160,10 @@ impl<A: Allocator + Copy> Thread<A> {
         ensures accesses { self.new.accesses ≡ self.old.accesses }
         ensures access { IfOk result (λ x. (x ≡ access (effect code.now) self.old.thread) × (stops x ≡ false)) }
         ensures prepared { OnOk result (IsPrepared code.now self.new) }
-        ensures err { OnErr result ((self.old.thread.status ≡ Running) × (self.new.prepared ≡ self.old.prepared) × (IsPrepared code.now self.old → IsPrepared code.now self.new)) }
-        ensures used_up { (result ≡ Err Stop.SequenceUsedUp) ↔ (stops (access (effect code.now) self.old.thread) ≡ true) }
+        ensures err { OnErr result ((self.old.thread.status ≡ Running) × (self.new.prepared ≡ self.old.prepared)
+            × (IsPrepared code.now self.old → IsPrepared code.now self.new)) }
+        ensures used_up { (result ≡ Err Stop.SequenceUsedUp)
+            ↔ (stops (access (effect code.now) self.old.thread) ≡ true) }
     {
         let doing = self.doing(code);
         self.prepare_at(code, doing)
@@ -176,11 +186,11 @@ impl<A: Allocator + Copy> Thread<A> {
         event
     }
 
-    /// Names the access of the next step, by what is to be done in it, and makes all ready for its answer. A thread that is
-    /// over makes local steps that change nothing.
+    /// Names the access of the next step, by what is to be done in it, and makes all ready for its answer. A thread
+    /// that is over makes local steps that change nothing.
     ///
-    /// An error comes only where the thread runs, and leaves it as it was, with what was prepared before: `OutOfMemory` where room
-    /// was refused, `SequenceUsedUp` where the step would swap the lock from its last even value.
+    /// An error comes only where the thread runs, and leaves it as it was, with what was prepared before: `OutOfMemory`
+    /// where room was refused, `SequenceUsedUp` where the step would swap the lock from its last even value.
     #[inline(always)]
     pub fn prepare_at<B: Allocator>(&mut self, code: &Code<B>, doing: Doing) -> Result<Access, Stop>
         requires of { IsThreadOf code.now self.old.thread }
@@ -189,8 +199,10 @@ impl<A: Allocator + Copy> Thread<A> {
         ensures accesses { self.new.accesses ≡ self.old.accesses }
         ensures access { IfOk result (λ x. (x ≡ access (effect code.now) self.old.thread) × (stops x ≡ false)) }
         ensures prepared { OnOk result (IsPrepared code.now self.new) }
-        ensures err { OnErr result ((self.old.thread.status ≡ Running) × (self.new.prepared ≡ self.old.prepared) × (IsPrepared code.now self.old → IsPrepared code.now self.new)) }
-        ensures used_up { (result ≡ Err Stop.SequenceUsedUp) ↔ (stops (access (effect code.now) self.old.thread) ≡ true) }
+        ensures err { OnErr result ((self.old.thread.status ≡ Running) × (self.new.prepared ≡ self.old.prepared)
+            × (IsPrepared code.now self.old → IsPrepared code.now self.new)) }
+        ensures used_up { (result ≡ Err Stop.SequenceUsedUp)
+            ↔ (stops (access (effect code.now) self.old.thread) ≡ true) }
     {
         // The prover learns here that the code is valid.
         code.known();
@@ -245,8 +257,8 @@ impl<A: Allocator + Copy> Thread<A> {
         }
     }
 
-    /// Prepares the load of the begin that stands at its place, where no attempt is under way: whether it did. It does not where
-    /// the room that the begin needs is refused.
+    /// Prepares the load of the begin that stands at its place, where no attempt is under way: whether it did. It does
+    /// not where the room that the begin needs is refused.
     #[inline(always)]
     pub fn prepare_begin<B: Allocator>(&mut self, code: &Code<B>, to: u32) -> bool
         requires of { IsThreadOf code.now self.old.thread }
@@ -360,7 +372,8 @@ impl<A: Allocator + Copy> Thread<A> {
         requires stands { StandsAt code.now self.old Doing.Commit }
         requires stores { StoresNext self.old place }
         requires count { self.old.accesses + 1 < 2 ^ 64 }
-        ensures thread { (answer : Reply) → self.new.thread ≡ (told_spec (effect code.now) self.old.thread answer).thread }
+        ensures thread { (answer : Reply)
+            → self.new.thread ≡ (told_spec (effect code.now) self.old.thread answer).thread }
         ensures again { result ≡ true → StandsAt code.now self.new Doing.Commit }
         ensures of { IsThreadOf code.now self.new.thread }
         ensures accesses { self.new.accesses ≡ self.old.accesses + 1 }
@@ -400,7 +413,8 @@ impl<A: Allocator + Copy> Thread<A> {
         self.accesses
     }
 
-    /// Whether it has the lock: from the won swap of a commit, or of an operation that cannot be taken back, to the release.
+    /// Whether it has the lock: from the won swap of a commit, or of an operation that cannot be taken back, to the
+    /// release.
     pub fn has_lock(&self) -> bool
         ensures { result ≡ thread_has_lock self.now.thread }
     {
@@ -442,8 +456,8 @@ impl<A: Allocator + Copy> Thread<A> {
         self.held.waited(code, lock);
     }
 
-    /// Where the operation that stands at its place is under validation, and compares an entry next, or past the last one the
-    /// lock: at which lock value, and the entry's place in the read log.
+    /// Where the operation that stands at its place is under validation, and compares an entry next, or past the last
+    /// one the lock: at which lock value, and the entry's place in the read log.
     #[inline(always)]
     pub fn comparing<B: Allocator>(&self, code: &Code<B>, doing: Doing) -> Option<(u64, usize)>
         requires of { IsThreadOf code.now self.now.thread }
@@ -466,8 +480,8 @@ impl<A: Allocator + Copy> Thread<A> {
         }
     }
 
-    /// The entry that is compared next, the cell whose word is loaded and the word that it must have; none past the last entry,
-    /// where the lock is loaded.
+    /// The entry that is compared next, the cell whose word is loaded and the word that it must have; none past the
+    /// last entry, where the lock is loaded.
     #[inline(always)]
     pub fn entry<B: Allocator>(&self, code: &Code<B>, time: u64, place: usize) -> Option<(u32, u64)>
         requires of { IsThreadOf code.now self.now.thread }
@@ -481,8 +495,8 @@ impl<A: Allocator + Copy> Thread<A> {
         self.held.core.entry(time, place)
     }
 
-    /// Makes the step that compares this entry, where its word was loaded again: the entry behind it is compared next. It takes no
-    /// memory.
+    /// Makes the step that compares this entry, where its word was loaded again: the entry behind it is compared next.
+    /// It takes no memory.
     #[inline(always)]
     pub fn compared<B: Allocator>(
         &mut self,
@@ -509,7 +523,8 @@ impl<A: Allocator + Copy> Thread<A> {
         self.held.compared(code, time, place, entry);
     }
 
-    /// Makes the step that compares this entry, where another word was loaded: the attempt is dropped. It takes no memory.
+    /// Makes the step that compares this entry, where another word was loaded: the attempt is dropped. It takes no
+    /// memory.
     #[inline(always)]
     pub fn differed<B: Allocator>(
         &mut self,
@@ -535,8 +550,8 @@ impl<A: Allocator + Copy> Thread<A> {
         self.held.differed(code, time, place, entry, word);
     }
 
-    /// Makes the step past the last entry, with the lock's value that was loaded: where it is the one at which validation began
-    /// it is the new snapshot, else validation begins again. It takes no memory.
+    /// Makes the step past the last entry, with the lock's value that was loaded: where it is the one at which
+    /// validation began it is the new snapshot, else validation begins again. It takes no memory.
     #[inline(always)]
     pub fn validated<B: Allocator>(&mut self, code: &Code<B>, time: u64, place: usize, lock: u64)
         requires of { IsThreadOf code.now self.old.thread }

@@ -38,7 +38,8 @@ impl<A: Allocator + Copy> KeptThread<A> {
         requires runs { RunsKept code.now (kept self.old) }
         requires operation { IsSomeAnd (asks (effect code.now) (shown (kept self.old))) IsValidated }
         requires waits { IsSomeAnd self.old.core.attempt (λ a. IsWaiting a) }
-        ensures makes { Makes code.now (told_spec (effect code.now) (shown (kept self.old)) (Value lock)) (kept self.new) Event.Quiet }
+        ensures makes { Makes code.now (told_spec (effect code.now) (shown (kept self.old)) (Value lock))
+            (kept self.new) Event.Quiet }
         ensures still { self.new.frames.configuration ≡ self.old.frames.configuration }
     {
         // The prover names by it the code.
@@ -63,7 +64,8 @@ impl<A: Allocator + Copy> KeptThread<A> {
         requires entry { IsSomeAnd self.old.core.attempt (λ a. ComparesWith time place (Some entry) a) }
         requires next { place + 1 < 2 ^ 64 }
         requires word { entry.1 < 2 ^ 64 }
-        ensures makes { Makes code.now (told_spec (effect code.now) (shown (kept self.old)) (Value entry.1)) (kept self.new) Event.Quiet }
+        ensures makes { Makes code.now (told_spec (effect code.now) (shown (kept self.old)) (Value entry.1))
+            (kept self.new) Event.Quiet }
         ensures operation { IsSomeAnd (asks (effect code.now) (shown (kept self.new))) IsValidated }
         ensures next { IsSomeAnd self.new.core.attempt (λ a. IsComparing time (place + 1) a) }
         ensures running { self.new.status ≡ Running }
@@ -92,7 +94,8 @@ impl<A: Allocator + Copy> KeptThread<A> {
         requires entry { IsSomeAnd self.old.core.attempt (λ a. ComparesWith time place (Some entry) a) }
         requires differs { word ≢ entry.1 }
         requires word { word < 2 ^ 64 }
-        ensures { Makes code.now (told_spec (effect code.now) (shown (kept self.old)) (Value word)) (kept self.new) Event.Abort }
+        ensures { Makes code.now (told_spec (effect code.now) (shown (kept self.old)) (Value word))
+            (kept self.new) Event.Abort }
     {
         // The prover names by it the code.
         let _code = code;
@@ -115,7 +118,8 @@ impl<A: Allocator + Copy> KeptThread<A> {
         requires runs { RunsKept code.now (kept self.old) }
         requires operation { IsSomeAnd (asks (effect code.now) (shown (kept self.old))) IsValidated }
         requires entry { IsSomeAnd self.old.core.attempt (λ a. ComparesWith time place None a) }
-        ensures makes { Makes code.now (told_spec (effect code.now) (shown (kept self.old)) (Value lock)) (kept self.new) Event.Quiet }
+        ensures makes { Makes code.now (told_spec (effect code.now) (shown (kept self.old)) (Value lock))
+            (kept self.new) Event.Quiet }
         ensures still { self.new.frames.configuration ≡ self.old.frames.configuration }
     {
         // The prover names by it the code.

@@ -1,5 +1,5 @@
-//! Tests of register code, of local steps, of frames, of threads of the machine and of `atomic_code`, in a crate of their own: a
-//! crate with tests is proved twice, and each crate of tests reads and links all that it stands on.
+//! Tests of register code, of local steps, of frames, of threads of the machine and of `atomic_code`, in a crate of
+//! their own: a crate with tests is proved twice, and each crate of tests reads and links all that it stands on.
 #![tactic(auto)]
 
 #[cfg(test)]

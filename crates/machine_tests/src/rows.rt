@@ -4,7 +4,8 @@ use machine::Event;
 use norec_core::Access;
 use syntax::numbers::Trap;
 
-/// What the lock and the cell have, and the access and what happened; none where the lock has no value left for the step.
+/// What the lock and the cell have, and the access and what happened; none where the lock has no value left for the
+/// step.
 pub type Row = (u64, u32, Option<(Access, Event)>);
 
 /// The steps of `adds_five`, where the lock moves once between: the first attempt is dropped.
@@ -35,8 +36,8 @@ pub fn dropped_once() -> &'static [Row] {
     &ROWS
 }
 
-/// The steps of `traps`: the lock is taken before the print, the trap gives it back without a store, and no further step does
-/// anything.
+/// The steps of `traps`: the lock is taken before the print, the trap gives it back without a store, and no further
+/// step does anything.
 pub fn trapped() -> &'static [Row] {
     static ROWS: [Row; 9] = [
         (0, 7, Some((Access::LoadLock, Event::Quiet))),

@@ -303,8 +303,8 @@ impl Loads for Uniform {
     fn goes_on(&self) {}
 }
 
-/// What stands there after a begin at the lock value 2, and as many steps as go on from there, where 7 and this lock are found; and
-/// how many these are.
+/// What stands there after a begin at the lock value 2, and as many steps as go on from there, where 7 and this lock
+/// are found; and how many these are.
 fn reads_on<A: Allocator + Copy>(
     thread: &mut Thread<A>,
     code: &Code<A>,
@@ -492,8 +492,8 @@ fn tells_in_place<A: Allocator + Copy, B: Allocator>(
     }
 }
 
-/// Calls and writes in an inner transaction that is cancelled, and then cancels two at once. `f` writes its parameter and
-/// gives it back.
+/// Calls and writes in an inner transaction that is cancelled, and then cancels two at once. `f` writes its parameter
+/// and gives it back.
 fn calls_and_cancels() -> &'static [Instr] {
     static CODE: [Instr; 13] = [
         Instr::Begin(9),

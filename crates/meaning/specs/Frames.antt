@@ -21,7 +21,8 @@ framed f s = record {
   text = f.text ++ s.text;
 }
 
--- What an answer says of the answer in a frame. Where it wants a memory, that one wants it too, if there is no further one.
+-- What an answer says of the answer in a frame. Where it wants a memory, that one wants it too, if there is no further
+-- one.
 abbrev pub Alike : {A : Type 0} → Frame → Answer A → Answer A → Type 0
 Alike f (Gives a s) more = more ≡ Gives a (framed f s)
 Alike f (Stops (Trapped t) s) more = more ≡ Stops (Trapped t) (framed f s)

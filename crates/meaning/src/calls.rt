@@ -125,7 +125,9 @@ pub(crate) fn call<'p, A: Allocator + Copy>(
     args: &'p [Expr<A>],
     m: &mut Machine<'p, '_, A>,
 ) -> Result<Word, Halted>
-    ensures { (at : Span) → MeansWord result (meaning.expr (program_in source.now) (called source.now frames) (tree.Call (name_of f.now) (exprs_of args.now) at) (state_in m.old)) m.new }
+    ensures { (at : Span)
+        → MeansWord result (meaning.expr (program_in source.now) (called source.now frames)
+        (tree.Call (name_of f.now) (exprs_of args.now) at) (state_in m.old)) m.new }
 {
     let values = values(source, frames, args, m)?;
     tick(m)?; // the call's
@@ -140,7 +142,8 @@ pub(crate) fn values<'p, A: Allocator + Copy>(
     args: &'p [Expr<A>],
     m: &mut Machine<'p, '_, A>,
 ) -> Result<Vec<Value, A>, Halted>
-    ensures { MeansWords result (meaning.exprs (program_in source.now) (called source.now frames) (exprs_of args.now) (state_in m.old)) m.new }
+    ensures { MeansWords result
+        (meaning.exprs (program_in source.now) (called source.now frames) (exprs_of args.now) (state_in m.old)) m.new }
 {
     let mut values = Vec::new(source.alloc);
     'arguments: for e in args {

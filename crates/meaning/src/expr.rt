@@ -65,7 +65,9 @@ fn logical<'p, A: Allocator + Copy>(
     b: &'p Expr<A>,
     m: &mut Machine<'p, '_, A>,
 ) -> Result<Word, Halted>
-    ensures { (at : Span) → MeansWord result (meaning.expr (program_in source.now) (called source.now frames) (tree.Logical op (expr_of a.now) (expr_of b.now) at) (state_in m.old)) m.new }
+    ensures { (at : Span)
+        → MeansWord result (meaning.expr (program_in source.now) (called source.now frames)
+        (tree.Logical op (expr_of a.now) (expr_of b.now) at) (state_in m.old)) m.new }
 {
     let v = eval(source, frames, a, m)?;
     let w = match op {
@@ -97,7 +99,9 @@ fn conditional<'p, A: Allocator + Copy>(
     b: &'p Expr<A>,
     m: &mut Machine<'p, '_, A>,
 ) -> Result<Word, Halted>
-    ensures { (at : Span) → MeansWord result (meaning.expr (program_in source.now) (called source.now frames) (tree.Conditional (expr_of c.now) (expr_of a.now) (expr_of b.now) at) (state_in m.old)) m.new }
+    ensures { (at : Span)
+        → MeansWord result (meaning.expr (program_in source.now) (called source.now frames)
+        (tree.Conditional (expr_of c.now) (expr_of a.now) (expr_of b.now) at) (state_in m.old)) m.new }
 {
     let v = eval(source, frames, c, m)?;
     let w = if is_zero(v) {
@@ -117,7 +121,9 @@ pub(crate) fn element<'p, A: Allocator + Copy>(
     i: &'p Expr<A>,
     m: &mut Machine<'p, '_, A>,
 ) -> Result<Spot, Halted>
-    ensures { MeansSpot result (act.go_on (does_expr source.now frames i.now (state_in m.old)) (λ k. meaning.element (program_in source.now) (called source.now frames) x.now.text k)) m.new }
+    ensures { MeansSpot result
+        (act.go_on (does_expr source.now frames i.now (state_in m.old))
+        (λ k. meaning.element (program_in source.now) (called source.now frames) x.now.text k)) m.new }
 {
     let k = eval(source, frames, i, m)?;
     indexed(source, x, k, m)

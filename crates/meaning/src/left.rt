@@ -103,7 +103,8 @@ fn loop_of<'p, A: Allocator + Copy>(s: &'p Stmt<A>) -> Option<Loop<'p, A>>
 
 /// The first of statements, and then the others.
 fn begin_apart<'p, A: Allocator>(frames: u64, ss: &'p [Stmt<A>]) -> Stepped<'p, A>
-    ensures { (source : Source A) → follow_of source result ≡ going.apart_begun (program_in source) (called source frames) (stmts_of ss.now) }
+    ensures { (source : Source A) → follow_of source result
+        ≡ going.apart_begun (program_in source) (called source frames) (stmts_of ss.now) }
 {
     match ss {
         [s, rest @ ..] => Stepped::Nests(
@@ -123,7 +124,9 @@ fn begin_either<'p, A: Allocator + Copy>(
     b: &'p Option<Boxed<Stmt<A>, A>>,
     m: &mut Machine<'p, '_, A>,
 ) -> Result<Stepped<'p, A>, Halted>
-    ensures { MeansStepped source.now result (going.either_begun (program_in source.now) (called source.now frames) (expr_of c.now) (stmt_of a.now) (option_map stmt_of b.now) (state_in m.old)) m.new }
+    ensures { MeansStepped source.now result
+        (going.either_begun (program_in source.now) (called source.now frames) (expr_of c.now) (stmt_of a.now)
+        (option_map stmt_of b.now) (state_in m.old)) m.new }
 {
     let v = eval(source, frames, c, m)?;
     if !is_zero(v) {
@@ -143,7 +146,9 @@ fn begin_for<'p, A: Allocator + Copy>(
     s: &'p Stmt<A>,
     m: &mut Machine<'p, '_, A>,
 ) -> Result<Stepped<'p, A>, Halted>
-    ensures { MeansStepped source.now result (going.for_begun (program_in source.now) (called source.now frames) (start_of start.now) (going.turn_of (program_in source.now) (called source.now frames) (stmt_of s.now)) (state_in m.old)) m.new }
+    ensures { MeansStepped source.now result
+        (going.for_begun (program_in source.now) (called source.now frames) (start_of start.now)
+        (going.turn_of (program_in source.now) (called source.now frames) (stmt_of s.now)) (state_in m.old)) m.new }
 {
     let outer = m.locals.len();
     started(source, frames, start, m)?;
@@ -161,7 +166,10 @@ fn begin_loop<'p, A: Allocator + Copy>(
     s: &'p Stmt<A>,
     m: &mut Machine<'p, '_, A>,
 ) -> Result<Stepped<'p, A>, Halted>
-    ensures { MeansStepped source.now result (lefts.loop_opened source.now frames (going.turn_of (program_in source.now) (called source.now frames) (stmt_of s.now)) which.now (state_in m.old)) m.new }
+    ensures { MeansStepped source.now result
+        (lefts.loop_opened source.now frames
+        (going.turn_of (program_in source.now) (called source.now frames) (stmt_of s.now)) which.now (state_in m.old))
+        m.new }
 {
     match which {
         Loop::For(head, _) => begin_for(source, frames, &head.start, s, m),
@@ -179,7 +187,8 @@ pub(crate) fn open<'p, A: Allocator + Copy>(
     parts: &Parts<'p, A>,
     m: &mut Machine<'p, '_, A>,
 ) -> Result<Stepped<'p, A>, Halted>
-    ensures { MeansStepped source.now result (lefts.opened source.now frames (stmt_of s.now) parts.now (state_in m.old)) m.new }
+    ensures { MeansStepped source.now result (lefts.opened source.now frames (stmt_of s.now) parts.now (state_in m.old))
+        m.new }
 {
     tick(m)?;
     match parts {
@@ -194,7 +203,8 @@ pub(crate) fn open<'p, A: Allocator + Copy>(
 
 /// The call that an expression is, perhaps in parentheses: its function's name and its arguments.
 fn call_in<'p, A: Allocator + Copy>(e: &'p Expr<A>) -> Option<(&'p Name<A>, &'p [Expr<A>])>
-    ensures { IfSome result (λ c. (p : Program) (call : meaning.Caller) → meaning.expr p call (expr_of e.now) ≡ going.call_of p call c.0.now.text (exprs_of c.1.now)) }
+    ensures { IfSome result (λ c. (p : Program) (call : meaning.Caller)
+        → meaning.expr p call (expr_of e.now) ≡ going.call_of p call c.0.now.text (exprs_of c.1.now)) }
 {
     match e {
         Expr::Call(f, args, _) => Some((f, args.as_slice())),
@@ -207,7 +217,8 @@ fn call_in<'p, A: Allocator + Copy>(e: &'p Expr<A>) -> Option<(&'p Name<A>, &'p 
 pub(crate) fn call_alone<'p, A: Allocator + Copy>(
     s: &'p Stmt<A>,
 ) -> Option<(&'p Name<A>, &'p [Expr<A>])>
-    ensures { IfSome result (λ c. (p : Program) (call : meaning.Caller) → meaning.stmt p call (stmt_of s.now) ≡ going.call_alone p call c.0.now.text (exprs_of c.1.now)) }
+    ensures { IfSome result (λ c. (p : Program) (call : meaning.Caller)
+        → meaning.stmt p call (stmt_of s.now) ≡ going.call_alone p call c.0.now.text (exprs_of c.1.now)) }
 {
     match s {
         Stmt::Do(i) => match i {
@@ -220,7 +231,8 @@ pub(crate) fn call_alone<'p, A: Allocator + Copy>(
 
 /// There is no frame for a call: the trap takes a tick.
 fn trap_frames<'p, A: Allocator>(m: &mut Machine<'p, '_, A>) -> Result<Stepped<'p, A>, Halted>
-    ensures { (source : Source A) → MeansStepped source result (act.trap {A = going.Follow} Frames (state_in m.old)) m.new }
+    ensures { (source : Source A)
+        → MeansStepped source result (act.trap {A = going.Follow} Frames (state_in m.old)) m.new }
 {
     tick(m)?;
     m.why = Some(Halt::Trapped(Trap::Frames));
@@ -235,7 +247,8 @@ fn begin_frame<'p, A: Allocator + Copy>(
     values: &[Value],
     m: &mut Machine<'p, '_, A>,
 ) -> Result<Stepped<'p, A>, Halted>
-    ensures { MeansStepped source.now result (going.frame_begun (program_in source.now) frames f.now values.now (state_in m.old)) m.new }
+    ensures { MeansStepped source.now result
+        (going.frame_begun (program_in source.now) frames f.now values.now (state_in m.old)) m.new }
 {
     if frames == 0 {
         return trap_frames(m);
@@ -253,7 +266,8 @@ pub(crate) fn open_call<'p, A: Allocator + Copy>(
     args: &'p [Expr<A>],
     m: &mut Machine<'p, '_, A>,
 ) -> Result<Stepped<'p, A>, Halted>
-    ensures { MeansStepped source.now result (going.call_begun (program_in source.now) frames f.now.text (exprs_of args.now) (state_in m.old)) m.new }
+    ensures { MeansStepped source.now result
+        (going.call_begun (program_in source.now) frames f.now.text (exprs_of args.now) (state_in m.old)) m.new }
 {
     tick(m)?;
     let values = values(source, frames, args, m)?;
@@ -268,7 +282,8 @@ fn goes<'p, A: Allocator + Copy>(
     which: &Loop<'p, A>,
     m: &mut Machine<'p, '_, A>,
 ) -> Result<bool, Halted>
-    ensures { Means result (going.test_of (program_in source.now) (called source.now frames) (lefts.loop_in which.now) (state_in m.old)) m.new }
+    ensures { Means result (going.test_of (program_in source.now) (called source.now frames) (lefts.loop_in which.now)
+        (state_in m.old)) m.new }
 {
     match which {
         Loop::While(c, _) => {
@@ -299,7 +314,9 @@ fn begin_turns<'p, A: Allocator + Copy>(
     turns: u64,
     m: &mut Machine<'p, '_, A>,
 ) -> Result<Stepped<'p, A>, Halted>
-    ensures { MeansStepped source.now result (going.turns_begun (program_in source.now) (called source.now frames) (stmt_of s.now) turns (state_in m.old)) m.new }
+    ensures { MeansStepped source.now result
+        (going.turns_begun (program_in source.now) (called source.now frames) (stmt_of s.now) turns (state_in m.old))
+        m.new }
 {
     let Some(which) = loop_of(s) else {
         m.why = None; // never so: turns are those of a loop
@@ -327,7 +344,9 @@ fn behind<'p, A: Allocator + Copy>(
     which: &Loop<'p, A>,
     m: &mut Machine<'p, '_, A>,
 ) -> Result<Option<End>, Halted>
-    ensures { MeansTurn result (going.behind_of (program_in source.now) (called source.now frames) (lefts.loop_in which.now) (state_in m.old)) m.new }
+    ensures { MeansTurn result
+        (going.behind_of (program_in source.now) (called source.now frames) (lefts.loop_in which.now) (state_in m.old))
+        m.new }
 {
     match which {
         Loop::While(_, _) => Ok(None),
@@ -344,7 +363,9 @@ fn after_body<'p, A: Allocator + Copy>(
     end: End,
     m: &mut Machine<'p, '_, A>,
 ) -> Result<Option<End>, Halted>
-    ensures { MeansTurn result (meaning.after_body (going.behind_of (program_in source.now) (called source.now frames) (stmt_of s.now)) (end_of end) (state_in m.old)) m.new }
+    ensures { MeansTurn result
+        (meaning.after_body (going.behind_of (program_in source.now) (called source.now frames) (stmt_of s.now))
+        (end_of end) (state_in m.old)) m.new }
 {
     if let Some(end) = left_by_body(end) {
         return Ok(Some(end));
@@ -365,7 +386,8 @@ fn leave_body<'p, A: Allocator + Copy>(
     end: End,
     m: &mut Machine<'p, '_, A>,
 ) -> Result<Stepped<'p, A>, Halted>
-    ensures { MeansStepped source.now result (lefts.body_step source.now frames (stmt_of s.now) turns (end_of end) (state_in m.old)) m.new }
+    ensures { MeansStepped source.now result
+        (lefts.body_step source.now frames (stmt_of s.now) turns (end_of end) (state_in m.old)) m.new }
 {
     match after_body(source, frames, s, end, m)? {
         Some(end) => Ok(Stepped::Ends(end)),
@@ -400,7 +422,8 @@ fn begin_alone<'p, A: Allocator + Copy>(
     s: &'p Stmt<A>,
     m: &mut Machine<'p, '_, A>,
 ) -> Result<Stepped<'p, A>, Halted>
-    ensures { MeansStepped source.now result (lefts.begun_by source.now way frames (stmt_of s.now) (state_in m.old)) m.new }
+    ensures { MeansStepped source.now result (lefts.begun_by source.now way frames (stmt_of s.now) (state_in m.old))
+        m.new }
 {
     match way {
         Way::Whole => {

@@ -1,7 +1,7 @@
 //! What a program's threads do, computed from the tree: the plain program beside the source's meaning.
 //!
-//! A thread's state is a machine, and each function does with it what the source's meaning says of the same thing. Where
-//! memory is refused, nothing is said of the machine.
+//! A thread's state is a machine, and each function does with it what the source's meaning says of the same thing.
+//! Where memory is refused, nothing is said of the machine.
 #![tactic(auto)]
 
 mod arithmetic;

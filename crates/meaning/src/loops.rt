@@ -6,7 +6,8 @@ ghost use Rattle.syntax.specs.Actions as act;
 ghost use Rattle.syntax.specs.Actions.{State};
 ghost use Rattle.syntax.specs.Meaning as meaning;
 ghost use Rattle.meaning.specs.inner.Machine.{Means, MeansEnd, MeansTurn, end_of, program_in, state_in};
-ghost use Rattle.meaning.specs.inner.Does.{called, does_turn, do_turn, for_all, for_turn, left_or, tested as tested_due, while_turn};
+ghost use Rattle.meaning.specs.inner.Does.{called, does_turn, do_turn, for_all, for_turn, left_or};
+ghost use Rattle.meaning.specs.inner.Does.{tested as tested_due, while_turn};
 
 use crate::expr::eval;
 use crate::machine::{End, Halted, Machine, tick};
@@ -28,7 +29,8 @@ pub(crate) enum Loop<'p, A: Allocator> {
 
 /// The end of a loop that its body's end is, if it is one.
 pub(crate) fn left_by_body(end: End) -> Option<End>
-    ensures { (go : act.Action (Option meaning.End)) → (s : State) → meaning.after_body go (end_of end) s ≡ left_or go result s }
+    ensures { (go : act.Action (Option meaning.End)) → (s : State)
+        → meaning.after_body go (end_of end) s ≡ left_or go result s }
 {
     match end {
         End::Next | End::Continues => None,
@@ -85,7 +87,9 @@ fn turn_while<'p, A: Allocator + Copy>(
     a: &'p Stmt<A>,
     m: &mut Machine<'p, '_, A>,
 ) -> Result<Option<End>, Halted>
-    ensures { MeansTurn result (while_turn (program_in source.now) (called source.now frames) (expr_of c.now) (stmt_of a.now) (state_in m.old)) m.new }
+    ensures { MeansTurn result
+        (while_turn (program_in source.now) (called source.now frames) (expr_of c.now) (stmt_of a.now) (state_in m.old))
+        m.new }
 {
     if let Some(end) = tested(source, frames, c, m)? {
         return Ok(Some(end));
@@ -102,7 +106,8 @@ pub(crate) fn tested<'p, A: Allocator + Copy>(
     c: &'p Expr<A>,
     m: &mut Machine<'p, '_, A>,
 ) -> Result<Option<End>, Halted>
-    ensures { MeansTurn result (tested_due (program_in source.now) (called source.now frames) (expr_of c.now) (state_in m.old)) m.new }
+    ensures { MeansTurn result
+        (tested_due (program_in source.now) (called source.now frames) (expr_of c.now) (state_in m.old)) m.new }
 {
     let v = eval(source, frames, c, m)?;
     if is_zero(v) {
@@ -120,7 +125,9 @@ fn turn_do<'p, A: Allocator + Copy>(
     c: &'p Expr<A>,
     m: &mut Machine<'p, '_, A>,
 ) -> Result<Option<End>, Halted>
-    ensures { MeansTurn result (do_turn (program_in source.now) (called source.now frames) (stmt_of a.now) (expr_of c.now) (state_in m.old)) m.new }
+    ensures { MeansTurn result
+        (do_turn (program_in source.now) (called source.now frames) (stmt_of a.now) (expr_of c.now) (state_in m.old))
+        m.new }
 {
     let end = scoped(source, frames, a, m)?;
     match left_by_body(end) {
@@ -138,7 +145,9 @@ fn turn_for<'p, A: Allocator + Copy>(
     a: &'p Stmt<A>,
     m: &mut Machine<'p, '_, A>,
 ) -> Result<Option<End>, Halted>
-    ensures { MeansTurn result (for_turn (program_in source.now) (called source.now frames) (option_map expr_of head.now.condition) (option_map simple_of head.now.step) (stmt_of a.now) (state_in m.old)) m.new }
+    ensures { MeansTurn result
+        (for_turn (program_in source.now) (called source.now frames) (option_map expr_of head.now.condition)
+        (option_map simple_of head.now.step) (stmt_of a.now) (state_in m.old)) m.new }
 {
     let more = holds(source, frames, &head.condition, m)?;
     if !more {
@@ -159,7 +168,8 @@ pub(crate) fn holds<'p, A: Allocator + Copy>(
     c: &'p Option<Expr<A>>,
     m: &mut Machine<'p, '_, A>,
 ) -> Result<bool, Halted>
-    ensures { Means result (meaning.holds (program_in source.now) (called source.now frames) (option_map expr_of c.now) (state_in m.old)) m.new }
+    ensures { Means result (meaning.holds (program_in source.now) (called source.now frames) (option_map expr_of c.now)
+        (state_in m.old)) m.new }
 {
     match c {
         None => Ok(true),
@@ -178,7 +188,9 @@ pub(crate) fn stepped<'p, A: Allocator + Copy>(
     step: &'p Option<Simple<A>>,
     m: &mut Machine<'p, '_, A>,
 ) -> Result<Option<End>, Halted>
-    ensures { MeansTurn result (meaning.stepped (program_in source.now) (called source.now frames) (option_map simple_of step.now) (state_in m.old)) m.new }
+    ensures { MeansTurn result
+        (meaning.stepped (program_in source.now) (called source.now frames) (option_map simple_of step.now)
+        (state_in m.old)) m.new }
 {
     match step {
         None => Ok(None),
@@ -199,7 +211,10 @@ pub(crate) fn for_scoped<'p, A: Allocator + Copy>(
     a: &'p Stmt<A>,
     m: &mut Machine<'p, '_, A>,
 ) -> Result<End, Halted>
-    ensures { MeansEnd result (meaning.scoped (for_all (program_in source.now) (called source.now frames) (start_of head.now.start) (option_map expr_of head.now.condition) (option_map simple_of head.now.step) (stmt_of a.now)) (state_in m.old)) m.new }
+    ensures { MeansEnd result
+        (meaning.scoped (for_all (program_in source.now) (called source.now frames) (start_of head.now.start)
+        (option_map expr_of head.now.condition) (option_map simple_of head.now.step) (stmt_of a.now)) (state_in m.old))
+        m.new }
 {
     let outer = m.locals.len();
     let end = for_run(source, frames, head, a, m)?;
@@ -216,7 +231,10 @@ fn for_run<'p, A: Allocator + Copy>(
     a: &'p Stmt<A>,
     m: &mut Machine<'p, '_, A>,
 ) -> Result<End, Halted>
-    ensures { MeansEnd result (for_all (program_in source.now) (called source.now frames) (start_of head.now.start) (option_map expr_of head.now.condition) (option_map simple_of head.now.step) (stmt_of a.now) (state_in m.old)) m.new }
+    ensures { MeansEnd result
+        (for_all (program_in source.now) (called source.now frames) (start_of head.now.start)
+        (option_map expr_of head.now.condition) (option_map simple_of head.now.step) (stmt_of a.now) (state_in m.old))
+        m.new }
 {
     started(source, frames, &head.start, m)?;
     repeat(source, frames, &Loop::For(head, a), m)
@@ -230,7 +248,9 @@ pub(crate) fn started<'p, A: Allocator + Copy>(
     start: &'p Start<A>,
     m: &mut Machine<'p, '_, A>,
 ) -> Result<End, Halted>
-    ensures { MeansEnd result (meaning.start_with (program_in source.now) (called source.now frames) (start_of start.now) (state_in m.old)) m.new }
+    ensures { MeansEnd result
+        (meaning.start_with (program_in source.now) (called source.now frames) (start_of start.now) (state_in m.old))
+        m.new }
 {
     match start {
         Start::Nothing => Ok(End::Next),

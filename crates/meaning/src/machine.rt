@@ -24,16 +24,16 @@ pub(crate) struct Local<'p> {
     pub word: u64,
 }
 
-/// Outside transactions, with the memories still to be found and those left so far; or inside one: how the innermost one
-/// runs, and the memory as its transaction sees it.
+/// Outside transactions, with the memories still to be found and those left so far; or inside one: how the innermost
+/// one runs, and the memory as its transaction sees it.
 #[derive(Drop)]
 pub(crate) enum Context<'f, A: Allocator> {
     Outside(&'f [Vec<u64, A>], Vec<Vec<u64, A>, A>),
     Inside(Mode, Vec<u64, A>),
 }
 
-/// A thread's ticks, locals, context and text; and where it goes no further, why: the meaning's halt, or none where memory
-/// has run out.
+/// A thread's ticks, locals, context and text; and where it goes no further, why: the meaning's halt, or none where
+/// memory has run out.
 #[derive(Drop)]
 pub(crate) struct Machine<'p, 'f, A: Allocator> {
     pub ticks: u64,

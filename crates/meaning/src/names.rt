@@ -39,7 +39,8 @@ pub(crate) fn global<'p, A: Allocator + Copy>(
 
 /// The definition that an item is of a function, with its body.
 fn defined_by<'p, A: Allocator>(item: &'p Item<A>, name: &str) -> Option<Defined<'p, A>>
-    ensures { (rest : tree.Program) → Names.definition_of (item_of item.now ∷ rest) name.now ≡ option_or (option_map defined_in result) (Names.definition_of rest name.now) }
+    ensures { (rest : tree.Program) → Names.definition_of (item_of item.now ∷ rest) name.now
+        ≡ option_or (option_map defined_in result) (Names.definition_of rest name.now) }
 {
     let Item::Function(f) = item else {
         return None;

@@ -26,7 +26,8 @@ pub(crate) fn named<'p, A: Allocator + Copy>(
     x: &Name<A>,
     m: &mut Machine<'p, '_, A>,
 ) -> Result<Spot, Halted>
-    ensures { MeansSpot result (meaning.named (program_in source.now) (called source.now 0) x.now.text (state_in m.old)) m.new }
+    ensures { MeansSpot result (meaning.named (program_in source.now) (called source.now 0) x.now.text (state_in m.old))
+        m.new }
 {
     if let Some((i, of)) = newest(m.locals.as_slice(), x.text.as_str()) {
         return Ok(Spot::InLocal(i, of));
@@ -46,7 +47,9 @@ pub(crate) fn variable<'p, A: Allocator + Copy>(
     x: &Name<A>,
     m: &mut Machine<'p, '_, A>,
 ) -> Result<Word, Halted>
-    ensures { MeansWord result (meaning.expr (program_in source.now) (called source.now 0) (tree.Variable (name_of x.now)) (state_in m.old)) m.new }
+    ensures { MeansWord result
+        (meaning.expr (program_in source.now) (called source.now 0) (tree.Variable (name_of x.now)) (state_in m.old))
+        m.new }
 {
     let at = named(source, x, m)?;
     fetch(m, at)
@@ -59,7 +62,9 @@ pub(crate) fn indexed<'p, A: Allocator + Copy>(
     index: Word,
     m: &mut Machine<'p, '_, A>,
 ) -> Result<Spot, Halted>
-    ensures { MeansSpot result (meaning.element (program_in source.now) (called source.now 0) x.now.text (value_of index) (state_in m.old)) m.new }
+    ensures { MeansSpot result
+        (meaning.element (program_in source.now) (called source.now 0) x.now.text (value_of index) (state_in m.old))
+        m.new }
 {
     let Some(g) = global(source, x.text.as_str()) else {
         m.why = Some(Halt::Astray);
@@ -82,7 +87,11 @@ pub(crate) fn joined<'p, A: Allocator + Copy>(
     m: &mut Machine<'p, '_, A>,
 ) -> Result<Word, Halted>
     ensures { MeansWord result
-        (act.go_on (act.or_astray (common_of (type_due (running_scope (program_in source.now) (state_in m.old).locals) (expr_of a.now)) (type_due (running_scope (program_in source.now) (state_in m.old).locals) (expr_of b.now))) (state_in m.old)) (λ t. act.pure (converted t (value_of w))))
+        (act.go_on
+        (act.or_astray
+        (common_of (type_due (running_scope (program_in source.now) (state_in m.old).locals) (expr_of a.now))
+        (type_due (running_scope (program_in source.now) (state_in m.old).locals) (expr_of b.now))) (state_in m.old))
+        (λ t. act.pure (converted t (value_of w))))
         m.new }
 {
     let of = type_of(source, m.locals.as_slice(), a);

@@ -28,7 +28,9 @@ fn rewrite<A: Allocator>(
     old: Word,
     by: Word,
 ) -> Result<End, Halted>
-    ensures { MeansEnd result (act.go_on (act.go_on (act.or_trap (binary op (value_of old) (value_of by)) (state_in m.old)) (meaning.assign (spot_of at))) (λ _. act.pure meaning.Next)) m.new }
+    ensures { MeansEnd result
+        (act.go_on (act.go_on (act.or_trap (binary op (value_of old) (value_of by)) (state_in m.old))
+        (meaning.assign (spot_of at))) (λ _. act.pure meaning.Next)) m.new }
 {
     let new = operate(m, op, old, by)?;
     assign(m, at, new)?;
@@ -43,7 +45,8 @@ fn target<'p, A: Allocator + Copy>(
     e: &'p Expr<A>,
     m: &mut Machine<'p, '_, A>,
 ) -> Result<Spot, Halted>
-    ensures { MeansSpot result (meaning.spot (program_in source.now) (called source.now frames) (expr_of e.now) (state_in m.old)) m.new }
+    ensures { MeansSpot result
+        (meaning.spot (program_in source.now) (called source.now frames) (expr_of e.now) (state_in m.old)) m.new }
 {
     match e {
         Expr::Variable(x) => named(source, x, m),
@@ -64,7 +67,9 @@ fn assigned<'p, A: Allocator + Copy>(
     e: &'p Expr<A>,
     m: &mut Machine<'p, '_, A>,
 ) -> Result<End, Halted>
-    ensures { MeansEnd result (meaning.simple (program_in source.now) (called source.now frames) (tree.Assign (expr_of to.now) None (expr_of e.now)) (state_in m.old)) m.new }
+    ensures { MeansEnd result
+        (meaning.simple (program_in source.now) (called source.now frames)
+        (tree.Assign (expr_of to.now) None (expr_of e.now)) (state_in m.old)) m.new }
 {
     let at = target(source, frames, to, m)?;
     let v = eval(source, frames, e, m)?;
@@ -82,7 +87,9 @@ fn changed<'p, A: Allocator + Copy>(
     e: &'p Expr<A>,
     m: &mut Machine<'p, '_, A>,
 ) -> Result<End, Halted>
-    ensures { MeansEnd result (meaning.simple (program_in source.now) (called source.now frames) (tree.Assign (expr_of to.now) (Some op) (expr_of e.now)) (state_in m.old)) m.new }
+    ensures { MeansEnd result
+        (meaning.simple (program_in source.now) (called source.now frames)
+        (tree.Assign (expr_of to.now) (Some op) (expr_of e.now)) (state_in m.old)) m.new }
 {
     let at = target(source, frames, to, m)?;
     let before = fetch(m, at)?;
@@ -98,7 +105,8 @@ pub(crate) fn simple<'p, A: Allocator + Copy>(
     s: &'p Simple<A>,
     m: &mut Machine<'p, '_, A>,
 ) -> Result<End, Halted>
-    ensures { MeansEnd result (meaning.simple (program_in source.now) (called source.now frames) (simple_of s.now) (state_in m.old)) m.new }
+    ensures { MeansEnd result
+        (meaning.simple (program_in source.now) (called source.now frames) (simple_of s.now) (state_in m.old)) m.new }
 {
     match s {
         Simple::Evaluate(e) => {
@@ -126,7 +134,9 @@ pub(crate) fn declare<'p, A: Allocator + Copy>(
     ds: &'p [Declarator<A>],
     m: &mut Machine<'p, '_, A>,
 ) -> Result<End, Halted>
-    ensures { MeansEnd result (meaning.declare (program_in source.now) (called source.now frames) t (map declarator_of ds.now) (state_in m.old)) m.new }
+    ensures { MeansEnd result
+        (meaning.declare (program_in source.now) (called source.now frames) t (map declarator_of ds.now)
+        (state_in m.old)) m.new }
 {
     'declarators: for d in ds {
         declare_one(source, frames, t, d, m)?;
@@ -143,7 +153,8 @@ fn declare_one<'p, A: Allocator + Copy>(
     d: &'p Declarator<A>,
     m: &mut Machine<'p, '_, A>,
 ) -> Result<(), Halted>
-    ensures { Means result (declared_one (program_in source.now) (called source.now frames) t (declarator_of d.now) (state_in m.old)) m.new }
+    ensures { Means result (declared_one (program_in source.now) (called source.now frames) t (declarator_of d.now)
+        (state_in m.old)) m.new }
 {
     let place = m.locals.len();
     let local = Local {

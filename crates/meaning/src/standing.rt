@@ -50,7 +50,8 @@ pub(crate) struct Thread<'p, A: Allocator> {
     pub shown: Shown<A>,
 }
 
-/// A thread that goes no further than its point: why, if it has not come to its end, and what it has shown behind the point.
+/// A thread that goes no further than its point: why, if it has not come to its end, and what it has shown behind the
+/// point.
 #[derive(Drop)]
 pub(crate) struct Stop<A: Allocator> {
     pub why: Option<Halt>,
@@ -103,7 +104,8 @@ fn went<'p, A: Allocator + Copy>(
     next: Stepped<'p, A>,
     m: Machine<'p, '_, A>,
 ) -> Result<Gone<'p, A>, AllocError>
-    ensures { (source : Source A) → IfOk result (λ g. IsGone source g (act.Gives (follow_of source next.entry) (state_in m.entry))) }
+    ensures { (source : Source A)
+        → IfOk result (λ g. IsGone source g (act.Gives (follow_of source next.entry) (state_in m.entry))) }
 {
     let Machine {
         ticks,
@@ -124,7 +126,9 @@ fn went<'p, A: Allocator + Copy>(
 
 /// A machine that goes no further.
 fn stopped<'p, A: Allocator>(m: Machine<'p, '_, A>) -> Result<Gone<'p, A>, AllocError>
-    ensures { (source : Source A) → IfOk result (λ g. Happened m.entry.why × IsGone source g (act.Stops (halt_of m.entry.why) (state_in m.entry))) }
+    ensures { (source : Source A)
+        → IfOk result (λ g. Happened m.entry.why
+        × IsGone source g (act.Stops (halt_of m.entry.why) (state_in m.entry))) }
 {
     let Machine {
         ticks: _,
@@ -166,7 +170,8 @@ fn go_open<'p, A: Allocator + Copy>(
     parts: &Parts<'p, A>,
     at: &Point<'p, A>,
 ) -> Result<Gone<'p, A>, AllocError>
-    ensures { IfOk result (λ g. IsGone source.now g (opened source.now frames (stmt_of s.now) parts.now (bare at.now))) }
+    ensures { IfOk result
+        (λ g. IsGone source.now g (opened source.now frames (stmt_of s.now) parts.now (bare at.now))) }
 {
     let mut m = machine(source.alloc, at)?;
     match open(source, frames, s, parts, &mut m) {
@@ -183,7 +188,9 @@ fn go_call<'p, A: Allocator + Copy>(
     args: &'p [Expr<A>],
     at: &Point<'p, A>,
 ) -> Result<Gone<'p, A>, AllocError>
-    ensures { IfOk result (λ g. IsGone source.now g (call_begun (program_in source.now) frames f.now.text (exprs_of args.now) (bare at.now))) }
+    ensures { IfOk result
+        (λ g. IsGone source.now g
+        (call_begun (program_in source.now) frames f.now.text (exprs_of args.now) (bare at.now))) }
 {
     let mut m = machine(source.alloc, at)?;
     match open_call(source, frames, f, args, &mut m) {
@@ -197,7 +204,9 @@ fn put<'p, A: Allocator + Copy>(
     left: &mut Vec<Left<'p, A>, A>,
     next: Stepped<'p, A>,
 ) -> Result<End, AllocError>
-    ensures { IfOk result (λ e. (source : Source A) (s : act.State) → left_gone_on source left.new.items (end_of e) s ≡ act.go_on (follows (follow_of source next.entry) s) (left_gone_on source left.old.items)) }
+    ensures { IfOk result (λ e. (source : Source A) (s : act.State)
+        → left_gone_on source left.new.items (end_of e) s ≡ act.go_on (follows (follow_of source next.entry) s)
+        (left_gone_on source left.old.items)) }
 {
     match next {
         Stepped::Ends(end) => Ok(end),
@@ -220,7 +229,9 @@ fn arrive<'p, A: Allocator + Copy>(
     at: Point<'p, A>,
     shown: Shown<A>,
 ) -> Result<(), AllocError>
-    ensures left { (source : Source A) → OnOk result ((s : act.State) → left_gone_on source thread.new.left.items (end_of thread.new.end) s ≡ act.go_on (follows (follow_of source next.entry) s) (left_gone_on source thread.old.left.items)) }
+    ensures left { (source : Source A)
+        → OnOk result ((s : act.State) → left_gone_on source thread.new.left.items (end_of thread.new.end) s
+        ≡ act.go_on (follows (follow_of source next.entry) s) (left_gone_on source thread.old.left.items)) }
     ensures at { OnOk result (thread.new.at ≡ at.entry) }
     ensures lefts { OnOk result (thread.new.shown.lefts.items ≡ thread.old.shown.lefts.items ++ shown.lefts.items) }
     ensures text { OnOk result (thread.new.shown.text.items ≡ thread.old.shown.text.items ++ shown.text.items) }
@@ -249,15 +260,16 @@ fn wanting<'p, A: Allocator + Copy>(
     }
 }
 
-/// A step of a thread: a statement that wants a memory as a whole is done by its parts, or by the body that it calls, if it
-/// has such.
+/// A step of a thread: a statement that wants a memory as a whole is done by its parts, or by the body that it calls,
+/// if it has such.
 fn try_step<'p, A: Allocator + Copy>(
     source: &Source<'p, A>,
     left: &Left<'p, A>,
     end: End,
     at: &Point<'p, A>,
 ) -> Result<Gone<'p, A>, AllocError>
-    ensures { IfOk result (λ g. (run : act.Action Follow) × IsStep (resumed source.now left.now) (end_of end) run × IsGone source.now g (run (bare at.now))) }
+    ensures { IfOk result (λ g. (run : act.Action Follow) × IsStep (resumed source.now left.now) (end_of end) run
+        × IsGone source.now g (run (bare at.now))) }
 {
     let gone = go(source, left, end, at)?;
     let Gone::Stopped(why, _) = &gone else {
@@ -281,7 +293,8 @@ fn try_step<'p, A: Allocator + Copy>(
 
 /// The tick of a thread's end.
 fn at_end<A: Allocator + Copy>(alloc: A, ticks: u64) -> Stop<A>
-    ensures { (source : Source A) (thread : Thread A) → thread.at.ticks ≡ ticks → thread.left.items ≡ [] → IsStop source thread result }
+    ensures { (source : Source A) (thread : Thread A) → thread.at.ticks ≡ ticks → thread.left.items ≡ []
+        → IsStop source thread result }
 {
     let why = if ticks == 0 { Some(Halt::Spent) } else { None };
     let shown = Shown {
@@ -296,7 +309,8 @@ fn advance<'p, A: Allocator + Copy>(
     source: &Source<'p, A>,
     thread: &mut Thread<'p, A>,
 ) -> Result<Option<Stop<A>>, AllocError>
-    ensures same { OnOk result ((founds : List Memory) → rest source.now thread.new founds ≡ rest source.now thread.old founds) }
+    ensures same { OnOk result ((founds : List Memory)
+        → rest source.now thread.new founds ≡ rest source.now thread.old founds) }
     ensures stops { IfOk result (λ o. IfSome o (λ s. IsStop source.now thread.new s)) }
 {
     let Some(left) = thread.left.pop() else {
@@ -322,7 +336,8 @@ pub(crate) fn run<'p, A: Allocator + Copy>(
     source: &Source<'p, A>,
     thread: &mut Thread<'p, A>,
 ) -> Result<Stop<A>, AllocError>
-    ensures same { OnOk result ((founds : List Memory) → rest source.now thread.new founds ≡ rest source.now thread.old founds) }
+    ensures same { OnOk result ((founds : List Memory)
+        → rest source.now thread.new founds ≡ rest source.now thread.old founds) }
     ensures stops { IfOk result (λ s. IsStop source.now thread.new s) }
 {
     // each step takes a tick or ends a piece, so there are never so many; only the prover wants an end
@@ -340,7 +355,8 @@ pub(crate) fn stand<'p, A: Allocator + Copy>(
     ticks: u64,
     t: u32,
 ) -> Result<Thread<'p, A>, AllocError>
-    ensures { IfOk result (λ th. (founds : List Memory) → rest source.now th founds ≡ worker_run (program_in source.now) t (first_state founds ticks)) }
+    ensures { IfOk result (λ th. (founds : List Memory)
+        → rest source.now th founds ≡ worker_run (program_in source.now) t (first_state founds ticks)) }
 {
     let values = [Value {
         of: Scalar::Unsigned,

@@ -123,7 +123,9 @@ fn printed<'p, A: Allocator + Copy>(
     args: &'p [Expr<A>],
     m: &mut Machine<'p, '_, A>,
 ) -> Result<End, Halted>
-    ensures { (at format_at : Span) (begun : act.State) → act.tick begun ≡ act.Gives tt (state_in m.old) → MeansEnd result (meaning.stmt (program_in source.now) (called source.now frames) (tree.Print at format.now format_at (exprs_of args.now)) begun) m.new }
+    ensures { (at format_at : Span) (begun : act.State) → act.tick begun ≡ act.Gives tt (state_in m.old)
+        → MeansEnd result (meaning.stmt (program_in source.now) (called source.now frames)
+        (tree.Print at format.now format_at (exprs_of args.now)) begun) m.new }
 {
     may_print(m)?;
     let values = values(source, frames, args, m)?;
@@ -141,7 +143,9 @@ fn either<'p, A: Allocator + Copy>(
     b: &'p Option<Boxed<Stmt<A>, A>>,
     m: &mut Machine<'p, '_, A>,
 ) -> Result<End, Halted>
-    ensures { (begun : act.State) → act.tick begun ≡ act.Gives tt (state_in m.old) → MeansEnd result (meaning.stmt (program_in source.now) (called source.now frames) (if_of (expr_of c.now) (stmt_of a.now) (option_map stmt_of b.now)) begun) m.new }
+    ensures { (begun : act.State) → act.tick begun ≡ act.Gives tt (state_in m.old)
+        → MeansEnd result (meaning.stmt (program_in source.now) (called source.now frames)
+        (if_of (expr_of c.now) (stmt_of a.now) (option_map stmt_of b.now)) begun) m.new }
 {
     let v = eval(source, frames, c, m)?;
     if !is_zero(v) {
@@ -161,7 +165,9 @@ fn returned<'p, A: Allocator + Copy>(
     e: &'p Option<Expr<A>>,
     m: &mut Machine<'p, '_, A>,
 ) -> Result<End, Halted>
-    ensures { (at : Span) (begun : act.State) → act.tick begun ≡ act.Gives tt (state_in m.old) → MeansEnd result (meaning.stmt (program_in source.now) (called source.now frames) (tree.Return (option_map expr_of e.now) at) begun) m.new }
+    ensures { (at : Span) (begun : act.State) → act.tick begun ≡ act.Gives tt (state_in m.old)
+        → MeansEnd result (meaning.stmt (program_in source.now) (called source.now frames)
+        (tree.Return (option_map expr_of e.now) at) begun) m.new }
 {
     match e {
         None => Ok(End::Returns(flag(false))),

@@ -24,7 +24,9 @@ fn add_definition<'p, A: Allocator + Copy>(
     i: usize,
     item: &'p Item<A>,
 ) -> Result<(), AllocError>
-    ensures { OnOk result ((x : List ℕ) (rest : List tree.Item) → option_or (first (entries_in table.new) x) (number_from (i + 1) rest x) ≡ option_or (first (entries_in table.old) x) (number_from i (item_of item.now ∷ rest) x)) }
+    ensures { OnOk result ((x : List ℕ) (rest : List tree.Item)
+        → option_or (first (entries_in table.new) x) (number_from (i + 1) rest x)
+        ≡ option_or (first (entries_in table.old) x) (number_from i (item_of item.now ∷ rest) x)) }
 {
     let Item::Function(f) = item else {
         return Ok(());
@@ -56,7 +58,9 @@ fn add_symbol<'p, A: Allocator + Copy>(
     name: &'p str,
     symbol: Symbol<'p, A>,
 ) -> Result<(), AllocError>
-    ensures { OnOk result ((x : List ℕ) (rest : Known) → known_or (first (entries_in symbols.new) x) rest ≡ known_or (first (entries_in symbols.old) x) (if bytes_eq name.now x then known_of symbol.entry else rest)) }
+    ensures { OnOk result ((x : List ℕ) (rest : Known)
+        → known_or (first (entries_in symbols.new) x) rest ≡ known_or (first (entries_in symbols.old) x)
+        (if bytes_eq name.now x then known_of symbol.entry else rest)) }
 {
     symbols.declare(name, symbol)?;
     Ok(())
@@ -67,7 +71,9 @@ fn add_shared_symbols<'p, A: Allocator + Copy>(
     table: &mut Symbols<'p, A>,
     gs: &'p [Global<A>],
 ) -> Result<(), AllocError>
-    ensures { OnOk result ((x : List ℕ) (rest : Scope) → known_or (first (entries_in table.new) x) (rest x) ≡ known_or (first (entries_in table.old) x) (known_among (map global_of gs.now) rest x)) }
+    ensures { OnOk result ((x : List ℕ) (rest : Scope)
+        → known_or (first (entries_in table.new) x) (rest x) ≡ known_or (first (entries_in table.old) x)
+        (known_among (map global_of gs.now) rest x)) }
 {
     'globals: for g in gs {
         add_symbol(table, g.name.text.as_str(), Symbol::Global(g))?;
@@ -80,7 +86,9 @@ fn add_declared<'p, A: Allocator + Copy>(
     table: &mut Symbols<'p, A>,
     item: &'p Item<A>,
 ) -> Result<(), AllocError>
-    ensures { OnOk result ((x : List ℕ) (rest : List tree.Item) → known_or (first (entries_in table.new) x) (file_scope rest x) ≡ known_or (first (entries_in table.old) x) (file_scope (item_of item.now ∷ rest) x)) }
+    ensures { OnOk result ((x : List ℕ) (rest : List tree.Item)
+        → known_or (first (entries_in table.new) x) (file_scope rest x)
+        ≡ known_or (first (entries_in table.old) x) (file_scope (item_of item.now ∷ rest) x)) }
 {
     match item {
         Item::Function(f) => add_symbol(table, f.name.text.as_str(), Symbol::Function(f)),

@@ -50,7 +50,11 @@ fn left<A: Allocator + Copy>(alloc: A, context: Context<A>) -> Vec<Vec<u64, A>, 
 
 /// What is seen of a thread that has come to this end.
 fn finish<A: Allocator + Copy>(alloc: A, end: ThreadEnd, m: Machine<A>) -> ThreadOutcome<A>
-    ensures { outcome_in result ≡ record { lefts = lefts_in (state_in m.entry).context; text = (state_in m.entry).text; end = thread_end_in end } }
+    ensures { outcome_in result ≡ record {
+      lefts = lefts_in (state_in m.entry).context;
+      text = (state_in m.entry).text;
+      end = thread_end_in end;
+    } }
 {
     ThreadOutcome {
         lefts: left(alloc, m.context),

@@ -6,7 +6,8 @@ ghost use Rattle.syntax.specs.Meaning as meaning;
 ghost use Rattle.syntax.specs.Names as Names;
 ghost use Rattle.meaning.specs.Outcomes.{memories_in};
 ghost use Rattle.meaning.specs.inner.Does.{does_body, does_expr, is_forbidden as is_forbidden_due};
-ghost use Rattle.meaning.specs.inner.Machine.{local_in, end_of, Means, MeansEnd, MeansWord, context_in, state_in, items_in, left_too, Happened, halt_of};
+ghost use Rattle.meaning.specs.inner.Machine.{local_in, end_of, Means, MeansEnd, MeansWord, context_in, state_in};
+ghost use Rattle.meaning.specs.inner.Machine.{items_in, left_too, Happened, halt_of};
 
 use crate::expr::eval;
 use crate::machine::{Context, End, Halted, Local, Machine, tick};
@@ -109,7 +110,9 @@ fn leave_inner<'p, A: Allocator + Copy>(
     end: End,
     m: &mut Machine<'p, '_, A>,
 ) -> End
-    ensures { meaning.leave_inner outer (meaning.left_by kind (items_in before.entry) found.items (end_of end) (state_in m.old)) (state_in m.old) ≡ act.Gives (end_of result) (state_in m.new) }
+    ensures { meaning.leave_inner outer
+        (meaning.left_by kind (items_in before.entry) found.items (end_of end) (state_in m.old)) (state_in m.old)
+        ≡ act.Gives (end_of result) (state_in m.new) }
 {
     if is_undone(end, kind) {
         m.locals = before;
@@ -133,7 +136,8 @@ fn leave<'p, 'f, A: Allocator + Copy>(
     m: &mut Machine<'p, 'f, A>,
 ) -> Result<End, Halted>
     ensures { MeansEnd result
-        (meaning.leave (memories_in founds.now) (memories_in lefts.items) (meaning.left_by kind (items_in mine.entry) found.now (end_of end) (state_in m.old)) (state_in m.old))
+        (meaning.leave (memories_in founds.now) (memories_in lefts.items)
+        (meaning.left_by kind (items_in mine.entry) found.now (end_of end) (state_in m.old)) (state_in m.old))
         m.new }
 {
     let inside = mem::replace(&mut m.context, Context::Outside(founds, lefts));
@@ -184,7 +188,8 @@ fn close_stopped<'p, 'f, A: Allocator + Copy>(
 )
     ensures known { Happened m.new.why → Happened m.old.why }
     ensures value { Happened m.new.why → (kind : Kind) (mine : List Names.Local) →
-        meaning.close kind (memories_in founds.now) (memories_in lefts.items) mine found.now (act.Stops (halt_of m.old.why) (state_in m.old)) ≡ act.Stops (halt_of m.new.why) (state_in m.new) }
+        meaning.close kind (memories_in founds.now) (memories_in lefts.items) mine found.now
+        (act.Stops (halt_of m.old.why) (state_in m.old)) ≡ act.Stops (halt_of m.new.why) (state_in m.new) }
 {
     m.context = Context::Outside(founds, lefts); // what was written goes
     if let Some(Halt::Trapped(_)) = m.why {
@@ -280,7 +285,9 @@ fn outermost<'p, 'f, A: Allocator + Copy>(
     body: &Body<'p, A>,
     m: &mut Machine<'p, 'f, A>,
 ) -> Result<End, Halted>
-    ensures { MeansEnd result (let before = act.Outside (memories_in founds.now) (memories_in lefts.items) in meaning.enter before kind (does_body source.now frames body.now) (record (state_in m.old) { context = before })) m.new }
+    ensures { MeansEnd result (let before = act.Outside (memories_in founds.now) (memories_in lefts.items)
+        in meaning.enter before kind (does_body source.now frames body.now)
+        (record (state_in m.old) { context = before })) m.new }
 {
     let [found, rest @ ..] = founds else {
         m.context = Context::Outside(founds, lefts);
@@ -326,7 +333,9 @@ fn nested<'p, A: Allocator + Copy>(
     body: &Body<'p, A>,
     m: &mut Machine<'p, '_, A>,
 ) -> Result<End, Halted>
-    ensures { MeansEnd result (let before = act.Inside outer found.items in meaning.enter before kind (does_body source.now frames body.now) (record (state_in m.old) { context = before })) m.new }
+    ensures { MeansEnd result (let before = act.Inside outer found.items
+        in meaning.enter before kind (does_body source.now frames body.now)
+        (record (state_in m.old) { context = before })) m.new }
 {
     let mode = mode_of(kind);
     if is_forbidden(outer, mode) {

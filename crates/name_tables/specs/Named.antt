@@ -1,6 +1,7 @@
--- Lists of names with what they stand for, in order of declaration. Of c = 5, d = 7, c = 9 the first c is 5, at place 0, and the
--- newest is 9, at place 2.
-use Rattle.std.specs.Prelude.{ℕ, ◌+◌, List, [], ◌∷◌, ◌++◌, map, position, Option, Some, None, is_some, bytes_eq, if◌then◌else◌}
+-- Lists of names with what they stand for, in order of declaration. Of c = 5, d = 7, c = 9 the first c is 5, at place
+-- 0, and the newest is 9, at place 2.
+use Rattle.std.specs.Prelude.{ℕ, ◌+◌, List, [], ◌∷◌, ◌++◌, map, position, Option, Some, None, is_some, bytes_eq}
+use Rattle.std.specs.Prelude.{if◌then◌else◌}
 use Rattle.std.specs.Option.{option_or}
 
 module _ {V : Type 0} where

@@ -8,8 +8,9 @@ use std::hash::{BuildHasher, DefaultHasher, Hasher};
 
 /// Makes the hasher of each look-up: SipHash-1-3 that has read a key first.
 ///
-/// The key is to be made of all names that will be looked up, as their hash in order is: then whoever writes the names can't
-/// choose them so that they collide, since each change of one makes another key. No contract of a map depends on it.
+/// The key is to be made of all names that will be looked up, as their hash in order is: then whoever writes the names
+/// can't choose them so that they collide, since each change of one makes another key. No contract of a map depends on
+/// it.
 #[derive(Clone, Copy)]
 pub struct Keyed {
     key: u64,

@@ -1,7 +1,8 @@
 //! The names that are known at a place of a body (C11 6.2.1).
 //!
-//! The map has for each name the number of declarations up to its newest one, and 0 for a name that is no longer known; each
-//! declaration has that number as it was before. So neither a look-up nor the end of a block goes over other declarations.
+//! The map has for each name the number of declarations up to its newest one, and 0 for a name that is no longer known;
+//! each declaration has that number as it was before. So neither a look-up nor the end of a block goes over other
+//! declarations.
 
 ghost use Rattle.std.specs.Prelude.{◌≡◌, ◌++◌, ◌∷◌, [], ◌-◌, ◌≤◌, length, take, OnOk, OnErr};
 ghost use Rattle.name_tables.specs.Named.{newest};
@@ -41,8 +42,8 @@ impl<'a, V: Copy + Drop, A: Allocator + Copy> Scope<'a, V, A> {
         self.locals.len()
     }
 
-    /// The newest declaration of a name: its place, from 0 and among all declarations, and its value; none for a name that is not
-    /// known.
+    /// The newest declaration of a name: its place, from 0 and among all declarations, and its value; none for a name
+    /// that is not known.
     pub fn newest(&self, name: &str) -> Option<(usize, V)>
         ensures { result ≡ newest (locals_in self.now) name.now }
     {
@@ -53,7 +54,8 @@ impl<'a, V: Copy + Drop, A: Allocator + Copy> Scope<'a, V, A> {
         Some((number - 1, self.locals[number - 1].value))
     }
 
-    /// One declaration more, whether the name is known or not. Takes memory for it; where that is refused, nothing changes.
+    /// One declaration more, whether the name is known or not. Takes memory for it; where that is refused, nothing
+    /// changes.
     pub fn declare(&mut self, name: &'a str, value: V) -> Result<(), AllocError>
         ensures ok { OnOk result (locals_in self.new ≡ locals_in self.old ++ (name.now, value) ∷ []) }
         ensures err { OnErr result (locals_in self.new ≡ locals_in self.old) }
@@ -86,8 +88,8 @@ impl<'a, V: Copy + Drop, A: Allocator + Copy> Scope<'a, V, A> {
         }
     }
 
-    /// The end of a block, before which there were so many declarations: the later ones are forgotten, and what they hid is known
-    /// again. Takes no memory.
+    /// The end of a block, before which there were so many declarations: the later ones are forgotten, and what they
+    /// hid is known again. Takes no memory.
     pub fn leave(&mut self, start: usize)
         requires { start ≤ length (locals_in self.old) }
         ensures { locals_in self.new ≡ take start (locals_in self.old) }

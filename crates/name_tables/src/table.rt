@@ -34,15 +34,16 @@ impl<'a, V: Drop, A: Allocator + Copy> Table<'a, V, A> {
         self.map.get(name)
     }
 
-    /// The place of a name, from 0, in the order in which names were first declared; none for a name that was not declared.
+    /// The place of a name, from 0, in the order in which names were first declared; none for a name that was not
+    /// declared.
     pub fn place_of(&self, name: &str) -> Option<usize>
         ensures { result ≡ place (entries_in self.now) name.now }
     {
         self.map.get_index_of(name)
     }
 
-    /// Declares a name, and answers whether it is new: one that is there keeps what it was first declared as. Takes memory for a
-    /// new name; where that is refused, nothing changes.
+    /// Declares a name, and answers whether it is new: one that is there keeps what it was first declared as. Takes
+    /// memory for a new name; where that is refused, nothing changes.
     pub fn declare(&mut self, name: &'a str, value: V) -> Result<bool, AllocError>
         ensures new { IfOk result (λ new. new ≡ not (is_some (first (entries_in self.old) name.now))) }
         ensures ok { OnOk result (entries_in self.new ≡ declared (entries_in self.old) name.now value) }

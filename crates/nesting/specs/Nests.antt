@@ -29,9 +29,9 @@ pub record GainsRoom (old new : Nest) : Type 0 where
   pub read_room : old.read_room ≤ new.read_room
   pub write_room : old.write_room ≤ new.write_room
 
--- A cancel has taken away the inner begins before these, and the first of these: its write log is back, what it saved is set
--- aside, and the others are open. Where none is left the outermost begin is gone too, and what it saved is set aside; the
--- write log stays then, and is of no use.
+-- A cancel has taken away the inner begins before these, and the first of these: its write log is back, what it saved
+-- is set aside, and the others are open. Where none is left the outermost begin is gone too, and what it saved is set
+-- aside; the write log stays then, and is of no use.
 abbrev pub IsCancelled : (old : Nest) → List (Checkpoint Saved) → (new : Nest) → Type 0
 IsCancelled old [] new = (new.aside ≡ old.begins.saved) × (new.writes ≡ old.writes)
 IsCancelled old (l ∷ ls) new =

@@ -1,6 +1,7 @@
 //! An attempt: its logs and its begins.
 
-ghost use Rattle.std.specs.Prelude.{◌≡◌, ◌⊎◌, ◌+◌, ◌-◌, ◌<◌, ◌≤◌, ◌^◌, suc, [], ◌∷◌, ◌++◌, true, false, if◌then◌else◌, OnOk, OnErr, OnSome, length, take, drop, vec_len};
+ghost use Rattle.std.specs.Prelude.{◌≡◌, ◌⊎◌, ◌+◌, ◌-◌, ◌<◌, ◌≤◌, ◌^◌, suc, [], ◌∷◌, ◌++◌, true, false, if◌then◌else◌};
+ghost use Rattle.std.specs.Prelude.{OnOk, OnErr, OnSome, length, take, drop, vec_len};
 ghost use Rattle.std.specs.List.{slice_get};
 ghost use Rattle.write_log.specs.Overlay.{written, put};
 ghost use Rattle.nesting.specs.Nests.{GainsRoom, IsCancelled};
@@ -39,7 +40,21 @@ impl<A: Allocator> Model for Attempt<A> {
 
     ghost Value = { Nest };
 
-    ghost view = { λ a. record { begins = record { saved = if a.turned then a.other else a.one; inner = checkpoints [] (take a.depth a.inner.items) a.writes.marks }; aside = if a.turned then a.one else a.other; reads = a.reads.pairs; writes = a.writes.pairs; kept = a.kept; begin_room = min a.writes.room (vec_len a.inner - a.depth); read_room = a.reads.room; write_room = a.writes.put_room } };
+    ghost view = { λ a.
+        record {
+          begins = record {
+            saved = if a.turned then a.other else a.one;
+            inner = checkpoints [] (take a.depth a.inner.items) a.writes.marks;
+          };
+          aside = if a.turned then a.one
+              else a.other;
+          reads = a.reads.pairs;
+          writes = a.writes.pairs;
+          kept = a.kept;
+          begin_room = min a.writes.room (vec_len a.inner - a.depth);
+          read_room = a.reads.room;
+          write_room = a.writes.put_room;
+        } };
 
     // Each open inner begin has its list and its mark. Marks past those are of inner transactions that have committed.
     ghost invariant = { λ a. (a.depth ≤ vec_len a.inner) × (a.depth ≤ length a.writes.marks) };
@@ -104,8 +119,8 @@ impl<A: Allocator + Copy> Attempt<A> {
         }
     }
 
-    /// Sets aside what the next begin saves, and makes room for that begin. The error comes only where there is no room for an
-    /// inner begin, or more registers are to be saved than were set aside before, and the allocator refuses it.
+    /// Sets aside what the next begin saves, and makes room for that begin. The error comes only where there is no room
+    /// for an inner begin, or more registers are to be saved than were set aside before, and the allocator refuses it.
     pub fn prepare_begin(
         &mut self,
         registers: &[u64],
@@ -113,18 +128,20 @@ impl<A: Allocator + Copy> Attempt<A> {
         place: u32,
     ) -> Result<(), AllocError>
         ensures room { OnOk result (0 < self.new.begin_room) }
-        ensures aside { OnOk result (self.new.aside ≡ record { registers = registers.now; frames = frames; place = place }) }
+        ensures aside { OnOk result
+            (self.new.aside ≡ record { registers = registers.now; frames = frames; place = place }) }
         ensures err { OnErr result (self.new.aside ≡ self.old.aside) }
         ensures others { GainsRoom (record self.old { aside = self.new.aside }) self.new }
-        ensures full { OnErr result ((self.old.begin_room ≡ 0) ⊎ (length self.old.aside.registers < length registers.now)) }
+        ensures full { OnErr result ((self.old.begin_room ≡ 0)
+            ⊎ (length self.old.aside.registers < length registers.now)) }
     {
         reserve_inner(&mut self.inner, self.depth, self.alloc)?;
         self.writes.reserve_one()?;
         self.prepare_outermost(registers, frames, place)
     }
 
-    /// Sets aside what the next outermost begin saves, which needs no room beside that of the registers. The error comes only where
-    /// these are more than were set aside before, and the allocator refuses it.
+    /// Sets aside what the next outermost begin saves, which needs no room beside that of the registers. The error
+    /// comes only where these are more than were set aside before, and the allocator refuses it.
     #[inline(always)]
     pub fn prepare_outermost(
         &mut self,
@@ -132,7 +149,8 @@ impl<A: Allocator + Copy> Attempt<A> {
         frames: usize,
         place: u32,
     ) -> Result<(), AllocError>
-        ensures aside { OnOk result (self.new.aside ≡ record { registers = registers.now; frames = frames; place = place }) }
+        ensures aside { OnOk result
+            (self.new.aside ≡ record { registers = registers.now; frames = frames; place = place }) }
         ensures err { OnErr result (self.new.aside ≡ self.old.aside) }
         ensures others { GainsRoom (record self.old { aside = self.new.aside }) self.new }
         ensures full { OnErr result (length self.old.aside.registers < length registers.now) }
@@ -187,7 +205,8 @@ impl<A: Allocator + Copy> Attempt<A> {
     pub fn begin_inner(&mut self)
         requires { 0 < self.old.begin_room }
         ensures saved { self.new.begins.saved ≡ self.old.begins.saved }
-        ensures inner { self.new.begins.inner ≡ record { saved = self.old.aside; writes = self.old.writes } ∷ self.old.begins.inner }
+        ensures inner { self.new.begins.inner ≡ record { saved = self.old.aside; writes = self.old.writes }
+            ∷ self.old.begins.inner }
         ensures reads { self.new.reads ≡ self.old.reads }
         ensures writes { self.new.writes ≡ self.old.writes }
         ensures kept { self.new.kept ≡ self.old.kept }
@@ -214,13 +233,14 @@ impl<A: Allocator + Copy> Attempt<A> {
         self.depth -= 1;
     }
 
-    /// Goes back to the inner begin of this depth: the write log is what it was there, and what was saved is set aside. It and
-    /// the begins inside it are closed.
+    /// Goes back to the inner begin of this depth: the write log is what it was there, and what was saved is set aside.
+    /// It and the begins inside it are closed.
     #[inline(always)]
     fn back_to(&mut self, depth: usize)
         requires { depth < length self.old.begins.inner }
         ensures saved { self.new.begins.saved ≡ self.old.begins.saved }
-        ensures back { drop (length self.old.begins.inner - suc depth) self.old.begins.inner ≡ record { saved = self.new.aside; writes = self.new.writes } ∷ self.new.begins.inner }
+        ensures back { drop (length self.old.begins.inner - suc depth) self.old.begins.inner
+            ≡ record { saved = self.new.aside; writes = self.new.writes } ∷ self.new.begins.inner }
         ensures reads { self.new.reads ≡ self.old.reads }
         ensures kept { self.new.kept ≡ self.old.kept }
     {
@@ -234,12 +254,13 @@ impl<A: Allocator + Copy> Attempt<A> {
         self.depth = depth;
     }
 
-    /// Cancels the innermost of the inner begins: the write log is what it was there, and what was saved is set aside. The
-    /// read log stays.
+    /// Cancels the innermost of the inner begins: the write log is what it was there, and what was saved is set aside.
+    /// The read log stays.
     pub fn cancel(&mut self)
         requires { 0 < length self.old.begins.inner }
         ensures saved { self.new.begins.saved ≡ self.old.begins.saved }
-        ensures back { self.old.begins.inner ≡ record { saved = self.new.aside; writes = self.new.writes } ∷ self.new.begins.inner }
+        ensures back { self.old.begins.inner ≡ record { saved = self.new.aside; writes = self.new.writes }
+            ∷ self.new.begins.inner }
         ensures reads { self.new.reads ≡ self.old.reads }
         ensures kept { self.new.kept ≡ self.old.kept }
     {
@@ -247,9 +268,9 @@ impl<A: Allocator + Copy> Attempt<A> {
         self.back_to(innermost);
     }
 
-    /// Cancels so many begins as one, the last that were opened; the outermost begin counts. Where it is not among them, the
-    /// write log is what it was at the outermost of these, and what was saved there is set aside. Where it is, this is an
-    /// abort. The read log stays.
+    /// Cancels so many begins as one, the last that were opened; the outermost begin counts. Where it is not among
+    /// them, the write log is what it was at the outermost of these, and what was saved there is set aside. Where it
+    /// is, this is an abort. The read log stays.
     pub fn cancel_outer(&mut self, levels: usize)
         requires several { 2 ≤ levels }
         requires open { levels ≤ length self.old.begins.inner + 1 }
@@ -265,8 +286,8 @@ impl<A: Allocator + Copy> Attempt<A> {
         }
     }
 
-    /// Sets aside what the outermost begin saved, to go back to. The logs stay until the next outermost begin, and are of
-    /// no use.
+    /// Sets aside what the outermost begin saved, to go back to. The logs stay until the next outermost begin, and are
+    /// of no use.
     pub fn abort(&mut self)
         ensures back { self.new.aside ≡ self.old.begins.saved }
         ensures reads { self.new.reads ≡ self.old.reads }

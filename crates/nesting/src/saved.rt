@@ -34,8 +34,8 @@ fn refill<A: Allocator>(registers: &mut Vec<u64, A>, from: &[u64])
     }
 }
 
-/// Puts these registers in place of those that were there, with more room where they need it. The error comes only where there is
-/// none and the allocator refuses it.
+/// Puts these registers in place of those that were there, with more room where they need it. The error comes only
+/// where there is none and the allocator refuses it.
 #[inline(never)]
 fn regrow<A: Allocator>(registers: &mut Vec<u64, A>, from: &[u64]) -> Result<(), AllocError>
     ensures ok { OnOk result (registers.new.items ≡ from.now) }
@@ -60,8 +60,8 @@ impl<A: Allocator + Copy> Saved<A> {
         }
     }
 
-    /// Saves these in place of what was saved. The error comes only where there are more registers than were saved, and the
-    /// allocator refuses them room.
+    /// Saves these in place of what was saved. The error comes only where there are more registers than were saved, and
+    /// the allocator refuses them room.
     #[inline(always)]
     pub(crate) fn save(
         &mut self,

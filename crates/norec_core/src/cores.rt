@@ -1,9 +1,12 @@
 //! The core of a thread: an operation's step is prepared, then told the answer to its access.
 
-ghost use Rattle.std.specs.Prelude.{◌≡◌, ◌≢◌, ◌↔◌, ◌+◌, ◌^◌, ◌<◌, ℕ, true, false, None, Some, IsTrue, IsSome, IsSomeAnd, IfNone, IfOk, IfSome, OnOk, OnErr, OnSome, length};
+ghost use Rattle.std.specs.Prelude.{◌≡◌, ◌≢◌, ◌↔◌, ◌+◌, ◌^◌, ◌<◌, ℕ, true, false, None, Some, IsTrue, IsSome};
+ghost use Rattle.std.specs.Prelude.{IsSomeAnd, IfNone, IfOk, IfSome, OnOk, OnErr, OnSome, length};
 ghost use Rattle.norec_core.specs.Accesses.{stops};
 ghost use Rattle.norec_core.specs.Phases.{core_access, core_step};
-ghost use Rattle.norec_core.specs.Cores.{CommitsAtOnce, ComparesWith, IsAnswered, IsAskedAgain, IsComparing, IsDoneAtOnce, IsDropped, IsStoring, IsUnlocked, IsWaiting, LoadsBoth, stepped, stepped_twice, is_kept, has_lock};
+ghost use Rattle.norec_core.specs.Cores.{CommitsAtOnce, ComparesWith, IsAnswered, IsAskedAgain, IsComparing};
+ghost use Rattle.norec_core.specs.Cores.{IsDoneAtOnce, IsDropped, IsStoring, IsUnlocked, IsWaiting, LoadsBoth, stepped};
+ghost use Rattle.norec_core.specs.Cores.{stepped_twice, is_kept, has_lock};
 ghost use Rattle.norec_core.specs.declared.step.Answer.{Answer as Reply};
 ghost use Rattle.norec_core.specs.declared.step.Op.{Op as Operation};
 ghost use Rattle.norec_core.specs.declared.step.Answer.TheVariants.{Value};
@@ -19,8 +22,8 @@ const LAST_SNAPSHOT: u64 = u64::MAX - 1;
 
 /// The attempt of one thread, if one is under way.
 ///
-/// Each step is made in two calls, with the step's one access to the lock or the words between them: `prepare` names the
-/// access and makes all room that the step needs, `told` takes the answer, and neither fails nor takes memory. An
+/// Each step is made in two calls, with the step's one access to the lock or the words between them: `prepare` names
+/// the access and makes all room that the step needs, `told` takes the answer, and neither fails nor takes memory. An
 /// operation is prepared again until it is done or the attempt is dropped.
 #[derive(Drop)]
 pub struct Core<A: Allocator = Global> {
@@ -36,7 +39,13 @@ impl<A: Allocator> Model for Core<A> {
 
     ghost Value = { CoreState };
 
-    ghost view = { λ c. record { attempt = attempt_of c.steps; asked = asked_of c.is_asked c.op; saved = c.steps.aside; read_room = c.steps.read_room; write_room = c.steps.write_room } };
+    ghost view = { λ c. record {
+      attempt = attempt_of c.steps;
+      asked = asked_of c.is_asked c.op;
+      saved = c.steps.aside;
+      read_room = c.steps.read_room;
+      write_room = c.steps.write_room;
+    } };
 
     ghost invariant = { λ c. IsPrepared (asked_of c.is_asked c.op) c.steps };
 }
@@ -54,11 +63,11 @@ impl<A: Allocator + Copy> Core<A> {
         }
     }
 
-    /// Prepares the next step of an operation, and names its access. A begin saves these registers, this number of frames
-    /// and this place, which counts instructions; other operations do not look at them.
+    /// Prepares the next step of an operation, and names its access. A begin saves these registers, this number of
+    /// frames and this place, which counts instructions; other operations do not look at them.
     ///
-    /// An error leaves all as it was: `OutOfMemory` where room was refused, `SequenceUsedUp` where the step would swap the
-    /// lock from its last even value.
+    /// An error leaves all as it was: `OutOfMemory` where room was refused, `SequenceUsedUp` where the step would swap
+    /// the lock from its last even value.
     #[inline(always)]
     pub fn prepare(
         &mut self,
@@ -69,7 +78,8 @@ impl<A: Allocator + Copy> Core<A> {
     ) -> Result<Access, Stop>
         ensures access { IfOk result (λ access. access ≡ core_access self.old.attempt op) }
         ensures asked { OnOk result (self.new.asked ≡ Some op) }
-        ensures saved { op ≡ Op.Begin → OnOk result (self.new.saved ≡ record { registers = registers.now; frames = frames; place = place }) }
+        ensures saved { op ≡ Op.Begin
+            → OnOk result (self.new.saved ≡ record { registers = registers.now; frames = frames; place = place }) }
         ensures same { op ≢ Op.Begin → self.new.saved ≡ self.old.saved }
         ensures attempt { self.new.attempt ≡ self.old.attempt }
         ensures err { OnErr result ((self.new.asked ≡ self.old.asked) × (self.new.saved ≡ self.old.saved)) }
@@ -116,15 +126,17 @@ impl<A: Allocator + Copy> Core<A> {
         self.steps.told(op, answer)
     }
 
-    /// Makes the step of a read of this cell whose word the write log has, where it stands at an operation without the lock, or
-    /// prepares both steps of one that loads the cell's word and then the lock. Where the room for the read's entry is refused it
-    /// does neither.
+    /// Makes the step of a read of this cell whose word the write log has, where it stands at an operation without the
+    /// lock, or prepares both steps of one that loads the cell's word and then the lock. Where the room for the read's
+    /// entry is refused it does neither.
     #[inline(always)]
     pub fn read(&mut self, cell: u32) -> ReadStep
-        ensures written { (word : ℕ) → result ≡ ReadStep.Written word → IsDoneAtOnce self.old (Op.Read cell) (Outcome.Read word) self.new }
+        ensures written { (word : ℕ) → result ≡ ReadStep.Written word
+            → IsDoneAtOnce self.old (Op.Read cell) (Outcome.Read word) self.new }
         ensures loads { result ≡ ReadStep.Loads → IsSomeAnd self.old.attempt (λ a. LoadsBoth a cell) }
         ensures room { result ≡ ReadStep.Loads → 0 < self.new.read_room }
-        ensures full { result ≡ ReadStep.Other → IsSomeAnd self.old.attempt (λ a. IsUnlocked a) → self.old.read_room ≡ 0 }
+        ensures full { result ≡ ReadStep.Other → IsSomeAnd self.old.attempt (λ a. IsUnlocked a)
+            → self.old.read_room ≡ 0 }
         ensures attempt { self.new.attempt ≡ self.old.attempt }
     {
         match self.steps.reading(cell) {
@@ -137,7 +149,8 @@ impl<A: Allocator + Copy> Core<A> {
         }
     }
 
-    /// Makes both steps of a read that were prepared, with the word and the lock's value that were loaded. It takes no memory.
+    /// Makes both steps of a read that were prepared, with the word and the lock's value that were loaded. It takes no
+    /// memory.
     #[inline(always)]
     pub fn take_read(&mut self, cell: u32, word: u64, lock: u64) -> Outcome
         requires loads { IsSomeAnd self.old.attempt (λ a. LoadsBoth a cell) }
@@ -150,8 +163,8 @@ impl<A: Allocator + Copy> Core<A> {
         self.steps.take_read(cell, word, lock)
     }
 
-    /// Makes the step of a write, where it stands at an operation without the lock: whether it did. It makes the room that the
-    /// write needs; where that is refused nothing changes.
+    /// Makes the step of a write, where it stands at an operation without the lock: whether it did. It makes the room
+    /// that the write needs; where that is refused nothing changes.
     #[inline(always)]
     pub fn write(&mut self, cell: u32, word: u64) -> bool
         ensures done { result ≡ true → IsDoneAtOnce self.old (Op.Write cell word) Outcome.Done self.new }
@@ -166,8 +179,8 @@ impl<A: Allocator + Copy> Core<A> {
         true
     }
 
-    /// Makes the step of a commit that makes no access and has not the lock, that of an inner transaction or of one that wrote
-    /// nothing: whether it did. It takes no memory.
+    /// Makes the step of a commit that makes no access and has not the lock, that of an inner transaction or of one
+    /// that wrote nothing: whether it did. It takes no memory.
     #[inline(always)]
     pub fn commit(&mut self) -> bool
         ensures done { result ≡ true → IsDoneAtOnce self.old Op.Commit Outcome.Done self.new }
@@ -182,13 +195,15 @@ impl<A: Allocator + Copy> Core<A> {
         true
     }
 
-    /// Prepares an outermost begin, which saves these registers, this number of frames and this place: whether it did. It does not
-    /// where an attempt is under way, nor where room is refused.
+    /// Prepares an outermost begin, which saves these registers, this number of frames and this place: whether it did.
+    /// It does not where an attempt is under way, nor where room is refused.
     #[inline(always)]
     pub fn prepare_begin(&mut self, registers: &[u64], frames: usize, place: u32) -> bool
         ensures none { result ≡ true → self.new.attempt ≡ None }
-        ensures saved { result ≡ true → self.new.saved ≡ record { registers = registers.now; frames = frames; place = place } }
-        ensures full { result ≡ false → self.old.attempt ≡ None → length self.old.saved.registers < length registers.now }
+        ensures saved { result ≡ true
+            → self.new.saved ≡ record { registers = registers.now; frames = frames; place = place } }
+        ensures full { result ≡ false → self.old.attempt ≡ None
+            → length self.old.saved.registers < length registers.now }
         ensures attempt { self.new.attempt ≡ self.old.attempt }
     {
         if self.steps.has_begun() {
@@ -198,7 +213,8 @@ impl<A: Allocator + Copy> Core<A> {
         self.steps.set_aside(registers, frames, place)
     }
 
-    /// Makes the step of an outermost begin that was prepared, with the lock's value that was loaded. It takes no memory.
+    /// Makes the step of an outermost begin that was prepared, with the lock's value that was loaded. It takes no
+    /// memory.
     #[inline(always)]
     pub fn take_begin(&mut self, lock: u64) -> Outcome
         requires { self.old.attempt ≡ None }
@@ -210,11 +226,14 @@ impl<A: Allocator + Copy> Core<A> {
         self.steps.told_begin(Answer::Value(lock))
     }
 
-    /// From which value of the lock the next step of a commit swaps it, where it does; none where that is its last even value.
+    /// From which value of the lock the next step of a commit swaps it, where it does; none where that is its last even
+    /// value.
     #[inline(always)]
     pub fn swaps_from(&self) -> Option<u64>
-        ensures some { IfSome result (λ from. (core_access self.now.attempt Op.Commit ≡ Access.Swap from) × (stops (Access.Swap from) ≡ false)) }
-        ensures none { IfNone result ((from : ℕ) → core_access self.now.attempt Op.Commit ≡ Access.Swap from → stops (Access.Swap from) ≡ true) }
+        ensures some { IfSome result (λ from. (core_access self.now.attempt Op.Commit ≡ Access.Swap from)
+            × (stops (Access.Swap from) ≡ false)) }
+        ensures none { IfNone result ((from : ℕ) → core_access self.now.attempt Op.Commit ≡ Access.Swap from
+            → stops (Access.Swap from) ≡ true) }
     {
         if !self.steps.is_plain() {
             return None;
@@ -231,15 +250,16 @@ impl<A: Allocator + Copy> Core<A> {
         }
     }
 
-    /// Makes the step of a commit that swaps the lock from this value, which was not prepared, with the swap's answer. It takes no
-    /// memory.
+    /// Makes the step of a commit that swaps the lock from this value, which was not prepared, with the swap's answer.
+    /// It takes no memory.
     #[inline(always)]
     pub fn take_swap(&mut self, from: u64, answer: Answer) -> Outcome
         requires swaps { core_access self.old.attempt Op.Commit ≡ Access.Swap from }
         requires goes_on { stops (Access.Swap from) ≡ false }
         ensures attempt { self.new.attempt ≡ (core_step self.old.saved self.old.attempt Op.Commit answer).attempt }
         ensures outcome { result ≡ (core_step self.old.saved self.old.attempt Op.Commit answer).outcome }
-        ensures back { IfSome (core_step self.old.saved self.old.attempt Op.Commit answer).back (λ s. self.new.saved ≡ s) }
+        ensures back { IfSome (core_step self.old.saved self.old.attempt Op.Commit answer).back
+            (λ s. self.new.saved ≡ s) }
         ensures asked { self.new.asked ≡ None }
     {
         self.is_asked = false;
@@ -268,8 +288,10 @@ impl<A: Allocator + Copy> Core<A> {
     #[inline(always)]
     pub fn stored(&mut self, place: usize) -> Outcome
         requires { IsSomeAnd self.old.attempt (λ a. IsStoring place a) }
-        ensures attempt { (answer : Reply) → self.new.attempt ≡ (core_step self.old.saved self.old.attempt Op.Commit answer).attempt }
-        ensures outcome { (answer : Reply) → result ≡ (core_step self.old.saved self.old.attempt Op.Commit answer).outcome }
+        ensures attempt { (answer : Reply)
+            → self.new.attempt ≡ (core_step self.old.saved self.old.attempt Op.Commit answer).attempt }
+        ensures outcome { (answer : Reply)
+            → result ≡ (core_step self.old.saved self.old.attempt Op.Commit answer).outcome }
         ensures asked { self.new.asked ≡ None }
     {
         self.is_asked = false;
@@ -324,18 +346,19 @@ impl<A: Allocator + Copy> Core<A> {
         self.steps.waited(lock);
     }
 
-    /// Where validation compares an entry next, or past the last one the lock: at which lock value, and the entry's place in the
-    /// read log.
+    /// Where validation compares an entry next, or past the last one the lock: at which lock value, and the entry's
+    /// place in the read log.
     #[inline(always)]
     pub fn comparing(&self) -> Option<(u64, usize)>
         ensures some { IfSome result (λ at. IsSomeAnd self.now.attempt (λ a. IsComparing at.0 at.1 a)) }
-        ensures none { IfNone result ((time place : ℕ) → IsSomeAnd self.now.attempt (λ a. IsComparing time place a) → ⊥) }
+        ensures none { IfNone result ((time place : ℕ) → IsSomeAnd self.now.attempt (λ a. IsComparing time place a)
+            → ⊥) }
     {
         self.steps.comparing()
     }
 
-    /// The entry that is compared next, the cell whose word is loaded and the word that it must have; none past the last entry,
-    /// where the lock is loaded.
+    /// The entry that is compared next, the cell whose word is loaded and the word that it must have; none past the
+    /// last entry, where the lock is loaded.
     #[inline(always)]
     pub fn entry(&self, time: u64, place: usize) -> Option<(u32, u64)>
         requires { IsSomeAnd self.now.attempt (λ a. IsComparing time place a) }
@@ -347,8 +370,8 @@ impl<A: Allocator + Copy> Core<A> {
         self.steps.entry(place)
     }
 
-    /// Makes the step that compares this entry, where its word was loaded again: validation compares the one behind it next. It
-    /// takes no memory.
+    /// Makes the step that compares this entry, where its word was loaded again: validation compares the one behind it
+    /// next. It takes no memory.
     #[inline(always)]
     pub fn compared(&mut self, time: u64, place: usize, entry: (u32, u64))
         requires entry { IsSomeAnd self.old.attempt (λ a. ComparesWith time place (Some entry) a) }
@@ -363,7 +386,8 @@ impl<A: Allocator + Copy> Core<A> {
         self.steps.compared(time, place);
     }
 
-    /// Makes the step that compares this entry, where another word was loaded: the attempt is dropped. It takes no memory.
+    /// Makes the step that compares this entry, where another word was loaded: the attempt is dropped. It takes no
+    /// memory.
     #[inline(always)]
     pub fn differed(&mut self, time: u64, place: usize, entry: (u32, u64), word: u64)
         requires entry { IsSomeAnd self.old.attempt (λ a. ComparesWith time place (Some entry) a) }
@@ -377,8 +401,8 @@ impl<A: Allocator + Copy> Core<A> {
         self.steps.differed();
     }
 
-    /// Makes the step past the last entry, with the lock's value that was loaded: where it is the one at which validation began
-    /// it is the new snapshot, else validation begins again. It takes no memory.
+    /// Makes the step past the last entry, with the lock's value that was loaded: where it is the one at which
+    /// validation began it is the new snapshot, else validation begins again. It takes no memory.
     #[inline(always)]
     pub fn validated(&mut self, time: u64, place: usize, lock: u64)
         requires { IsSomeAnd self.old.attempt (λ a. ComparesWith time place None a) }

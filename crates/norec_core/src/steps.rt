@@ -1,13 +1,17 @@
 //! The steps of an attempt, phase by phase: the access of each, and what comes of its answer.
 
-ghost use Rattle.std.specs.Prelude.{◌≡◌, ◌≢◌, ◌+◌, ◌-◌, ◌^◌, ◌<◌, ◌≤◌, ℕ, true, false, None, IfNone, IfSome, OnOk, OnErr, OnSome, drop, length, slice_get};
+ghost use Rattle.std.specs.Prelude.{◌≡◌, ◌≢◌, ◌+◌, ◌-◌, ◌^◌, ◌<◌, ◌≤◌, ℕ, true, false, None, IfNone, IfSome, OnOk};
+ghost use Rattle.std.specs.Prelude.{OnErr, OnSome, drop, length, slice_get};
 ghost use Rattle.write_log.specs.Overlay.{put, written};
 ghost use Rattle.norec_core.specs.Accesses.{stops};
-ghost use Rattle.norec_core.specs.Phases.{core_access, core_step, core_phase, core_operation, core_read, core_commit, core_cancel, core_store, core_swap, core_check, core_time, core_compare, operation_access, commit_access, entry_access, store_access};
+ghost use Rattle.norec_core.specs.Phases.{core_access, core_step, core_phase, core_operation, core_read, core_commit};
+ghost use Rattle.norec_core.specs.Phases.{core_cancel, core_store, core_swap, core_check, core_time, core_compare};
+ghost use Rattle.norec_core.specs.Phases.{operation_access, commit_access, entry_access, store_access};
 ghost use Rattle.norec_core.specs.Cores.{LoadsBoth, holds};
 ghost use Rattle.norec_core.specs.declared.step.Answer.TheVariants.{Value};
 ghost use Rattle.norec_core.specs.declared.step.Phase.TheVariants.{ReadsLock};
-ghost use Rattle.norec_core.specs.inner.Runs.{attempt_of, IsStep, IsWritten, GainsRoom, HasRoom, IsPlain, CanRelease, SwapsLock};
+ghost use Rattle.norec_core.specs.inner.Runs.{attempt_of, IsStep, IsWritten, GainsRoom, HasRoom, IsPlain, CanRelease};
+ghost use Rattle.norec_core.specs.inner.Runs.{SwapsLock};
 
 use super::step::{Access, Answer, Op, Outcome, Phase, ReadStep};
 use nesting::{Attempt, Saved};
@@ -32,9 +36,17 @@ impl<A: Allocator> Model for Steps<A> {
 
     ghost Value = { Run };
 
-    ghost view = { λ s. record { begun = s.begun; attempt = attempt_by s.logs s.first s.snapshot s.phase; aside = s.logs.aside; begin_room = s.logs.begin_room; read_room = s.logs.read_room; write_room = s.logs.write_room } };
+    ghost view = { λ s. record {
+      begun = s.begun;
+      attempt = attempt_by s.logs s.first s.snapshot s.phase;
+      aside = s.logs.aside;
+      begin_room = s.logs.begin_room;
+      read_room = s.logs.read_room;
+      write_room = s.logs.write_room;
+    } };
 
-    ghost invariant = { λ s. (s.snapshot % 2 ≡ 0) × IsStanding s.phase s.logs.kept s.snapshot × (s.plain ≡ true ↔ IsPlain s.begun s.logs.kept s.phase) };
+    ghost invariant = { λ s. (s.snapshot % 2 ≡ 0) × IsStanding s.phase s.logs.kept s.snapshot
+        × (s.plain ≡ true ↔ IsPlain s.begun s.logs.kept s.phase) };
 }
 
 impl<A: Allocator + Copy> Steps<A> {
@@ -62,7 +74,8 @@ impl<A: Allocator + Copy> Steps<A> {
         place: u32,
     ) -> Result<(), AllocError>
         ensures room { OnOk result (HasRoom op self.new) }
-        ensures aside { op ≡ Op.Begin → OnOk result (self.new.aside ≡ record { registers = registers.now; frames = frames; place = place }) }
+        ensures aside { op ≡ Op.Begin
+            → OnOk result (self.new.aside ≡ record { registers = registers.now; frames = frames; place = place }) }
         ensures same { op ≢ Op.Begin → self.new.aside ≡ self.old.aside }
         ensures err { OnErr result (self.new.aside ≡ self.old.aside) }
         ensures others { GainsRoom (record self.old { aside = self.new.aside }) self.new }
@@ -107,9 +120,11 @@ impl<A: Allocator + Copy> Steps<A> {
     /// How a read of this cell is made next, where it stands at an operation without the lock.
     #[inline(always)]
     pub(crate) fn reading(&self, cell: u32) -> ReadStep
-        ensures written { (word : ℕ) → result ≡ ReadStep.Written word → (self.now.begun ≡ true) × IsWritten self.now.attempt cell word }
+        ensures written { (word : ℕ) → result ≡ ReadStep.Written word
+            → (self.now.begun ≡ true) × IsWritten self.now.attempt cell word }
         ensures loads { result ≡ ReadStep.Loads → (self.now.begun ≡ true) × LoadsBoth self.now.attempt cell }
-        ensures other { result ≡ ReadStep.Other → IsPlain self.now.begun self.now.attempt.kept self.now.attempt.phase → ⊥ }
+        ensures other { result ≡ ReadStep.Other → IsPlain self.now.begun self.now.attempt.kept self.now.attempt.phase
+            → ⊥ }
     {
         if !self.plain {
             return ReadStep::Other;
@@ -136,7 +151,8 @@ impl<A: Allocator + Copy> Steps<A> {
         requires begun { self.old.begun ≡ true }
         requires loads { LoadsBoth self.old.attempt cell }
         requires room { 0 < self.old.read_room }
-        ensures { IsStep (core_check (record self.old.attempt { phase = ReadsLock word }) (Op.Read cell) word (Value lock)) result self.new }
+        ensures { IsStep (core_check (record self.old.attempt { phase = ReadsLock word }) (Op.Read cell) word
+            (Value lock)) result self.new }
     {
         if self.snapshot == lock {
             self.logs.log_read(cell, word);
@@ -182,7 +198,8 @@ impl<A: Allocator + Copy> Steps<A> {
     pub(crate) fn write(&mut self, cell: u32, word: u64)
         requires { 0 < self.old.write_room }
         ensures begun { self.new.begun ≡ self.old.begun }
-        ensures attempt { self.new.attempt ≡ record self.old.attempt { writes = put cell word self.old.attempt.writes } }
+        ensures attempt { self.new.attempt
+            ≡ record self.old.attempt { writes = put cell word self.old.attempt.writes } }
     {
         self.logs.write(cell, word);
     }
@@ -191,8 +208,12 @@ impl<A: Allocator + Copy> Steps<A> {
     #[inline(always)]
     pub(crate) fn commits_at_once(&self) -> bool
         requires { self.now.attempt.phase ≡ Phase.AtOperation }
-        ensures local { result ≡ true → commit_access self.now.attempt self.now.attempt.inner self.now.attempt.kept self.now.attempt.writes ≡ Access.Local }
-        ensures not_local { result ≡ false → commit_access self.now.attempt self.now.attempt.inner self.now.attempt.kept self.now.attempt.writes ≢ Access.Local }
+        ensures local { result ≡ true
+            → commit_access self.now.attempt self.now.attempt.inner self.now.attempt.kept self.now.attempt.writes
+            ≡ Access.Local }
+        ensures not_local { result ≡ false
+            → commit_access self.now.attempt self.now.attempt.inner self.now.attempt.kept self.now.attempt.writes
+            ≢ Access.Local }
     {
         match self.commit_access() {
             Access::Local => true,
@@ -205,8 +226,11 @@ impl<A: Allocator + Copy> Steps<A> {
     pub(crate) fn commit(&mut self)
         requires begun { self.old.begun ≡ true }
         requires phase { self.old.attempt.phase ≡ Phase.AtOperation }
-        requires local { commit_access self.old.attempt self.old.attempt.inner self.old.attempt.kept self.old.attempt.writes ≡ Access.Local }
-        ensures { attempt_of self.new ≡ (core_commit self.old.attempt self.old.attempt.inner self.old.attempt.kept self.old.attempt.writes Answer.Done).attempt }
+        requires local { commit_access self.old.attempt self.old.attempt.inner self.old.attempt.kept
+            self.old.attempt.writes ≡ Access.Local }
+        ensures { attempt_of self.new
+            ≡ (core_commit self.old.attempt self.old.attempt.inner self.old.attempt.kept self.old.attempt.writes
+            Answer.Done).attempt }
     {
         self.told_commit(Answer::Done);
     }
@@ -214,7 +238,8 @@ impl<A: Allocator + Copy> Steps<A> {
     /// Sets aside what an outermost begin saves: whether there was room.
     #[inline(always)]
     pub(crate) fn set_aside(&mut self, registers: &[u64], frames: usize, place: u32) -> bool
-        ensures aside { result ≡ true → self.new.aside ≡ record { registers = registers.now; frames = frames; place = place } }
+        ensures aside { result ≡ true
+            → self.new.aside ≡ record { registers = registers.now; frames = frames; place = place } }
         ensures full { result ≡ false → length self.old.aside.registers < length registers.now }
         ensures others { GainsRoom (record self.old { aside = self.new.aside }) self.new }
     {
@@ -239,8 +264,10 @@ impl<A: Allocator + Copy> Steps<A> {
     /// The place in the write log that a commit stores next, where one stores.
     #[inline(always)]
     pub(crate) fn storing(&self) -> Option<usize>
-        ensures some { IfSome result (λ place. (self.now.begun ≡ true) × (self.now.attempt.phase ≡ Phase.Stores place)) }
-        ensures none { IfNone result ((place : ℕ) → self.now.begun ≡ true → self.now.attempt.phase ≡ Phase.Stores place → ⊥) }
+        ensures some { IfSome result (λ place. (self.now.begun ≡ true)
+            × (self.now.attempt.phase ≡ Phase.Stores place)) }
+        ensures none { IfNone result ((place : ℕ) → self.now.begun ≡ true → self.now.attempt.phase ≡ Phase.Stores place
+            → ⊥) }
     {
         match self.phase {
             Phase::Stores(place) => { if self.begun { Some(place) } else { None } }
@@ -311,7 +338,8 @@ impl<A: Allocator + Copy> Steps<A> {
     #[inline(always)]
     pub(crate) fn commit_access(&self) -> Access
         requires { self.now.attempt.phase ≡ Phase.AtOperation }
-        ensures { result ≡ commit_access self.now.attempt self.now.attempt.inner self.now.attempt.kept self.now.attempt.writes }
+        ensures { result ≡ commit_access self.now.attempt self.now.attempt.inner self.now.attempt.kept
+            self.now.attempt.writes }
     {
         if self.logs.depth() > 0 {
             return Access::Local;
@@ -445,8 +473,12 @@ impl<A: Allocator + Copy> Steps<A> {
     fn told_commit(&mut self, answer: Answer) -> Outcome
         requires begun { self.old.begun ≡ true }
         requires phase { self.old.attempt.phase ≡ Phase.AtOperation }
-        requires goes_on { stops (commit_access self.old.attempt self.old.attempt.inner self.old.attempt.kept self.old.attempt.writes) ≡ false }
-        ensures { IsStep (core_commit self.old.attempt self.old.attempt.inner self.old.attempt.kept self.old.attempt.writes answer) result self.new }
+        requires goes_on { stops
+            (commit_access self.old.attempt self.old.attempt.inner self.old.attempt.kept self.old.attempt.writes)
+            ≡ false }
+        ensures { IsStep
+            (core_commit self.old.attempt self.old.attempt.inner self.old.attempt.kept self.old.attempt.writes answer)
+            result self.new }
     {
         if self.logs.depth() > 0 {
             self.logs.commit_inner();
@@ -468,7 +500,9 @@ impl<A: Allocator + Copy> Steps<A> {
         requires begun { self.old.begun ≡ true }
         requires kept { self.old.attempt.kept ≡ false }
         requires goes_on { stops (Access.Swap self.old.attempt.snapshot) ≡ false }
-        ensures { IsStep (core_swap self.old.attempt (record self.old.attempt { phase = Phase.Stores 0 }) Outcome.Going answer) result self.new }
+        ensures { IsStep
+            (core_swap self.old.attempt (record self.old.attempt { phase = Phase.Stores 0 }) Outcome.Going answer)
+            result self.new }
     {
         match answer {
             Answer::Won => self.phase = Phase::Stores(0),
@@ -497,11 +531,13 @@ impl<A: Allocator + Copy> Steps<A> {
         Outcome::Done
     }
 
-    /// A cancel of several levels, or of all that are open where these are fewer: the log and the lock as at a cancel of one.
+    /// A cancel of several levels, or of all that are open where these are fewer: the log and the lock as at a cancel
+    /// of one.
     #[inline(never)]
     fn told_cancel_outer(&mut self, levels: u32) -> Outcome
         requires { self.old.begun ≡ true }
-        ensures { IsStep (core_cancel self.old.attempt (drop (levels - 1) self.old.attempt.inner) self.old.attempt.kept) result self.new }
+        ensures { IsStep (core_cancel self.old.attempt (drop (levels - 1) self.old.attempt.inner) self.old.attempt.kept)
+            result self.new }
     {
         let inner = self.logs.depth();
         let open = (levels as usize).min(inner.saturating_add(1));
@@ -600,7 +636,8 @@ impl<A: Allocator + Copy> Steps<A> {
     fn told_compare(&mut self, time: u64, place: usize, answer: Answer) -> Outcome
         requires begun { self.old.begun ≡ true }
         requires phase { self.old.attempt.phase ≡ Phase.ValidatesEntry time place }
-        ensures { IsStep (core_compare self.old.attempt time place (slice_get self.old.attempt.reads place) answer) result self.new }
+        ensures { IsStep (core_compare self.old.attempt time place (slice_get self.old.attempt.reads place) answer)
+            result self.new }
     {
         if let Answer::Value(found) = answer {
             match self.logs.read_at(place) {
@@ -651,8 +688,10 @@ impl<A: Allocator + Copy> Steps<A> {
     /// The lock value at which validation compares an entry next, and the entry's place in the read log.
     #[inline(always)]
     pub(crate) fn comparing(&self) -> Option<(u64, usize)>
-        ensures some { IfSome result (λ at. (self.now.begun ≡ true) × (self.now.attempt.phase ≡ Phase.ValidatesEntry at.0 at.1)) }
-        ensures none { IfNone result ((time place : ℕ) → self.now.begun ≡ true → self.now.attempt.phase ≡ Phase.ValidatesEntry time place → ⊥) }
+        ensures some { IfSome result (λ at. (self.now.begun ≡ true)
+            × (self.now.attempt.phase ≡ Phase.ValidatesEntry at.0 at.1)) }
+        ensures none { IfNone result ((time place : ℕ) → self.now.begun ≡ true
+            → self.now.attempt.phase ≡ Phase.ValidatesEntry time place → ⊥) }
     {
         match self.phase {
             Phase::ValidatesEntry(time, place) => {

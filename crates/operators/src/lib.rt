@@ -1,9 +1,9 @@
-//! Operators on words, one function each: what the source's meaning and the code's have in common, right above the definitions of
-//! `syntax`.
+//! Operators on words, one function each: what the source's meaning and the code's have in common, right above the
+//! definitions of `syntax`.
 //!
-//! A word is any number of 64 bits, of which a type sees the residue: no number here needs more than 64 bits, but for what is
-//! shifted to the left. Products and quotients of two `int`s are those of the processor's 32 bits, those of two `long long`s the
-//! processor's 64.
+//! A word is any number of 64 bits, of which a type sees the residue: no number here needs more than 64 bits, but for
+//! what is shifted to the left. Products and quotients of two `int`s are those of the processor's 32 bits, those of two
+//! `long long`s the processor's 64.
 #![tactic(auto)]
 
 ghost use Rattle.std.specs.Prelude.{◌≡◌, ◌≢◌, ◌≤ℤ◌, ◌<◌, ◌≤◌, ◌^◌, ◌==◌, pos, neg_ℤ, Ok};
@@ -387,8 +387,8 @@ pub fn lower(a: u64) -> u64
     u64::from(low(a))
 }
 
-/// The result of an operator on two words of one type. Not always inlined: where the operator is given, little is left of it, but
-/// a function with all of it for each operator would be too large to be put into another.
+/// The result of an operator on two words of one type. Not always inlined: where the operator is given, little is left
+/// of it, but a function with all of it for each operator would be too large to be put into another.
 #[inline]
 pub fn compute(op: BinaryOp, t: Scalar, a: u64, b: u64) -> Result<u64, Trap>
     ensures { result ≡ computed op t a b }

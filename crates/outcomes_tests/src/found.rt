@@ -1,5 +1,5 @@
-//! The outcomes of small programs: how many there are, over how many orders, and one of them; limits; and that each order that is
-//! listed gives its outcome.
+//! The outcomes of small programs: how many there are, over how many orders, and one of them; limits; and that each
+//! order that is listed gives its outcome.
 
 use crate::accepted::accepted_of;
 use crate::asserted::assert_that;
@@ -47,8 +47,8 @@ const READS: &str =
 
 const NONE: &str = "int x; void worker(int self) { }";
 
-/// A text, threads, ticks, the limit of states; how many outcomes there are and over how many orders; whether they are all, and
-/// whether a thread is spent; the first cell of an outcome that is among them.
+/// A text, threads, ticks, the limit of states; how many outcomes there are and over how many orders; whether they are
+/// all, and whether a thread is spent; the first cell of an outcome that is among them.
 type Row = (
     &'static str,
     u32,

@@ -8,8 +8,11 @@ ghost use Rattle.lex.specs.declared.token.Punctuator.TheVariants as punct;
 ghost use Rattle.syntax.specs.Tree as E;
 ghost use Rattle.syntax.specs.Depth.{expr_depth, deepest};
 ghost use Rattle.syntax.specs.Views.{expr_of, exprs_of};
-ghost use Rattle.parse.specs.inner.Reading.{Fails, Gives, GivesOp, behind, head, is_other, many_until, mapped, next_op, sunk, take};
-ghost use Rattle.parse.specs.inner.Expressions.{arguments, conditional_at, expr_at, named, opened, operand, operators, outcomes, prefixed, starts_expr, the_constant, the_prefix, transaction, whole_at};
+ghost use Rattle.parse.specs.inner.Reading.{Fails, Gives, GivesOp, behind, head, is_other, many_until, mapped, next_op};
+ghost use Rattle.parse.specs.inner.Reading.{sunk, take};
+ghost use Rattle.parse.specs.inner.Expressions.{arguments, conditional_at, expr_at, named, opened, operand, operators};
+ghost use Rattle.parse.specs.inner.Expressions.{outcomes, prefixed, starts_expr, the_constant, the_prefix, transaction};
+ghost use Rattle.parse.specs.inner.Expressions.{whole_at};
 
 use crate::cursor::{closed_at, counted, eat, expect, is_next, name, spot};
 use crate::fault::Failure;

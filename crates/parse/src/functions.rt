@@ -10,7 +10,8 @@ ghost use Rattle.syntax.specs.Views.{parameter_of, stmts_of, item_of};
 ghost use Rattle.syntax.specs.Grammar.{the_name};
 ghost use Rattle.parse.specs.inner.Reading.{Gives, head};
 ghost use Rattle.parse.specs.inner.Expressions.{says};
-ghost use Rattle.parse.specs.inner.Items.{parameter, parameter_list, parameters, are_named, body_at, function_at, header};
+ghost use Rattle.parse.specs.inner.Items.{parameter, parameter_list, parameters, are_named, body_at, function_at};
+ghost use Rattle.parse.specs.inner.Items.{header};
 ghost use Rattle.parse.specs.inner.Items as items;
 ghost use Rattle.parse.specs.inner.Headings.{heading_of};
 

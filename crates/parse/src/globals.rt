@@ -9,7 +9,8 @@ ghost use Rattle.syntax.specs.Tree as Tree;
 ghost use Rattle.syntax.specs.Views.{name_of, global_of, item_of};
 ghost use Rattle.syntax.specs.Grammar.{the_length};
 ghost use Rattle.parse.specs.inner.Reading.{Gives, take, before, behind};
-ghost use Rattle.parse.specs.inner.Items.{the_placed_value, initialiser, first_value, first_values, sized, global, value_list, several, globals_from};
+ghost use Rattle.parse.specs.inner.Items.{the_placed_value, initialiser, first_value, first_values, sized, global};
+ghost use Rattle.parse.specs.inner.Items.{value_list, several, globals_from};
 
 use crate::cursor::{closed, eat, expect, is_next, name, spot};
 use crate::fault::Failure;

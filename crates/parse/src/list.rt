@@ -28,8 +28,8 @@ pub trait Element<T> {
         ensures { Gives (λ x. (plain x.0, toks x.1.now)) result (reads self.now (toks tokens.now)) };
 }
 
-/// A list of one item. Where memory ends, the list is dropped here, whatever its type: the drop of one of trees, written
-/// out at each place, is dear to prove.
+/// A list of one item. Where memory ends, the list is dropped here, whatever its type: the drop of one of trees,
+/// written out at each place, is dear to prove.
 pub fn one<T: Drop, A: Allocator>(alloc: A, item: T) -> Result<Items<T, A>, AllocError>
     ensures { IfOk result (λ all. all ≡ item ∷ []) }
 {
@@ -47,7 +47,8 @@ pub fn further<'t, 'a, T: Drop, E: Element<T>, A: Allocator>(
     requires { E.can element.now }
     ensures { Gives (λ x. (map E.plain x.0, toks x.1.now)) result
         (mapped (λ xs. map E.plain read ++ xs)
-        (many_until (is_other (token.Punctuator punct.Comma)) (behind (token.Punctuator punct.Comma) (E.reads element.now)))
+        (many_until (is_other (token.Punctuator punct.Comma))
+        (behind (token.Punctuator punct.Comma) (E.reads element.now)))
         (toks tokens.now)) }
 {
     let (mut rest, count) = counted(tokens);

@@ -10,7 +10,8 @@ ghost use Rattle.syntax.specs.Views.{expr_of, simple_of, declarator_of, declarat
 ghost use Rattle.syntax.specs.Grammar.{assigning_of, the_assigning, the_step};
 ghost use Rattle.parse.specs.inner.Reading.{Gives, head, behind, before, listed, perhaps, unless};
 ghost use Rattle.parse.specs.inner.Expressions.{whole_at};
-ghost use Rattle.parse.specs.inner.Statements.{GivesToken, simple_from, simple, starts_simple, simple_at, declarator, declaration, declaration_at, start};
+ghost use Rattle.parse.specs.inner.Statements.{GivesToken, simple_from, simple, starts_simple, simple_at, declarator};
+ghost use Rattle.parse.specs.inner.Statements.{declaration, declaration_at, start};
 
 use crate::cursor::{closed, eat, name};
 use crate::expr::{expression, starts_expr};

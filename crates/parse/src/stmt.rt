@@ -10,7 +10,9 @@ ghost use Rattle.syntax.specs.Views.{expr_of, simple_of, start_of, stmt_of};
 ghost use Rattle.parse.specs.inner.Reading.{Gives, GivesOn, expect, head, mapped, perhaps, behind};
 ghost use Rattle.parse.specs.inner.Expressions.{whole_at};
 ghost use Rattle.parse.specs.inner.Headings.{branches_of};
-ghost use Rattle.parse.specs.inner.Statements.{in_parens, entry, branches, if_tree, if_stmt, while_stmt, do_stmt, end_of_do, rest_of_head, head_of_for, for_stmt, kind, transaction_stmt, starts_stmt, stmt_at, block_at};
+ghost use Rattle.parse.specs.inner.Statements.{in_parens, entry, branches, if_tree, if_stmt, while_stmt, do_stmt};
+ghost use Rattle.parse.specs.inner.Statements.{end_of_do, rest_of_head, head_of_for, for_stmt, kind, transaction_stmt};
+ghost use Rattle.parse.specs.inner.Statements.{starts_stmt, stmt_at, block_at};
 
 use crate::cursor::{closed, eat, expect, is_next, spot};
 use crate::expr::expression;

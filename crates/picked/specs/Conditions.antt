@@ -1,6 +1,7 @@
 -- The instructions that are picked for a condition: a value and a jump, for which `!` and comparisons with 0 only say
 -- when it is taken, and for `&&` and `||` a first condition with its jump before it.
-use Rattle.std.specs.Prelude.{ℕ, zero, ◌+◌, List, [], ◌∷◌, ◌++◌, map, Bool, true, false, not, if◌then◌else◌, Option, Some, None}
+use Rattle.std.specs.Prelude.{ℕ, zero, ◌+◌, List, [], ◌∷◌, ◌++◌, map, Bool, true, false, not, if◌then◌else◌, Option}
+use Rattle.std.specs.Prelude.{Some, None}
 use Rattle.syntax.specs.declared.tree.BinaryOp.{BinaryOp}
 use Rattle.syntax.specs.declared.tree.BinaryOp.TheVariants.{Equal, NotEqual}
 use Rattle.syntax.specs.declared.tree.LogicalOp.{LogicalOp}

@@ -1,14 +1,18 @@
 -- The instructions that are picked for an expression. Each part is told its first place and gives the place behind
 -- it, so that jumps over it need no further pass. A result that is computed comes into the register `into`, and
 -- registers from `free` on may be written.
-use Rattle.std.specs.Prelude.{ℕ, suc, pos, ◌+◌, List, [], ◌∷◌, ◌++◌, length, map, Option, Some, None, option_map, max, if◌then◌else◌, ◌==◌}
+use Rattle.std.specs.Prelude.{ℕ, suc, pos, ◌+◌, List, [], ◌∷◌, ◌++◌, length, map, Option, Some, None, option_map, max}
+use Rattle.std.specs.Prelude.{if◌then◌else◌, ◌==◌}
 use Rattle.lex.specs.declared.token.Scalar.{Scalar}
 use Rattle.lex.specs.declared.token.Scalar.TheVariants.{Int, Unsigned, LongLong}
 use Rattle.syntax.specs.declared.tree.UnaryOp.TheVariants.{Negate, Keep, Not, Complement}
 use Rattle.syntax.specs.declared.tree.BinaryOp.{BinaryOp}
-use Rattle.syntax.specs.declared.tree.BinaryOp.TheVariants.{Or, Xor, And, Equal, NotEqual, Less, Greater, LessEqual, GreaterEqual, ShiftLeft, ShiftRight, Add, Subtract, Multiply, Divide, Remainder}
+use Rattle.syntax.specs.declared.tree.BinaryOp.TheVariants.{Or, Xor, And, Equal, NotEqual, Less, Greater, LessEqual}
+use Rattle.syntax.specs.declared.tree.BinaryOp.TheVariants.{GreaterEqual, ShiftLeft, ShiftRight, Add, Subtract}
+use Rattle.syntax.specs.declared.tree.BinaryOp.TheVariants.{Multiply, Divide, Remainder}
 use Rattle.syntax.specs.declared.tree.LogicalOp.{LogicalOp}
-use Rattle.syntax.specs.Tree.{Parameter, Expr, Exprs, Variable, Constant, Element, Call, Parenthesized, Cast, Unary, Binary, Logical, Conditional, InTransaction, Program}
+use Rattle.syntax.specs.Tree.{Parameter, Expr, Exprs, Variable, Constant, Element, Call, Parenthesized, Cast, Unary}
+use Rattle.syntax.specs.Tree.{Binary, Logical, Conditional, InTransaction, Program}
 use Rattle.syntax.specs.Numbers.{word_of, common, operand_type, result_type}
 use Rattle.syntax.specs.Names.{newest, global_of, cells, GlobalCells}
 use Rattle.bytecode.specs.declared.instr.Instr.{Instr}

@@ -1,6 +1,7 @@
--- The constants with which a function's loops compute. An operator takes them right behind the instruction that sets them,
--- between a place and a jump behind it that leads there or further back.
-use Rattle.std.specs.Prelude.{ℕ, suc, Bool, ◌&&◌, false, ◌||◌, not, nat_le, nat_lt, ◌==◌, min, if◌then◌else◌, List, [], ◌∷◌, ◌++◌, length, Option, Some, None}
+-- The constants with which a function's loops compute. An operator takes them right behind the instruction that sets
+-- them, between a place and a jump behind it that leads there or further back.
+use Rattle.std.specs.Prelude.{ℕ, suc, Bool, ◌&&◌, false, ◌||◌, not, nat_le, nat_lt, ◌==◌, min, if◌then◌else◌, List, []}
+use Rattle.std.specs.Prelude.{◌∷◌, ◌++◌, length, Option, Some, None}
 use Rattle.bytecode.specs.Code.{Instr as Plain}
 use Rattle.bytecode.specs.Views.{instr_of}
 use Rattle.bytecode.specs.declared.instr.Instr.{Instr}
@@ -30,8 +31,8 @@ has_word (x ∷ xs) w = x == w || has_word xs w
 abbrev pub MOST_READY : ℕ
 MOST_READY = 16
 
--- a constant in a register, at a place in front of other instructions: it is one more, where the next one computes with it
--- and a jump leads back to it or past it
+-- a constant in a register, at a place in front of other instructions: it is one more, where the next one computes with
+-- it and a jump leads back to it or past it
 abbrev pub is_more : (at r w : ℕ) → Looped → Bool
 is_more at r w looped =
     is_operand looped.operands r

@@ -1,5 +1,6 @@
 -- The instructions that are picked for functions and programs.
-use Rattle.std.specs.Prelude.{ℕ, suc, ◌+◌, nat_le, if◌then◌else◌, List, [], ◌∷◌, ◌++◌, length, map, Option, Some, None, unwrap_or}
+use Rattle.std.specs.Prelude.{ℕ, suc, ◌+◌, nat_le, if◌then◌else◌, List, [], ◌∷◌, ◌++◌, length, map, Option, Some, None}
+use Rattle.std.specs.Prelude.{unwrap_or}
 use Rattle.lex.specs.declared.token.Scalar.{Scalar}
 use Rattle.lex.specs.declared.token.Scalar.TheVariants.{Int}
 use Rattle.syntax.specs.Tree.{Function, Stmts, Defines, Shares, Program}
@@ -52,8 +53,8 @@ body_ready layout p f body from l =
       to = made.to;
     }
 
--- a body as it stands, where its loops compute with no constants or a function may not have so many registers; or else one
--- that finds them ready, in registers behind all those of the body as it stands
+-- a body as it stands, where its loops compute with no constants or a function may not have so many registers; or else
+-- one that finds them ready, in registers behind all those of the body as it stands
 abbrev pub body_better : Program → Function → Stmts → ℕ → Lists → (plain : Written) → (constants : List ℕ) → Written
 body_better p f body from l plain [] = plain
 body_better p f body from l plain (w ∷ ws) =

@@ -1,9 +1,11 @@
 -- The instructions that are picked for assignments and declarations.
-use Rattle.std.specs.Prelude.{ℕ, suc, ◌+◌, List, [], ◌∷◌, ◌++◌, length, Option, Some, None, Bool, true, false, if◌then◌else◌, ◌==◌}
+use Rattle.std.specs.Prelude.{ℕ, suc, ◌+◌, List, [], ◌∷◌, ◌++◌, length, Option, Some, None, Bool, true, false}
+use Rattle.std.specs.Prelude.{if◌then◌else◌, ◌==◌}
 use Rattle.lex.specs.declared.token.Scalar.{Scalar}
 use Rattle.lex.specs.declared.token.Scalar.TheVariants.{Int, LongLong}
 use Rattle.syntax.specs.declared.tree.BinaryOp.{BinaryOp}
-use Rattle.syntax.specs.Tree.{Expr, Variable, Constant, Element, Simple, Evaluate, Assign, Adjust, Declarator, Start, Nothing, Declares, Does, Program}
+use Rattle.syntax.specs.Tree.{Expr, Variable, Constant, Element, Simple, Evaluate, Assign, Adjust, Declarator, Start}
+use Rattle.syntax.specs.Tree.{Nothing, Declares, Does, Program}
 use Rattle.syntax.specs.Names.{newest, global_of, cells, GlobalCells}
 use Rattle.syntax.specs.Numbers.{operand_type, result_type}
 use Rattle.syntax.specs.Meaning.{op_of}
@@ -14,7 +16,8 @@ use Rattle.picked.specs.declared.held.Target.TheVariants as target
 use Rattle.picked.specs.Lists.{Lists, used}
 use Rattle.lowered.specs.Expressions.{LocalScope, constant_in}
 use Rattle.lowered.specs.Statements.{with_local}
-use Rattle.picked.specs.Expressions.{Emitted, above, one, constant, ready, ready_or, in_local, converting, converted_by, both, emitted_type, emitted, operand}
+use Rattle.picked.specs.Expressions.{Emitted, above, one, constant, ready, ready_or, in_local, converting, converted_by}
+use Rattle.picked.specs.Expressions.{both, emitted_type, emitted, operand}
 
 -- instructions, the lists after them, and the place behind them
 pub record Written : Type 0 where

@@ -10,7 +10,8 @@ pub struct Held {
     pub to: u32,
 }
 
-/// A value that is tested: its register, whether the condition holds where it is 0, and the place behind its instructions.
+/// A value that is tested: its register, whether the condition holds where it is 0, and the place behind its
+/// instructions.
 #[derive(Clone, Copy)]
 pub struct Tested {
     pub register: u16,
@@ -34,8 +35,8 @@ pub enum Target {
     Nowhere,
 }
 
-/// Where a break and a continue lead, how many transactions are open in the loop and in the function, and the type of what
-/// the function returns.
+/// Where a break and a continue lead, how many transactions are open in the loop and in the function, and the type of
+/// what the function returns.
 #[derive(Clone, Copy)]
 pub struct Exits {
     pub break_to: u32,

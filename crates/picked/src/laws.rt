@@ -12,8 +12,8 @@ pub fn picked_code_is_valid()
     ensures { PickedCodeIsValid }
 {}
 
-/// For each program that is typed and safe there is code that stands for it. That is the code that is picked: each instruction
-/// of it follows from the program alone.
+/// For each program that is typed and safe there is code that stands for it. That is the code that is picked: each
+/// instruction of it follows from the program alone.
 pub fn every_program_has_code()
     ensures { EveryProgramHasCode }
 {}

@@ -1,5 +1,6 @@
 -- The arrows of a picture: which drops have one, and from which store it comes.
-use Rattle.std.specs.Prelude.{ℕ, ◌==◌, List, [], ◌∷◌, ◌++◌, Bool, false, nat_le, codes, decimal, Option, Some, None, if◌then◌else◌}
+use Rattle.std.specs.Prelude.{ℕ, ◌==◌, List, [], ◌∷◌, ◌++◌, Bool, false, nat_le, codes, decimal, Option, Some, None}
+use Rattle.std.specs.Prelude.{if◌then◌else◌}
 use Rattle.std.specs.List.{fold}
 use Rattle.norec_core.specs.declared.step.Access.{Access}
 use Rattle.norec_core.specs.declared.step.Access.TheVariants.{LoadWord, StoreWord}

@@ -1,5 +1,6 @@
 -- The marks of a picture: which steps have one, and what they are titled by.
-use Rattle.std.specs.Prelude.{ℕ, ◌≡◌, ◌==◌, List, [], ◌∷◌, ◌++◌, Bool, true, false, ◌||◌, ◌&&◌, nat_le, codes, flat_map, map, if◌then◌else◌}
+use Rattle.std.specs.Prelude.{ℕ, ◌≡◌, ◌==◌, List, [], ◌∷◌, ◌++◌, Bool, true, false, ◌||◌, ◌&&◌, nat_le, codes, flat_map}
+use Rattle.std.specs.Prelude.{map, if◌then◌else◌}
 use Rattle.norec_core.specs.declared.step.Access.{Access}
 use Rattle.norec_core.specs.declared.step.Access.TheVariants.{Local, LoadLock, LoadWord, Swap, StoreWord, StoreLock}
 use Rattle.picture.specs.declared.step.Deed.{Deed}
@@ -61,7 +62,8 @@ pub record AreTitled (titles : List (List ℕ)) (text : List ℕ) : Type 0 where
   pub titled : map (λ m. m.0) marks ≡ titles
   pub spelled : text ≡ flat_map (λ m. mark_text m.0 m.1) marks
 
--- a picture's text: arrows with these titles and then marks with these, with something in front of them, between and behind
+-- a picture's text: arrows with these titles and then marks with these, with something in front of them, between and
+-- behind
 pub record IsPicture (arrows titles : List (List ℕ)) (svg : List ℕ) : Type 0 where
   pub front : List ℕ
   pub drawn_arrows : List ℕ

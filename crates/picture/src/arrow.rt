@@ -126,7 +126,8 @@ fn arrow<A: Allocator + Copy>(
     from: u64,
     step: &Step<A>,
 ) -> Result<Mark<A>, AllocError>
-    ensures { IfOk result (λ m. m.title.items ≡ codes "access " ++ decimal from ++ codes ", then access " ++ decimal step.now.accesses) }
+    ensures { IfOk result (λ m. m.title.items ≡ codes "access " ++ decimal from ++ codes ", then access "
+        ++ decimal step.now.accesses) }
 {
     let title = title(alloc, from, step.accesses)?;
     let mut drawn = Vec::new(alloc);
@@ -144,7 +145,9 @@ pub(crate) fn add_arrow<A: Allocator + Copy>(
     before: &[Step<A>],
     step: &Step<A>,
 ) -> Result<(), AllocError>
-    ensures { OnOk result (map (λ m. m.title.items) arrows.new.items ≡ map (λ m. m.title.items) arrows.old.items ++ arrow_title (map (λ s. (s.accesses, s.access, s.event)) before.now) (step.now.accesses, step.now.access, step.now.event)) }
+    ensures { OnOk result (map (λ m. m.title.items) arrows.new.items ≡ map (λ m. m.title.items) arrows.old.items
+        ++ arrow_title (map (λ s. (s.accesses, s.access, s.event)) before.now)
+        (step.now.accesses, step.now.access, step.now.event)) }
 {
     let Some(cell) = dropped_for(step) else {
         return Ok(());

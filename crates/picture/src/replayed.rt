@@ -57,8 +57,10 @@ fn drawn_step<A: Allocator + Copy>(
     shown: &StepShown,
     printed: Vec<u8, A>,
 ) -> Result<Step<A>, AllocError>
-    ensures title { IfOk result (λ s. title_of (is_drawn s.accesses s.access s.event s.deed) s.line.items ≡ step_title code.now (accesses, thread, shown.now)) }
-    ensures moment { IfOk result (λ s. (s.accesses ≡ accesses) × (s.access ≡ shown.now.access) × (s.event ≡ shown.now.event)) }
+    ensures title { IfOk result (λ s. title_of (is_drawn s.accesses s.access s.event s.deed) s.line.items
+        ≡ step_title code.now (accesses, thread, shown.now)) }
+    ensures moment { IfOk result (λ s. (s.accesses ≡ accesses) × (s.access ≡ shown.now.access)
+        × (s.event ≡ shown.now.event)) }
 {
     Ok(Step {
         accesses,
@@ -104,8 +106,13 @@ fn add_step<A: Allocator + Copy>(
     thread: u32,
     shown: &StepShown,
 ) -> Option<()>
-    ensures titles { OnSome result (flat_map (λ s. title_of (is_drawn s.accesses s.access s.event s.deed) s.line.items) steps.new.items ≡ flat_map (λ s. title_of (is_drawn s.accesses s.access s.event s.deed) s.line.items) steps.old.items ++ step_title code.now (accesses, thread, shown.now)) }
-    ensures moments { OnSome result (map {B = Moment} (λ s. (s.accesses, s.access, s.event)) steps.new.items ≡ map {B = Moment} (λ s. (s.accesses, s.access, s.event)) steps.old.items ++ (accesses, shown.now.access, shown.now.event) ∷ []) }
+    ensures titles { OnSome result
+        (flat_map (λ s. title_of (is_drawn s.accesses s.access s.event s.deed) s.line.items) steps.new.items
+        ≡ flat_map (λ s. title_of (is_drawn s.accesses s.access s.event s.deed) s.line.items) steps.old.items
+        ++ step_title code.now (accesses, thread, shown.now)) }
+    ensures moments { OnSome result (map {B = Moment} (λ s. (s.accesses, s.access, s.event)) steps.new.items
+        ≡ map {B = Moment} (λ s. (s.accesses, s.access, s.event)) steps.old.items
+        ++ (accesses, shown.now.access, shown.now.event) ∷ []) }
 {
     let printed = printed_by(alloc, world, thread)?;
     let Ok(step) = drawn_step(alloc, code, accesses, thread, shown, printed) else {
@@ -124,8 +131,11 @@ fn drawn_steps<A: Allocator + Copy>(
     world: &mut World<A>,
     shown: &[(u64, u32, StepShown)],
 ) -> Option<Vec<Step<A>, A>>
-    ensures titles { IfSome result (λ v. flat_map (λ s. title_of (is_drawn s.accesses s.access s.event s.deed) s.line.items) v.items ≡ titles code.now shown.now) }
-    ensures moments { IfSome result (λ v. map {B = Moment} (λ s. (s.accesses, s.access, s.event)) v.items ≡ map {B = Moment} (λ s. (s.0, s.2.access, s.2.event)) shown.now) }
+    ensures titles { IfSome result
+        (λ v. flat_map (λ s. title_of (is_drawn s.accesses s.access s.event s.deed) s.line.items) v.items
+        ≡ titles code.now shown.now) }
+    ensures moments { IfSome result (λ v. map {B = Moment} (λ s. (s.accesses, s.access, s.event)) v.items
+        ≡ map {B = Moment} (λ s. (s.0, s.2.access, s.2.event)) shown.now) }
 {
     let mut steps = Vec::new(alloc);
     'shown: for (accesses, thread, step) in shown {
@@ -151,15 +161,17 @@ fn drawn<A: Allocator + Copy>(
     world: &World<A>,
     file: &[u8],
 ) -> Result<Vec<u8, A>, AllocError>
-    ensures { IfOk result (λ v. IsPicture (arrow_titles (map {B = Moment} (λ s. (s.accesses, s.access, s.event)) steps.now)) (flat_map (λ s. title_of (is_drawn s.accesses s.access s.event s.deed) s.line.items) steps.now) v.items) }
+    ensures { IfOk result
+        (λ v. IsPicture (arrow_titles (map {B = Moment} (λ s. (s.accesses, s.access, s.event)) steps.now))
+        (flat_map (λ s. title_of (is_drawn s.accesses s.access s.event s.deed) s.line.items) steps.now) v.items) }
 {
     let cells = cells_of(alloc, unit)?;
     let ends = ends_of(alloc, world)?;
     picture(alloc, cells.as_slice(), steps, ends.as_slice(), file)
 }
 
-/// The picture of these steps of 1 to 64 threads of a program's code. `file` is the program's name. At most 400 accesses are
-/// drawn. There is no answer where memory was refused, and where one of the steps cannot be made.
+/// The picture of these steps of 1 to 64 threads of a program's code. `file` is the program's name. At most 400
+/// accesses are drawn. There is no answer where memory was refused, and where one of the steps cannot be made.
 pub fn replay_picture<A: Allocator + Copy>(
     alloc: A,
     unit: &Unit<A>,

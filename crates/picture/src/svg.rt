@@ -45,7 +45,8 @@ fn add_mark<A: Allocator + Copy>(
     sheet: &mut Sheet<'_, A>,
     step: &Step<A>,
 ) -> Result<(), AllocError>
-    ensures { OnOk result (map (λ m. m.title.items) marks.new.items ≡ map (λ m. m.title.items) marks.old.items ++ title_of (is_drawn step.now.accesses step.now.access step.now.event step.now.deed) step.now.line.items) }
+    ensures { OnOk result (map (λ m. m.title.items) marks.new.items ≡ map (λ m. m.title.items) marks.old.items
+        ++ title_of (is_drawn step.now.accesses step.now.access step.now.event step.now.deed) step.now.line.items) }
 {
     if is_drawn(step) {
         marks.push(mark_of(alloc, sheet, step)?)?;
@@ -60,8 +61,11 @@ fn marks<A: Allocator + Copy>(
     sheet: &mut Sheet<'_, A>,
     arrows: &mut Vec<Mark<A>, A>,
 ) -> Result<Vec<Mark<A>, A>, AllocError>
-    ensures marks { IfOk result (λ ms. map (λ m. m.title.items) ms.items ≡ flat_map (λ s. title_of (is_drawn s.accesses s.access s.event s.deed) s.line.items) steps.now) }
-    ensures arrows { OnOk result (map (λ m. m.title.items) arrows.new.items ≡ map (λ m. m.title.items) arrows.old.items ++ arrow_titles (map (λ s. (s.accesses, s.access, s.event)) steps.now)) }
+    ensures marks { IfOk result (λ ms. map (λ m. m.title.items) ms.items
+        ≡ flat_map (λ s. title_of (is_drawn s.accesses s.access s.event s.deed) s.line.items) steps.now) }
+    ensures arrows { OnOk result (map (λ m. m.title.items) arrows.new.items
+        ≡ map (λ m. m.title.items) arrows.old.items ++ arrow_titles
+        (map (λ s. (s.accesses, s.access, s.event)) steps.now)) }
 {
     let mut marks = Vec::new(alloc);
     'steps: for at in 0..steps.len() {
@@ -239,7 +243,8 @@ fn put_mark<A: Allocator>(to: &mut Vec<u8, A>, mark: &Mark<A>) -> Result<(), All
 
 /// Adds the text of the marks.
 fn put_marks<A: Allocator>(to: &mut Vec<u8, A>, marks: &[Mark<A>]) -> Result<(), AllocError>
-    ensures { OnOk result (to.new.items ≡ to.old.items ++ flat_map (λ m. mark_text m.title.items m.drawn.items) marks.now) }
+    ensures { OnOk result
+        (to.new.items ≡ to.old.items ++ flat_map (λ m. mark_text m.title.items m.drawn.items) marks.now) }
 {
     'marks: for mark in marks {
         put_mark(to, mark)?;
@@ -254,7 +259,8 @@ fn with_marks<A: Allocator>(
     between: &[u8],
     marks: &[Mark<A>],
 ) -> Result<Vec<u8, A>, AllocError>
-    ensures { IfOk result (λ v. IsPicture (map (λ m. m.title.items) arrows.now) (map (λ m. m.title.items) marks.now) v.items) }
+    ensures { IfOk result (λ v. IsPicture (map (λ m. m.title.items) arrows.now)
+        (map (λ m. m.title.items) marks.now) v.items) }
 {
     let mut svg = below;
     put_marks(&mut svg, arrows)?;
@@ -427,7 +433,9 @@ pub fn picture<A: Allocator + Copy>(
     ends: &[Status],
     file: &[u8],
 ) -> Result<Vec<u8, A>, AllocError>
-    ensures marks { IfOk result (λ v. IsPicture (arrow_titles (map (λ s. (s.accesses, s.access, s.event)) steps.now)) (flat_map (λ s. title_of (is_drawn s.accesses s.access s.event s.deed) s.line.items) steps.now) v.items) }
+    ensures marks { IfOk result
+        (λ v. IsPicture (arrow_titles (map (λ s. (s.accesses, s.access, s.event)) steps.now))
+        (flat_map (λ s. title_of (is_drawn s.accesses s.access s.event s.deed) s.line.items) steps.now) v.items) }
 {
     let threads = ends.len().min(64) as u32;
     let mut sheet = Sheet::new(alloc, cells, threads)?;

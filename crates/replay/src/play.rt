@@ -1,8 +1,10 @@
 //! Replays: the steps that a schedule names, made one after another.
 
-ghost use Rattle.std.specs.Prelude.{◌≡◌, ◌+◌, ◌<◌, ◌≤◌, ◌⊎◌, ◌↔◌, ◌∷◌, ◌++◌, [], true, IfOk, IfErr, OnOk, Some, if◌then◌else◌, length, slice_get};
+ghost use Rattle.std.specs.Prelude.{◌≡◌, ◌+◌, ◌<◌, ◌≤◌, ◌⊎◌, ◌↔◌, ◌∷◌, ◌++◌, [], true, IfOk, IfErr, OnOk, Some};
+ghost use Rattle.std.specs.Prelude.{if◌then◌else◌, length, slice_get};
 ghost use Rattle.world.specs.Simulations.{IsExplained, cost_at, further, world_of};
-ghost use Rattle.replay.specs.Replays.{IsReplay, events_of, is_cut_off as is_cut_off_spec, is_quiet as is_quiet_spec, played};
+ghost use Rattle.replay.specs.Replays.{IsReplay, events_of, is_cut_off as is_cut_off_spec, is_quiet as is_quiet_spec};
+ghost use Rattle.replay.specs.Replays.{played};
 ghost use Rattle.replay.specs.inner.Playing.{ComesTo, HaltsAt, HaltsIn, Plays};
 
 use crate::line::{Line, MOST_STEPS};
@@ -13,7 +15,8 @@ use std::alloc::{AllocError, Allocator};
 use syntax::numbers::Status;
 use world::{Report, StopReason, World, WorldFault};
 
-/// What happened in which step: the accesses to the lock or the words that all threads had made with it, and its thread.
+/// What happened in which step: the accesses to the lock or the words that all threads had made with it, and its
+/// thread.
 type Events<A> = Vec<(u64, u32, Event), A>;
 
 /// Why a line was not made to its end.
@@ -131,8 +134,8 @@ fn line_at(lines: &[Line], at: usize) -> Line
     lines[at]
 }
 
-/// Makes the steps that lines name, one after another, up to the first one that is not made: that one's thread, and why. The
-/// error comes only where the growth of the events is refused.
+/// Makes the steps that lines name, one after another, up to the first one that is not made: that one's thread, and
+/// why. The error comes only where the growth of the events is refused.
 fn play_all<A: Allocator + Copy>(
     world: &mut World<A>,
     events: &mut Events<A>,
@@ -173,10 +176,10 @@ fn report_played<A: Allocator + Copy>(
     Ok(report)
 }
 
-/// Makes the steps that the lines of a schedule name, one after another, with so many threads of the code, and reports what
-/// they leave. It ends where all are made, after 1,048,576 steps, or at the first step that is not made: that one stands in
-/// the report. `WrongThreads` comes exactly where the number of threads is not 1 to 64, and `OutOfMemory` where the memory of
-/// the world, of the events or of the report was refused.
+/// Makes the steps that the lines of a schedule name, one after another, with so many threads of the code, and reports
+/// what they leave. It ends where all are made, after 1,048,576 steps, or at the first step that is not made: that one
+/// stands in the report. `WrongThreads` comes exactly where the number of threads is not 1 to 64, and `OutOfMemory`
+/// where the memory of the world, of the events or of the report was refused.
 pub fn replay<A: Allocator + Copy>(
     alloc: A,
     code: &Code<A>,

@@ -4,7 +4,8 @@ ghost use Rattle.std.specs.Prelude.{◌≡◌, ◌≤◌, ◌<◌, ◌^◌, [], 
 ghost use Rattle.std.specs.List.{prefix_len};
 ghost use Rattle.std.specs.Str.Parse.{AllDigits};
 ghost use Rattle.replay.specs.Schedules.{Writes};
-ghost use Rattle.replay.specs.inner.Rows.{is_space, is_digit, past, digits_of, behind, has_letter, behind_letter, IsCut, IsRow};
+ghost use Rattle.replay.specs.inner.Rows.{is_space, is_digit, past, digits_of, behind, has_letter, behind_letter};
+ghost use Rattle.replay.specs.inner.Rows.{IsCut, IsRow};
 
 use crate::line::Line;
 

@@ -70,9 +70,9 @@ fn read_rows<A: Allocator + Copy>(alloc: A, rows: &[&str]) -> Result<Vec<Line, A
     Ok(found)
 }
 
-/// The lines of a schedule, each `T COUNT` or `T aCOUNT` in decimal digits: COUNT steps of thread T, or its steps up to so
-/// many further accesses to the lock or a cell. Spaces part the two and may stand round them; a row of spaces is no line.
-/// Of the lines that are none and of those with which the counts become too many, the first is the fault.
+/// The lines of a schedule, each `T COUNT` or `T aCOUNT` in decimal digits: COUNT steps of thread T, or its steps up to
+/// so many further accesses to the lock or a cell. Spaces part the two and may stand round them; a row of spaces is no
+/// line. Of the lines that are none and of those with which the counts become too many, the first is the fault.
 pub fn read_schedule<A: Allocator + Copy>(
     alloc: A,
     text: &str,

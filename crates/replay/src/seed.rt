@@ -25,8 +25,8 @@ fn step_of(word: u32, threads: u32) -> Line
     }
 }
 
-/// One step a line: the thread of each is the next 32-bit word of PCG-XSH-RR 64/32 from this seed, modulo the number of threads.
-/// A fault is `TooLong` where there are to be more than 1,048,576 steps.
+/// One step a line: the thread of each is the next 32-bit word of PCG-XSH-RR 64/32 from this seed, modulo the number of
+/// threads. A fault is `TooLong` where there are to be more than 1,048,576 steps.
 pub fn seeded<A: Allocator + Copy>(
     alloc: A,
     seed: u64,
@@ -35,7 +35,8 @@ pub fn seeded<A: Allocator + Copy>(
 ) -> Result<Vec<Line, A>, ScheduleFault>
     requires { 0 < threads }
     ensures few { OnOk result (steps ≤ MOST_STEPS) }
-    ensures lines { IfOk result (λ v. v.items ≡ map (λ w. one_step (w % threads)) (first_words pcg32 steps (generator_of seed))) }
+    ensures lines { IfOk result
+        (λ v. v.items ≡ map (λ w. one_step (w % threads)) (first_words pcg32 steps (generator_of seed))) }
     ensures fault { IfErr result (λ e. IsFaultOfSeed steps e) }
 {
     if steps > MOST_STEPS {

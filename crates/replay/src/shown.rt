@@ -47,9 +47,9 @@ fn show_all<A: Allocator + Copy>(
     Some(shown)
 }
 
-/// Makes these steps of so many threads of the code from their beginnings on, and shows each: how many accesses to the lock or
-/// the words all threads had made with it, its thread, and what is shown of that. There is no answer where memory was
-/// refused, where the number of threads is not 1 to 64, or where one of the steps cannot be made.
+/// Makes these steps of so many threads of the code from their beginnings on, and shows each: how many accesses to the
+/// lock or the words all threads had made with it, its thread, and what is shown of that. There is no answer where
+/// memory was refused, where the number of threads is not 1 to 64, or where one of the steps cannot be made.
 pub fn timeline<A: Allocator + Copy>(
     alloc: A,
     code: &Code<A>,

@@ -1,11 +1,13 @@
 -- The text of a report.
-use Rattle.std.specs.Prelude.{ℕ, ◌+◌, ◌-◌, ◌==◌, List, [], ◌∷◌, ◌++◌, length, codes, flat_map, Bool, true, not, Option, Some, None, option_map, unwrap_or, if◌then◌else◌, decimal}
+use Rattle.std.specs.Prelude.{ℕ, ◌+◌, ◌-◌, ◌==◌, List, [], ◌∷◌, ◌++◌, length, codes, flat_map, Bool, true, not, Option}
+use Rattle.std.specs.Prelude.{Some, None, option_map, unwrap_or, if◌then◌else◌, decimal}
 use Rattle.std.specs.List.{slice_get}
 use Rattle.std.specs.Fmt.{signed_decimal}
 use Rattle.lex.specs.declared.token.Scalar.{Scalar}
 use Rattle.syntax.specs.Numbers.{number, trap_number}
 use Rattle.machine.specs.declared.event.Event.TheVariants as event
-use Rattle.report.specs.declared.printed.End.TheVariants.{Ended, Trapped, OutOfMemory, SequenceUsedUp, Budget, Running, Waits, Spent}
+use Rattle.report.specs.declared.printed.End.TheVariants.{Ended, Trapped, OutOfMemory, SequenceUsedUp, Budget, Running}
+use Rattle.report.specs.declared.printed.End.TheVariants.{Waits, Spent}
 use Rattle.report.specs.Printed.{Event, End, ThreadShown, Shown, Printed}
 
 -- what happened in a step; a quiet one is not told

@@ -47,7 +47,8 @@ pub struct Shown<A: Allocator = std::alloc::Global> {
 /// What a report shows.
 #[derive(Drop)]
 pub struct Printed<A: Allocator = std::alloc::Global> {
-    /// Of a replay: how many shared accesses all threads had made with a step, whose step it was, and what happened in it.
+    /// Of a replay: how many shared accesses all threads had made with a step, whose step it was, and what happened in
+    /// it.
     pub events: Option<Items<(u64, u32, Event), A>>,
     /// All threads, from thread 0 on.
     pub threads: Items<ThreadShown<A>, A>,

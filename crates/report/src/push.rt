@@ -88,7 +88,8 @@ pub(crate) fn push_told<A: Allocator>(
     accesses: u64,
     thread: u32,
 ) -> Result<(), AllocError>
-    ensures { OnOk result (report.new.items ≡ report.old.items ++ (decimal accesses ++ codes " " ++ decimal thread ++ codes " ")) }
+    ensures { OnOk result (report.new.items ≡ report.old.items
+        ++ (decimal accesses ++ codes " " ++ decimal thread ++ codes " ")) }
 {
     push_number(report, accesses)?;
     push_bytes(report, b" ")?;

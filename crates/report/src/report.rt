@@ -67,7 +67,8 @@ fn push_globals<A: Allocator>(
 
 /// Adds the thread that holds the lock.
 fn push_held<A: Allocator>(report: &mut Vec<u8, A>, thread: u32) -> Result<(), AllocError>
-    ensures { OnOk result (report.new.items ≡ report.old.items ++ (codes "== memory: lock held by thread " ++ decimal thread ++ codes "\n")) }
+    ensures { OnOk result (report.new.items ≡ report.old.items
+        ++ (codes "== memory: lock held by thread " ++ decimal thread ++ codes "\n")) }
 {
     push_bytes(report, b"== memory: lock held by thread ")?;
     push_number(report, u64::from(thread))?;
@@ -91,8 +92,8 @@ fn push_memory<A: Allocator>(
     }
 }
 
-/// The text of a report: the events of a replay, each thread's end and output, and the globals or else the thread that holds
-/// the lock. Its bytes are those of the names, of what the threads printed, and ASCII.
+/// The text of a report: the events of a replay, each thread's end and output, and the globals or else the thread that
+/// holds the lock. Its bytes are those of the names, of what the threads printed, and ASCII.
 pub fn report_text<A: Allocator>(alloc: A, printed: &Printed<A>) -> Result<Vec<u8, A>, AllocError>
     ensures { IfOk result (λ r. r.items ≡ spec.report_text (printed_of printed.now)) }
 {

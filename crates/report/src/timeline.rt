@@ -1,7 +1,8 @@
 //! The text of a timeline.
 
 ghost use Rattle.std.specs.Prelude.{◌≡◌, ◌++◌, OnOk, IfOk, decimal};
-ghost use Rattle.report.specs.Timeline.{access_words, answer_words, happened_words, place_words, shown_words, step_line, step_words};
+ghost use Rattle.report.specs.Timeline.{access_words, answer_words, happened_words, place_words, shown_words};
+ghost use Rattle.report.specs.Timeline.{step_line, step_words};
 ghost use Rattle.report.specs.Timeline as spec;
 
 use crate::printed::End;
@@ -141,8 +142,9 @@ fn push_line<A: Allocator + Copy>(
     push_bytes(report, b"\n")
 }
 
-/// The line of a step in a timeline, without the LF: the accesses to the lock or the words that all threads had made with it, its
-/// thread, what stands at the thread's place in the code, the step's access with its answer, and what happened.
+/// The line of a step in a timeline, without the LF: the accesses to the lock or the words that all threads had made
+/// with it, its thread, what stands at the thread's place in the code, the step's access with its answer, and what
+/// happened.
 pub fn step_text<A: Allocator + Copy>(
     alloc: A,
     code: &Code<A>,

@@ -1,5 +1,5 @@
-//! Replays of codes that cancel several levels: of 2 to 16, into a level that is left and out of the outermost one, with the lock
-//! kept and without.
+//! Replays of codes that cancel several levels: of 2 to 16, into a level that is left and out of the outermost one,
+//! with the lock kept and without.
 
 use crate::asserted::assert_that;
 use crate::wanted::{Wanted, is_as};
@@ -22,7 +22,8 @@ fn replays(alloc: Global, code: &Code, wanted: &Wanted) -> bool {
     }
 }
 
-/// Whether levels are left, which the thread commits: with its fourth access, since a kept lock is taken before the stores.
+/// Whether levels are left, which the thread commits: with its fourth access, since a kept lock is taken before the
+/// stores.
 fn commits(alloc: Global, code: &Code, levels: Levels) -> bool {
     let Some(text) = NUMBERS.get(levels.left() as usize).copied() else {
         return false;

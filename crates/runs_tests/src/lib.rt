@@ -1,5 +1,5 @@
-//! Tests of worlds, replays, schedules, reports, seats and workers, in a crate of their own: a crate with tests is proved twice, and
-//! each crate of tests reads and links all that it stands on.
+//! Tests of worlds, replays, schedules, reports, seats and workers, in a crate of their own: a crate with tests is
+//! proved twice, and each crate of tests reads and links all that it stands on.
 #![tactic(auto)]
 
 #[cfg(test)]

@@ -109,7 +109,8 @@ fn a_trap_gives_the_lock_back(rt: HostRuntime) {
     assert_that(&rt, holds);
 }
 
-/// Adds 1 to x, and takes back what two inner transactions do, as one: its place and registers are those of the outer of these.
+/// Adds 1 to x, and takes back what two inner transactions do, as one: its place and registers are those of the outer
+/// of these.
 fn takes_back() -> &'static [Instr] {
     static CODE: [Instr; 14] = [
         Instr::Begin(13),

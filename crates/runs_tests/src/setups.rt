@@ -27,7 +27,8 @@ fn code<A: Allocator + Copy>(alloc: A, first: u32, second: u32) -> Option<Code<A
     code_of(alloc, &written)
 }
 
-/// The setup of so many threads of a `worker` that returns at once, over two variables `x`, which begin with these values.
+/// The setup of so many threads of a `worker` that returns at once, over two variables `x`, which begin with these
+/// values.
 pub fn setup<A: Allocator + Copy>(
     alloc: A,
     first: u32,

@@ -4,7 +4,8 @@ use Rattle.syntax.specs.Tree.{Span}
 use Rattle.syntax.specs.Views.{program_of}
 use Rattle.types.specs.declared.typed.Typed.{Typed}
 use Rattle.safety.specs.declared.fault.Violation.{Violation}
-use Rattle.safety.specs.declared.fault.Violation.TheVariants.{UnsafeInAtomic, RelaxedInAtomic, CancelOutsideAtomic, NotSafe, OuterInAtomic, CancelOutsideOuter}
+use Rattle.safety.specs.declared.fault.Violation.TheVariants.{UnsafeInAtomic, RelaxedInAtomic, CancelOutsideAtomic}
+use Rattle.safety.specs.declared.fault.Violation.TheVariants.{NotSafe, OuterInAtomic, CancelOutsideOuter}
 use Rattle.safety.specs.declared.fault.SafetyFault.{SafetyFault}
 use Rattle.safety.specs.declared.fault.SafetyFault.TheVariants as fault
 use Rattle.safety.specs.declared.checked.Safe.{Safe}

@@ -5,7 +5,8 @@ use Rattle.syntax.specs.declared.tree.Attribute.{Attribute}
 use Rattle.syntax.specs.declared.tree.Attribute.TheVariants.{Safe}
 use Rattle.syntax.specs.Tree.{Span, Function, Item, Defines, Shares, Program}
 use Rattle.syntax.specs.Typing.{Demand, demand, first_unmet}
-use Rattle.safety.specs.Sites.{Construct, Prints, Relaxes, OpensOuter, Cancels, CancelsOuter, Calls, Uses, Site, body_sites, attributes_of}
+use Rattle.safety.specs.Sites.{Construct, Prints, Relaxes, OpensOuter, Cancels, CancelsOuter, Calls, Uses, Site}
+use Rattle.safety.specs.Sites.{body_sites, attributes_of}
 use Rattle.safety.specs.Safe.{FunctionSet, TellsSafe, TellsOuter}
 
 -- 41: no relaxed transaction inside an atomic one; 40: nothing else unsafe there; 42: a cancel nowhere else

@@ -2,7 +2,8 @@
 use Rattle.std.specs.Prelude.{◌≡◌, ℕ, List, Bool, true, IsTrue, All, Contains, Decides}
 use Rattle.syntax.specs.declared.tree.Attribute.TheVariants.{Safe, Unsafe}
 use Rattle.syntax.specs.Tree.{Program}
-use Rattle.safety.specs.Sites.{Construct, Prints, Relaxes, OpensOuter, Cancels, CancelsOuter, Calls, Site, sites_of, attributes_of}
+use Rattle.safety.specs.Sites.{Construct, Prints, Relaxes, OpensOuter, Cancels, CancelsOuter, Calls, Site, sites_of}
+use Rattle.safety.specs.Sites.{attributes_of}
 
 -- a set of functions, as a test of their names
 abbrev pub FunctionSet : Type 0

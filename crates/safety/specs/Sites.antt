@@ -1,8 +1,13 @@
 -- The sites of a function's body: where the constructs stand of which the rules on transactions speak, in the order of
 -- the text.
 use Rattle.std.specs.Prelude.{ℕ, List, [], ◌∷◌, ◌++◌, Option, Some, None, Bool, true, false, if◌then◌else◌, bytes_eq}
-use Rattle.syntax.specs.declared.tree.{Mode.TheVariants.Atomic, Mode.TheVariants.Relaxed, Kind.Kind, Kind.TheVariants.Plain, Kind.TheVariants.Outer, Attribute.Attribute}
-use Rattle.syntax.specs.Tree.{Span, Name, Expr, Exprs, Variable, Constant, Element, Call, Parenthesized, Cast, Unary, Binary, Logical, Conditional, InTransaction, Simple, Evaluate, Assign, Adjust, Declarator, Start, Nothing, Declares, Does, Stmt, Stmts, Declare, Do, Block, Print, If, IfElse, While, DoWhile, For, Return, Transaction, Cancel, CancelOuter, Parameter, Defines, Shares, Program}
+use Rattle.syntax.specs.declared.tree.{Mode.TheVariants.Atomic, Mode.TheVariants.Relaxed, Kind.Kind}
+use Rattle.syntax.specs.declared.tree.{Kind.TheVariants.Plain, Kind.TheVariants.Outer, Attribute.Attribute}
+use Rattle.syntax.specs.Tree.{Span, Name, Expr, Exprs, Variable, Constant, Element, Call, Parenthesized, Cast, Unary}
+use Rattle.syntax.specs.Tree.{Binary, Logical, Conditional, InTransaction, Simple, Evaluate, Assign, Adjust, Declarator}
+use Rattle.syntax.specs.Tree.{Start, Nothing, Declares, Does, Stmt, Stmts, Declare, Do, Block, Print, If, IfElse, While}
+use Rattle.syntax.specs.Tree.{DoWhile, For, Return, Transaction, Cancel, CancelOuter, Parameter, Defines, Shares}
+use Rattle.syntax.specs.Tree.{Program}
 use Rattle.syntax.specs.Typing.{has_name, names_of, parameter_names}
 
 -- what of a function's body the rules on transactions speak of: a print, a relaxed transaction, an outer one, a cancel,

@@ -3,7 +3,8 @@
 ghost use Rattle.std.specs.Prelude.{◌≡◌, ◌∷◌, [], ℕ, List, map, option_map, OnOk};
 ghost use Rattle.syntax.specs.Views.{name_of, expr_of, exprs_of, simple_of};
 ghost use Rattle.safety.specs.Views.{construct_of};
-ghost use Rattle.safety.specs.Sites.{in_transaction, kind_site, uses, expr_sites, exprs_sites, simple_sites, sites_if_any};
+ghost use Rattle.safety.specs.Sites.{in_transaction, kind_site, uses, expr_sites, exprs_sites, simple_sites};
+ghost use Rattle.safety.specs.Sites.{sites_if_any};
 ghost use Rattle.safety.specs.inner.Known.{around, around_in};
 ghost use Rattle.safety.specs.inner.Walks.{Appends};
 

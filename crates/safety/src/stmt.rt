@@ -4,7 +4,8 @@ ghost use Rattle.std.specs.Prelude.{◌≡◌, ◌++◌, ◌∷◌, [], ℕ, Lis
 ghost use Rattle.syntax.specs.Views.{expr_of, simple_of, declarator_of, start_of, stmt_of, stmts_of, parameter_of};
 ghost use Rattle.syntax.specs.Typing.{names_of, parameter_names};
 ghost use Rattle.safety.specs.Views.{sites_of_own};
-ghost use Rattle.safety.specs.Sites.{with_names, sites_if_any, expr_sites, declarator_sites, start_sites, names_of_start, stmt_sites, stmts_sites, body_sites};
+ghost use Rattle.safety.specs.Sites.{with_names, sites_if_any, expr_sites, declarator_sites, start_sites};
+ghost use Rattle.safety.specs.Sites.{names_of_start, stmt_sites, stmts_sites, body_sites};
 ghost use Rattle.safety.specs.inner.Known.{names_in, around_in};
 ghost use Rattle.safety.specs.inner.Walks.{Appends, head_sites};
 

@@ -71,11 +71,12 @@ fn store_lock<A: Allocator>(words: &Words<A>, seat: &mut Seat<(), View>, value: 
     words.store::<Told>(seat, 0, value);
 }
 
-/// Makes the next access of the one thread that the seat speaks for, by one atomic step, and gives its answer. A local step is
-/// none, and is answered `Done`.
+/// Makes the next access of the one thread that the seat speaks for, by one atomic step, and gives its answer. A local
+/// step is none, and is answered `Done`.
 #[inline(always)]
 pub fn make<A: Allocator>(words: &Words<A>, seat: &mut Seat<(), View>, access: Access) -> Answer
-    requires table { (seat.old.table_id ≡ words.now.table_id) × (words.now.table_id.words ≡ cells_of words.now.key.code + 1) }
+    requires table { (seat.old.table_id ≡ words.now.table_id)
+        × (words.now.table_id.words ≡ cells_of words.now.key.code + 1) }
     requires few { cells_of words.now.key.code ≤ MOST_CELLS }
     requires next { IsNext words.now.key seat.old.me access }
     requires goes_on { stops access ≡ false }

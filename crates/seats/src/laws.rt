@@ -6,15 +6,15 @@ ghost use Rattle.seats.specs.Views.{Views};
 ghost use Rattle.seats.specs.Rule.{IsRuled};
 ghost use Rattle.seats.specs.Saying.{RuleSays};
 
-/// Whatever the words and the views of all seats are, there is a merge of the threads' transactions, and each merge is a
-/// run of the code in which each thread stands; the words are its last memory, or while a thread has the lock that memory
-/// with what this thread has stored. Each attempt, also one that will be dropped, is where its code's meaning comes on one
-/// memory of the run. Some list of steps makes just what the threads did, and in it no thread has been dropped more often than
-/// others have taken the lock. Each thread's answers are explained by the run, and no lock value answered after its floor was
-/// set is below the floor.
+/// Whatever the words and the views of all seats are, there is a merge of the threads' transactions, and each merge is
+/// a run of the code in which each thread stands; the words are its last memory, or while a thread has the lock that
+/// memory with what this thread has stored. Each attempt, also one that will be dropped, is where its code's meaning
+/// comes on one memory of the run. Some list of steps makes just what the threads did, and in it no thread has been
+/// dropped more often than others have taken the lock. Each thread's answers are explained by the run, and no lock
+/// value answered after its floor was set is below the floor.
 ///
-/// In which order in time the threads made these steps is not said: what one of them begins after a meeting stands behind all
-/// that both had done (`meet`), and that is all.
+/// In which order in time the threads made these steps is not said: what one of them begins after a meeting stands
+/// behind all that both had done (`meet`), and that is all.
 pub fn the_rule_is_explained()
     ensures { (key : Setup) (words : List ℕ) (views : Views) (rule : IsRuled key words views) →
         RuleSays key words views rule }

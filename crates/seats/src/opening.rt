@@ -24,8 +24,8 @@ fn opening_words<A: Allocator + Copy>(alloc: A, code: &Code<A>) -> Result<Vec<u6
     Ok(words)
 }
 
-/// A table whose lock is free and whose cells have their first words, and a seat that speaks for all threads, each at its
-/// beginning. An `Err` comes only where a growth is refused.
+/// A table whose lock is free and whose cells have their first words, and a seat that speaks for all threads, each at
+/// its beginning. An `Err` comes only where a growth is refused.
 pub fn open<A: Allocator + Copy>(
     alloc: A,
     setup: &Setup<A>,

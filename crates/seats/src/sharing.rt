@@ -21,7 +21,8 @@ pub fn split_first<A: Allocator>(words: &Words<A>, seat: &mut Seat<(), View>) ->
 
 /// The seat takes all threads that another one speaks for.
 pub fn join<A: Allocator>(words: &Words<A>, seat: &mut Seat<(), View>, other: Seat<(), View>)
-    requires table { (seat.old.table_id ≡ words.now.table_id) × (other.table_id ≡ words.now.table_id) × (0 < words.now.table_id.words) }
+    requires table { (seat.old.table_id ≡ words.now.table_id) × (other.table_id ≡ words.now.table_id)
+        × (0 < words.now.table_id.words) }
     requires none { other.me.1 ≡ [] }
     ensures table { seat.new.table_id ≡ seat.old.table_id }
     ensures seat { seat.new.me ≡ (seat.old.me.0 ++ other.me.0, seat.old.me.1) }
@@ -29,7 +30,8 @@ pub fn join<A: Allocator>(words: &Words<A>, seat: &mut Seat<(), View>, other: Se
     words.join_seat::<Joined>(seat, other);
 }
 
-/// Loads the lock for all threads that the seat speaks for. The value found is given: it is a floor for their later answers.
+/// Loads the lock for all threads that the seat speaks for. The value found is given: it is a floor for their later
+/// answers.
 fn floor<A: Allocator>(words: &Words<A>, seat: &mut Seat<(), View>) -> u64
     requires { (seat.old.table_id ≡ words.now.table_id) × (0 < words.now.table_id.words) }
     ensures table { seat.new.table_id ≡ seat.old.table_id }
@@ -38,14 +40,15 @@ fn floor<A: Allocator>(words: &Words<A>, seat: &mut Seat<(), View>) -> u64
     words.load::<Met>(seat, 0)
 }
 
-/// Two seats, which speak for one thread each, meet: the lock is loaded for each of the two, by a seat that speaks for both for
-/// that long. The value found last is given: it is a floor for both threads' later answers.
+/// Two seats, which speak for one thread each, meet: the lock is loaded for each of the two, by a seat that speaks for
+/// both for that long. The value found last is given: it is a floor for both threads' later answers.
 pub fn meet<A: Allocator>(
     words: &Words<A>,
     mine: &mut Seat<(), View>,
     theirs: &mut Seat<(), View>,
 ) -> u64
-    requires table { (mine.old.table_id ≡ words.now.table_id) × (theirs.old.table_id ≡ words.now.table_id) × (0 < words.now.table_id.words) }
+    requires table { (mine.old.table_id ≡ words.now.table_id) × (theirs.old.table_id ≡ words.now.table_id)
+        × (0 < words.now.table_id.words) }
     ensures table { (mine.new.table_id ≡ mine.old.table_id) × (theirs.new.table_id ≡ theirs.old.table_id) }
     ensures both { MeetsBoth result mine.old.me theirs.old.me mine.new.me theirs.new.me }
 {

@@ -3,7 +3,8 @@ use Rattle.std.specs.Prelude.{ℕ, List, Option}
 use Rattle.command.specs.declared.request.Request.{Request}
 use Rattle.command.specs.declared.request.Request.TheVariants.{Program, Explain}
 use Rattle.command.specs.declared.request.Task.{Task}
-use Rattle.command.specs.declared.request.Task.TheVariants.{Check, Listing, Run, Replay, Timeline, Picture, PrintSchedule, Source, Outcomes}
+use Rattle.command.specs.declared.request.Task.TheVariants.{Check, Listing, Run, Replay, Timeline, Picture}
+use Rattle.command.specs.declared.request.Task.TheVariants.{PrintSchedule, Source, Outcomes}
 use Rattle.serving.specs.Checks.{SaysAccepted}
 use Rattle.serving.specs.Listings.{PrintsListing}
 use Rattle.serving.specs.Reports.{PrintsReport}
@@ -38,5 +39,6 @@ Answers (Outcomes threads ticks limit) schedule text status old new = PrintsOutc
 -- a request, where these bytes are those of the file
 abbrev pub AnswersRequest : Request → (schedule : Option (List ℕ)) → (bytes : List ℕ) → (status : ℕ) →
     (old new : Option (List ℕ)) → Type 0
-AnswersRequest (Program file verbose format task) schedule bytes status old new = Answers task schedule bytes status old new
+AnswersRequest (Program file verbose format task) schedule bytes status old new =
+    Answers task schedule bytes status old new
 AnswersRequest (Explain number) schedule bytes status old new = Unit {0}

@@ -39,5 +39,6 @@ WritesForFiles (Explain number) contents old new = Unit {0}
 
 -- a source is named, and it is refused
 abbrev pub RefusesSource : Request → Contents → Type 0
-RefusesSource (Program file verbose format task) contents = IfSome (contents (string_bytes file)) (λ bytes. IsRefused bytes)
+RefusesSource (Program file verbose format task) contents =
+    IfSome (contents (string_bytes file)) (λ bytes. IsRefused bytes)
 RefusesSource (Explain number) contents = ⊥

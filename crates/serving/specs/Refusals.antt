@@ -20,7 +20,8 @@ use Rattle.separation.specs.Answers as separation
 use Rattle.parse.specs.Faults.{IsFaultOf as IsParseFault}
 use Rattle.meaning.specs.InOrder.{IsFaultOfOrder, number_in as order_number}
 use Rattle.serving.specs.declared.run.SourceFault.{SourceFault}
-use Rattle.serving.specs.declared.run.SourceFault.TheVariants.{OutOfMemory, Lex, Parse, IllTyped, Unsafe, NotSeparate, NoCode}
+use Rattle.serving.specs.declared.run.SourceFault.TheVariants.{OutOfMemory, Lex, Parse, IllTyped, Unsafe, NotSeparate}
+use Rattle.serving.specs.declared.run.SourceFault.TheVariants.{NoCode}
 use Rattle.lower.specs.Answers as lower
 use Rattle.lower.specs.Nested.{nested_too_deep}
 use Rattle.lower.specs.declared.fault.LowerFault.{LowerFault}

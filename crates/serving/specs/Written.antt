@@ -14,7 +14,8 @@ use Rattle.command.specs.declared.request.Request.{Request}
 use Rattle.command.specs.declared.request.Request.TheVariants.{Program, Explain}
 use Rattle.command.specs.declared.request.Steps.{Steps}
 use Rattle.command.specs.declared.request.Task.{Task}
-use Rattle.command.specs.declared.request.Task.TheVariants.{Check, Listing, Run, Replay, Timeline, Picture, PrintSchedule, Source, Outcomes}
+use Rattle.command.specs.declared.request.Task.TheVariants.{Check, Listing, Run, Replay, Timeline, Picture}
+use Rattle.command.specs.declared.request.Task.TheVariants.{PrintSchedule, Source, Outcomes}
 use Rattle.serving.specs.Checks.{Accepts}
 use Rattle.serving.specs.Codes.{Compiles}
 use Rattle.serving.specs.Listings.{Lists}

@@ -84,8 +84,11 @@ fn outcomes_accepted<A: Allocator + Copy, E: Write>(
     is_shown: bool,
     err: &mut E,
 ) -> Result<OutcomesFound<A>, MeaningFault>
-    ensures are { IfOk result (λ o. AreOutcomesOf (program_of accepted.now.safe.typed.unit) threads ticks o.is_whole (map outcome_of o.outcomes.items)) }
-    ensures unspent { IfOk result (λ o. o.is_whole ≡ true → o.is_spent ≡ false → NeverSpent (program_of accepted.now.safe.typed.unit) threads ticks) }
+    ensures are { IfOk result
+        (λ o. AreOutcomesOf (program_of accepted.now.safe.typed.unit) threads ticks o.is_whole
+        (map outcome_of o.outcomes.items)) }
+    ensures unspent { IfOk result (λ o. o.is_whole ≡ true → o.is_spent ≡ false
+        → NeverSpent (program_of accepted.now.safe.typed.unit) threads ticks) }
     ensures err { IfErr result (λ f. IsFaultOfOrder threads [] f) }
 {
     let found = outcomes_of(alloc, accepted, threads, ticks, limit, is_shown, err)?;
@@ -113,7 +116,8 @@ pub fn list_outcomes<A: Allocator + Copy, E: Write>(
     err: &mut E,
 ) -> Result<OutcomesFound<A>, OrderFault>
     ensures are { IfOk result (λ o. AreOutcomes threads ticks o.is_whole text.now (map outcome_of o.outcomes.items)) }
-    ensures all { IfOk result (λ o. o.is_whole ≡ true → o.is_spent ≡ false → AreAllOutcomes threads ticks text.now (map outcome_of o.outcomes.items)) }
+    ensures all { IfOk result (λ o. o.is_whole ≡ true → o.is_spent ≡ false
+        → AreAllOutcomes threads ticks text.now (map outcome_of o.outcomes.items)) }
     ensures err { IfErr result (λ f. IsFaultInOrder text.now threads [] f) }
 {
     match read_accepted(alloc, text) {

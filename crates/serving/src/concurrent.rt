@@ -40,7 +40,8 @@ pub(crate) enum ThreadsFault {
     Run(RunFault),
 }
 
-/// Runs all threads of a source's text at once, each with so many steps at most: what their report shows, and the threads.
+/// Runs all threads of a source's text at once, each with so many steps at most: what their report shows, and the
+/// threads.
 pub(crate) fn run_threads<H: Threads + Wait + Sync>(
     rt: &H,
     alloc: Global,
@@ -60,7 +61,8 @@ pub(crate) fn run_threads<H: Threads + Wait + Sync>(
     }
 }
 
-/// Runs all threads of a program's code at once. What it promises is of code that means the program and has its globals.
+/// Runs all threads of a program's code at once. What it promises is of code that means the program and has its
+/// globals.
 fn run_code<H: Threads + Wait + Sync>(
     rt: &H,
     alloc: Global,
@@ -68,7 +70,9 @@ fn run_code<H: Threads + Wait + Sync>(
     threads: u32,
     budget: u64,
 ) -> Result<(Printed, Vec<Finished>), RunFault>
-    ensures ok { IfOk result (λ r. IsCodeOf (program_of compiled.now.accepted.safe.typed.unit) compiled.now.code → IsRunAtOnce (program_of compiled.now.accepted.safe.typed.unit) compiled.now.code threads budget (printed_of r.0)) }
+    ensures ok { IfOk result (λ r. IsCodeOf (program_of compiled.now.accepted.safe.typed.unit) compiled.now.code
+        → IsRunAtOnce (program_of compiled.now.accepted.safe.typed.unit) compiled.now.code threads budget
+        (printed_of r.0)) }
     ensures err { IfErr result (λ f. IsRunRefused f threads) }
 {
     let ran = run_all(rt, alloc, &compiled.code, threads, budget, &Open)?;

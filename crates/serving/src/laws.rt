@@ -18,10 +18,10 @@ use outcomes::laws::ticks_change_nothing;
 use parse::one_tree;
 use syntax::laws::{orders_show_runs, threads_go_on, threads_leave_memories};
 
-/// The theorem about the machine, of programs: for every accepted program, every valid code that means it and has its globals,
-/// every number of threads and every list of steps there is a run of the source, in which each transaction is a single step, that
-/// explains what the threads have printed, how they have ended, the words, and each attempt (`machine::laws::opaque` says how).
-/// `lower` makes such code.
+/// The theorem about the machine, of programs: for every accepted program, every valid code that means it and has its
+/// globals, every number of threads and every list of steps there is a run of the source, in which each transaction is
+/// a single step, that explains what the threads have printed, how they have ended, the words, and each attempt
+/// (`machine::laws::opaque` says how). `lower` makes such code.
 pub fn accepted_programs_are_opaque()
     ensures { (p : Program) (code : Plain) (threads : ℕ) (steps : List ℕ) →
         IsAccepted p → IsValid code → IsCodeOf p code → threads ≤ 2 ^ 32 →
@@ -31,10 +31,10 @@ pub fn accepted_programs_are_opaque()
     threads_leave_memories();
 }
 
-/// What was printed is what an order prints. Where each thread has ended or trapped, a run of all threads at once shows just what
-/// the source's threads show in some order of whole transactions, with some number of ticks, and so does a replay behind its
-/// events. Where threads of a replay still run, but none has the lock, the globals are those that some order leaves, and each
-/// thread that has ended or trapped shows what it shows there.
+/// What was printed is what an order prints. Where each thread has ended or trapped, a run of all threads at once shows
+/// just what the source's threads show in some order of whole transactions, with some number of ticks, and so does a
+/// replay behind its events. Where threads of a replay still run, but none has the lock, the globals are those that
+/// some order leaves, and each thread that has ended or trapped shows what it shows there.
 pub fn reports_are_orders()
     ensures runs { RunsAreOrders }
     ensures replays { ReplaysAreOrders }
@@ -45,9 +45,10 @@ pub fn reports_are_orders()
     threads_leave_memories();
 }
 
-/// A list of all outcomes has every report. Where all outcomes of a source were listed, and in no order a thread's ticks are used up,
-/// whatever its threads show in some order, with whatever number of ticks, is in the list, if each of them has ended or trapped. And
-/// so is what a run of all threads at once shows: `reports_are_orders` says that it is what an order shows.
+/// A list of all outcomes has every report. Where all outcomes of a source were listed, and in no order a thread's
+/// ticks are used up, whatever its threads show in some order, with whatever number of ticks, is in the list, if each
+/// of them has ended or trapped. And so is what a run of all threads at once shows: `reports_are_orders` says that it
+/// is what an order shows.
 pub fn orders_are_listed()
     ensures { OrdersAreListed }
 {

@@ -1,5 +1,5 @@
-//! Does what a request asks, over readers and writers: sources and schedules are read, reports and refusals are written, and
-//! the exit status tells how it went.
+//! Does what a request asks, over readers and writers: sources and schedules are read, reports and refusals are
+//! written, and the exit status tells how it went.
 #![tactic(auto)]
 
 mod all_orders;

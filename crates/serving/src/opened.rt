@@ -28,10 +28,11 @@ pub trait Files {
         ensures { IfOk result (λ file. Self.File.remaining file ≡ contents self.now name.now) };
 }
 
-/// Opens the files that a request names, does what is asked over them and two writers, and gives the exit status, as `serve` does.
+/// Opens the files that a request names, does what is asked over them and two writers, and gives the exit status, as
+/// `serve` does.
 ///
-/// The source is opened first, and then a schedule, where one is named. What cannot be opened is told of as what cannot be read.
-/// The line of a fault follows it where `err` is a terminal, or the words ask for it.
+/// The source is opened first, and then a schedule, where one is named. What cannot be opened is told of as what cannot
+/// be read. The line of a fault follows it where `err` is a terminal, or the words ask for it.
 pub fn serve_files<H: Threads + Wait + Sync, F: Files, W: Write, E: Write + IsTerminal>(
     rt: &H,
     alloc: Global,
@@ -72,8 +73,12 @@ fn open_source<H: Threads + Wait + Sync, F: Files, W: Write, E: Write>(
     err: &mut E,
 ) -> u8
     ensures status { result ≤ 4 }
-    ensures answer { IfSome (F.contents files.now file.now) (λ bytes. Answers task.now (schedule_in (F.contents files.now) (schedule_of task.now)) bytes result (W.contents out.old) (W.contents out.new)) }
-    ensures written { IfSome (F.contents files.now file.now) (λ bytes. WritesPart (IsAskedFor task.now (schedule_in (F.contents files.now) (schedule_of task.now)) bytes) (W.contents out.old) (W.contents out.new)) }
+    ensures answer { IfSome (F.contents files.now file.now)
+        (λ bytes. Answers task.now (schedule_in (F.contents files.now) (schedule_of task.now)) bytes result
+        (W.contents out.old) (W.contents out.new)) }
+    ensures written { IfSome (F.contents files.now file.now)
+        (λ bytes. WritesPart (IsAskedFor task.now (schedule_in (F.contents files.now) (schedule_of task.now)) bytes)
+        (W.contents out.old) (W.contents out.new)) }
     ensures refused { result ≡ 1 → IfSome (F.contents files.now file.now) (λ bytes. IsRefused bytes) }
     ensures untouched { result ≡ 1 → W.contents out.new ≡ W.contents out.old }
 {
@@ -96,8 +101,12 @@ fn open_schedule<H: Threads + Wait + Sync, F: Files, R: Read + Drop, W: Write, E
     err: &mut E,
 ) -> u8
     ensures status { result ≤ 4 }
-    ensures answer { IfSome (R.remaining source) (λ bytes. Answers task.now (schedule_in (F.contents files.now) (schedule_of task.now)) bytes result (W.contents out.old) (W.contents out.new)) }
-    ensures written { IfSome (R.remaining source) (λ bytes. WritesPart (IsAskedFor task.now (schedule_in (F.contents files.now) (schedule_of task.now)) bytes) (W.contents out.old) (W.contents out.new)) }
+    ensures answer { IfSome (R.remaining source)
+        (λ bytes. Answers task.now (schedule_in (F.contents files.now) (schedule_of task.now)) bytes result
+        (W.contents out.old) (W.contents out.new)) }
+    ensures written { IfSome (R.remaining source)
+        (λ bytes. WritesPart (IsAskedFor task.now (schedule_in (F.contents files.now) (schedule_of task.now)) bytes)
+        (W.contents out.old) (W.contents out.new)) }
     ensures refused { result ≡ 1 → IfSome (R.remaining source) (λ bytes. IsRefused bytes) }
     ensures untouched { result ≡ 1 → W.contents out.new ≡ W.contents out.old }
 {

@@ -74,7 +74,8 @@ fn order_accepted<A: Allocator + Copy>(
     order: &[u32],
     ticks: u64,
 ) -> Result<Printed<A>, MeaningFault>
-    ensures ok { IfOk result (λ r. IsOrderOf (program_of accepted.now.safe.typed.unit) threads ticks order.now (printed_of r)) }
+    ensures ok { IfOk result
+        (λ r. IsOrderOf (program_of accepted.now.safe.typed.unit) threads ticks order.now (printed_of r)) }
     ensures err { IfErr result (λ f. IsFaultOfOrder threads order.now f) }
 {
     let ran = run_order(alloc, accepted, threads, order, ticks)?;

@@ -29,15 +29,17 @@ pub struct Replayed<A: Allocator = Global> {
     pub made: Vec<u32, A>,
 }
 
-/// Makes the steps that lines name, with so many threads of a program's code. What it promises is of code that means the program
-/// and has its globals.
+/// Makes the steps that lines name, with so many threads of a program's code. What it promises is of code that means
+/// the program and has its globals.
 pub fn replay_code<A: Allocator + Copy>(
     alloc: A,
     compiled: &Compiled<A>,
     threads: u32,
     lines: &[Line],
 ) -> Result<Replayed<A>, WorldFault>
-    ensures ok { IfOk result (λ r. IsCodeOf (program_of compiled.now.accepted.safe.typed.unit) compiled.now.code → IsReplayOf (program_of compiled.now.accepted.safe.typed.unit) compiled.now.code threads lines.now r.made.items r.stop (printed_of r.printed)) }
+    ensures ok { IfOk result (λ r. IsCodeOf (program_of compiled.now.accepted.safe.typed.unit) compiled.now.code
+        → IsReplayOf (program_of compiled.now.accepted.safe.typed.unit) compiled.now.code threads lines.now r.made.items
+        r.stop (printed_of r.printed)) }
     ensures wrong { result ≡ Err WorldFault.WrongThreads → (threads ≡ 0) ⊎ (64 < threads) }
 {
     let report = replay(alloc, &compiled.code, threads, lines)?;

@@ -1,6 +1,7 @@
 //! Answers a request over readers and writers.
 
-ghost use Rattle.std.specs.Prelude.{◌≡◌, ◌≢◌, ◌≤◌, ◌⊎◌, ◌++◌, IfErr, IfOk, IfSome, None, codes, false, map, string_bytes, true};
+ghost use Rattle.std.specs.Prelude.{◌≡◌, ◌≢◌, ◌≤◌, ◌⊎◌, ◌++◌, IfErr, IfOk, IfSome, None, codes, false, map};
+ghost use Rattle.std.specs.Prelude.{string_bytes, true};
 ghost use Rattle.std.specs.Io.KnownBytes.{Appends};
 ghost use Rattle.serving.specs.Answers.{Answers, AnswersRequest};
 ghost use Rattle.replay.specs.Replays.{played, timeline_of};
@@ -16,10 +17,12 @@ ghost use Rattle.serving.specs.Orders.{RunsInOrder, RunsInSomeOrder};
 ghost use Rattle.serving.specs.Outcomes.{IsListOfOutcomes, PrintsOutcomes, outcomes_status};
 ghost use Rattle.serving.specs.Pictures.{PrintsPicture, ReplaysDrawn};
 ghost use Rattle.serving.specs.Refusals.{IsRefused};
-ghost use Rattle.serving.specs.Replays.{IsReplayOfText, PrintsSchedule, PrintsTimeline, Replays, ReplaysShown, behind_events, lines_of_seed};
+ghost use Rattle.serving.specs.Replays.{IsReplayOfText, PrintsSchedule, PrintsTimeline, Replays, ReplaysShown};
+ghost use Rattle.serving.specs.Replays.{behind_events, lines_of_seed};
 ghost use Rattle.serving.specs.Reports.{PrintsReport, exit_status};
 ghost use Rattle.serving.specs.Runs.{RunsAtOnce};
-ghost use Rattle.serving.specs.Written.{AppendsBeginning, IsAskedFor, IsReplayPicture, IsReplayReport, IsReplayTimeline, IsReportOf, IsSeedSchedule, WritesFor, WritesPart};
+ghost use Rattle.serving.specs.Written.{AppendsBeginning, IsAskedFor, IsReplayPicture, IsReplayReport};
+ghost use Rattle.serving.specs.Written.{IsReplayTimeline, IsReportOf, IsSeedSchedule, WritesFor, WritesPart};
 ghost use Rattle.serving.specs.inner.Printing.{PrintsBehind, PrintsShown};
 
 use crate::all_orders::{OutcomesFound, list_outcomes, status_of_outcomes};
@@ -73,9 +76,12 @@ pub fn serve<H: Threads + Wait + Sync, R: Read + Drop, S: Read + Drop, W: Write,
     is_terminal: bool,
 ) -> u8
     ensures status { result ≤ 4 }
-    ensures answer { IfSome (R.remaining source) (λ bytes. AnswersRequest request.now (S.remaining schedule) bytes result (W.contents out.old) (W.contents out.new)) }
+    ensures answer { IfSome (R.remaining source)
+        (λ bytes. AnswersRequest request.now (S.remaining schedule) bytes result (W.contents out.old)
+        (W.contents out.new)) }
     ensures refused { result ≡ 1 → IfSome (R.remaining source) (λ bytes. IsRefused bytes) }
-    ensures written { WritesFor request.now (S.remaining schedule) (R.remaining source) (W.contents out.old) (W.contents out.new) }
+    ensures written { WritesFor request.now (S.remaining schedule) (R.remaining source) (W.contents out.old)
+        (W.contents out.new) }
     ensures untouched { result ≡ 1 → W.contents out.new ≡ W.contents out.old }
 {
     match request {
@@ -121,9 +127,12 @@ pub(crate) fn serve_program<
     err: &mut E,
 ) -> u8
     ensures status { result ≤ 4 }
-    ensures answer { IfSome (R.remaining source) (λ bytes. Answers task.now (S.remaining schedule) bytes result (W.contents out.old) (W.contents out.new)) }
+    ensures answer { IfSome (R.remaining source)
+        (λ bytes. Answers task.now (S.remaining schedule) bytes result (W.contents out.old) (W.contents out.new)) }
     ensures refused { result ≡ 1 → IfSome (R.remaining source) (λ bytes. IsRefused bytes) }
-    ensures written { IfSome (R.remaining source) (λ bytes. WritesPart (IsAskedFor task.now (S.remaining schedule) bytes) (W.contents out.old) (W.contents out.new)) }
+    ensures written { IfSome (R.remaining source)
+        (λ bytes. WritesPart (IsAskedFor task.now (S.remaining schedule) bytes) (W.contents out.old)
+        (W.contents out.new)) }
     ensures untouched { result ≡ 1 → W.contents out.new ≡ W.contents out.old }
 {
     match text_of(alloc, file, source, detail, err) {
@@ -142,8 +151,8 @@ pub(crate) fn serve_program<
     }
 }
 
-/// Does what is asked with the program in a file, as `serve` does, in memory of any allocator. No thread is started for it, so that
-/// `run` is told as a run whose threads were not.
+/// Does what is asked with the program in a file, as `serve` does, in memory of any allocator. No thread is started for
+/// it, so that `run` is told as a run whose threads were not.
 pub fn serve_alone<A: Allocator + Copy, R: Read + Drop, S: Read + Drop, W: Write, E: Write>(
     alloc: A,
     file: &str,
@@ -155,9 +164,12 @@ pub fn serve_alone<A: Allocator + Copy, R: Read + Drop, S: Read + Drop, W: Write
     err: &mut E,
 ) -> u8
     ensures status { result ≤ 4 }
-    ensures answer { IfSome (R.remaining source) (λ bytes. Answers task.now (S.remaining schedule) bytes result (W.contents out.old) (W.contents out.new)) }
+    ensures answer { IfSome (R.remaining source)
+        (λ bytes. Answers task.now (S.remaining schedule) bytes result (W.contents out.old) (W.contents out.new)) }
     ensures refused { result ≡ 1 → IfSome (R.remaining source) (λ bytes. IsRefused bytes) }
-    ensures written { IfSome (R.remaining source) (λ bytes. WritesPart (IsAskedFor task.now (S.remaining schedule) bytes) (W.contents out.old) (W.contents out.new)) }
+    ensures written { IfSome (R.remaining source)
+        (λ bytes. WritesPart (IsAskedFor task.now (S.remaining schedule) bytes) (W.contents out.old)
+        (W.contents out.new)) }
     ensures untouched { result ≡ 1 → W.contents out.new ≡ W.contents out.old }
 {
     match text_of(alloc, file, source, detail, err) {
@@ -175,7 +187,8 @@ fn text_of<A: Allocator, R: Read + Drop, E: Write>(
     err: &mut E,
 ) -> Result<String<A>, u8>
     ensures ok { IfOk result (λ s. IfSome (R.remaining source) (λ bytes. string_bytes s ≡ bytes)) }
-    ensures status { IfErr result (λ s. (s ≡ 1) × IfSome (R.remaining source) (λ bytes. IsRefused bytes) ⊎ (s ≡ 2) ⊎ (s ≡ 4)) }
+    ensures status { IfErr result (λ s. (s ≡ 1) × IfSome (R.remaining source) (λ bytes. IsRefused bytes) ⊎ (s ≡ 2)
+        ⊎ (s ≡ 4)) }
 {
     match read_source(alloc, source) {
         Ok(Source::Text(text)) => Ok(text),
@@ -200,7 +213,8 @@ fn work<H: Threads + Wait + Sync, S: Read + Drop, W: Write, E: Write>(
     ensures status { result ≤ 4 }
     ensures answer { Answers task.now (S.remaining schedule) text.now result (W.contents out.old) (W.contents out.new) }
     ensures refused { result ≡ 1 → IsRefused text.now }
-    ensures written { WritesPart (IsAskedFor task.now (S.remaining schedule) text.now) (W.contents out.old) (W.contents out.new) }
+    ensures written { WritesPart (IsAskedFor task.now (S.remaining schedule) text.now) (W.contents out.old)
+        (W.contents out.new) }
     ensures untouched { result ≡ 1 → W.contents out.new ≡ W.contents out.old }
 {
     match task {
@@ -237,7 +251,8 @@ fn work_alone<A: Allocator + Copy, S: Read + Drop, W: Write, E: Write>(
     ensures status { result ≤ 4 }
     ensures answer { Answers task.now (S.remaining schedule) text.now result (W.contents out.old) (W.contents out.new) }
     ensures refused { result ≡ 1 → IsRefused text.now }
-    ensures written { WritesPart (IsAskedFor task.now (S.remaining schedule) text.now) (W.contents out.old) (W.contents out.new) }
+    ensures written { WritesPart (IsAskedFor task.now (S.remaining schedule) text.now) (W.contents out.old)
+        (W.contents out.new) }
     ensures untouched { result ≡ 1 → W.contents out.new ≡ W.contents out.old }
 {
     match task {
@@ -302,9 +317,11 @@ fn run<H: Threads + Wait + Sync, W: Write, E: Write>(
     err: &mut E,
 ) -> u8
     ensures status { result ≤ 4 }
-    ensures report { PrintsReport (λ shown. RunsInSomeOrder threads text.now shown × RunsAtOnce threads budget text.now shown) result (W.contents out.old) (W.contents out.new) }
+    ensures report { PrintsReport (λ shown. RunsInSomeOrder threads text.now shown
+        × RunsAtOnce threads budget text.now shown) result (W.contents out.old) (W.contents out.new) }
     ensures refused { result ≡ 1 → IsRefused text.now }
-    ensures written { WritesPart (IsReportOf (RunsAtOnce threads budget text.now)) (W.contents out.old) (W.contents out.new) }
+    ensures written { WritesPart (IsReportOf (RunsAtOnce threads budget text.now)) (W.contents out.old)
+        (W.contents out.new) }
     ensures untouched { result ≡ 1 → W.contents out.new ≡ W.contents out.old }
 {
     reports_are_orders();
@@ -331,9 +348,12 @@ fn replay_source<A: Allocator + Copy, S: Read + Drop, W: Write, E: Write>(
     err: &mut E,
 ) -> u8
     ensures status { result ≤ 4 }
-    ensures report { PrintsReport (λ shown. RunsInSomeOrder threads text.now (behind_events shown) × Replays threads steps.now (S.remaining schedule) text.now shown) result (W.contents out.old) (W.contents out.new) }
+    ensures report { PrintsReport (λ shown. RunsInSomeOrder threads text.now (behind_events shown)
+        × Replays threads steps.now (S.remaining schedule) text.now shown) result (W.contents out.old)
+        (W.contents out.new) }
     ensures refused { result ≡ 1 → IsRefused text.now }
-    ensures written { WritesPart (IsReplayReport threads steps.now (S.remaining schedule) text.now) (W.contents out.old) (W.contents out.new) }
+    ensures written { WritesPart (IsReplayReport threads steps.now (S.remaining schedule) text.now) (W.contents out.old)
+        (W.contents out.new) }
     ensures untouched { result ≡ 1 → W.contents out.new ≡ W.contents out.old }
 {
     reports_are_orders();
@@ -355,9 +375,12 @@ fn show_steps<A: Allocator + Copy, S: Read + Drop, W: Write, E: Write>(
     err: &mut E,
 ) -> u8
     ensures status { result ≤ 4 }
-    ensures timeline { PrintsTimeline (λ lines shown. RunsInSomeOrder threads text.now (behind_events shown) × ReplaysShown threads steps.now (S.remaining schedule) text.now lines shown) result (W.contents out.old) (W.contents out.new) }
+    ensures timeline { PrintsTimeline (λ lines shown. RunsInSomeOrder threads text.now (behind_events shown)
+        × ReplaysShown threads steps.now (S.remaining schedule) text.now lines shown) result (W.contents out.old)
+        (W.contents out.new) }
     ensures refused { result ≡ 1 → IsRefused text.now }
-    ensures written { WritesPart (IsReplayTimeline threads steps.now (S.remaining schedule) text.now) (W.contents out.old) (W.contents out.new) }
+    ensures written { WritesPart (IsReplayTimeline threads steps.now (S.remaining schedule) text.now)
+        (W.contents out.old) (W.contents out.new) }
     ensures untouched { result ≡ 1 → W.contents out.new ≡ W.contents out.old }
 {
     reports_are_orders();
@@ -382,9 +405,12 @@ fn draw<A: Allocator + Copy, S: Read + Drop, W: Write, E: Write>(
     err: &mut E,
 ) -> u8
     ensures status { result ≤ 4 }
-    ensures picture { PrintsPicture (λ svg shown. ReplaysDrawn threads steps.now (S.remaining schedule) text.now svg shown) result (W.contents out.old) (W.contents out.new) }
+    ensures picture { PrintsPicture
+        (λ svg shown. ReplaysDrawn threads steps.now (S.remaining schedule) text.now svg shown) result
+        (W.contents out.old) (W.contents out.new) }
     ensures refused { result ≡ 1 → IsRefused text.now }
-    ensures written { WritesPart (IsReplayPicture threads steps.now (S.remaining schedule) text.now) (W.contents out.old) (W.contents out.new) }
+    ensures written { WritesPart (IsReplayPicture threads steps.now (S.remaining schedule) text.now)
+        (W.contents out.old) (W.contents out.new) }
     ensures untouched { result ≡ 1 → W.contents out.new ≡ W.contents out.old }
 {
     match replay_text(alloc, text, threads, steps, schedule, detail, err) {
@@ -405,7 +431,9 @@ fn replay_text<A: Allocator + Copy, S: Read + Drop, E: Write>(
     detail: Detail<'_>,
     err: &mut E,
 ) -> Result<(Compiled<A>, Replayed<A>), u8>
-    ensures ok { IfOk result (λ r. IsReplayOfText threads steps.now (S.remaining schedule) text.now r.0.code r.1.made.items r.1.stop (printed_of r.1.printed)) }
+    ensures ok { IfOk result
+        (λ r. IsReplayOfText threads steps.now (S.remaining schedule) text.now r.0.code r.1.made.items r.1.stop
+        (printed_of r.1.printed)) }
     ensures status { IfErr result (λ s. (s ≡ 1) × IsRefused text.now ⊎ (s ≡ 2) ⊎ (s ≡ 4)) }
 {
     match compile(alloc, text) {
@@ -432,9 +460,11 @@ fn print_schedule<A: Allocator + Copy, W: Write, E: Write>(
     err: &mut E,
 ) -> u8
     ensures status { result ≤ 4 }
-    ensures schedule { PrintsSchedule (lines_of_seed seed threads count) text.now result (W.contents out.old) (W.contents out.new) }
+    ensures schedule { PrintsSchedule (lines_of_seed seed threads count) text.now result (W.contents out.old)
+        (W.contents out.new) }
     ensures refused { result ≡ 1 → IsRefused text.now }
-    ensures written { WritesPart (IsSeedSchedule seed threads count text.now) (W.contents out.old) (W.contents out.new) }
+    ensures written { WritesPart (IsSeedSchedule seed threads count text.now) (W.contents out.old)
+        (W.contents out.new) }
     ensures untouched { result ≡ 1 → W.contents out.new ≡ W.contents out.old }
 {
     match compile(alloc, text) {
@@ -481,9 +511,11 @@ fn in_order<A: Allocator + Copy, W: Write, E: Write>(
     err: &mut E,
 ) -> u8
     ensures status { result ≤ 4 }
-    ensures report { PrintsReport (RunsInOrder threads ticks order.now text.now) result (W.contents out.old) (W.contents out.new) }
+    ensures report { PrintsReport (RunsInOrder threads ticks order.now text.now) result (W.contents out.old)
+        (W.contents out.new) }
     ensures refused { result ≡ 1 → IsRefused text.now }
-    ensures written { WritesPart (IsReportOf (RunsInOrder threads ticks order.now text.now)) (W.contents out.old) (W.contents out.new) }
+    ensures written { WritesPart (IsReportOf (RunsInOrder threads ticks order.now text.now)) (W.contents out.old)
+        (W.contents out.new) }
     ensures untouched { result ≡ 1 → W.contents out.new ≡ W.contents out.old }
 {
     match run_in_order(alloc, text, threads, order, ticks) {
@@ -526,9 +558,13 @@ fn print_outcomes<A: Allocator + Copy, W: Write, E: Write>(
 ) -> u8
     ensures status { result ≤ 4 }
     ensures not_refused { result ≢ 1 }
-    ensures whole { result ≢ 4 → (found.now.is_whole ≡ true) × (found.now.is_spent ≡ false) × (result ≡ outcomes_status (map outcome_of found.now.outcomes.items)) }
-    ensures printed { result ≢ 4 → Appends (W.contents out.old) (W.contents out.new) (list_text (map outcome_of found.now.outcomes.items) found.now.orders found.now.is_whole) }
-    ensures written { WritesPart (λ written. written ≡ list_text (map outcome_of found.now.outcomes.items) found.now.orders found.now.is_whole) (W.contents out.old) (W.contents out.new) }
+    ensures whole { result ≢ 4 → (found.now.is_whole ≡ true) × (found.now.is_spent ≡ false)
+        × (result ≡ outcomes_status (map outcome_of found.now.outcomes.items)) }
+    ensures printed { result ≢ 4 → Appends (W.contents out.old) (W.contents out.new)
+        (list_text (map outcome_of found.now.outcomes.items) found.now.orders found.now.is_whole) }
+    ensures written { WritesPart
+        (λ written. written ≡ list_text (map outcome_of found.now.outcomes.items) found.now.orders found.now.is_whole)
+        (W.contents out.old) (W.contents out.new) }
 {
     match list_text(
         alloc,
@@ -555,7 +591,8 @@ fn check<A: Allocator + Copy, W: Write, E: Write>(
     ensures status { result ≤ 4 }
     ensures accepted { SaysAccepted text.now result (W.contents out.old) (W.contents out.new) }
     ensures refused { result ≡ 1 → IsRefused text.now }
-    ensures written { WritesPart (λ written. Accepts text.now × (written ≡ codes "accepted\n")) (W.contents out.old) (W.contents out.new) }
+    ensures written { WritesPart (λ written. Accepts text.now × (written ≡ codes "accepted\n")) (W.contents out.old)
+        (W.contents out.new) }
     ensures untouched { result ≡ 1 → W.contents out.new ≡ W.contents out.old }
 {
     match check_source(alloc, text) {
@@ -585,7 +622,8 @@ fn print_report<A: Allocator + Copy, W: Write, E: Write>(
 ) -> u8
     ensures status { result ≤ 4 }
     ensures report { PrintsShown (printed_of printed.now) result (W.contents out.old) (W.contents out.new) }
-    ensures written { WritesPart (λ written. written ≡ report_text (printed_of printed.now)) (W.contents out.old) (W.contents out.new) }
+    ensures written { WritesPart (λ written. written ≡ report_text (printed_of printed.now)) (W.contents out.old)
+        (W.contents out.new) }
     ensures not_refused { result ≢ 1 }
 {
     match report_text(alloc, printed) {
@@ -597,7 +635,8 @@ fn print_report<A: Allocator + Copy, W: Write, E: Write>(
     }
 }
 
-/// Prints what is shown of a replay, and gives the exit status: by the ends of its threads, or by a step that was not made.
+/// Prints what is shown of a replay, and gives the exit status: by the ends of its threads, or by a step that was not
+/// made.
 fn print_for_replay<A: Allocator, W: Write, E: Write>(
     text: &[u8],
     replayed: &Replayed<A>,
@@ -607,7 +646,8 @@ fn print_for_replay<A: Allocator, W: Write, E: Write>(
 ) -> u8
     ensures status { result ≤ 4 }
     ensures whole { (result ≡ 0) ⊎ (result ≡ 3) → replayed.now.stop ≡ None }
-    ensures printed { (result ≡ 0) ⊎ (result ≡ 3) → (result ≡ exit_status (printed_of replayed.now.printed)) × Appends (W.contents out.old) (W.contents out.new) text.now }
+    ensures printed { (result ≡ 0) ⊎ (result ≡ 3) → (result ≡ exit_status (printed_of replayed.now.printed))
+        × Appends (W.contents out.old) (W.contents out.new) text.now }
     ensures written { AppendsBeginning (W.contents out.old) (W.contents out.new) text.now }
     ensures not_refused { result ≢ 1 }
 {
@@ -631,7 +671,8 @@ fn print_replay<A: Allocator + Copy, W: Write, E: Write>(
     ensures status { result ≤ 4 }
     ensures whole { (result ≡ 0) ⊎ (result ≡ 3) → replayed.now.stop ≡ None }
     ensures report { PrintsShown (printed_of replayed.now.printed) result (W.contents out.old) (W.contents out.new) }
-    ensures written { WritesPart (λ written. written ≡ report_text (printed_of replayed.now.printed)) (W.contents out.old) (W.contents out.new) }
+    ensures written { WritesPart (λ written. written ≡ report_text (printed_of replayed.now.printed))
+        (W.contents out.old) (W.contents out.new) }
     ensures not_refused { result ≢ 1 }
 {
     match report_text(alloc, &replayed.printed) {
@@ -647,7 +688,9 @@ fn timeline_and_report<A: Allocator + Copy>(
     threads: u32,
     replayed: &Replayed<A>,
 ) -> Option<Vec<u8, A>>
-    ensures { IfSome result (λ v. v.items ≡ timeline_text code.now (timeline_of (played code.now threads replayed.now.made.items)) ++ report_text (printed_of replayed.now.printed)) }
+    ensures { IfSome result
+        (λ v. v.items ≡ timeline_text code.now (timeline_of (played code.now threads replayed.now.made.items))
+        ++ report_text (printed_of replayed.now.printed)) }
 {
     // The steps were made once, so where they have no lines memory was refused.
     let mut text = lines_shown(alloc, code, threads, replayed.made.as_slice())?;
@@ -660,7 +703,8 @@ fn timeline_and_report<A: Allocator + Copy>(
     }
 }
 
-/// Prints what is shown of each step of a replay, and then its report. Gives the exit status as `print_for_replay` does.
+/// Prints what is shown of each step of a replay, and then its report. Gives the exit status as `print_for_replay`
+/// does.
 fn print_timeline<A: Allocator + Copy, W: Write, E: Write>(
     alloc: A,
     code: &Code<A>,
@@ -672,8 +716,12 @@ fn print_timeline<A: Allocator + Copy, W: Write, E: Write>(
 ) -> u8
     ensures status { result ≤ 4 }
     ensures whole { (result ≡ 0) ⊎ (result ≡ 3) → replayed.now.stop ≡ None }
-    ensures report { PrintsBehind (timeline_text code.now (timeline_of (played code.now threads replayed.now.made.items))) (printed_of replayed.now.printed) result (W.contents out.old) (W.contents out.new) }
-    ensures written { WritesPart (λ written. written ≡ timeline_text code.now (timeline_of (played code.now threads replayed.now.made.items)) ++ report_text (printed_of replayed.now.printed)) (W.contents out.old) (W.contents out.new) }
+    ensures report { PrintsBehind
+        (timeline_text code.now (timeline_of (played code.now threads replayed.now.made.items)))
+        (printed_of replayed.now.printed) result (W.contents out.old) (W.contents out.new) }
+    ensures written { WritesPart
+        (λ written. written ≡ timeline_text code.now (timeline_of (played code.now threads replayed.now.made.items))
+        ++ report_text (printed_of replayed.now.printed)) (W.contents out.old) (W.contents out.new) }
     ensures not_refused { result ≢ 1 }
 {
     match timeline_and_report(alloc, code, threads, replayed) {
@@ -690,7 +738,9 @@ fn picture_of<A: Allocator + Copy>(
     threads: u32,
     replayed: &Replayed<A>,
 ) -> Option<Vec<u8, A>>
-    ensures { IfSome result (λ v. IsDrawn compiled.now.code (timeline_of (played compiled.now.code threads replayed.now.made.items)) v.items) }
+    ensures { IfSome result
+        (λ v. IsDrawn compiled.now.code (timeline_of (played compiled.now.code threads replayed.now.made.items))
+        v.items) }
 {
     match replayed.stop {
         Some(stop) if stop.reason == StopReason::OutOfMemory => None,
@@ -718,8 +768,12 @@ fn print_picture<A: Allocator + Copy, W: Write, E: Write>(
 ) -> u8
     ensures status { result ≤ 4 }
     ensures whole { (result ≡ 0) ⊎ (result ≡ 3) → replayed.now.stop ≡ None }
-    ensures picture { PrintsPicture (λ svg shown. IsDrawn compiled.now.code (timeline_of (played compiled.now.code threads replayed.now.made.items)) svg × (shown ≡ printed_of replayed.now.printed)) result (W.contents out.old) (W.contents out.new) }
-    ensures written { WritesPart (λ written. IsDrawn compiled.now.code (timeline_of (played compiled.now.code threads replayed.now.made.items)) written) (W.contents out.old) (W.contents out.new) }
+    ensures picture { PrintsPicture
+        (λ svg shown. IsDrawn compiled.now.code (timeline_of (played compiled.now.code threads replayed.now.made.items))
+        svg × (shown ≡ printed_of replayed.now.printed)) result (W.contents out.old) (W.contents out.new) }
+    ensures written { WritesPart
+        (λ written. IsDrawn compiled.now.code (timeline_of (played compiled.now.code threads replayed.now.made.items))
+        written) (W.contents out.old) (W.contents out.new) }
     ensures not_refused { result ≢ 1 }
 {
     match picture_of(alloc, file, compiled, threads, replayed) {

@@ -22,7 +22,8 @@ pub(crate) fn shown_with<A: Allocator + Copy>(
     memory: &[u64],
     threads: Vec<ThreadReport<A>, A>,
 ) -> Result<Printed<A>, AllocError>
-    ensures { IfOk result (λ r. printed_of r ≡ program_shown (program_of unit.now) (map report_shown threads.items) memory.now) }
+    ensures { IfOk result (λ r. printed_of r ≡ program_shown (program_of unit.now)
+        (map report_shown threads.items) memory.now) }
 {
     let globals = globals_shown(alloc, unit, memory)?;
     let threads = threads_shown(alloc, threads)?;
@@ -40,7 +41,8 @@ pub(crate) fn shown_in_order<A: Allocator + Copy>(
     unit: &Unit<A>,
     ran: SourceOutcome<A>,
 ) -> Result<Printed<A>, AllocError>
-    ensures { IfOk result (λ r. printed_of r ≡ program_shown (program_of unit.now) (map report_shown ran.threads.items) ran.memory.items) }
+    ensures { IfOk result (λ r. printed_of r ≡ program_shown (program_of unit.now)
+        (map report_shown ran.threads.items) ran.memory.items) }
 {
     let SourceOutcome { memory, threads } = ran;
     let shown = shown_with(alloc, unit, memory.as_slice(), threads)?;
@@ -103,7 +105,8 @@ fn push_items<A: Allocator + Copy>(
     items: &[Item<A>],
     words: &[u64],
 ) -> Result<(), AllocError>
-    ensures { OnOk result (map shown_of shown.new ≡ map shown_of shown.old ++ shown_globals (globals (map item_of items.now)) words.now) }
+    ensures { OnOk result (map shown_of shown.new ≡ map shown_of shown.old
+        ++ shown_globals (globals (map item_of items.now)) words.now) }
 {
     let mut rest = words;
     'items: for item in items {
@@ -121,7 +124,8 @@ fn push_globals<'a, A: Allocator + Copy>(
     globals: &[Global<A>],
     words: &'a [u64],
 ) -> Result<&'a [u64], AllocError>
-    ensures shown { OnOk result (map shown_of shown.new ≡ map shown_of shown.old ++ shown_globals (map global_of globals.now) words.now) }
+    ensures shown { OnOk result (map shown_of shown.new ≡ map shown_of shown.old
+        ++ shown_globals (map global_of globals.now) words.now) }
     ensures rest { IfOk result (λ r. r.now ≡ words_beyond (map global_of globals.now) words.now) }
 {
     let mut rest = words;

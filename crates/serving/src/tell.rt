@@ -108,7 +108,8 @@ fn tell_place<E: Write>(number: u32, line: usize, column: usize, detail: Detail<
     };
 }
 
-/// Shows the line of a source that a span begins in, with carets under the span. Where memory is refused it shows nothing.
+/// Shows the line of a source that a span begins in, with carets under the span. Where memory is refused it shows
+/// nothing.
 fn show_line<A: Allocator + Copy, E: Write>(alloc: A, text: &str, span: Span, err: &mut E) {
     if let Ok(shown) = underlined(alloc, text, span) {
         let _ = err.write_all(shown.as_slice());

@@ -9,8 +9,8 @@ use replay::timeline;
 use report::timeline_text;
 use std::alloc::Allocator;
 
-/// The lines that show these steps of so many threads of a code. There are none where memory was refused, and where one of the
-/// steps cannot be made.
+/// The lines that show these steps of so many threads of a code. There are none where memory was refused, and where one
+/// of the steps cannot be made.
 pub fn lines_shown<A: Allocator + Copy>(
     alloc: A,
     code: &Code<A>,

@@ -1,5 +1,5 @@
-//! Tests of replays that are served, and of what is shown of the examples, in a crate of their own: with the other tests of `serving`
-//! they would take too much memory to prove.
+//! Tests of replays that are served, and of what is shown of the examples, in a crate of their own: with the other
+//! tests of `serving` they would take too much memory to prove.
 #![tactic(auto)]
 
 #[cfg(test)]

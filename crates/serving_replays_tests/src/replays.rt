@@ -468,7 +468,8 @@ fn prints_schedules(rt: HostRuntime) {
     assert_eq!(rt; wrong_row(&rt, rt.alloc(), printed_schedules()), None);
 }
 
-/// Whether the steps of a seed, which one line replays and the other prints as a schedule, are read back to the same report.
+/// Whether the steps of a seed, which one line replays and the other prints as a schedule, are read back to the same
+/// report.
 fn reads_back<H: Threads + Wait + Sync>(rt: &H, alloc: Global, replay: &str, print: &str) -> bool {
     match serve_alone(rt, alloc, print, SHOWS) {
         Some(printed) => status_as_of(rt, alloc, replay, printed.out.as_slice()).is_some(),
@@ -568,7 +569,8 @@ fn is_begun(replayed: &str, ran: &str, begins: &str) -> bool {
     }
 }
 
-/// Whether a run of the source leaves what a replay does, if that tells it, and each thread's text there begins the one here.
+/// Whether a run of the source leaves what a replay does, if that tells it, and each thread's text there begins the one
+/// here.
 fn agrees(replayed: &str, ran: &str) -> bool {
     let Some((_, left)) = replayed.split_once("== memory\n") else {
         return true;

@@ -107,8 +107,8 @@ fn gives_up(served: &Served) -> bool {
     is_told || served.status == 4 && is_stopped(served)
 }
 
-/// Whether this is answered, or growth `nth` is met, want of memory is told, and this is answered to the same task then. It
-/// may be answered where the growth is met too: not every growth that is asked for has to be made.
+/// Whether this is answered, or growth `nth` is met, want of memory is told, and this is answered to the same task
+/// then. It may be answered where the growth is met too: not every growth that is asked for has to be made.
 fn tells(
     alloc: &Refusing<Global>,
     nth: u64,

@@ -247,11 +247,12 @@ fn two_thousand_functions_and_texts_run(rt: HostRuntime) {
     assert!(rt; functions_run(&rt, rt.alloc(), 2_000));
 }
 
-/// The beginning of names that all have one hash, where a hash multiplies eight bytes by eight with a constant and no key: behind
-/// it one factor is 0.
+/// The beginning of names that all have one hash, where a hash multiplies eight bytes by eight with a constant and no
+/// key: behind it one factor is 0.
 const COLLIDING: &str = "aaaaaaaaaaaaassTNo3qMD1o";
 
-/// A function with 31,000 locals, whose names begin so and end in their numbers, and with one more, whose number this is.
+/// A function with 31,000 locals, whose names begin so and end in their numbers, and with one more, whose number this
+/// is.
 fn of_locals(alloc: Global, beginning: &str, last: u32) -> Result<String, AllocError> {
     let mut text = String::from_str(alloc, "void worker(int self) { int x")?;
     for number in 0..31_000u32 {

@@ -1,5 +1,5 @@
-//! The examples of docs/FAULTS.md: each is a source, its fault's number, and what standard error says behind the number.
-//! `scripts/faults.py` compares these tables with the document's.
+//! The examples of docs/FAULTS.md: each is a source, its fault's number, and what standard error says behind the
+//! number. `scripts/faults.py` compares these tables with the document's.
 
 use command::Format;
 use serving::{Detail, refuse_run};

@@ -1,6 +1,9 @@
 -- How deep a tree is.
 use Rattle.std.specs.Prelude.{ℕ, ◌+◌, max, List, [], ◌∷◌, Option, Some, None}
-use Rattle.syntax.specs.Tree.{Expr, Exprs, Element, Call, Parenthesized, Cast, Unary, Binary, Logical, Conditional, InTransaction, Simple, Evaluate, Assign, Adjust, Declarator, Declaration, Start, Nothing, Declares, Does, Stmt, Stmts, Declare, Do, Block, Print, If, IfElse, While, DoWhile, For, Return, Transaction, Item, Defines, Shares, Program}
+use Rattle.syntax.specs.Tree.{Expr, Exprs, Element, Call, Parenthesized, Cast, Unary, Binary, Logical, Conditional}
+use Rattle.syntax.specs.Tree.{InTransaction, Simple, Evaluate, Assign, Adjust, Declarator, Declaration, Start, Nothing}
+use Rattle.syntax.specs.Tree.{Declares, Does, Stmt, Stmts, Declare, Do, Block, Print, If, IfElse, While, DoWhile, For}
+use Rattle.syntax.specs.Tree.{Return, Transaction, Item, Defines, Shares, Program}
 
 abbrev mutual
   pub expr_depth : Expr → ℕ

@@ -1,12 +1,23 @@
 -- Which tokens spell which tree.
-use Rattle.std.specs.Prelude.{◌≡◌, ℕ, ◌≤◌, ◌<◌, List, [], ◌∷◌, ◌++◌, Option, Some, None, IsSome, Bool, true, false, IsFalse, codes, bytes_eq, option_map, if◌then◌else◌}
+use Rattle.std.specs.Prelude.{◌≡◌, ℕ, ◌≤◌, ◌<◌, List, [], ◌∷◌, ◌++◌, Option, Some, None, IsSome, Bool, true, false}
+use Rattle.std.specs.Prelude.{IsFalse, codes, bytes_eq, option_map, if◌then◌else◌}
 use Rattle.lex.specs.{declared.token.Fixed.Fixed, Tokens.Terminal, Tokens.Tok, Tokens.unescaped}
 use Rattle.lex.specs.declared.token.Fixed.TheVariants.{Keyword, Punctuator}
 use Rattle.lex.specs.declared.token.Keyword.TheVariants as key
 use Rattle.lex.specs.declared.token.Punctuator.TheVariants as punct
-use Rattle.syntax.specs.Tree.{Span, Scalar, Int, Unsigned, LongLong, UnaryOp, Negate, Keep, Not, Complement, BinaryOp, Or, Xor, And, Equal, NotEqual, Less, Greater, LessEqual, GreaterEqual, ShiftLeft, ShiftRight, Add, Subtract, Multiply, Divide, Remainder, LogicalOp, AndThen, OrElse, IncDec, Increment, Decrement, Mode, Atomic, Relaxed, Kind, Plain, Outer, Attribute, Safe, Unsafe, Callable, First, Name, Expr, Exprs, Variable, Constant, Element, Call, Parenthesized, Cast, Unary, Binary, Logical, Conditional, InTransaction, Simple, Evaluate, Assign, Adjust, Declarator, Declaration, Start, Nothing, Declares, Does, Stmt, Stmts, Empty, Declare, Do, Block, Print, If, IfElse, While, DoWhile, For, Break, Continue, Return, Transaction, Cancel, CancelOuter, Parameter, Function, Global, Item, Defines, Shares, Program}
+use Rattle.syntax.specs.Tree.{Span, Scalar, Int, Unsigned, LongLong, UnaryOp, Negate, Keep, Not, Complement, BinaryOp}
+use Rattle.syntax.specs.Tree.{Or, Xor, And, Equal, NotEqual, Less, Greater, LessEqual, GreaterEqual, ShiftLeft}
+use Rattle.syntax.specs.Tree.{ShiftRight, Add, Subtract, Multiply, Divide, Remainder, LogicalOp, AndThen, OrElse}
+use Rattle.syntax.specs.Tree.{IncDec, Increment, Decrement, Mode, Atomic, Relaxed, Kind, Plain, Outer, Attribute, Safe}
+use Rattle.syntax.specs.Tree.{Unsafe, Callable, First, Name, Expr, Exprs, Variable, Constant, Element, Call}
+use Rattle.syntax.specs.Tree.{Parenthesized, Cast, Unary, Binary, Logical, Conditional, InTransaction, Simple, Evaluate}
+use Rattle.syntax.specs.Tree.{Assign, Adjust, Declarator, Declaration, Start, Nothing, Declares, Does, Stmt, Stmts}
+use Rattle.syntax.specs.Tree.{Empty, Declare, Do, Block, Print, If, IfElse, While, DoWhile, For, Break, Continue}
+use Rattle.syntax.specs.Tree.{Return, Transaction, Cancel, CancelOuter, Parameter, Function, Global, Item, Defines}
+use Rattle.syntax.specs.Tree.{Shares, Program}
 use Rattle.syntax.specs.Depth.{program_depth}
-use Rattle.syntax.specs.Phrases.{Phrase, One, Nil, never, ◌⨾◌, ◌∣◌, given, Many, Sign, Word, IsAt, Listed, spanning, end_of}
+use Rattle.syntax.specs.Phrases.{Phrase, One, Nil, never, ◌⨾◌, ◌∣◌, given, Many, Sign, Word, IsAt, Listed, spanning}
+use Rattle.syntax.specs.Phrases.{end_of}
 
 -- ---- what single tokens say (C11 6.4)
 

@@ -1,13 +1,21 @@
 -- What expressions and statements do (C11 6.5, 6.8), from left to right.
-use Rattle.std.specs.Prelude.{ℕ, zero, suc, ◌+◌, pos, List, [], ◌∷◌, ◌++◌, length, take, Option, Some, None, if◌then◌else◌, Bool, true, false, not, nat_lt, unwrap_or, option_map}
+use Rattle.std.specs.Prelude.{ℕ, zero, suc, ◌+◌, pos, List, [], ◌∷◌, ◌++◌, length, take, Option, Some, None}
+use Rattle.std.specs.Prelude.{if◌then◌else◌, Bool, true, false, not, nat_lt, unwrap_or, option_map}
 use Rattle.std.specs.Fmt.{signed_decimal}
-use Rattle.syntax.specs.Tree.{Scalar, Int, BinaryOp, Add, Subtract, AndThen, OrElse, IncDec, Increment, Decrement, Mode, Atomic, Relaxed, Kind, Plain, Outer, Expr, Exprs, Variable, Constant, Element, Call, Parenthesized, Cast, Unary, Binary, Logical, Conditional, InTransaction, Simple, Evaluate, Assign, Adjust, Declarator, Start, Nothing, Declares, Does, Stmt, Stmts, Empty, Declare, Do, Block, Print, If, IfElse, While, DoWhile, For, Break, Continue, Return, Transaction, Cancel, CancelOuter, Parameter, Program}
+use Rattle.syntax.specs.Tree.{Scalar, Int, BinaryOp, Add, Subtract, AndThen, OrElse, IncDec, Increment, Decrement, Mode}
+use Rattle.syntax.specs.Tree.{Atomic, Relaxed, Kind, Plain, Outer, Expr, Exprs, Variable, Constant, Element, Call}
+use Rattle.syntax.specs.Tree.{Parenthesized, Cast, Unary, Binary, Logical, Conditional, InTransaction, Simple, Evaluate}
+use Rattle.syntax.specs.Tree.{Assign, Adjust, Declarator, Start, Nothing, Declares, Does, Stmt, Stmts, Empty, Declare}
+use Rattle.syntax.specs.Tree.{Do, Block, Print, If, IfElse, While, DoWhile, For, Break, Continue, Return, Transaction}
+use Rattle.syntax.specs.Tree.{Cancel, CancelOuter, Parameter, Program}
 use Rattle.syntax.specs.Numbers.{Value, Index, Frames, word_of, number, converted, is_zero, flag, unary, binary}
 use Rattle.syntax.specs.Names.{Local, newest, word_at, with_word, global_of, cells, definition_of}
 use Rattle.syntax.specs.Formats.{Piece, Literal, Figure, pieces}
 use Rattle.syntax.specs.Types.{type_of, running_scope}
 use Rattle.syntax.specs.Behaviours.{Memory, Trapped, Wants, Spent, Astray}
-use Rattle.syntax.specs.Actions.{Context, Outside, Inside, State, Answer, Gives, Stops, Action, pure, stop, go_on, ◌>>=◌, ◌>>◌, tick, trap, or_trap, or_astray, locals, put_locals, load, store, may_print, print_piece, memory_in}
+use Rattle.syntax.specs.Actions.{Context, Outside, Inside, State, Answer, Gives, Stops, Action, pure, stop, go_on}
+use Rattle.syntax.specs.Actions.{◌>>=◌, ◌>>◌, tick, trap, or_trap, or_astray, locals, put_locals, load, store}
+use Rattle.syntax.specs.Actions.{may_print, print_piece, memory_in}
 
 -- where a value stands: in a local variable, by its place among the locals, or in a shared cell
 pub data Spot : Type 0 where
@@ -81,7 +89,8 @@ undoes Cancels kind = true
 undoes CancelsOuter Outer = true
 undoes end kind = false
 
--- what a transaction leaves: one that is undone leaves shared memory and locals as they were, and the run goes on after it
+-- what a transaction leaves: one that is undone leaves shared memory and locals as they were, and the run goes on after
+-- it
 pub record Left : Type 0 where
   pub end : End
   pub locals : List Local

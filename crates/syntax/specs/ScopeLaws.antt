@@ -4,7 +4,8 @@ use Rattle.syntax.specs.Tree.{Scalar, Expr, Stmt, Stmts, Declare, Function, Item
 use Rattle.syntax.specs.Numbers.{Value}
 use Rattle.syntax.specs.Names.{Local, definition_of}
 use Rattle.syntax.specs.Types.{Scope, Callable, known_function, file_scope, type_of, running_scope}
-use Rattle.syntax.specs.Typing.{is_unknown, is_void, scope_after, parameter_names, with_parameters, Demand, IsTyped, IsTypedStmt, AreTypedStmts, IsTypedProgram}
+use Rattle.syntax.specs.Typing.{is_unknown, is_void, scope_after, parameter_names, with_parameters, Demand, IsTyped}
+use Rattle.syntax.specs.Typing.{IsTypedStmt, AreTypedStmts, IsTypedProgram}
 use Rattle.syntax.specs.Actions.{State}
 use Rattle.syntax.specs.Meaning.{End, Breaks, Continues, stmt, entered, calls}
 use Rattle.syntax.specs.Laws.{WhereGiven, shape}

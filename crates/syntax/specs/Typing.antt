@@ -2,11 +2,18 @@
 --
 -- Each rule is a demand: a fault number, a place, and whether it is met. They stand in one list, in the order in which
 -- they are looked at: a program is typed where every demand is met, and its fault is the first that is not.
-use Rattle.std.specs.Prelude.{ℕ, ◌+◌, List, [], ◌∷◌, ◌++◌, length, map, drop, sum_by, Option, Some, None, Bool, true, false, not, ◌&&◌, ◌||◌, IsTrue, is_some, is_none, if◌then◌else◌, codes, option_map, unwrap_or, ◌==◌, nat_le, bytes_eq, All}
+use Rattle.std.specs.Prelude.{ℕ, ◌+◌, List, [], ◌∷◌, ◌++◌, length, map, drop, sum_by, Option, Some, None, Bool, true}
+use Rattle.std.specs.Prelude.{false, not, ◌&&◌, ◌||◌, IsTrue, is_some, is_none, if◌then◌else◌, codes, option_map}
+use Rattle.std.specs.Prelude.{unwrap_or, ◌==◌, nat_le, bytes_eq, All}
 use Rattle.std.specs.List.{list_any}
-use Rattle.syntax.specs.Tree.{Span, Scalar, Int, Unsigned, LongLong, First, Name, Expr, Exprs, Variable, Constant, Element, Call, Parenthesized, Cast, Unary, Binary, Logical, Conditional, InTransaction, Simple, Evaluate, Assign, Adjust, Declarator, Start, Nothing, Declares, Does, Stmt, Stmts, Declare, Do, Block, Print, If, IfElse, While, DoWhile, For, Break, Continue, Return, Transaction, Parameter, Function, Global, Item, Defines, Shares, Program}
+use Rattle.syntax.specs.Tree.{Span, Scalar, Int, Unsigned, LongLong, First, Name, Expr, Exprs, Variable, Constant}
+use Rattle.syntax.specs.Tree.{Element, Call, Parenthesized, Cast, Unary, Binary, Logical, Conditional, InTransaction}
+use Rattle.syntax.specs.Tree.{Simple, Evaluate, Assign, Adjust, Declarator, Start, Nothing, Declares, Does, Stmt, Stmts}
+use Rattle.syntax.specs.Tree.{Declare, Do, Block, Print, If, IfElse, While, DoWhile, For, Break, Continue, Return}
+use Rattle.syntax.specs.Tree.{Transaction, Parameter, Function, Global, Item, Defines, Shares, Program}
 use Rattle.syntax.specs.Names.{cells, definition_of}
-use Rattle.syntax.specs.Types.{Known, Unknown, Callable, Scope, file_scope, with_number, number_type, element_type, type_of}
+use Rattle.syntax.specs.Types.{Known, Unknown, Callable, Scope, file_scope, with_number, number_type, element_type}
+use Rattle.syntax.specs.Types.{type_of}
 use Rattle.syntax.specs.Formats.{pieces, is_format, figures}
 
 -- a list of names has a name

@@ -1,7 +1,8 @@
 //! How deep statements and declarations are.
 
 ghost use Rattle.std.specs.Prelude.{◌≡◌, min, map, option_map};
-ghost use Rattle.syntax.specs.Depth.{simple_depth, deepest_value, declaration_depth, start_depth, stmt_depth, block_depth, optional_depth, optional_simple_depth};
+ghost use Rattle.syntax.specs.Depth.{simple_depth, deepest_value, declaration_depth, start_depth, stmt_depth};
+ghost use Rattle.syntax.specs.Depth.{block_depth, optional_depth, optional_simple_depth};
 ghost use Rattle.syntax.specs.Views.{expr_of, simple_of, declarator_of, declaration_of, start_of, stmt_of, stmts_of};
 
 use crate::depth::deepest_of;

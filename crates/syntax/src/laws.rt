@@ -1,12 +1,14 @@
 //! Laws of the meaning of programs. A law has no code: its contract is what it says.
 
-ghost use Rattle.syntax.specs.Laws.{BeginsWithMemory, GivesItsType, GivesWords, GoesOn, KeepsLocals, KeepsOlderLocals, LeavesMemories, LeftAsManyAsFound, LoopIsItsTurns, MoreFounds, MoreMemories, MoreTicks, NeverMoreLeft, OneTickMore, StaysInContext, TicksNeverGrow, WordsStay};
+ghost use Rattle.syntax.specs.Laws.{BeginsWithMemory, GivesItsType, GivesWords, GoesOn, KeepsLocals, KeepsOlderLocals};
+ghost use Rattle.syntax.specs.Laws.{LeavesMemories, LeftAsManyAsFound, LoopIsItsTurns, MoreFounds, MoreMemories};
+ghost use Rattle.syntax.specs.Laws.{MoreTicks, NeverMoreLeft, OneTickMore, StaysInContext, TicksNeverGrow, WordsStay};
 ghost use Rattle.syntax.specs.OrderLaws.{OrdersAreRuns, RunsAreOrders};
 
-/// How a thread goes on. One that is not spent does the same with more ticks, and one that wants no memory either does the
-/// same with further memories too; any thread begins with what it did before. One tick more shows at most one piece more,
-/// or one memory left more, and never both. A piece is a run of literal text in a format of the program, or a number in
-/// decimal.
+/// How a thread goes on. One that is not spent does the same with more ticks, and one that wants no memory either does
+/// the same with further memories too; any thread begins with what it did before. One tick more shows at most one piece
+/// more, or one memory left more, and never both. A piece is a run of literal text in a format of the program, or a
+/// number in decimal.
 pub fn threads_go_on()
     ensures ticks { MoreTicks }
     ensures memories { MoreMemories }
@@ -49,8 +51,8 @@ pub fn a_loop_is_its_turns()
     ensures { LoopIsItsTurns }
 {}
 
-/// What orders show. A run whose threads make their steps within so many ticks is the order of its steps; and each order shows
-/// a run.
+/// What orders show. A run whose threads make their steps within so many ticks is the order of its steps; and each
+/// order shows a run.
 pub fn orders_show_runs()
     ensures runs { RunsAreOrders }
     ensures orders { OrdersAreRuns }

@@ -8,7 +8,9 @@ use Rattle.types.specs.declared.typed.Typed.{Typed}
 use Rattle.types.specs.declared.fault.TypeFault.{TypeFault}
 use Rattle.types.specs.declared.fault.TypeFault.TheVariants as fault
 use Rattle.syntax.specs.Typing.{first_unmet, Meets}
-use Rattle.types.specs.declared.fault.Violation.TheVariants.{UnknownName, DeclaredTwice, WrongType, WrongCount, NotAssignable, BadLength, OutsideLoop, BadFormat, NoWorker, NotDefined}
+use Rattle.types.specs.declared.fault.Violation.TheVariants.{UnknownName, DeclaredTwice, WrongType, WrongCount}
+use Rattle.types.specs.declared.fault.Violation.TheVariants.{NotAssignable, BadLength, OutsideLoop, BadFormat, NoWorker}
+use Rattle.types.specs.declared.fault.Violation.TheVariants.{NotDefined}
 
 abbrev pub number_in : Violation → ℕ
 number_in (UnknownName at) = 20

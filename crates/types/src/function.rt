@@ -1,11 +1,13 @@
 //! Which functions are typed.
 
-ghost use Rattle.std.specs.Prelude.{◌≡◌, ◌≤◌, ◌++◌, ◌∷◌, [], List, ℕ, map, option_map, not, is_none, is_some, ◌&&◌, ◌||◌, OnOk, false};
+ghost use Rattle.std.specs.Prelude.{◌≡◌, ◌≤◌, ◌++◌, ◌∷◌, [], List, ℕ, map, option_map, not, is_none, is_some, ◌&&◌};
+ghost use Rattle.std.specs.Prelude.{◌||◌, OnOk, false};
 ghost use Rattle.lex.specs.declared.token.Scalar.TheVariants.{Int};
 ghost use Rattle.syntax.specs.Tree as Tree;
 ghost use Rattle.syntax.specs.Views.{name_of, parameter_of, function_of, item_of, stmts_of};
 ghost use Rattle.syntax.specs.Types.{file_scope};
-ghost use Rattle.syntax.specs.Typing.{has_name, agrees, same_types, same_result, may_be_function, is_worker, parameter_names, with_parameters, defined_names};
+ghost use Rattle.syntax.specs.Typing.{has_name, agrees, same_types, same_result, may_be_function, is_worker};
+ghost use Rattle.syntax.specs.Typing.{parameter_names, with_parameters, defined_names};
 ghost use Rattle.syntax.specs.Typing.{demand, demands_of, first_unmet, AreDistinct, AreTypedStmts, IsTypedFunction};
 ghost use Rattle.types.specs.inner.Unmet.{Answers, unmet_in};
 ghost use Rattle.types.specs.inner.Known.{known_in, count_in, AreDeclared, Grows, Agrees};

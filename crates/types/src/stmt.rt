@@ -4,7 +4,8 @@ ghost use Rattle.std.specs.Prelude.{◌≡◌, ◌≤◌, ◌++◌, [], List, �
 ghost use Rattle.syntax.specs.Views.{expr_of, simple_of, declaration_of, start_of, stmt_of, stmts_of};
 ghost use Rattle.syntax.specs.Typing.{scope_after, names_of, scope_of_start, returns_right};
 ghost use Rattle.types.specs.BlockItems.{declaration_in};
-ghost use Rattle.syntax.specs.Typing.{demand, demands_of, first_unmet, GivesNumber, IsTyped, IsNumber, IsTypedSimple, IsTypedStart, IsTypedStmt, AreTypedStmts};
+ghost use Rattle.syntax.specs.Typing.{demand, demands_of, first_unmet, GivesNumber, IsTyped, IsNumber, IsTypedSimple};
+ghost use Rattle.syntax.specs.Typing.{IsTypedStart, IsTypedStmt, AreTypedStmts};
 ghost use Rattle.types.specs.inner.Unmet.{Answers, unmet_in};
 ghost use Rattle.types.specs.inner.Known.{known_in, count_in, AreDeclared, Grows, Agrees};
 

@@ -1,7 +1,8 @@
 //! What a name is known as.
 
 ghost use Rattle.std.specs.Prelude.{◌≡◌, ⊤};
-ghost use Rattle.syntax.specs.Typing.{is_unknown, may_be_number, may_be_array, may_be_function, takes_so_many, gives_nothing};
+ghost use Rattle.syntax.specs.Typing.{is_unknown, may_be_number, may_be_array, may_be_function, takes_so_many};
+ghost use Rattle.syntax.specs.Typing.{gives_nothing};
 ghost use Rattle.syntax.specs.Types.{number_type, element_type, call_type};
 ghost use Rattle.types.specs.inner.Scopes.{known_of};
 

@@ -3,9 +3,11 @@
 ghost use Rattle.std.specs.Prelude.{◌≡◌, ◌<◌, ◌≤◌, ℕ, [], IfOk, IfErr, OnOk, MatchOption, MatchBool, vec_len};
 ghost use Rattle.std.specs.Vec.{vec_capacity};
 ghost use Rattle.bytecode.specs.Valid.{cells_of};
-ghost use Rattle.workers.specs.Seen.{finished_accesses, finished_number, finished_steps, finished_tally, finished_thread, setup_of, table_of};
+ghost use Rattle.workers.specs.Seen.{finished_accesses, finished_number, finished_steps, finished_tally};
+ghost use Rattle.workers.specs.Seen.{finished_thread, setup_of, table_of};
 ghost use Rattle.workers.specs.Workers.{AreWorkersOf};
-ghost use Rattle.workers.specs.Closing.{reason_number, HasWorker, NoWorker, AllHere, NoneHolds, Holds, Closes, parts_back, finished_back};
+ghost use Rattle.workers.specs.Closing.{reason_number, HasWorker, NoWorker, AllHere, NoneHolds, Holds, Closes};
+ghost use Rattle.workers.specs.Closing.{parts_back, finished_back};
 
 use crate::hall::Hall;
 use crate::tally::Tally;
@@ -30,7 +32,8 @@ fn has<A: Allocator>(workers: &Vec<Worker<A>, A>, number: u32) -> bool
 
 /// A thread without a worker.
 fn missing<A: Allocator>(workers: &Vec<Worker<A>, A>, count: u32) -> bool
-    ensures { MatchBool result ((n : ℕ) × (n < count) × NoWorker workers.now.items n) (AllHere workers.now.items count) }
+    ensures { MatchBool result ((n : ℕ) × (n < count) × NoWorker workers.now.items n)
+        (AllHere workers.now.items count) }
 {
     'numbers: for number in 0..count {
         if !has(workers, number) {
@@ -166,7 +169,8 @@ pub(crate) fn gather<A: Allocator>(
     requires some { 0 < vec_len workers }
     requires room { (cells.items ≡ []) × (cells_of hall.setup.code ≤ vec_capacity cells) }
     requires places { (threads.items ≡ []) × (vec_len workers ≤ vec_capacity threads) }
-    ensures { (all : AreWorkersOf hall.table.shared.table_id hall.setup workers.items) → Closes hall.table.shared.table_id hall.setup workers.items all result.words.items result.threads.items }
+    ensures { (all : AreWorkersOf hall.table.shared.table_id hall.setup workers.items)
+        → Closes hall.table.shared.table_id hall.setup workers.items all result.words.items result.threads.items }
 {
     let Hall {
         table,
@@ -187,7 +191,8 @@ fn join_all<A: Allocator>(
     requires some { 0 < vec_len workers }
     requires workers { AreWorkersOf words.now.table_id words.now.key workers.items }
     requires places { (threads.items ≡ []) × (vec_len workers ≤ vec_capacity threads) }
-    ensures { (result.0.table_id ≡ words.now.table_id) × (result.0.me ≡ (parts_back workers.items, [])) × (result.1.items ≡ finished_back workers.items) }
+    ensures { (result.0.table_id ≡ words.now.table_id) × (result.0.me ≡ (parts_back workers.items, []))
+        × (result.1.items ≡ finished_back workers.items) }
 {
     let Some(last) = workers.pop() else {
         unreachable!()
@@ -203,7 +208,13 @@ fn join_all<A: Allocator>(
 }
 
 fn parted<A: Allocator>(worker: Worker<A>) -> (Seat<(), View>, Finished<A>)
-    ensures { (result.0 ≡ worker.seat) × (result.1 ≡ record { number = worker.number; thread = worker.thread; steps = worker.steps; tally = worker.tally }) }
+    ensures { (result.0 ≡ worker.seat)
+        × (result.1 ≡ record {
+          number = worker.number;
+          thread = worker.thread;
+          steps = worker.steps;
+          tally = worker.tally;
+        }) }
 {
     let Worker {
         number,
@@ -226,13 +237,15 @@ fn parted<A: Allocator>(worker: Worker<A>) -> (Seat<(), View>, Finished<A>)
 impl<A: Allocator + Copy> Hall<A> {
     ghost use Rattle.workers.specs.Closing.{IsReason};
 
-    /// The cells' words and the threads, where each thread has its worker here and none has the lock. It waits for nobody,
-    /// and needs no other thread's leave: the workers are here. A fault gives hall and workers back, as they were.
+    /// The cells' words and the threads, where each thread has its worker here and none has the lock. It waits for
+    /// nobody, and needs no other thread's leave: the workers are here. A fault gives hall and workers back, as they
+    /// were.
     pub fn close(self, alloc: A, workers: Vec<Worker<A>, A>) -> Result<Outcome<A>, CloseFault<A>>
         requires { AreWorkersOf (table_of self) (setup_of self) workers.items }
         ensures all { OnOk result (AllHere workers.items (setup_of self).threads) }
         ensures none { OnOk result (NoneHolds workers.items) }
-        ensures closes { IfOk result (λ o. (all : AreWorkersOf (table_of self) (setup_of self) workers.items) → Closes (table_of self) (setup_of self) workers.items all o.words.items o.threads.items) }
+        ensures closes { IfOk result (λ o. (all : AreWorkersOf (table_of self) (setup_of self) workers.items)
+            → Closes (table_of self) (setup_of self) workers.items all o.words.items o.threads.items) }
         ensures back { IfErr result (λ e. (e.hall ≡ self) × (e.workers ≡ workers)) }
         ensures reason { IfErr result (λ e. IsReason e.reason (setup_of self).threads workers.items) }
     {

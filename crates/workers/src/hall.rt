@@ -6,8 +6,8 @@ ghost use Rattle.bytecode.specs.Valid.{cells_of};
 use seats::{Setup, WordsTable};
 use std::alloc::{Allocator, Global};
 
-/// The lock and the cells, which the workers share, and the hall's copy of the code, which each step borrows. It can be lent
-/// to any number of threads.
+/// The lock and the cells, which the workers share, and the hall's copy of the code, which each step borrows. It can be
+/// lent to any number of threads.
 #[derive(Drop)]
 pub struct Hall<A: Allocator = Global> {
     pub(crate) table: WordsTable<A>,

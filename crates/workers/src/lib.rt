@@ -1,7 +1,7 @@
 //! Threads of the machine, run by threads of the program over one table of words.
 //!
-//! A worker makes the steps of one thread, each shared access by one atomic step on the table, with no lock, no queue and no
-//! waiting.
+//! A worker makes the steps of one thread, each shared access by one atomic step on the table, with no lock, no queue
+//! and no waiting.
 #![tactic(auto)]
 
 mod close;

@@ -16,9 +16,12 @@ pub(crate) struct SeatLoads<'a, A: Allocator> {
 }
 
 impl<A: Allocator> Loads for SeatLoads<'_, A> {
-    ghost leads = { λ code a from n b at. (b.words.now ≡ a.words.now) × (b.seat.ghost_name ≡ a.seat.ghost_name) × (b.seat.now.table_id ≡ a.seat.now.table_id) × LeadsSeated a.words.now.key code a.seat.now.me from n b.seat.now.me at };
+    ghost leads = { λ code a from n b at. (b.words.now ≡ a.words.now) × (b.seat.ghost_name ≡ a.seat.ghost_name)
+        × (b.seat.now.table_id ≡ a.seat.now.table_id)
+        × LeadsSeated a.words.now.key code a.seat.now.me from n b.seat.now.me at };
 
-    ghost can_step = { λ code a from m. CanStepSeated a.words.now.table_id a.words.now.key code a.seat.now.table_id a.seat.now.me from m };
+    ghost can_step = { λ code a from m. CanStepSeated a.words.now.table_id a.words.now.key code a.seat.now.table_id
+        a.seat.now.me from m };
 
     #[inline(always)]
     fn load(&mut self, cell: u32) -> (u64, u64) {

@@ -52,7 +52,8 @@ fn worker<A: Allocator + Copy>(
     seat: Seat<(), View>,
 ) -> Result<Worker<A>, AllocError>
     ensures number { IfOk result (λ w. w.number ≡ number) }
-    ensures thread { IfOk result (λ w. (w.thread.thread ≡ first_thread code.now number) × IsThreadOf code.now w.thread.thread) }
+    ensures thread { IfOk result (λ w. (w.thread.thread ≡ first_thread code.now number)
+        × IsThreadOf code.now w.thread.thread) }
     ensures none { IfOk result (λ w. (w.steps ≡ 0) × (w.thread.accesses ≡ 0)) }
     ensures seat { IfOk result (λ w. w.seat ≡ seat) }
 {
@@ -92,10 +93,12 @@ fn workers<A: Allocator + Copy>(
     setup: &Setup<A>,
     mut seat: Seat<(), View>,
 ) -> Result<Vec<Worker<A>, A>, AllocError>
-    requires table { (seat.table_id ≡ words.now.table_id) × (0 < words.now.table_id.words) × (words.now.key ≡ setup.now) × (0 < setup.now.threads) }
+    requires table { (seat.table_id ≡ words.now.table_id) × (0 < words.now.table_id.words) × (words.now.key ≡ setup.now)
+        × (0 < setup.now.threads) }
     requires valid { IsValid setup.now.code }
     requires seat { seat.me ≡ (first_view setup.now, []) }
-    ensures workers { IfOk result (λ v. (vec_len v ≡ setup.now.threads) × AreWorkersFrom words.now.table_id setup.now 0 v.items) }
+    ensures workers { IfOk result (λ v. (vec_len v ≡ setup.now.threads)
+        × AreWorkersFrom words.now.table_id setup.now 0 v.items) }
 {
     let mut all = Vec::new(alloc);
     let last = setup.threads() - 1;
@@ -115,7 +118,8 @@ fn opened<A: Allocator + Copy>(
 ) -> Result<(Hall<A>, Vec<Worker<A>, A>), AllocError>
     requires { 0 < threads }
     ensures setup { IfOk result (λ r. (r.0.setup.code ≡ code.now) × (r.0.setup.threads ≡ threads)) }
-    ensures workers { IfOk result (λ r. (vec_len r.1 ≡ threads) × AreWorkersFrom r.0.table.shared.table_id r.0.setup 0 r.1.items) }
+    ensures workers { IfOk result (λ r. (vec_len r.1 ≡ threads)
+        × AreWorkersFrom r.0.table.shared.table_id r.0.setup 0 r.1.items) }
 {
     let copy = code.copy(alloc)?;
     let setup = Setup::new(copy, threads);
@@ -133,8 +137,10 @@ impl<A: Allocator + Copy> Hall<A> {
         code: &Code<A>,
         threads: u32,
     ) -> Result<(Hall<A>, Vec<Worker<A>, A>), HallFault>
-        ensures setup { IfOk result (λ r. ((setup_of r.0).code ≡ code.now) × ((setup_of r.0).threads ≡ threads) × (0 < threads) × (threads ≤ 64)) }
-        ensures workers { IfOk result (λ r. (vec_len r.1 ≡ threads) × AreWorkersFrom (table_of r.0) (setup_of r.0) 0 r.1.items) }
+        ensures setup { IfOk result (λ r. ((setup_of r.0).code ≡ code.now) × ((setup_of r.0).threads ≡ threads)
+            × (0 < threads) × (threads ≤ 64)) }
+        ensures workers { IfOk result (λ r. (vec_len r.1 ≡ threads)
+            × AreWorkersFrom (table_of r.0) (setup_of r.0) 0 r.1.items) }
         ensures fault { IfErr result (λ e. IsRefused e threads) }
     {
         if threads == 0 || threads > MOST_THREADS {

@@ -6,7 +6,8 @@ ghost use Rattle.bytecode.specs.Valid.{bounds_of};
 ghost use Rattle.seats.specs.Saying.{code_does};
 ghost use Rattle.workers.specs.Seen.{setup_of, table_of, worker_number};
 ghost use Rattle.workers.specs.Workers.{IsWorkerOf, AreWorkersOf, StepsOn};
-ghost use Rattle.workers.specs.Driving.{AreDrivenOf, AreFresh, AreEnded, AllPromise, EndsAt, IsNumbered, IsRunRefused, IsThreadCount, Ran, TellsMemory, run_number, driven_number, handle_number};
+ghost use Rattle.workers.specs.Driving.{AreDrivenOf, AreFresh, AreEnded, AllPromise, EndsAt, IsNumbered, IsRunRefused};
+ghost use Rattle.workers.specs.Driving.{IsThreadCount, Ran, TellsMemory, run_number, driven_number, handle_number};
 
 use crate::close::{Finished, Outcome, gather, holder};
 use crate::hall::Hall;
@@ -26,8 +27,8 @@ pub trait Gate {
     /// Whether the gate ever holds a thread. Where it does not, `hold` is never asked, and a step costs nothing more.
     const HOLDS: bool = true;
 
-    /// Asked before each step of a thread, with its accesses so far. While it answers true the thread makes no step and asks
-    /// again; after 1,000,000 such answers in a row the thread goes on without asking again.
+    /// Asked before each step of a thread, with its accesses so far. While it answers true the thread makes no step and
+    /// asks again; after 1,000,000 such answers in a row the thread goes on without asking again.
     fn hold(&self, thread: u32, accesses: u64) -> bool;
 
     /// Told when a thread's loop is over.
@@ -122,7 +123,8 @@ fn drive_on<G: Gate>(hall: &Hall, worker: Worker, budget: u64, gate: &G) -> Driv
 /// A worker's loop, from its thread's beginning.
 fn drive<G: Gate>(hall: &Hall, worker: Worker, budget: u64, gate: &G) -> Driven
     requires { IsWorkerOf hall.now.table.shared.table_id hall.now.setup worker × (worker.steps ≡ 0) }
-    ensures { IsWorkerOf hall.now.table.shared.table_id hall.now.setup result.worker × EndsAt hall.now.setup budget result.stopped result.worker × (result.worker.number ≡ worker.number) }
+    ensures { IsWorkerOf hall.now.table.shared.table_id hall.now.setup result.worker
+        × EndsAt hall.now.setup budget result.stopped result.worker × (result.worker.number ≡ worker.number) }
 {
     let driven = drive_on(hall, worker, budget, gate);
     gate.ended(driven.worker.number);
@@ -138,7 +140,8 @@ pub struct OfHall<'a, A: Allocator = Global> {
 }
 
 impl<'a> Promise<Driven> for OfHall<'a> {
-    ghost kept_by = { λ p r. IsWorkerOf (table_of p.hall.now) (setup_of p.hall.now) r.worker × EndsAt (setup_of p.hall.now) p.budget r.stopped r.worker × (worker_number r.worker ≡ p.number) };
+    ghost kept_by = { λ p r. IsWorkerOf (table_of p.hall.now) (setup_of p.hall.now) r.worker
+        × EndsAt (setup_of p.hall.now) p.budget r.stopped r.worker × (worker_number r.worker ≡ p.number) };
 }
 
 /// Starts a thread for each worker, and joins them.
@@ -151,14 +154,18 @@ fn drive_all<R: Threads + Wait + Sync, G: Gate + Sync>(
     gate: &G,
 ) -> Result<Vec<Driven>, DriveFault>
     requires { AreWorkersOf hall.now.table.shared.table_id hall.now.setup workers.items × AreFresh workers.items }
-    ensures { IfOk result (λ v. AreDrivenOf hall.now.table.shared.table_id hall.now.setup budget v.items × ((n : ℕ) → IsNumbered worker_number workers.items n → IsNumbered driven_number v.items n)) }
+    ensures { IfOk result (λ v. AreDrivenOf hall.now.table.shared.table_id hall.now.setup budget v.items
+        × ((n : ℕ) → IsNumbered worker_number workers.items n → IsNumbered driven_number v.items n)) }
 {
     thread::scope(
         thread::scope_env(),
         rt,
         |scope| -> Result<Vec<Driven>, DriveFault>
-            requires { AreWorkersOf hall.now.table.shared.table_id hall.now.setup workers.items × AreFresh workers.items }
-            ensures { IfOk result (λ v. AreDrivenOf hall.entry.now.table.shared.table_id hall.entry.now.setup budget v.items × ((n : ℕ) → IsNumbered worker_number workers.items n → IsNumbered driven_number v.items n)) }
+            requires { AreWorkersOf hall.now.table.shared.table_id hall.now.setup workers.items
+                × AreFresh workers.items }
+            ensures { IfOk result
+                (λ v. AreDrivenOf hall.entry.now.table.shared.table_id hall.entry.now.setup budget v.items
+                × ((n : ℕ) → IsNumbered worker_number workers.items n → IsNumbered driven_number v.items n)) }
         {
             let handles = start_all(scope, alloc, hall, workers, budget, gate)?;
             join_driven(rt, alloc, hall, budget, handles)
@@ -174,7 +181,8 @@ fn start<'s, E, G: Gate + Sync>(
     gate: &'s G,
 ) -> Result<PromisedHandle<Driven, OfHall<'s>>, DriveFault>
     requires { IsWorkerOf hall.now.table.shared.table_id hall.now.setup worker × (worker.steps ≡ 0) }
-    ensures handle { IfOk result (λ h. (h.promise.hall.now ≡ hall.now) × (h.promise.budget ≡ budget) × (h.promise.number ≡ worker.number)) }
+    ensures handle { IfOk result (λ h. (h.promise.hall.now ≡ hall.now) × (h.promise.budget ≡ budget)
+        × (h.promise.number ≡ worker.number)) }
     ensures fault { IfErr result (λ e. e ≡ DriveFault.NotStarted) }
 {
     let promise = OfHall {
@@ -186,7 +194,9 @@ fn start<'s, E, G: Gate + Sync>(
         promise,
         move || -> Driven
             requires { IsWorkerOf hall.now.table.shared.table_id hall.now.setup worker × (worker.steps ≡ 0) }
-            ensures { IsWorkerOf hall.entry.now.table.shared.table_id hall.entry.now.setup result.worker × EndsAt hall.entry.now.setup budget result.stopped result.worker × (result.worker.number ≡ worker.number) }
+            ensures { IsWorkerOf hall.entry.now.table.shared.table_id hall.entry.now.setup result.worker
+                × EndsAt hall.entry.now.setup budget result.stopped result.worker
+                × (result.worker.number ≡ worker.number) }
         { drive(hall, worker, budget, gate) },
     ) else {
         return Err(DriveFault::NotStarted);
@@ -203,7 +213,8 @@ fn start_all<'s, E, G: Gate + Sync>(
     gate: &'s G,
 ) -> Result<Vec<PromisedHandle<Driven, OfHall<'s>>>, DriveFault>
     requires { AreWorkersOf hall.now.table.shared.table_id hall.now.setup workers.items × AreFresh workers.items }
-    ensures { IfOk result (λ v. AllPromise hall.now budget v.items × ((n : ℕ) → IsNumbered worker_number workers.items n → IsNumbered handle_number v.items n)) }
+    ensures { IfOk result (λ v. AllPromise hall.now budget v.items
+        × ((n : ℕ) → IsNumbered worker_number workers.items n → IsNumbered handle_number v.items n)) }
 {
     let mut handles = Vec::new(alloc);
     while let Some(worker) = workers.pop() {
@@ -225,7 +236,8 @@ fn join_driven<'s, R: Threads>(
     mut handles: Vec<PromisedHandle<Driven, OfHall<'s>>>,
 ) -> Result<Vec<Driven>, DriveFault>
     requires { AllPromise hall.now budget handles.items }
-    ensures driven { IfOk result (λ v. AreDrivenOf hall.now.table.shared.table_id hall.now.setup budget v.items × ((n : ℕ) → IsNumbered handle_number handles.entry.items n → IsNumbered driven_number v.items n)) }
+    ensures driven { IfOk result (λ v. AreDrivenOf hall.now.table.shared.table_id hall.now.setup budget v.items
+        × ((n : ℕ) → IsNumbered handle_number handles.entry.items n → IsNumbered driven_number v.items n)) }
     ensures fault { IfErr result (λ e. e ≡ DriveFault.OutOfMemory) }
 {
     let mut all = Vec::new(alloc);
@@ -299,7 +311,8 @@ pub struct RunReport<A: Allocator = Global> {
 
 /// Adds how a worker's loop ended, and its number where the gate held it to the end.
 fn note(one: &Driven, ends: &mut Vec<Ending>, overheld: &mut Vec<u32>) -> Result<(), AllocError>
-    ensures { OnOk result (ends.new.items ≡ ends.old.items ++ record { number = one.now.worker.number; stopped = one.now.stopped } ∷ []) }
+    ensures { OnOk result
+        (ends.new.items ≡ ends.old.items ++ record { number = one.now.worker.number; stopped = one.now.stopped } ∷ []) }
 {
     if one.overheld {
         overheld.push(one.worker.number)?;
@@ -322,7 +335,9 @@ fn unpack_into(
 ) -> Result<(), AllocError>
     requires driven { AreDrivenOf hall.now.table.shared.table_id hall.now.setup budget driven.old.items }
     requires none_yet { (workers.old.items ≡ []) × (ends.old.items ≡ []) }
-    ensures { OnOk result (AreWorkersOf hall.now.table.shared.table_id hall.now.setup workers.new.items × AreEnded hall.now.setup budget workers.new.items ends.new.items × ((n : ℕ) → IsNumbered driven_number driven.old.items n → IsNumbered worker_number workers.new.items n)) }
+    ensures { OnOk result (AreWorkersOf hall.now.table.shared.table_id hall.now.setup workers.new.items
+        × AreEnded hall.now.setup budget workers.new.items ends.new.items
+        × ((n : ℕ) → IsNumbered driven_number driven.old.items n → IsNumbered worker_number workers.new.items n)) }
 {
     while let Some(one) = driven.pop() {
         note(&one, ends, overheld)?;
@@ -339,7 +354,9 @@ fn unpack(
     mut driven: Vec<Driven>,
 ) -> Result<(Vec<Worker>, Vec<Ending>, Vec<u32>), AllocError>
     requires { AreDrivenOf hall.now.table.shared.table_id hall.now.setup budget driven.items }
-    ensures { IfOk result (λ r. AreWorkersOf hall.now.table.shared.table_id hall.now.setup r.0.items × AreEnded hall.now.setup budget r.0.items r.1.items × ((n : ℕ) → IsNumbered driven_number driven.items n → IsNumbered worker_number r.0.items n)) }
+    ensures { IfOk result (λ r. AreWorkersOf hall.now.table.shared.table_id hall.now.setup r.0.items
+        × AreEnded hall.now.setup budget r.0.items r.1.items
+        × ((n : ℕ) → IsNumbered driven_number driven.items n → IsNumbered worker_number r.0.items n)) }
 {
     let mut workers = Vec::new(alloc);
     let mut ends = Vec::new(alloc);
@@ -374,7 +391,8 @@ fn reported(
     requires driven { AreDrivenOf hall.table.shared.table_id hall.setup budget driven.items }
     requires here { (n : ℕ) → n < hall.setup.threads → IsNumbered driven_number driven.items n }
     requires few { hall.setup.threads ≤ 64 }
-    ensures { IfOk result (λ r. (does : Behaviour) → Means (bounds_of hall.setup.code) (code_does hall.setup.code) does → Ran does hall.setup budget r) }
+    ensures { IfOk result (λ r. (does : Behaviour) → Means (bounds_of hall.setup.code) (code_does hall.setup.code) does
+        → Ran does hall.setup budget r) }
 {
     let Ok((workers, ends, overheld)) = unpack(alloc, &hall, budget, driven) else {
         return Err(DriveFault::OutOfMemory);
@@ -407,7 +425,8 @@ fn run_workers<R: Threads + Wait + Sync, G: Gate + Sync>(
     requires workers { AreWorkersOf hall.table.shared.table_id hall.setup workers.items × AreFresh workers.items }
     requires here { (n : ℕ) → n < hall.setup.threads → IsNumbered worker_number workers.items n }
     requires few { hall.setup.threads ≤ 64 }
-    ensures { IfOk result (λ r. (does : Behaviour) → Means (bounds_of hall.setup.code) (code_does hall.setup.code) does → Ran does hall.setup budget r) }
+    ensures { IfOk result (λ r. (does : Behaviour) → Means (bounds_of hall.setup.code) (code_does hall.setup.code) does
+        → Ran does hall.setup budget r) }
 {
     match drive_all(rt, alloc, &hall, workers, budget, gate) {
         Ok(driven) => reported(alloc, hall, budget, driven),
@@ -415,11 +434,13 @@ fn run_workers<R: Threads + Wait + Sync, G: Gate + Sync>(
     }
 }
 
-/// Runs each thread of the code in a thread of the program's own, with so many steps each, and waits until all of them are over,
-/// have made their steps or were stopped. Nothing else here waits. The report is one run of every program that the code means.
+/// Runs each thread of the code in a thread of the program's own, with so many steps each, and waits until all of them
+/// are over, have made their steps or were stopped. Nothing else here waits. The report is one run of every program
+/// that the code means.
 ///
-/// A fault is `Threads` exactly where the number is not 1 to 64. Where it is one of these, `NotStarted` says that a thread could
-/// not be started, in which case those that were are waited for, and `OutOfMemory` that a growth was refused.
+/// A fault is `Threads` exactly where the number is not 1 to 64. Where it is one of these, `NotStarted` says that a
+/// thread could not be started, in which case those that were are waited for, and `OutOfMemory` that a growth was
+/// refused.
 pub fn run_all<R: Threads + Wait + Sync, G: Gate + Sync>(
     rt: &R,
     alloc: Global,
@@ -428,7 +449,8 @@ pub fn run_all<R: Threads + Wait + Sync, G: Gate + Sync>(
     budget: u64,
     gate: &G,
 ) -> Result<RunReport, RunFault>
-    ensures report { IfOk result (λ r. (does : Behaviour) → Means (bounds_of code.now) (code_does code.now) does → Ran does (record { code = code.now; threads = threads }) budget r) }
+    ensures report { IfOk result (λ r. (does : Behaviour) → Means (bounds_of code.now) (code_does code.now) does
+        → Ran does (record { code = code.now; threads = threads }) budget r) }
     ensures few { OnOk result (IsThreadCount threads) }
     ensures fault { IfErr result (λ e. IsRunRefused e threads) }
 {

@@ -53,8 +53,8 @@ impl Tally {
         self.dropped = one_more(self.dropped);
     }
 
-    /// A step was made: what was to be done in it, whether validation waited in it, its answer, and what happened. Of begins the
-    /// outermost alone makes an access.
+    /// A step was made: what was to be done in it, whether validation waited in it, its answer, and what happened. Of
+    /// begins the outermost alone makes an access.
     pub(crate) fn count_step(&mut self, doing: Doing, waits: bool, answer: Answer, event: Event) {
         match (doing, answer) {
             (Doing::Begin(_), Answer::Value(lock)) => self.count_begin(lock),

@@ -1,6 +1,7 @@
 //! One thread of the machine, with its seat at the table.
 
-ghost use Rattle.std.specs.Prelude.{◌≡◌, ◌+◌, ◌%◌, ◌^◌, ◌<◌, ◌≤◌, ℕ, true, false, None, Some, OnOk, OnErr, OnSome, IfErr, IfNone, IfOk, IfSome};
+ghost use Rattle.std.specs.Prelude.{◌≡◌, ◌+◌, ◌%◌, ◌^◌, ◌<◌, ◌≤◌, ℕ, true, false, None, Some, OnOk, OnErr, OnSome};
+ghost use Rattle.std.specs.Prelude.{IfErr, IfNone, IfOk, IfSome};
 ghost use Rattle.atomic_table.specs.Seated.{TableId};
 ghost use Rattle.bytecode.specs.Code.{effect};
 ghost use Rattle.bytecode.specs.Valid.{cells_of};
@@ -8,7 +9,8 @@ ghost use Rattle.machine.specs.Threads.{access as access_of};
 ghost use Rattle.machine.specs.Standing.{IsThreadOf};
 ghost use Rattle.machine.specs.States.{ComparesEntry, ComparesNext, StandsAt, StandsStill, StoresNext, WaitsNext};
 ghost use Rattle.seats.specs.Setup.{Setup};
-ghost use Rattle.workers.specs.Seen.{accesses_of, setup_of, state_of, steps_of, table_of, tally_of, thread_of, worker_number};
+ghost use Rattle.workers.specs.Seen.{accesses_of, setup_of, state_of, steps_of, table_of, tally_of, thread_of};
+ghost use Rattle.workers.specs.Seen.{worker_number};
 ghost use Rattle.workers.specs.Works.{StopsAt};
 
 use crate::hall::Hall;
@@ -69,8 +71,8 @@ impl<A: Allocator + Copy> Worker<A> {
 
     // Steps are counted where `step` and `run` end, and not by what they call.
 
-    /// Local steps of the thread, and reads between them, at most so many steps: how many were made, and where they are fewer what is to
-    /// be done then.
+    /// Local steps of the thread, and reads between them, at most so many steps: how many were made, and where they are
+    /// fewer what is to be done then.
     #[inline(always)]
     fn advance(&mut self, words: &Words<A>, code: &Code<A>, most: u64) -> (u64, Option<Doing>)
         requires table { words.now.table_id.words ≡ cells_of code.now + 1 }
@@ -130,7 +132,8 @@ impl<A: Allocator + Copy> Worker<A> {
         requires code { words.now.key.code ≡ code.now }
         requires worker { IsWorkerOf words.now.table_id words.now.key self.old }
         requires room { self.old.steps + 1 < 2 ^ 64 }
-        ensures goes_on { (self.new.number ≡ self.old.number) × StepsOn words.now.table_id words.now.key self.old self.new }
+        ensures goes_on { (self.new.number ≡ self.old.number)
+            × StepsOn words.now.table_id words.now.key self.old self.new }
         ensures ok { OnOk result (self.new.steps ≡ self.old.steps + 1) }
         ensures err { OnErr result (self.new.steps ≡ self.old.steps) }
         ensures stop { IfErr result (λ e. StopsAt code.now self.new.thread.thread e) }
@@ -144,8 +147,8 @@ impl<A: Allocator + Copy> Worker<A> {
         }
     }
 
-    /// The step of a begin, which loads the lock, where no attempt is under way: the lock's value that was found, if it was made.
-    /// Where that is odd the begin stands there still.
+    /// The step of a begin, which loads the lock, where no attempt is under way: the lock's value that was found, if it
+    /// was made. Where that is odd the begin stands there still.
     #[inline(always)]
     fn load_begin(&mut self, words: &Words<A>, code: &Code<A>, to: u32) -> Option<u64>
         requires table { words.now.table_id.words ≡ cells_of code.now + 1 }
@@ -208,8 +211,8 @@ impl<A: Allocator + Copy> Worker<A> {
         true
     }
 
-    /// The step of a commit that stores the pair at this place of the write log, or past the last one the lock: whether the commit
-    /// goes on.
+    /// The step of a commit that stores the pair at this place of the write log, or past the last one the lock: whether
+    /// the commit goes on.
     #[inline(always)]
     fn store(&mut self, words: &Words<A>, code: &Code<A>, place: usize) -> bool
         requires table { words.now.table_id.words ≡ cells_of code.now + 1 }
@@ -247,7 +250,8 @@ impl<A: Allocator + Copy> Worker<A> {
         most
     }
 
-    /// The swap of a commit and what follows it, at most so many steps, where it goes on with the swap or stores: how many were made.
+    /// The swap of a commit and what follows it, at most so many steps, where it goes on with the swap or stores: how
+    /// many were made.
     #[inline(always)]
     fn commit(&mut self, words: &Words<A>, code: &Code<A>, most: u64) -> u64
         requires table { words.now.table_id.words ≡ cells_of code.now + 1 }
@@ -349,8 +353,9 @@ impl<A: Allocator + Copy> Worker<A> {
         self.thread.validated(code, time, place, lock);
     }
 
-    /// Steps of validation at this lock value, from this place of the read log on, one after another, at most so many, up to an entry
-    /// whose word is another one, or past the last one: how many were made, and whether the attempt goes on.
+    /// Steps of validation at this lock value, from this place of the read log on, one after another, at most so many,
+    /// up to an entry whose word is another one, or past the last one: how many were made, and whether the attempt goes
+    /// on.
     #[inline(always)]
     fn compare(
         &mut self,
@@ -383,7 +388,8 @@ impl<A: Allocator + Copy> Worker<A> {
         (most, true)
     }
 
-    /// Steps of validation, one after another, at most so many, where what is to be done is under it: how many were made.
+    /// Steps of validation, one after another, at most so many, where what is to be done is under it: how many were
+    /// made.
     #[inline(never)]
     fn validate(&mut self, words: &Words<A>, code: &Code<A>, most: u64) -> u64
         requires table { words.now.table_id.words ≡ cells_of code.now + 1 }
@@ -429,7 +435,8 @@ impl<A: Allocator + Copy> Worker<A> {
         requires worker { CanStep words.now.table_id words.now.key most self.old }
         requires some { 0 < most }
         requires stands { StandsAt code.now self.old.thread doing }
-        ensures ok { IfOk result (λ made. (0 < made) × (made ≤ most) × StepsBy words.now.table_id words.now.key made self.old self.new) }
+        ensures ok { IfOk result (λ made. (0 < made) × (made ≤ most)
+            × StepsBy words.now.table_id words.now.key made self.old self.new) }
         ensures err { OnErr result (StepsBy words.now.table_id words.now.key 0 self.old self.new) }
         ensures stop { IfErr result (λ e. StopsAt code.now self.new.thread.thread e) }
     {
@@ -468,7 +475,8 @@ impl<A: Allocator + Copy> Worker<A> {
         ensures goes_on { StepsBy hall.now.table.shared.table_id hall.now.setup result.0 self.old self.new }
         ensures few { result.0 ≤ budget }
         ensures status { IfOk result.1 (λ s. Reports s self.new.thread.thread.status budget result.0) }
-        ensures stop { IfErr result.1 (λ e. StopsAt hall.now.setup.code self.new.thread.thread e × (result.0 < budget)) }
+        ensures stop { IfErr result.1 (λ e. StopsAt hall.now.setup.code self.new.thread.thread e
+            × (result.0 < budget)) }
     {
         let mut left = budget;
         'turns: while left > 0 {
@@ -492,42 +500,49 @@ impl<A: Allocator + Copy> Worker<A> {
         (budget, Ok(self.reported(budget)))
     }
 
-    /// Makes `budget` steps of the machine, or fewer where the thread is over or a step stops. An access to the lock or to a
-    /// cell is one atomic step on the hall's table. It waits for no other thread.
+    /// Makes `budget` steps of the machine, or fewer where the thread is over or a step stops. An access to the lock or
+    /// to a cell is one atomic step on the hall's table. It waits for no other thread.
     ///
-    /// A stop, `OutOfMemory` where the memory that a step wants was refused and `SequenceUsedUp` where the lock has no value
-    /// left, comes only where the thread runs still and has made fewer steps than the budget. It leaves all earlier steps, and
-    /// the same call may go on from there.
+    /// A stop, `OutOfMemory` where the memory that a step wants was refused and `SequenceUsedUp` where the lock has no
+    /// value left, comes only where the thread runs still and has made fewer steps than the budget. It leaves all
+    /// earlier steps, and the same call may go on from there.
     ///
-    /// After it there is a run of every program that the code means in which the thread stands as it is then, local steps
-    /// since its last access and commits without a write among them, and in which its earlier transactions come first among
-    /// its own. An attempt that it has is where the code comes on one memory of that run, also where it will be dropped.
+    /// After it there is a run of every program that the code means in which the thread stands as it is then, local
+    /// steps since its last access and commits without a write among them, and in which its earlier transactions come
+    /// first among its own. An attempt that it has is where the code comes on one memory of that run, also where it
+    /// will be dropped.
     pub fn run(&mut self, hall: &Hall<A>, budget: u64) -> Result<Status, Stop>
         requires worker { IsWorkerOf (table_of hall.now) (setup_of hall.now) self.old }
         requires room { steps_of self.old + budget < 2 ^ 64 }
         ensures worker { IsWorkerOf (table_of hall.now) (setup_of hall.now) self.new }
-        ensures goes_on { (worker_number self.new ≡ worker_number self.old) × StepsOn (table_of hall.now) (setup_of hall.now) self.old self.new }
+        ensures goes_on { (worker_number self.new ≡ worker_number self.old)
+            × StepsOn (table_of hall.now) (setup_of hall.now) self.old self.new }
         ensures runs { StandsOn (table_of hall.now) (setup_of hall.now) self.old self.new }
         ensures steps { (steps_of self.old ≤ steps_of self.new) × (steps_of self.new ≤ steps_of self.old + budget) }
-        ensures status { IfOk result (λ s. Reports s (thread_of self.new).status (steps_of self.old + budget) (steps_of self.new)) }
-        ensures stop { IfErr result (λ e. StopsAt (setup_of hall.now).code (thread_of self.new) e × (steps_of self.new < steps_of self.old + budget)) }
+        ensures status { IfOk result
+            (λ s. Reports s (thread_of self.new).status (steps_of self.old + budget) (steps_of self.new)) }
+        ensures stop { IfErr result (λ e. StopsAt (setup_of hall.now).code (thread_of self.new) e
+            × (steps_of self.new < steps_of self.old + budget)) }
     {
         let (made, ended) = self.run_on(hall, budget);
         self.steps += made;
         ended
     }
 
-    /// From now on neither thread is answered a lock value below what either was answered so far, nor one that is not above
-    /// the number of a transaction of either that took the lock. So what one of them begins later stands in every run after
-    /// what both have done. It loads the lock for each of the two.
+    /// From now on neither thread is answered a lock value below what either was answered so far, nor one that is not
+    /// above the number of a transaction of either that took the lock. So what one of them begins later stands in every
+    /// run after what both have done. It loads the lock for each of the two.
     pub fn meet(&mut self, hall: &Hall<A>, other: &mut Worker<A>)
         requires mine { IsWorkerOf (table_of hall.now) (setup_of hall.now) self.old }
         requires theirs { IsWorkerOf (table_of hall.now) (setup_of hall.now) other.old }
-        ensures same { (worker_number self.new ≡ worker_number self.old) × (state_of self.new ≡ state_of self.old) × (steps_of self.new ≡ steps_of self.old) }
-        ensures other { (worker_number other.new ≡ worker_number other.old) × (state_of other.new ≡ state_of other.old) × (steps_of other.new ≡ steps_of other.old) }
+        ensures same { (worker_number self.new ≡ worker_number self.old) × (state_of self.new ≡ state_of self.old)
+            × (steps_of self.new ≡ steps_of self.old) }
+        ensures other { (worker_number other.new ≡ worker_number other.old) × (state_of other.new ≡ state_of other.old)
+            × (steps_of other.new ≡ steps_of other.old) }
         ensures mine { IsWorkerOf (table_of hall.now) (setup_of hall.now) self.new }
         ensures theirs { IsWorkerOf (table_of hall.now) (setup_of hall.now) other.new }
-        ensures floors { (n : ℕ) × FloorsAt (table_of hall.now) (setup_of hall.now) n self.old self.new × FloorsAt (table_of hall.now) (setup_of hall.now) n other.old other.new }
+        ensures floors { (n : ℕ) × FloorsAt (table_of hall.now) (setup_of hall.now) n self.old self.new
+            × FloorsAt (table_of hall.now) (setup_of hall.now) n other.old other.new }
     {
         let _found = seats::meet(&hall.table.shared, &mut self.seat, &mut other.seat);
     }

@@ -1,5 +1,6 @@
 -- A world of the machine as its contracts see it: what runs, and the steps that were made. All else follows from these.
-use Rattle.std.specs.Prelude.{◌≡◌, ◌+◌, ◌%◌, ◌⊎◌, ℕ, Bool, true, false, List, ◌∷◌, ◌++◌, Option, None, Some, option_map, take}
+use Rattle.std.specs.Prelude.{◌≡◌, ◌+◌, ◌%◌, ◌⊎◌, ℕ, Bool, true, false, List, ◌∷◌, ◌++◌, Option, None, Some, option_map}
+use Rattle.std.specs.Prelude.{take}
 use Rattle.std.specs.List.{slice_get}
 use Rattle.syntax.specs.Behaviours.{Behaviour, Means, Step}
 use Rattle.syntax.specs.Threads.{thread}

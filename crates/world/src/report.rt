@@ -2,7 +2,8 @@
 
 ghost use Rattle.std.specs.Prelude.{◌≡◌, [], None, IfOk, IfErr, length};
 ghost use Rattle.world.specs.Simulations.{IsHolder, world_of};
-ghost use Rattle.world.specs.Reports.{end_by as end_by_spec, end_of as end_of_spec, end_with as end_with_spec, stop_with, threads_of, threads_shown};
+ghost use Rattle.world.specs.Reports.{end_by as end_by_spec, end_of as end_of_spec, end_with as end_with_spec};
+ghost use Rattle.world.specs.Reports.{stop_with, threads_of, threads_shown};
 
 use crate::stop::{StopReason, WorldStop};
 use crate::world::World;
@@ -28,8 +29,8 @@ pub enum End {
 /// What steps of the machine leave.
 #[derive(Drop)]
 pub struct Report<A: Allocator = Global> {
-    /// What happened in which step: the accesses to the lock or the words that all threads had made with it, the thread, and
-    /// the event.
+    /// What happened in which step: the accesses to the lock or the words that all threads had made with it, the
+    /// thread, and the event.
     pub events: Vec<(u64, u32, Event), A>,
     /// How each thread is found, and what it has printed, from thread 0 on.
     pub threads: Vec<(End, String<A>), A>,
@@ -102,8 +103,8 @@ impl<A: Allocator + Copy> World<A> {
         }
     }
 
-    /// What the steps have left, without events; where the next step of a thread was not made, with that. An error comes only
-    /// where a growth is refused.
+    /// What the steps have left, without events; where the next step of a thread was not made, with that. An error
+    /// comes only where a growth is refused.
     pub fn report_with(
         &self,
         alloc: A,

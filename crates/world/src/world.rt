@@ -1,8 +1,10 @@
 //! A world: its lock, its words and its threads.
 
-ghost use Rattle.std.specs.Prelude.{◌≡◌, ◌+◌, ◌<◌, ◌≤◌, ◌⊎◌, ◌↔◌, ◌∷◌, [], true, Some, IfOk, IfErr, OnOk, OnErr, length, slice_index, take, vec_len};
+ghost use Rattle.std.specs.Prelude.{◌≡◌, ◌+◌, ◌<◌, ◌≤◌, ◌⊎◌, ◌↔◌, ◌∷◌, [], true, Some, IfOk, IfErr, OnOk, OnErr};
+ghost use Rattle.std.specs.Prelude.{length, slice_index, take, vec_len};
 ghost use Rattle.syntax.specs.Behaviours.{Extends};
-ghost use Rattle.world.specs.Simulations.{EndsAlone, IsExplained, IsHolder, accesses_of, event_at, further, output_at, shown_at, status_at, stops_at, transactions_of, world_of};
+ghost use Rattle.world.specs.Simulations.{EndsAlone, IsExplained, IsHolder, accesses_of, event_at, further, output_at};
+ghost use Rattle.world.specs.Simulations.{shown_at, status_at, stops_at, transactions_of, world_of};
 ghost use Rattle.world.specs.Stops.{StopsFor};
 ghost use Rattle.world.specs.inner.Kept.{AreFirstFrom};
 
@@ -18,7 +20,8 @@ use syntax::numbers::Status;
 /// The most threads of a world.
 const MOST_THREADS: u32 = 64;
 
-/// A lock, shared words and 1 to 64 threads of one code, of which it keeps a copy. It stores the thread of each step made.
+/// A lock, shared words and 1 to 64 threads of one code, of which it keeps a copy. It stores the thread of each step
+/// made.
 ///
 /// Contracts see the code, the number of threads and the steps made: what else a world has is what these steps of the
 /// machine lead to.
@@ -42,7 +45,9 @@ impl<A: Allocator> Model for World<A> {
 
     ghost use Rattle.world.specs.inner.Kept.{IsWorldOf};
 
-    ghost invariant = { λ w. IsWorldOf (record { code = w.code; threads = length w.threads.items; trace = w.trace.items }) w.lock w.words.items w.threads.items w.accesses };
+    ghost invariant = { λ w. IsWorldOf
+        (record { code = w.code; threads = length w.threads.items; trace = w.trace.items }) w.lock w.words.items
+        w.threads.items w.accesses };
 }
 
 /// Makes so many threads, each at its beginning.
@@ -85,8 +90,9 @@ fn opened<A: Allocator + Copy>(
 }
 
 impl<A: Allocator + Copy> World<A> {
-    /// A world whose lock is free, whose cells have their first words, and whose threads stand at their beginnings. A fault is
-    /// `WrongThreads` exactly where the number is not 1 to 64, and else `OutOfMemory`, where a growth was refused.
+    /// A world whose lock is free, whose cells have their first words, and whose threads stand at their beginnings. A
+    /// fault is `WrongThreads` exactly where the number is not 1 to 64, and else `OutOfMemory`, where a growth was
+    /// refused.
     pub fn new(alloc: A, code: &Code<A>, threads: u32) -> Result<World<A>, WorldFault>
         ensures ok { IfOk result (λ w. w ≡ record { code = code.now; threads = threads; trace = [] }) }
         ensures wrong { (result ≡ Err WorldFault.WrongThreads) ↔ ((threads ≡ 0) ⊎ (64 < threads)) }
@@ -103,11 +109,11 @@ impl<A: Allocator + Copy> World<A> {
         }
     }
 
-    /// Makes the next step of thread t, and says what happened in it. A thread that is over makes steps that change nothing
-    /// but the list of steps.
+    /// Makes the next step of thread t, and says what happened in it. A thread that is over makes steps that change
+    /// nothing but the list of steps.
     ///
-    /// An error leaves the world as it was: `OutOfMemory` where a growth was refused, `SequenceUsedUp` where the step would
-    /// swap the lock from its last even value.
+    /// An error leaves the world as it was: `OutOfMemory` where a growth was refused, `SequenceUsedUp` where the step
+    /// would swap the lock from its last even value.
     pub fn step(&mut self, t: u32) -> Result<Event, Stop>
         requires { t < self.old.threads }
         ensures ok { OnOk result (self.new ≡ further self.old (t ∷ [])) }
@@ -170,11 +176,13 @@ impl<A: Allocator + Copy> World<A> {
         }
     }
 
-    /// Makes these steps, each the next one of its thread, in order. An error says which step was not made, and why; the
-    /// steps before it stand, and the rest may be asked for again.
+    /// Makes these steps, each the next one of its thread, in order. An error says which step was not made, and why;
+    /// the steps before it stand, and the rest may be asked for again.
     pub fn run(&mut self, steps: &[u32]) -> Result<(), WorldStop>
         ensures ok { OnOk result (self.new ≡ further self.old steps.now) }
-        ensures err { IfErr result (λ e. (e.step < length steps.now) × (self.new ≡ further self.old (take e.step steps.now)) × StopsFor self.new (slice_index steps.now e.step) e.reason) }
+        ensures err { IfErr result (λ e. (e.step < length steps.now)
+            × (self.new ≡ further self.old (take e.step steps.now))
+            × StopsFor self.new (slice_index steps.now e.step) e.reason) }
         ensures explained { IsExplained self.new }
         ensures extends { Extends (transactions_of self.old) (transactions_of self.new) }
     {

@@ -24,8 +24,8 @@ impl<L: Ledger> Model for Looks<L> {
 }
 
 impl<L: Ledger> Looks<L> {
-    /// No looks yet. The ledger that `L` names has to be that of the blank: a caller passes `Brand` for `L` to a function
-    /// over `L: Ledger`, with `Blank::new(1)`, and its proof picks the ledger.
+    /// No looks yet. The ledger that `L` names has to be that of the blank: a caller passes `Brand` for `L` to a
+    /// function over `L: Ledger`, with `Blank::new(1)`, and its proof picks the ledger.
     pub fn new(blank: Blank) -> Looks<L>
         requires name { blank.name ≡ L.name }
         requires parts { blank.parts ≡ L.parts }

@@ -1,6 +1,7 @@
 //! The pairs of a write log in order of first write, with their order by address.
 
-ghost use Rattle.std.specs.Prelude.{◌≡◌, true, false, ◌+◌, ◌<◌, ◌≤◌, ◌^◌, [], OnOk, OnErr, length, vec_len, vec_capacity};
+ghost use Rattle.std.specs.Prelude.{◌≡◌, true, false, ◌+◌, ◌<◌, ◌≤◌, ◌^◌, [], OnOk, OnErr, length, vec_len};
+ghost use Rattle.std.specs.Prelude.{vec_capacity};
 ghost use Rattle.std.specs.List.{slice_get, insert};
 ghost use Rattle.write_log.specs.Overlay.{put, IsDistinct};
 ghost use Rattle.write_log.specs.inner.Order.{IsAbove, IsRising, IsSearched, IsFound, IsWithinDigits, AreWithin};
@@ -35,7 +36,10 @@ impl<A: Allocator> Model for Pairs<A> {
 
     ghost Value = { Listed };
 
-    ghost view = { λ a. record { pairs = a.list.items; room = min (vec_capacity a.list - vec_len a.list) (vec_capacity a.order - vec_len a.order) } };
+    ghost view = { λ a. record {
+      pairs = a.list.items;
+      room = min (vec_capacity a.list - vec_len a.list) (vec_capacity a.order - vec_len a.order);
+    } };
 
     ghost invariant = { λ a. IsOrderOf a.list.items a.order.items × AreBetween a.least a.greatest a.list.items };
 }
@@ -54,8 +58,8 @@ fn search<L: Ledger>(
     ensures found { IsSearched address order.now result }
     ensures looks { IsWithinDigits (length order.now) looks.old looks.new }
 {
-    // The addresses rise, so at most `address - least` of them lie below this one, and at most `greatest - address` above it.
-    // Where they lie close together, little is left to be halved: nothing where none is left out.
+    // The addresses rise, so at most `address - least` of them lie below this one, and at most `greatest - address`
+    // above it. Where they lie close together, little is left to be halved: nothing where none is left out.
     let below = address.saturating_sub(least) as usize;
     let above = greatest.saturating_sub(address) as usize;
     let mut from = order.len().saturating_sub(above + 1);

@@ -1,5 +1,5 @@
-//! Codes whose words need 64 bits, or in whose registers stands more than an instruction looks at: each of a `worker` with four
-//! registers over a variable `x` of type `int` and a variable `y` of type `long long`.
+//! Codes whose words need 64 bits, or in whose registers stands more than an instruction looks at: each of a `worker`
+//! with four registers over a variable `x` of type `int` and a variable `y` of type `long long`.
 
 use crate::built::code_of;
 use crate::written::{WrittenCode, X, Y, second, worker};
@@ -7,12 +7,12 @@ use bytecode::{Code, Instr};
 use std::alloc::Allocator;
 use syntax::numbers::Trap;
 
-/// Two words, an operator of registers 2 and 3, which hold them, into register 1, and how the word that it gives is printed as a
-/// `long long`, or why it traps.
+/// Two words, an operator of registers 2 and 3, which hold them, into register 1, and how the word that it gives is
+/// printed as a `long long`, or why it traps.
 pub type WideOperator = (u64, u64, Instr, Result<&'static str, Trap>);
 
-/// What a row is called; instructions, and where the function `f` among them begins if there is one; what a thread of them prints,
-/// or why it traps; and the words that it leaves in `x` and `y`, which were 0.
+/// What a row is called; instructions, and where the function `f` among them begins if there is one; what a thread of
+/// them prints, or why it traps; and the words that it leaves in `x` and `y`, which were 0.
 pub type WideRow = (
     &'static str,
     &'static [Instr],
@@ -33,8 +33,8 @@ pub fn shown_operator(row: &WideOperator) -> [Instr; 5] {
     ]
 }
 
-/// The code of these instructions of `worker`, and of `f` where it is said where that begins, over `x` and `y`, if it is valid and
-/// memory is there.
+/// The code of these instructions of `worker`, and of `f` where it is said where that begins, over `x` and `y`, if it
+/// is valid and memory is there.
 pub fn code_over_both<A: Allocator + Copy>(
     alloc: A,
     instructions: &[Instr],

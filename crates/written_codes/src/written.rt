@@ -28,8 +28,8 @@ pub struct WrittenVariable<'a> {
     pub value: Option<u32>,
 }
 
-/// A code: its functions, their instructions one after another, the registers that calls hand over, each call's together, the
-/// texts that are printed, and the variables.
+/// A code: its functions, their instructions one after another, the registers that calls hand over, each call's
+/// together, the texts that are printed, and the variables.
 #[derive(Clone, Copy)]
 pub struct WrittenCode<'a> {
     pub functions: &'a [WrittenFunction<'a>],

@@ -1,5 +1,6 @@
 -- How ways through a function are followed: what an instruction does with the place and with the open begins.
-use Rattle.std.specs.Prelude.{ℕ, zero, suc, ◌-◌, List, [], ◌∷◌, ◌++◌, Bool, true, false, Option, Some, None, slice_get, slice_set, nat_lt, if◌then◌else◌, ◌==◌}
+use Rattle.std.specs.Prelude.{ℕ, zero, suc, ◌-◌, List, [], ◌∷◌, ◌++◌, Bool, true, false, Option, Some, None, slice_get}
+use Rattle.std.specs.Prelude.{slice_set, nat_lt, if◌then◌else◌, ◌==◌}
 use Rattle.bytecode.specs.Code.{Instr}
 use Rattle.bytecode.specs.declared.walk.Arrival.{Arrival}
 use Rattle.bytecode.specs.declared.walk.Arrival.TheVariants.{Unseen, Outside, Inside}

@@ -95,8 +95,8 @@ fn a_block_may_be_long(rt: HostRuntime) {
     assert_that(&rt, long);
 }
 
-/// Parts of a program that may stand in it as often as a text has room for. The rows stand in a function, so that no proof but
-/// its own looks at them.
+/// Parts of a program that may stand in it as often as a text has room for. The rows stand in a function, so that no
+/// proof but its own looks at them.
 fn long() -> &'static [LargeRow] {
     static ROWS: [LargeRow; 7] = [
         (

@@ -115,7 +115,8 @@ fn statements() -> &'static [&'static str] {
         "void f() { for (long long int a = 1; a < 2; ++a) ; }",
         "void f() { a = (long long)b; a = (signed long long)b; a = (long long int)-(b); a = (signed long long int)(int)b; }",
         "void f(long long int a, signed long long b) { a = 1ll + 1LL; }",
-        // transactions that are expressions: as a statement, before an operator, in one another, and where any expression stands
+        // transactions that are expressions: as a statement, before an operator, in one another, and where any
+        // expression stands
         "void f() { __transaction_atomic (a); }",
         "void f() { __transaction_atomic(a) + 1; }",
         "void f() { __transaction_atomic (a)++; --__transaction_relaxed (a); __transaction_atomic (a) = __transaction_relaxed (b); }",

@@ -1,6 +1,6 @@
-//! Depths by the rule: a name, a constant, `;`, `break`, `continue`, `cancel` and `return` without a value have depth 1; any
-//! other expression or statement, also one in parentheses, a declaration and a block, has one more than its deepest part. A
-//! transaction's block is a part of it. A program is as deep as the deepest block of a function.
+//! Depths by the rule: a name, a constant, `;`, `break`, `continue`, `cancel` and `return` without a value have depth
+//! 1; any other expression or statement, also one in parentheses, a declaration and a block, has one more than its
+//! deepest part. A transaction's block is a part of it. A program is as deep as the deepest block of a function.
 
 use crate::asserted::{assert_none, assert_that};
 use crate::of_syntax::texts::each_node;

@@ -6,7 +6,8 @@ use lex::token::Span;
 use lower::lower;
 use std::alloc::Global;
 
-/// The code of a text, or in its place the number and the place of the fault. A text that is not accepted has the number 1.
+/// The code of a text, or in its place the number and the place of the fault. A text that is not accepted has the
+/// number 1.
 pub fn code_of(alloc: Global, text: &str) -> Result<Code, (u32, Option<Span>)> {
     match accepted_of(alloc, text) {
         None => Err((1, None)),

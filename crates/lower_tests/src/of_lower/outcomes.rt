@@ -1,6 +1,6 @@
-//! What a thread of the source shows tick by tick is what its code's thread shows instruction by instruction: the memory that it
-//! has left, how it is found, and what it has printed. Thread 3 runs, and each of its transactions finds the memory that the one
-//! before it left.
+//! What a thread of the source shows tick by tick is what its code's thread shows instruction by instruction: the
+//! memory that it has left, how it is found, and what it has printed. Thread 3 runs, and each of its transactions finds
+//! the memory that the one before it left.
 
 ghost use Rattle.std.specs.Prelude.{IfSome};
 ghost use Rattle.atomic_code.specs.Threads.{IsThreadOf};
@@ -241,8 +241,8 @@ fn is_seen(alloc: Global, text: &str, steps: u32, wanted: &str) -> bool {
     }
 }
 
-/// Whether more than one thing is seen of a text's thread within so many ticks, and the same of its code's within so many
-/// instructions.
+/// Whether more than one thing is seen of a text's thread within so many ticks, and the same of its code's within so
+/// many instructions.
 fn show_the_same(alloc: Global, text: &str, ticks: u64, steps: u32) -> bool {
     match of_source(alloc, text, ticks) {
         Some(source) => {

@@ -6,8 +6,8 @@ use meaning::ThreadEnd;
 use std::alloc::{AllocError, Global};
 use syntax::numbers::Trap;
 
-/// A function that calls itself: what stands before its levels, what opens a level, what stands inside them all, what closes
-/// a level, what stands behind them, and how many levels give depth 100.
+/// A function that calls itself: what stands before its levels, what opens a level, what stands inside them all, what
+/// closes a level, what stands behind them, and how many levels give depth 100.
 type Shape = (
     &'static str,
     &'static str,

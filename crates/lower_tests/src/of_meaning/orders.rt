@@ -35,7 +35,8 @@ void worker(int self) {
     do { __transaction_atomic { x = x + 1; } if (k == 1) continue; k--; } while (k > 0);
     printf(\"%d\", k);
 }";
-/// calls as statements, two deep, one in parentheses: loops, a return between transactions, names that the callers have too
+/// calls as statements, two deep, one in parentheses: loops, a return between transactions, names that the callers have
+/// too
 const CALLS: &str = "int x;
 void say(int k) { printf(\"%d \", k); }
 int twice(int by) {
@@ -65,7 +66,8 @@ const CALLED_TURNS: &str = "int x;
 void all(int n) { for (int i = 0; i < n; i++) { __transaction_atomic { x++; } } }
 void worker(int self) { all(5000); }";
 
-/// A text, the threads, the order, the ticks of each; the first cell, and what each of two threads prints and how it ends.
+/// A text, the threads, the order, the ticks of each; the first cell, and what each of two threads prints and how it
+/// ends.
 type Row = (
     &'static str,
     u32,

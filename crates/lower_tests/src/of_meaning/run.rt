@@ -7,8 +7,8 @@ use meaning::{ThreadEnd, ThreadOutcome, thread};
 use separation::Accepted;
 use std::alloc::{Allocator, Global};
 
-/// What `worker(t)` of a program does where its transactions find memories of so many cells that hold 0; none where memory is
-/// refused.
+/// What `worker(t)` of a program does where its transactions find memories of so many cells that hold 0; none where
+/// memory is refused.
 fn run_accepted<A: Allocator + Copy>(
     alloc: A,
     accepted: &Accepted<A>,
@@ -22,8 +22,8 @@ fn run_accepted<A: Allocator + Copy>(
     }
 }
 
-/// What `worker(t)` of a text does where its transactions find memories of so many cells that hold 0; none where the text
-/// is no accepted program, or memory is refused.
+/// What `worker(t)` of a text does where its transactions find memories of so many cells that hold 0; none where the
+/// text is no accepted program, or memory is refused.
 pub(crate) fn run<A: Allocator + Copy>(
     alloc: A,
     text: &str,

@@ -6,8 +6,8 @@ use std::alloc::Global;
 use std::process::Abort;
 use syntax::numbers::Trap;
 
-/// A text, the memories to be found, the ticks; how many memories are left, what the last one begins with, what is printed,
-/// and the end.
+/// A text, the memories to be found, the ticks; how many memories are left, what the last one begins with, what is
+/// printed, and the end.
 type Row = (
     &'static str,
     usize,
@@ -65,7 +65,8 @@ const NO_PIECE: &str = "void worker(int self) { printf(\"\"); }";
 const TRAPS: &str = "int x; void worker(int self) { __transaction_atomic { x = 1; x = x / 0; } }";
 
 const TRAPS_OUTSIDE: &str = "void worker(int self) { 1 % self; }";
-/// a call for which no frame is left: 63 calls below `worker` with a statement each, and then the call's tick and the trap's
+/// a call for which no frame is left: 63 calls below `worker` with a statement each, and then the call's tick and the
+/// trap's
 const FRAMES: &str = "int f(int a) { return f(a); } void worker(int self) { f(0); }";
 /// a cancel undoes cells and locals, and the tick of one left goes
 const CANCELS: &str =
@@ -73,7 +74,8 @@ const CANCELS: &str =
 /// an inner transaction takes no tick as it is left, and its cancel undoes what it did alone
 const CANCELS_INNER: &str =
     "int x; void worker(int self) { __transaction_atomic { x = 1; __transaction_atomic { x = 2; __transaction_cancel; } } }";
-/// an outer cancel undoes the outer transaction with the one in it, and only where that is the outermost one a tick is taken
+/// an outer cancel undoes the outer transaction with the one in it, and only where that is the outermost one a tick is
+/// taken
 const CANCELS_OUTER: &str =
     "int x, y; void worker(int self) { __transaction_atomic [[outer]] { x = 2; __transaction_atomic { y = x; __transaction_cancel [[outer]]; } y = 9; } }";
 

@@ -194,8 +194,8 @@ fn ends<A: Allocator + Copy>(
     }
 }
 
-/// Whether a thread comes to its end just where growth `nth` does not come, which is refused. The allocator is the one that
-/// refuses.
+/// Whether a thread comes to its end just where growth `nth` does not come, which is refused. The allocator is the one
+/// that refuses.
 fn tells_in<A: Allocator, B: Allocator + Copy>(
     refusing: &Refusing<A>,
     alloc: B,

@@ -1,5 +1,6 @@
 -- What each step of the machine keeps. It speaks of a lock, words and a list of parts, and each step changes one part.
-use Rattle.std.specs.Prelude.{◌≡◌, ◌≢◌, ◌<◌, ◌≤◌, ◌+◌, ◌%◌, ◌⊎◌, ℕ, Bool, true, false, List, [], ◌∷◌, ◌++◌, Option, None, Some, length, map, slice_index}
+use Rattle.std.specs.Prelude.{◌≡◌, ◌≢◌, ◌<◌, ◌≤◌, ◌+◌, ◌%◌, ◌⊎◌, ℕ, Bool, true, false, List, [], ◌∷◌, ◌++◌, Option}
+use Rattle.std.specs.Prelude.{None, Some, length, map, slice_index}
 use Rattle.std.specs.List.{slice_get, AllByRecursion}
 use Rattle.write_log.specs.Overlay.{overlay, Lacks, IsDistinct}
 use Rattle.read_log.specs.Agreement.{Agrees, AgreesBelow}
@@ -10,7 +11,8 @@ use Rattle.bytecode.specs.Effects.{Effect, after_cancel}
 use Rattle.bytecode.specs.Effects.Effect.{Read, Begin, Commit, Irrevocable}
 use Rattle.bytecode.specs.Sequential.{InnerTransaction, OpenTransaction, Sequential, outside, start, steps}
 use Rattle.norec_core.specs.declared.step.Phase.{Phase}
-use Rattle.norec_core.specs.declared.step.Phase.TheVariants.{AtOperation, ReadsLock, ValidatesTime, ValidatesEntry, Stores}
+use Rattle.norec_core.specs.declared.step.Phase.TheVariants.{AtOperation, ReadsLock, ValidatesTime, ValidatesEntry}
+use Rattle.norec_core.specs.declared.step.Phase.TheVariants.{Stores}
 use Rattle.norec_core.specs.Attempts.{Attempt, Checkpoint}
 use Rattle.machine.specs.Threads.{Thread}
 use Rattle.machine.specs.Worlds.{Record, Part, World}

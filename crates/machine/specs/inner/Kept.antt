@@ -1,5 +1,6 @@
 -- A thread as code keeps it: of each open begin the registers of the frame on top, the number of frames and the place.
-use Rattle.std.specs.Prelude.{◌≡◌, ◌<◌, ◌≤◌, ℕ, suc, Bool, true, false, List, [], Option, None, Some, length, ◌-◌, string_bytes, string_len, string_capacity}
+use Rattle.std.specs.Prelude.{◌≡◌, ◌<◌, ◌≤◌, ℕ, suc, Bool, true, false, List, [], Option, None, Some, length, ◌-◌}
+use Rattle.std.specs.Prelude.{string_bytes, string_len, string_capacity}
 use Rattle.std.specs.List.{AllByRecursion}
 use Rattle.syntax.specs.declared.numbers.Status.{Status}
 use Rattle.syntax.specs.declared.numbers.Status.TheVariants.{Running, Ended as HasEnded, Trapped as HasTrapped}

@@ -27,8 +27,8 @@ fn first_word<A: Allocator>(ran: &Ran<A>) -> Option<u64> {
     }
 }
 
-/// Carries a thread on, over one cell that holds `word` where a transaction begins: how many instructions it made, the word that
-/// it left, and how it is over. None where memory is refused.
+/// Carries a thread on, over one cell that holds `word` where a transaction begins: how many instructions it made, the
+/// word that it left, and how it is over. None where memory is refused.
 pub fn go<A: Allocator + Copy>(
     thread: &mut AtomicThread<A>,
     code: &Code<A>,
@@ -50,8 +50,8 @@ pub fn go<A: Allocator + Copy>(
     }
 }
 
-/// Carries a thread on by so many calls, each of so many instructions and with another word to find: the word that was left
-/// last.
+/// Carries a thread on by so many calls, each of so many instructions and with another word to find: the word that was
+/// left last.
 pub fn in_pieces<A: Allocator + Copy>(
     thread: &mut AtomicThread<A>,
     code: &Code<A>,
@@ -89,8 +89,8 @@ pub fn in_turns<A: Allocator + Copy>(
     word
 }
 
-/// How many instructions a thread has made, the word that it left in the cell, how it is over, and whether it has printed what it
-/// should.
+/// How many instructions a thread has made, the word that it left in the cell, how it is over, and whether it has
+/// printed what it should.
 pub type Came = (u64, Option<u64>, Option<End>, bool);
 
 /// What thread 5 comes to by one call of so many instructions, over a cell that holds 9, where it should print this.
@@ -119,8 +119,8 @@ pub fn code_comes_to<A: Allocator + Copy>(
     }
 }
 
-/// What thread 5 comes to by so many calls, each of so many instructions: the word left last, how many instructions it made,
-/// and how it is.
+/// What thread 5 comes to by so many calls, each of so many instructions: the word left last, how many instructions it
+/// made, and how it is.
 pub fn pieces<A: Allocator + Copy>(
     alloc: A,
     code: &Code<A>,
@@ -136,8 +136,8 @@ pub fn pieces<A: Allocator + Copy>(
     }
 }
 
-/// What a thread comes to by so many calls, each of which finds what the one before left, and the first one this word: the word
-/// that is left last, how many instructions it made, and how it is.
+/// What a thread comes to by so many calls, each of which finds what the one before left, and the first one this word:
+/// the word that is left last, how many instructions it made, and how it is.
 fn turns<A: Allocator + Copy>(
     alloc: A,
     code: &Code<A>,

@@ -1,4 +1,5 @@
-//! Cancels of several levels: of 2 to 16, into a level that is left and out of the outermost one, with the lock kept and without.
+//! Cancels of several levels: of 2 to 16, into a level that is left and out of the outermost one, with the lock kept
+//! and without.
 
 ghost use Rattle.atomic_code.specs.Threads.{IsThreadOf};
 
@@ -13,8 +14,8 @@ use written_codes::{Levels, NUMBERS, cancels_levels, code_of, over_x};
 /// What a call comes to: how many instructions it makes, the word that it leaves, and how the thread is over.
 type Came = Option<(u64, Option<u64>, Option<End>)>;
 
-/// What the cancel comes to, whose transaction has found 9; where the outermost one was among the levels and the lock is kept it
-/// stands still.
+/// What the cancel comes to, whose transaction has found 9; where the outermost one was among the levels and the lock
+/// is kept it stands still.
 fn cancelled(levels: Levels) -> Came {
     if levels.left() == 0 && !levels.kept {
         Some((1, Some(9), None))

@@ -39,8 +39,8 @@ fn adds_in_a_transaction() -> &'static [Instr] {
     &CODE
 }
 
-/// How many calls, of how many instructions each, and what they come to: the word left last, how many instructions, and how the
-/// thread is.
+/// How many calls, of how many instructions each, and what they come to: the word left last, how many instructions, and
+/// how the thread is.
 type Calls = (u32, u32, Option<u64>, u64, Status);
 
 fn calls() -> &'static [Calls] {

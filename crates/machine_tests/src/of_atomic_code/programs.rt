@@ -10,7 +10,8 @@ use syntax::numbers::{Status, Trap};
 /// What a thread comes to: how many instructions it makes, how it is over, and what it has printed.
 type Came = (u64, Option<End>, &'static str);
 
-/// Whether thread 5 of a worker, and of a function where it is said where that begins, comes to this within so many instructions.
+/// Whether thread 5 of a worker, and of a function where it is said where that begins, comes to this within so many
+/// instructions.
 fn of<A: Allocator + Copy>(
     alloc: A,
     instructions: &[Instr],
@@ -111,7 +112,8 @@ fn the_sum_of_the_first_thousand(rt: HostRuntime) {
     assert_all(&rt, &[("to its end", ended), ("cut short", cut)]);
 }
 
-/// f(n) adds n to the cell where n < 2, and otherwise calls f(n - 1) and f(n - 2): 89 calls of 7 instructions and 88 of 10
+/// f(n) adds n to the cell where n < 2, and otherwise calls f(n - 1) and f(n - 2): 89 calls of 7 instructions and 88 of
+/// 10
 fn fibonacci() -> &'static [Instr] {
     static CODE: [Instr; 20] = [
         Instr::Begin(5),

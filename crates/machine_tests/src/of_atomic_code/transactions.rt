@@ -7,8 +7,8 @@ use bytecode::Instr;
 use std::alloc::Allocator;
 use syntax::numbers::Trap;
 
-/// Instructions of a worker, and what its thread 5 comes to, whose transaction finds 9 in the one cell: how many it makes, the word
-/// that it leaves, how it is over, and what it has printed.
+/// Instructions of a worker, and what its thread 5 comes to, whose transaction finds 9 in the one cell: how many it
+/// makes, the word that it leaves, how it is over, and what it has printed.
 type Row = (
     &'static [Instr],
     u64,

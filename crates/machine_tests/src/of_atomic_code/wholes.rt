@@ -7,8 +7,8 @@ use bytecode::{Code, Instr};
 use std::alloc::{AllocError, Global};
 use syntax::numbers::{Halt, Trap};
 
-/// What a thread leaves in the one cell in its first transaction and in its second, how it is found, and whether it has printed
-/// this.
+/// What a thread leaves in the one cell in its first transaction and in its second, how it is found, and whether it has
+/// printed this.
 type Shown = (Option<u64>, Option<u64>, ThreadEnd, bool);
 
 /// The first word of the memory that was left under this number.
@@ -79,8 +79,8 @@ fn of_code(
     }
 }
 
-/// Words that the transactions of thread 5 find in the one cell, for how many instructions at most it runs, and what it comes to: the
-/// words left in its first transaction and in its second, how it is found, and what it has printed.
+/// Words that the transactions of thread 5 find in the one cell, for how many instructions at most it runs, and what it
+/// comes to: the words left in its first transaction and in its second, how it is found, and what it has printed.
 type Row = (
     (u64, u64),
     u64,

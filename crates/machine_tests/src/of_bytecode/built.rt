@@ -174,7 +174,8 @@ pub fn code_of<A: Allocator + Copy>(alloc: A, parts: Parts<A>) -> Option<Code<A>
     }
 }
 
-/// The code of these functions, registers that calls hand over, instructions and texts, if it is valid and memory is there.
+/// The code of these functions, registers that calls hand over, instructions and texts, if it is valid and memory is
+/// there.
 pub fn code_of_parts<A: Allocator + Copy>(
     alloc: A,
     functions: &[Function],

@@ -42,11 +42,12 @@ fn a_longer_code_is_not_valid(rt: HostRuntime) {
     assert_that(&rt, valid == Some(false));
 }
 
-/// The beginning of names that all have one hash, where a hash multiplies eight bytes by eight with a constant and no key: behind
-/// it one factor is 0.
+/// The beginning of names that all have one hash, where a hash multiplies eight bytes by eight with a constant and no
+/// key: behind it one factor is 0.
 const COLLIDING: &str = "aaaaaaaaaaaaassTNo3qMD1o";
 
-/// Appends a function that returns at once, whose name begins so and ends in its number, and whose instruction stands at `first`.
+/// Appends a function that returns at once, whose name begins so and ends in its number, and whose instruction stands
+/// at `first`.
 fn push_function(
     alloc: Global,
     to: &mut Parts,
@@ -70,8 +71,8 @@ fn push_text(alloc: Global, to: &mut Parts, number: u32) -> Result<(), AllocErro
     to.texts.push(Text::from_string(text))
 }
 
-/// `worker`, which prints text `at` and calls function `at`, as many functions behind it, each with a name of its own, and as
-/// many texts.
+/// `worker`, which prints text `at` and calls function `at`, as many functions behind it, each with a name of its own,
+/// and as many texts.
 fn many(alloc: Global, count: u32, at: u32) -> Result<Parts, AllocError> {
     let body = [
         Instr::PrintText(at),

@@ -19,7 +19,8 @@ fn word_at(memory: &[u64], cell: u32) -> u64
     }
 }
 
-/// Carries out what stands at a thread's place, and says whether it goes on: a thread that cancels, ends or traps stays there.
+/// Carries out what stands at a thread's place, and says whether it goes on: a thread that cancels, ends or traps stays
+/// there.
 fn carry_out<A: Allocator + Copy>(
     frames: &mut Frames<A>,
     code: &Code<A>,
@@ -88,7 +89,8 @@ fn pass<A: Allocator + Copy>(frames: &mut Frames<A>, code: &Code<A>, doing: Doin
     }
 }
 
-/// Local steps, at most 1,000, and the call or the return that stands there then: how many they were, and whether there was one.
+/// Local steps, at most 1,000, and the call or the return that stands there then: how many they were, and whether there
+/// was one.
 fn go_once<A: Allocator + Copy>(frames: &mut Frames<A>, code: &Code<A>) -> (u64, bool)
     requires { IsConfigurationOf code.now frames.old.configuration }
     ensures { IsConfigurationOf code.now frames.new.configuration }
@@ -132,8 +134,8 @@ pub fn first<A: Allocator + Copy>(
     Frames::new(alloc, code, thread)
 }
 
-/// Carries a thread on for at most so many turns, each of steps in the frames and one other instruction: what it comes to, and
-/// how many steps it made in the frames.
+/// Carries a thread on for at most so many turns, each of steps in the frames and one other instruction: what it comes
+/// to, and how many steps it made in the frames.
 pub fn carry_on<A: Allocator + Copy>(
     frames: &mut Frames<A>,
     code: &Code<A>,

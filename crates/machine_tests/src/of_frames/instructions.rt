@@ -38,8 +38,8 @@ fn found<A: Allocator + Copy>(alloc: A, code: Option<Code<A>>, printed: &str) ->
     }
 }
 
-/// What thread 5 comes to in a worker of these instructions, which prints nothing, the local steps that it makes, and its
-/// register 1.
+/// What thread 5 comes to in a worker of these instructions, which prints nothing, the local steps that it makes, and
+/// its register 1.
 fn of<A: Allocator + Copy>(alloc: A, instructions: &[Instr]) -> Option<(Doing, u64, u64)> {
     match found(alloc, code_of_worker(alloc, instructions), "") {
         Some((doing, made, _, Some(word))) => Some((doing, made, word)),
@@ -47,11 +47,12 @@ fn of<A: Allocator + Copy>(alloc: A, instructions: &[Instr]) -> Option<(Doing, u
     }
 }
 
-/// Two words, an operator of registers 2 and 3, which hold them, into register 1, and the word that it gives or why it traps.
+/// Two words, an operator of registers 2 and 3, which hold them, into register 1, and the word that it gives or why it
+/// traps.
 type Computed = (u64, u64, Instr, Result<u64, Trap>);
 
-/// What a thread comes to behind an operator that gives this: it ends after three local steps, or traps at the third with nothing
-/// written.
+/// What a thread comes to behind an operator that gives this: it ends after three local steps, or traps at the third
+/// with nothing written.
 fn wanted(given: Result<u64, Trap>) -> (Doing, u64, u64) {
     match given {
         Ok(word) => (Doing::End, 3, word),
@@ -581,8 +582,8 @@ fn calls_for_ever() -> &'static [Instr] {
     &CODE
 }
 
-/// Whether a thread traps at its frames, with this one register in the last of them. How many of the calls are made in the frames
-/// depends on the room that a growth makes, so that the number of steps is left open.
+/// Whether a thread traps at its frames, with this one register in the last of them. How many of the calls are made in
+/// the frames depends on the room that a growth makes, so that the number of steps is left open.
 fn traps_at_frames(found: Option<Found>, word: u64) -> bool {
     match found {
         Some((doing, _, first, second)) => {

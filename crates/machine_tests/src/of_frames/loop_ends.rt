@@ -1,4 +1,5 @@
-//! The ends of loops' turns, which are made at once where so many steps are left: as many steps, one by one, come to the same.
+//! The ends of loops' turns, which are made at once where so many steps are left: as many steps, one by one, come to
+//! the same.
 
 ghost use Rattle.frames.specs.Open.{IsConfigurationOf};
 

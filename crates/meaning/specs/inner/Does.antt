@@ -9,10 +9,12 @@ use Rattle.syntax.specs.Tree.{Program, Expr, Stmt, Simple, If, IfElse, Scalar, D
 use Rattle.syntax.specs.declared.tree.Mode.{Mode}
 use Rattle.syntax.specs.declared.tree.Mode.TheVariants.{Atomic, Relaxed}
 use Rattle.syntax.specs.Views.{expr_of, simple_of, stmt_of, stmts_of}
-use Rattle.syntax.specs.Depth.{program_depth, expr_depth, stmt_depth, block_depth, start_depth, optional_depth, optional_simple_depth}
+use Rattle.syntax.specs.Depth.{program_depth, expr_depth, stmt_depth, block_depth, start_depth, optional_depth}
+use Rattle.syntax.specs.Depth.{optional_simple_depth}
 use Rattle.syntax.specs.Views.{start_of}
 use Rattle.syntax.specs.Actions.{Action, Gives, pure, locals, put_locals, ◌>>=◌, ◌>>◌}
-use Rattle.syntax.specs.Meaning.{Caller, End, Next, calls, expr, stmt, stmts, scoped, after_body, holds, stepped, first_value, InLocal, start_with, loop, Returns}
+use Rattle.syntax.specs.Meaning.{Caller, End, Next, calls, expr, stmt, stmts, scoped, after_body, holds, stepped}
+use Rattle.syntax.specs.Meaning.{first_value, InLocal, start_with, loop, Returns}
 use Rattle.meaning.specs.declared.machine.End.{End as OwnEnd}
 use Rattle.meaning.specs.declared.program.Source.{Source}
 use Rattle.meaning.specs.declared.loops.Loop.{Loop}

@@ -1,6 +1,7 @@
--- What a thread has still to do, wherever it stands, and the steps in which it goes on: the first step of a statement that is
--- made of others, of a call and of each turn of a loop, what is left behind it, and what all that is left does.
-use Rattle.std.specs.Prelude.{◌≡◌, ℕ, zero, suc, List, [], ◌∷◌, take, length, Option, Some, None, Bool, true, false, if◌then◌else◌}
+-- What a thread has still to do, wherever it stands, and the steps in which it goes on: the first step of a statement
+-- that is made of others, of a call and of each turn of a loop, what is left behind it, and what all that is left does.
+use Rattle.std.specs.Prelude.{◌≡◌, ℕ, zero, suc, List, [], ◌∷◌, take, length, Option, Some, None, Bool, true, false}
+use Rattle.std.specs.Prelude.{if◌then◌else◌}
 use Rattle.syntax.specs.declared.numbers.Halt.TheVariants.{Spent}
 use Rattle.syntax.specs.declared.numbers.Value.{Value}
 use Rattle.syntax.specs.declared.numbers.Trap.TheVariants.{Frames}
@@ -8,7 +9,8 @@ use Rattle.syntax.specs.Numbers.{is_zero}
 use Rattle.syntax.specs.Tree.{Scalar, Program, Expr, Exprs, Stmt, Stmts, Start, While, DoWhile, For}
 use Rattle.syntax.specs.Names as Names
 use Rattle.syntax.specs.Actions.{State, Gives, Action, pure, stop, tick, trap, locals, put_locals, go_on, ◌>>=◌, ◌>>◌}
-use Rattle.syntax.specs.Meaning.{Caller, End, Next, expr, exprs, stmt, stmts, scoped, on_next, after_body, after_turn, turns, holds, stepped, start_with, result_of, calls}
+use Rattle.syntax.specs.Meaning.{Caller, End, Next, expr, exprs, stmt, stmts, scoped, on_next, after_body, after_turn}
+use Rattle.syntax.specs.Meaning.{turns, holds, stepped, start_with, result_of, calls}
 use Rattle.meaning.specs.Frames.{IsFramed}
 use Rattle.meaning.specs.inner.Calls.{Begins, begun}
 use Rattle.meaning.specs.inner.Does.{do_turn, for_turn, tested, while_turn}
@@ -58,7 +60,8 @@ turned rest None = Goes rest
 turned rest (Some end) = Ends end
 
 module _ (p : Program) (call : Caller) where
-  -- one turn of a statement that is a loop: what it tests before its body, the body, and what follows where the loop goes on
+  -- one turn of a statement that is a loop: what it tests before its body, the body, and what follows where the loop
+  -- goes on
   abbrev pub turn_of : Stmt → Action (Option End)
   turn_of (While c a) = while_turn p call c a
   turn_of (DoWhile a c) = do_turn p call a c

@@ -53,7 +53,8 @@ module _ {A : Type 0} where
   -- what is left of a thread that finds these memories too, up to the tick of its end
   abbrev pub rest : Source A → Thread A → List Memory → Answer (Unit {0})
   rest source thread founds =
-      go_on (left_gone_on source thread.left.items (end_of thread.end) (framed (frame_of founds thread.shown) (bare thread.at)))
+      go_on (left_gone_on source thread.left.items (end_of thread.end)
+      (framed (frame_of founds thread.shown) (bare thread.at)))
       (λ _. tick)
 
   -- what is seen of a thread that goes no further

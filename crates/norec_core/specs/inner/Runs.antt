@@ -1,5 +1,6 @@
 -- The attempt of a core as the code of its steps sees it, and what that code keeps true.
-use Rattle.std.specs.Prelude.{◌≡◌, ◌+◌, ◌^◌, ◌%◌, ◌<◌, ◌≤◌, ℕ, Bool, true, false, Option, None, Some, IfSome, if◌then◌else◌}
+use Rattle.std.specs.Prelude.{◌≡◌, ◌+◌, ◌^◌, ◌%◌, ◌<◌, ◌≤◌, ℕ, Bool, true, false, Option, None, Some, IfSome}
+use Rattle.std.specs.Prelude.{if◌then◌else◌}
 use Rattle.write_log.specs.Overlay.{written}
 use Rattle.nesting.specs.Begins.{Saved}
 use Rattle.nesting.specs.Nests.{Nest}
@@ -9,7 +10,8 @@ use Rattle.norec_core.specs.declared.step.Answer.{Answer}
 use Rattle.norec_core.specs.declared.step.Outcome.{Outcome}
 use Rattle.norec_core.specs.declared.step.Outcome.TheVariants as outcome
 use Rattle.norec_core.specs.declared.step.Phase.{Phase}
-use Rattle.norec_core.specs.declared.step.Phase.TheVariants.{AtOperation, ReadsLock, ValidatesTime, ValidatesEntry, Stores}
+use Rattle.norec_core.specs.declared.step.Phase.TheVariants.{AtOperation, ReadsLock, ValidatesTime, ValidatesEntry}
+use Rattle.norec_core.specs.declared.step.Phase.TheVariants.{Stores}
 use Rattle.norec_core.specs.Attempts.{Attempt}
 use Rattle.norec_core.specs.Accesses.{stops}
 use Rattle.norec_core.specs.Phases.{CoreStep, core_access, core_step, core_swap}

@@ -1,5 +1,6 @@
 -- What the parser's functions over expressions answer, as functions on lists.
-use Rattle.std.specs.Prelude.{ℕ, zero, suc, Bool, true, false, List, [], Option, Some, None, Err, if◌then◌else◌, nat_le, is_some}
+use Rattle.std.specs.Prelude.{ℕ, zero, suc, Bool, true, false, List, [], Option, Some, None, Err, if◌then◌else◌, nat_le}
+use Rattle.std.specs.Prelude.{is_some}
 use Rattle.lex.specs.declared.token.Fixed.{Fixed}
 use Rattle.lex.specs.declared.token.Fixed.TheVariants.{Keyword, Punctuator}
 use Rattle.lex.specs.declared.token.Keyword.TheVariants as key
@@ -13,18 +14,22 @@ use Rattle.syntax.specs.declared.tree.LogicalOp.{LogicalOp}
 use Rattle.syntax.specs.declared.tree.UnaryOp.{UnaryOp}
 use Rattle.syntax.specs.declared.tree.Mode.{Mode}
 use Rattle.syntax.specs.declared.tree.Mode.TheVariants.{Atomic, Relaxed}
-use Rattle.syntax.specs.Tree.{Name, Expr, Variable, Constant, Element, Call, Parenthesized, Cast, Unary, Binary, Logical, Conditional, InTransaction}
+use Rattle.syntax.specs.Tree.{Name, Expr, Variable, Constant, Element, Call, Parenthesized, Cast, Unary, Binary}
+use Rattle.syntax.specs.Tree.{Logical, Conditional, InTransaction}
 use Rattle.syntax.specs.Depth.{expr_depth}
 use Rattle.syntax.specs.Typing.{span_of}
 use Rattle.syntax.specs.Views.{exprs_from}
-use Rattle.syntax.specs.Grammar.{by_fixed, the_name, the_binary, the_logical, the_unary, unary_of, precedence, logical_precedence, mode_keyword}
+use Rattle.syntax.specs.Grammar.{by_fixed, the_name, the_binary, the_logical, the_unary, unary_of, precedence}
+use Rattle.syntax.specs.Grammar.{logical_precedence, mode_keyword}
 use Rattle.parse.specs.declared.lead.Infix.{Infix}
 use Rattle.parse.specs.declared.lead.Infix.TheVariants.{Computing, Choosing}
 use Rattle.parse.specs.declared.lead.Operand.{Operand}
 use Rattle.parse.specs.declared.lead.Operand.TheVariants as kind
 use Rattle.parse.specs.declared.scalar.TypeWord.{TypeWord}
 use Rattle.parse.specs.declared.scalar.TypeWord.TheVariants as word
-use Rattle.parse.specs.inner.Reading.{deep, ◌>>=◌, Parser, none, give, chained, seq, mapped, choice, either, sunk, listed, take, expect, spot, is_next, perhaps, behind, before, Operators, climb_loop, across}
+use Rattle.parse.specs.inner.Reading.{deep, ◌>>=◌, Parser, none, give, chained, seq, mapped, choice, either, sunk}
+use Rattle.parse.specs.inner.Reading.{listed, take, expect, spot, is_next, perhaps, behind, before, Operators}
+use Rattle.parse.specs.inner.Reading.{climb_loop, across}
 
 -- ---- types
 

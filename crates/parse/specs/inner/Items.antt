@@ -1,5 +1,6 @@
 -- What the parser's functions over functions and globals answer, as functions on lists.
-use Rattle.std.specs.Prelude.{ℕ, Bool, true, false, List, [], ◌∷◌, ◌++◌, length, Option, Some, None, Result, if◌then◌else◌, is_some}
+use Rattle.std.specs.Prelude.{ℕ, Bool, true, false, List, [], ◌∷◌, ◌++◌, length, Option, Some, None, Result}
+use Rattle.std.specs.Prelude.{if◌then◌else◌, is_some}
 use Rattle.lex.specs.declared.token.Fixed.TheVariants.{Keyword, Punctuator}
 use Rattle.lex.specs.declared.token.Keyword.TheVariants as key
 use Rattle.lex.specs.declared.token.Punctuator.TheVariants as punct
@@ -11,7 +12,9 @@ use Rattle.syntax.specs.declared.tree.First.{First}
 use Rattle.syntax.specs.Tree.{Name, Stmts, Parameter, Global, Item, Defines, Shares, Program}
 use Rattle.syntax.specs.Views.{stmts_from}
 use Rattle.syntax.specs.Grammar.{the_name, the_attribute, the_length, joined}
-use Rattle.parse.specs.inner.Reading.{Fault, ◌>>=◌, Parser, none, give, chained, seq, mapped, either, many_until, in_front, trailing, listed, take, expect, spot, is_next, is_other, perhaps, behind, before, across, finished}
+use Rattle.parse.specs.inner.Reading.{Fault, ◌>>=◌, Parser, none, give, chained, seq, mapped, either, many_until}
+use Rattle.parse.specs.inner.Reading.{in_front, trailing, listed, take, expect, spot, is_next, is_other, perhaps}
+use Rattle.parse.specs.inner.Reading.{behind, before, across, finished}
 use Rattle.parse.specs.inner.Expressions.{says, scalar}
 use Rattle.parse.specs.inner.Statements.{block_at}
 

@@ -13,12 +13,16 @@ use Rattle.syntax.specs.declared.tree.Kind.{Kind}
 use Rattle.syntax.specs.declared.tree.Kind.TheVariants.{Plain, Outer}
 use Rattle.syntax.specs.declared.tree.Mode.{Mode}
 use Rattle.syntax.specs.declared.tree.Mode.TheVariants.{Atomic, Relaxed}
-use Rattle.syntax.specs.Tree.{Name, Expr, Simple, Evaluate, Assign, Adjust, Declarator, Declaration, Start, Nothing, Declares, Does, Stmt, Empty, Declare, Do, Block, Print, If, IfElse, While, DoWhile, For, Break, Continue, Return, Transaction, Cancel, CancelOuter}
+use Rattle.syntax.specs.Tree.{Name, Expr, Simple, Evaluate, Assign, Adjust, Declarator, Declaration, Start, Nothing}
+use Rattle.syntax.specs.Tree.{Declares, Does, Stmt, Empty, Declare, Do, Block, Print, If, IfElse, While, DoWhile, For}
+use Rattle.syntax.specs.Tree.{Break, Continue, Return, Transaction, Cancel, CancelOuter}
 use Rattle.syntax.specs.Views.{exprs_from, stmts_from}
 use Rattle.syntax.specs.Grammar.{the_name, the_text, the_outer, the_assigning, the_step, mode_keyword}
 use Rattle.parse.specs.declared.lead.Lead.{Lead}
 use Rattle.parse.specs.declared.lead.Lead.TheVariants as lead
-use Rattle.parse.specs.inner.Reading.{Parser, head, give, chained, seq, mapped, choice, either, sunk, unless_sunk, many_until, unless, listed, take, expect, spot, is_next, is_other, perhaps, behind, before}
+use Rattle.parse.specs.inner.Reading.{Parser, head, give, chained, seq, mapped, choice, either, sunk, unless_sunk}
+use Rattle.parse.specs.inner.Reading.{many_until, unless, listed, take, expect, spot, is_next, is_other, perhaps}
+use Rattle.parse.specs.inner.Reading.{behind, before}
 use Rattle.parse.specs.inner.Expressions.{says, starts_type, scalar, starts_expr, whole_at}
 
 -- what a function found at the front: a token that says something of this kind, and the tokens after it, or none

@@ -1,5 +1,6 @@
 -- How a row is cut.
-use Rattle.std.specs.Prelude.{◌≡◌, ℕ, Bool, false, ◌&&◌, ◌==◌, if◌then◌else◌, nat_le, nat_lt, List, [], ◌∷◌, length, take, drop}
+use Rattle.std.specs.Prelude.{◌≡◌, ℕ, Bool, false, ◌&&◌, ◌==◌, if◌then◌else◌, nat_le, nat_lt, List, [], ◌∷◌, length}
+use Rattle.std.specs.Prelude.{take, drop}
 use Rattle.std.specs.List.{prefix_len}
 use Rattle.replay.specs.Schedules.{AreSpaces, Asks, IsBad}
 use Rattle.replay.specs.declared.row.Row.{Row}

@@ -22,8 +22,8 @@ fn sees(flag: &AtomicBool, looks: u64) -> bool {
     false
 }
 
-/// Holds a thread at so many accesses until another one has ended, and that one at its beginning until the first has come there. Each
-/// question looks up to 1,000 times.
+/// Holds a thread at so many accesses until another one has ended, and that one at its beginning until the first has
+/// come there. Each question looks up to 1,000 times.
 #[derive(Drop)]
 struct Until {
     thread: u32,
@@ -62,8 +62,8 @@ fn made_until(thread: u32, accesses: u64, other: u32) -> Until {
     }
 }
 
-/// One thread has read x when the other one adds one: it is held until that one has ended, and has to begin anew: its accesses
-/// show that.
+/// One thread has read x when the other one adds one: it is held until that one has ended, and has to begin anew: its
+/// accesses show that.
 fn adds_late<R: Threads + Wait + Sync>(rt: &R, alloc: Global, held: u32, other: u32) -> bool {
     let threads = [(held, "", Status::Ended, 12), (other, "", Status::Ended, 6)];
     let wanted = Wanted {

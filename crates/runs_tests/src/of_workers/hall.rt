@@ -16,7 +16,8 @@ const MOST: u64 = 1_000_000;
 /// What two workers do next.
 #[derive(Clone, Copy)]
 pub enum Turn {
-    /// One of them runs: the thread, for how many steps at most, how the run ends, and how many steps and accesses it then has made.
+    /// One of them runs: the thread, for how many steps at most, how the run ends, and how many steps and accesses it
+    /// then has made.
     Run(u32, u64, Status, u64, u64),
 
     /// They meet.

@@ -1,5 +1,5 @@
-//! Real threads that cancel several levels: of 2 to 16, into a level that is left and out of the outermost one, with the lock kept
-//! and without.
+//! Real threads that cancel several levels: of 2 to 16, into a level that is left and out of the outermost one, with
+//! the lock kept and without.
 
 use crate::asserted::assert_that;
 use crate::of_workers::programs::Program;
@@ -38,7 +38,8 @@ fn stands_still<R: Threads + Wait + Sync>(rt: &R, alloc: Global, program: Progra
     runs_as(rt, alloc, program, 1, 1000, &Never, standing_still()) == Ok(true)
 }
 
-/// Whether threads that cancel so many levels do what they should: where levels are left they leave x with the number of these.
+/// Whether threads that cancel so many levels do what they should: where levels are left they leave x with the number
+/// of these.
 fn run<R: Threads + Wait + Sync>(
     rt: &R,
     alloc: Global,

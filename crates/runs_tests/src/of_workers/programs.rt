@@ -63,8 +63,8 @@ pub fn prints() -> Program<'static> {
     (3, 0, &CODE)
 }
 
-/// Thread 0 writes 2, the other one reads, and prints what it has read: `int x = 1; void worker(int self) { int v; if (self == 0) {
-/// __transaction_atomic { x = 2; } } else { __transaction_atomic { v = x; } printf("%d\n", v); } }`
+/// Thread 0 writes 2, the other one reads, and prints what it has read: `int x = 1; void worker(int self) { int v; if
+/// (self == 0) { __transaction_atomic { x = 2; } } else { __transaction_atomic { v = x; } printf("%d\n", v); } }`
 pub fn looks() -> Program<'static> {
     static CODE: [Instr; 14] = [
         Instr::Constant(1, 0),
@@ -85,7 +85,8 @@ pub fn looks() -> Program<'static> {
     (3, 1, &CODE)
 }
 
-/// Thread 0 divides by 0, and thread 1 writes 1: `int x = 9; void worker(int self) { int v = 1 / self; __transaction_atomic { x = v; } }`
+/// Thread 0 divides by 0, and thread 1 writes 1:
+/// `int x = 9; void worker(int self) { int v = 1 / self; __transaction_atomic { x = v; } }`
 pub fn divides() -> Program<'static> {
     static CODE: [Instr; 7] = [
         Instr::Constant(1, 0),
@@ -105,8 +106,8 @@ pub fn nothing() -> Program<'static> {
     (1, 0, &CODE)
 }
 
-/// Thread 0 reads four times, and the other one writes: `int x; void worker(int self) { int v; if (self == 0) { __transaction_atomic {
-/// v = x; v = x; v = x; v = x; } } else { __transaction_atomic { x = WORD; } } }`
+/// Thread 0 reads four times, and the other one writes: `int x; void worker(int self) { int v; if (self == 0) {
+/// __transaction_atomic { v = x; v = x; v = x; v = x; } } else { __transaction_atomic { x = WORD; } } }`
 pub fn reads_again(word: u32) -> [Instr; 14] {
     [
         Instr::Constant(1, 0),

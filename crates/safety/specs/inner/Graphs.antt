@@ -1,5 +1,6 @@
 -- Functions by number, with the numbers of their callers.
-use Rattle.std.specs.Prelude.{◌≡◌, ℕ, ◌<◌, List, [], ◌∷◌, ◌++◌, length, Option, Some, None, Bool, true, if◌then◌else◌, Contains, slice_index_or, slice_set}
+use Rattle.std.specs.Prelude.{◌≡◌, ℕ, ◌<◌, List, [], ◌∷◌, ◌++◌, length, Option, Some, None, Bool, true, if◌then◌else◌}
+use Rattle.std.specs.Prelude.{Contains, slice_index_or, slice_set}
 use Rattle.safety.specs.Links.{Link}
 
 -- numbers are above 0 and tell names apart; number 0 stands for what is in the set anyhow

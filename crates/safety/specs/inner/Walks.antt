@@ -2,7 +2,8 @@
 use Rattle.std.specs.Prelude.{◌≡◌, List, ◌++◌, Option}
 use Rattle.syntax.specs.Tree.{Expr, Simple, Start}
 use Rattle.safety.specs.declared.site.Site.{Site as OwnSite}
-use Rattle.safety.specs.Sites.{Site, Around, with_names, sites_if_any, expr_sites, simple_sites, start_sites, names_of_start}
+use Rattle.safety.specs.Sites.{Site, Around, with_names, sites_if_any, expr_sites, simple_sites, start_sites}
+use Rattle.safety.specs.Sites.{names_of_start}
 use Rattle.safety.specs.Views.{sites_of_own}
 
 -- these sites stand at the end

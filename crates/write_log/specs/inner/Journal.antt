@@ -1,5 +1,6 @@
 -- What puts have changed, the first change first, and what undoing it leaves.
-use Rattle.std.specs.Prelude.{◌<◌, ◌≤◌, ◌-◌, min, ℕ, List, [], ◌∷◌, length, take, drop, slice_index, slice_index_or, slice_set}
+use Rattle.std.specs.Prelude.{◌<◌, ◌≤◌, ◌-◌, min, ℕ, List, [], ◌∷◌, length, take, drop, slice_index, slice_index_or}
+use Rattle.std.specs.Prelude.{slice_set}
 use Rattle.write_log.specs.declared.pairs.Change.{Change}
 use Rattle.write_log.specs.declared.pairs.Change.TheVariants.{Added, Replaced}
 

@@ -1,5 +1,6 @@
 -- Where a list of writes has its pairs, by address.
-use Rattle.std.specs.Prelude.{◌≡◌, ◌<◌, ◌≤◌, ◌^◌, ◌+◌, ℕ, List, length, Option, None, Some, Result, Ok, Err, slice_index_or}
+use Rattle.std.specs.Prelude.{◌≡◌, ◌<◌, ◌≤◌, ◌^◌, ◌+◌, ℕ, List, length, Option, None, Some, Result, Ok, Err}
+use Rattle.std.specs.Prelude.{slice_index_or}
 use Rattle.write_log.specs.Overlay.{Lacks}
 
 -- the pairs, and for how many more there is room
