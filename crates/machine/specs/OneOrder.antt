@@ -1,4 +1,5 @@
--- All attempts in one order: the transactions that took effect, and between them the attempts that were dropped.
+-- All attempts in one order: the transactions that took effect, and between them the attempts that were dropped. So
+-- what is said of live and dropped attempts is opacity (Guerraoui and Kapałka, PPoPP 2008).
 use Rattle.std.specs.Prelude.{◌≡◌, ◌⊎◌, ℕ, false, List, [], ◌∷◌, ◌++◌, Option, None, Some}
 use Rattle.std.specs.List.{slice_get}
 use Rattle.syntax.specs.Behaviours.{IsChained, IsWithin, Memory}

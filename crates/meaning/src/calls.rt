@@ -1,4 +1,4 @@
-//! Calls: their arguments, how they begin, and what they give.
+//! Calls (C11 6.5.2.2): their arguments, how they begin, and what they give.
 
 ghost use Rattle.std.specs.Prelude.{◌≡◌, ◌≤◌, map, option_map, unwrap_or, IfOk};
 ghost use Rattle.lex.specs.declared.token.Span.{Span};

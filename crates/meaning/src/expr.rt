@@ -1,4 +1,4 @@
-//! Expressions.
+//! Expressions (C11 6.5).
 
 ghost use Rattle.lex.specs.declared.token.Span.{Span};
 ghost use Rattle.syntax.specs.Views.{expr_of};

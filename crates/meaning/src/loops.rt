@@ -1,4 +1,4 @@
-//! Loops.
+//! Loops (C11 6.8.5).
 
 ghost use Rattle.std.specs.Prelude.{◌≡◌, None, Option, Some, option_map};
 ghost use Rattle.syntax.specs.Views.{expr_of, simple_of, start_of, stmt_of};

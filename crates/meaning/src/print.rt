@@ -1,4 +1,4 @@
-//! What a `printf` prints, piece by piece.
+//! What a `printf` prints (C11 7.21.6.1), piece by piece.
 
 ghost use Rattle.std.specs.Fmt.{signed_decimal};
 ghost use Rattle.std.specs.Prelude.{drop};

@@ -1,4 +1,4 @@
-//! Assignments, steps and declarations.
+//! Assignments (C11 6.5.16), steps (6.5.2.4, 6.5.3.1) and declarations (6.7).
 
 ghost use Rattle.std.specs.Prelude.{◌≡◌, None, Some, map};
 ghost use Rattle.syntax.specs.Views.{declarator_of, expr_of, simple_of};

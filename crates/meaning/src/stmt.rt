@@ -1,4 +1,4 @@
-//! Statements.
+//! Statements (C11 6.8).
 
 ghost use Rattle.std.specs.Prelude.{◌≡◌, None, Option, Some, option_map};
 ghost use Rattle.lex.specs.declared.token.Span.{Span};

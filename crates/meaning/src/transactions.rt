@@ -1,4 +1,5 @@
-//! Transactions, as statements and as expressions: what they do, and what they leave.
+//! Transactions, as statements and as expressions (the C++ draft on transactions 1.1): what they do, and what they
+//! leave.
 
 ghost use Rattle.std.specs.Prelude.{◌≡◌, List, map, IfOk};
 ghost use Rattle.syntax.specs.Actions as act;

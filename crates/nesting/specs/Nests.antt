@@ -1,4 +1,5 @@
--- An attempt's logs and begins as its contracts see them.
+-- An attempt's logs and begins as its contracts see them: NOrec's two logs, and checkpoints of the write log for the
+-- inner transactions, which NOrec has not.
 use Rattle.std.specs.Prelude.{◌≡◌, ◌≤◌, ℕ, Bool, List, [], ◌∷◌}
 use Rattle.nesting.specs.Begins.{Saved, Checkpoint}
 

@@ -1,4 +1,5 @@
-//! An attempt of a transaction as code: both logs, what each open begin saves, and whether the lock is kept.
+//! An attempt of a transaction as code: NOrec's read log and write log, what each open begin saves, and whether the
+//! lock is kept.
 #![tactic(auto)]
 
 mod attempt;

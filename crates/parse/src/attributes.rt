@@ -1,4 +1,4 @@
-//! What is said of a function's safety.
+//! What is said of a function's safety: the attributes of the C++ draft on transactions 1.1.
 
 ghost use Rattle.std.specs.Prelude.{◌≡◌, ◌++◌, IfOk};
 ghost use Rattle.lex.specs.Tokens.{toks};

@@ -1,4 +1,4 @@
-//! Expressions: operators by climbing their levels.
+//! Expressions (C11 6.5): operators by climbing their levels.
 
 ghost use Rattle.std.specs.Prelude.{◌≡◌, ◌^◌, ◌<◌, ◌≤◌, ◌+◌, ◌++◌, map, max, IfOk};
 ghost use Rattle.lex.specs.Tokens.{toks};

@@ -1,4 +1,4 @@
-//! Prototypes and definitions of functions.
+//! Prototypes and definitions of functions (C11 6.7.6.3, 6.9.1).
 
 ghost use Rattle.std.specs.Prelude.{◌≡◌, ◌<◌, ◌^◌, map, option_map};
 ghost use Rattle.lex.specs.Tokens.{toks};

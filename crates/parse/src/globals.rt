@@ -1,4 +1,4 @@
-//! Declarations of globals.
+//! Declarations of globals (C11 6.7, 6.9.2).
 
 ghost use Rattle.std.specs.Prelude.{◌≡◌, map};
 ghost use Rattle.lex.specs.Tokens.{toks};

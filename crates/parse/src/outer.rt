@@ -1,4 +1,4 @@
-//! The mark of an outer transaction, and of what cancels it.
+//! The attribute of an outer transaction, and of what cancels it (the C++ draft on transactions 1.1).
 
 ghost use Rattle.std.specs.Prelude.{◌≡◌, bytes_eq, codes};
 ghost use Rattle.lex.specs.Tokens.{toks};

@@ -1,4 +1,4 @@
-//! Statements that hold no other statement.
+//! Statements that hold no other statement (C11 6.8.3, 6.8.6).
 
 ghost use Rattle.std.specs.Prelude.{◌≡◌, ◌^◌, ◌<◌, map};
 ghost use Rattle.lex.specs.declared.token.Fixed.TheVariants as token;

@@ -1,4 +1,4 @@
-//! Types.
+//! Types (C11 6.7.2).
 
 ghost use Rattle.std.specs.Prelude.{◌≡◌};
 ghost use Rattle.lex.specs.Tokens.{toks};

@@ -1,4 +1,4 @@
-//! Assignments, steps and values, and declarations.
+//! Assignments (C11 6.5.16), steps (6.5.2.4, 6.5.3.1) and values, and declarations (6.7).
 
 ghost use Rattle.std.specs.Prelude.{◌≡◌, ◌^◌, ◌<◌, map, option_map};
 ghost use Rattle.lex.specs.declared.token.Fixed.TheVariants as token;

@@ -1,4 +1,4 @@
-//! Statements, and the blocks that they stand in.
+//! Statements, and the blocks that they stand in (C11 6.8).
 
 ghost use Rattle.std.specs.Prelude.{◌≡◌, ◌^◌, ◌<◌, ◌+◌, [], ◌∷◌, ◌++◌, map, option_map, IfOk};
 ghost use Rattle.syntax.specs.Tree.{While, DoWhile, For};

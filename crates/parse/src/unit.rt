@@ -1,4 +1,4 @@
-//! A whole list of tokens.
+//! A whole list of tokens: a translation unit (C11 6.9).
 
 ghost use Rattle.std.specs.Prelude.{◌≡◌, ◌≤◌, ◌<◌, ◌^◌, List, map, IfOk, IfErr, IsErr};
 ghost use Rattle.lex.specs.Tokens.{Tok, toks};

@@ -30,7 +30,8 @@ IsSafe p f = (set : FunctionSet) × IsTrue (set f) × IsSafeSet p (λ g. IsTrue 
 abbrev pub TellsSafe : Program → FunctionSet → Type 0
 TellsSafe p safe = (f : List ℕ) → Decides (safe f) (IsSafe p f)
 
--- an outer transaction, or a call of a function of the set
+-- an outer transaction, or a call of a function of the set (the draft's outer transactions, round which no atomic one
+-- stands)
 abbrev pub Opens : (List ℕ → Type 0) → Construct → Type 0
 Opens set OpensOuter = Unit {0}
 Opens set (Calls f) = set f
@@ -48,7 +49,7 @@ LeadsToOuter p f = (set : FunctionSet) → IsOuterSet p (λ g. IsTrue (set g)) �
 abbrev pub TellsOuter : Program → FunctionSet → Type 0
 TellsOuter p outer = (f : List ℕ) → Decides (outer f) (LeadsToOuter p f)
 
--- inside an atomic transaction nothing is unsafe, and a cancel stands nowhere else
+-- inside an atomic transaction nothing is unsafe, and a cancel stands nowhere else (the draft's cancel statement)
 abbrev pub KeepsAtomic : Program → Site → Type 0
 KeepsAtomic p s = (s.atomic ≡ true → IsSafeConstruct (IsSafe p) s.construct) × (s.construct ≡ Cancels → s.atomic ≡ true)
 

@@ -1,5 +1,5 @@
--- The sites of a function's body: where the constructs stand of which the rules on transactions speak, in the order of
--- the text.
+-- The sites of a function's body: where the constructs stand of which the rules on transactions speak
+-- (the C++ draft on transactions 1.1), in the order of the text.
 use Rattle.std.specs.Prelude.{ℕ, List, [], ◌∷◌, ◌++◌, Option, Some, None, Bool, true, false, if◌then◌else◌, bytes_eq}
 use Rattle.syntax.specs.declared.tree.{Mode.TheVariants.Atomic, Mode.TheVariants.Relaxed, Kind.Kind}
 use Rattle.syntax.specs.declared.tree.{Kind.TheVariants.Plain, Kind.TheVariants.Outer, Attribute.Attribute}

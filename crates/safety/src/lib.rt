@@ -1,4 +1,5 @@
-//! Safety: which functions are safe, and which programs keep unsafe code out of atomic transactions.
+//! Safety (the C++ draft on transactions 1.1): which functions are safe, and which programs keep unsafe code out of
+//! atomic transactions.
 #![tactic(auto)]
 
 pub mod checked;

@@ -1,4 +1,5 @@
--- Touching functions, and programs that keep shared data to transactions.
+-- Touching functions, and programs that keep shared data to transactions: none of these has a race between a
+-- transaction and a bare access, which C11 5.1.2.4 leaves undefined.
 use Rattle.std.specs.Prelude.{◌≡◌, ℕ, List, [], false, not, ◌||◌, IsTrue, Contains, Decides, Some, codes}
 use Rattle.std.specs.List.{flat_map}
 use Rattle.syntax.specs.Tree.{Span, Program}

@@ -241,7 +241,7 @@ start Nothing = Sign punct.Semicolon
 start (Declares d) = declaration d
 start (Does s) = simple s ⨾ Sign punct.Semicolon
 
--- `[[outer]]`, or the same written otherwise
+-- `[[outer]]`, or the same as GCC's attribute (the C++ draft on transactions 1.1: outer transactions)
 abbrev pub outer_mark : Phrase
 outer_mark =
     Sign punct.OpenBracket ⨾ Sign punct.OpenBracket ⨾ One the_outer tt ⨾ Sign punct.CloseBracket
@@ -249,7 +249,8 @@ outer_mark =
     ∣ Word key.Attribute ⨾ Sign punct.OpenParen ⨾ Sign punct.OpenParen ⨾ One the_outer tt ⨾ Sign punct.CloseParen
     ⨾ Sign punct.CloseParen
 
--- how a transaction's statement begins, with its keyword at this place
+-- how a transaction's statement begins, with its keyword at this place (the C++ draft on transactions 1.1, in GCC's
+-- words for C)
 abbrev pub kind : Kind → Span → Phrase
 kind (Plain mode) at = IsAt (mode_keyword mode) at
 kind Outer at = IsAt (mode_keyword Atomic) at ⨾ outer_mark
@@ -310,7 +311,8 @@ abbrev pub joined : List (List Attribute) → List Attribute
 joined [] = []
 joined (words ∷ rest) = words ++ joined rest
 
--- lists of attributes, which say these in all
+-- lists of attributes, which say these in all (the C++ draft on transactions 1.1: `transaction_safe`,
+-- `transaction_callable` and so on)
 abbrev pub attributes : List Attribute → Phrase
 attributes words ts = (lists : List (List Attribute)) × (words ≡ joined lists) × Many attribute_list lists ts
 

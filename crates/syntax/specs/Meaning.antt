@@ -37,6 +37,8 @@ print_pieces (Literal text ∷ ps) vs = print_piece text >> print_pieces ps vs
 print_pieces (Figure t ∷ ps) [] = stop Astray
 print_pieces (Figure t ∷ ps) (v ∷ vs) = print_piece (signed_decimal (number t v.word)) >> print_pieces ps vs
 
+-- ---- statements (C11 6.8)
+
 -- how a statement ends
 pub data End : Type 0 where
   Next Breaks Continues : End
@@ -77,6 +79,9 @@ after_body go Next = go
 after_body go Continues = go
 after_body go Breaks = pure (Some Next)
 after_body go end = pure (Some end)
+
+-- ---- transactions (the C++ draft on transactions 1.1, 2012: atomic, relaxed and outer ones, and the statements that
+-- cancel them)
 
 -- how a transaction of this kind runs
 abbrev pub mode_of : Kind → Mode
@@ -152,7 +157,7 @@ begin_at (Inside mode memory) = pure tt
 abbrev pub begin_value : Action (Unit {0})
 begin_value s = begin_at s.context s
 
--- what an expression gives that is a transaction: its body's end is the value
+-- what an expression gives that is a transaction (the draft's transaction expressions): its body's end is the value
 abbrev pub value_at : End → Action Value
 value_at (Returns v) = pure v
 value_at end = stop Astray
@@ -169,6 +174,8 @@ op_of Decrement = Subtract
 
 abbrev pub int_one : Value
 int_one = record { of = Int; word = 1 }
+
+-- ---- expressions (C11 6.5)
 
 -- a call of a function by its name
 abbrev pub Caller : Type 0

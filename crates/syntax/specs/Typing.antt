@@ -65,12 +65,12 @@ same_types [] [] = true
 same_types (s ∷ ss) (t ∷ ts) = same_type s t && same_types ss ts
 same_types ss ts = false
 
--- a function is declared with the same types as before, if it was
+-- a function is declared with the same types as before, if it was (6.7)
 abbrev pub agrees : Function → Known → Bool
 agrees f (Callable result takes) = same_result result f.result && same_types takes (map (λ q. q.of) f.parameters)
 agrees f other = true
 
--- a value is returned exactly where the function gives one
+-- a value is returned exactly where the function gives one (6.8.6.4)
 abbrev pub returns_right : Option Scalar → Option Expr → Bool
 returns_right gives e = if is_some gives then is_some e else is_none e
 
@@ -88,7 +88,7 @@ span_of (Logical op a b at) = at
 span_of (Conditional c a b at) = at
 span_of (InTransaction mode keyword e at) = at
 
--- no value: a call of a function that gives none
+-- no value: a call of a function that gives none (6.3.2.2)
 abbrev pub gives_nothing : Known → Bool
 gives_nothing (Callable result takes) = is_none result
 gives_nothing other = false
@@ -141,7 +141,7 @@ abbrev pub is_worker : Known → Bool
 is_worker (Callable result takes) = is_none result && same_types takes (Int ∷ [])
 is_worker other = false
 
--- what a program has to meet: a fault's number, its place, and whether it is met
+-- what a program has to meet, by the constraints of C11 6.5 to 6.9: a fault's number, its place, and whether it is met
 pub record Demand : Type 0 where
   pub number : ℕ
   pub at : Span
