@@ -85,7 +85,7 @@ fn nested() -> &'static [Row] {
     &ROWS
 }
 
-/// Validation finds another word at an address that was read.
+/// Validation finds another word at an address that was read, and the attempt is dropped.
 fn changed() -> &'static [Row] {
     static ROWS: [Row; 7] = [
         (Op::Begin, 2, Access::LoadLock, Outcome::Done),
@@ -259,27 +259,13 @@ fn are_told_in_place<A: Allocator + Copy, B: Allocator>(
     true
 }
 
-/// An attempt that finds another word in place of one that it has read, and is dropped.
-fn dropped() -> &'static [Row] {
-    static ROWS: [Row; 7] = [
-        (Op::Begin, 2, Access::LoadLock, Outcome::Done),
-        (Op::Read(5), 7, Access::LoadWord(5), Outcome::Going),
-        (Op::Read(5), 2, Access::LoadLock, Outcome::Read(7)),
-        (Op::Read(6), 1, Access::LoadWord(6), Outcome::Going),
-        (Op::Read(6), 4, Access::LoadLock, Outcome::Going),
-        (Op::Read(6), 4, Access::LoadLock, Outcome::Going),
-        (Op::Read(6), 8, Access::LoadWord(5), Outcome::Aborted),
-    ];
-    &ROWS
-}
-
 /// Whether a core takes no memory where it is told an answer.
 fn tells_in_place<A: Allocator + Copy, B: Allocator>(
     core: &mut Core<A>,
     refusing: &Refusing<B>,
 ) -> bool {
     are_told_in_place(core, refusing, nested())
-        && are_told_in_place(core, refusing, dropped())
+        && are_told_in_place(core, refusing, changed())
         && !core.has_attempt()
         && are_told_in_place(core, refusing, kept())
 }
