@@ -14,11 +14,11 @@ use Rattle.bytecode.specs.Sequential.{Sequential, OpenTransaction, InnerTransact
 use Rattle.bytecode.specs.Valid.{IsValid, bounds_of}
 use Rattle.bytecode.proofs.Fits.{fits_cells}
 use Rattle.frames.proofs.Keeping.{begins_stay_open}
-use Rattle.frames.specs.Open.{BeginsStayOpen, MayStand, AreRestored, GoesOn, restored, saved_in}
+use Rattle.frames.specs.Open.{BeginsStayOpen, MayStand, AreRestored, IsSuccessor, restored, saved_in}
 use Rattle.atomic_code.specs.declared.kept.Signal.{Signal}
 use Rattle.atomic_code.specs.declared.kept.Signal.TheVariants.{Goes, Leaves}
 use Rattle.std.specs.Prelude.{Vec}
-use Rattle.atomic_code.specs.Threads.{Thread, cancelled_from, inner_by, transaction_by, open_by, begins_of, AreMemories, HasMemories, Runs}
+use Rattle.atomic_code.specs.Threads.{AtomicThread, cancelled_from, inner_by, transaction_by, open_by, begins_of, AreMemories, HasMemories, RunsAtomically}
 use Rattle.atomic_code.specs.Carried.{finding, to_find}
 use Rattle.atomic_code.specs.inner.Making.{Makes, Cancels, with_memory, made_irrevocable, begun_in, MayPrint}
 use Rattle.atomic_code.proofs.Memories.{written, word_at}
@@ -51,7 +51,7 @@ all_dropped P (suc n) [] h = h
 all_dropped P (suc n) (x ∷ xs) h = all_dropped P n xs h.1
 
 -- a thread that runs
-abbrev pub at : Configuration → Option (OpenTransaction Saved) → List ℕ → Thread
+abbrev pub at : Configuration → Option (OpenTransaction Saved) → List ℕ → AtomicThread
 at c o t = record { configuration = c; open_in = o; text = t; status = Running }
 
 -- the same thread of the meaning, its begins seen from where it was
@@ -70,7 +70,7 @@ module _ (code : Code) (v : IsValid code) (m : Option Memory) where
   fits : FitsCells (effect code) (bounds_of code)
   fits = fits_cells code v
 
-  module _ (c : Configuration) (o : Option (OpenTransaction Saved)) (t : List ℕ) (runs : Runs code (at c o t)) where
+  module _ (c : Configuration) (o : Option (OpenTransaction Saved)) (t : List ℕ) (runs : RunsAtomically code (at c o t)) where
     by_effect : (x : Effect Configuration) → effect code c ≡ x → next (effect code) (finding code m (at c o t)) ≡ sequential_step (finding code m (at c o t)) false Running (open_by (cancelled_from code c) o) x
     by_effect x e = ap (λ y. sequential_step (finding code m (at c o t)) false Running (open_by (cancelled_from code c) o) y) e
 
@@ -84,14 +84,14 @@ module _ (code : Code) (v : IsValid code) (m : Option Memory) where
     }
 
     -- one that goes on in its frames
-    moves : {A : Type 0} (d : Configuration) (p : Option (OpenTransaction Saved)) (u : List ℕ) → GoesOn (effect code c) d → begins_of p ≡ begins_of o → HasMemories (bounds_of code) p →
+    moves : {A : Type 0} (d : Configuration) (p : Option (OpenTransaction Saved)) (u : List ℕ) → IsSuccessor (effect code c) d → begins_of p ≡ begins_of o → HasMemories (bounds_of code) p →
         next (effect code) (finding code m (at c o t)) ≡ state_at code m c d p u → Makes {A = A} code m (at c o t) Goes (at d p u)
     moves d p u g b words e =
         let h = law.goes_on c d (begins_of o) runs.stands g in
         goes_to d p u (subst (MayStand code d) (sym b) h.0) (subst (AreRestored c d) (sym b) h.1) words e
 
-    goes_by : (x : Effect Configuration) (d : Configuration) → effect code c ≡ x → GoesOn x d → GoesOn (effect code c) d
-    goes_by x d e g = subst (λ y. GoesOn y d) (sym e) g
+    goes_by : (x : Effect Configuration) (d : Configuration) → effect code c ≡ x → IsSuccessor x d → IsSuccessor (effect code c) d
+    goes_by x d e g = subst (λ y. IsSuccessor y d) (sym e) g
 
     pub pure : {A : Type 0} (d : Configuration) → effect code c ≡ Pure d → Makes {A = A} code m (at c o t) Goes (at d o t)
     pure d e = moves d o t (goes_by (Pure d) d e refl) refl runs.memories (by_effect (Pure d) e ∙ is o)
@@ -107,7 +107,7 @@ module _ (code : Code) (v : IsValid code) (m : Option Memory) where
         is None h = refl
         is (Some p) h = ap (λ b. print_step (finding code m (at c (Some p) t)) piece d b) h
 
-  module _ (c : Configuration) (t : List ℕ) (runs : Runs code (at c None t)) where
+  module _ (c : Configuration) (t : List ℕ) (runs : RunsAtomically code (at c None t)) where
     pub begins_outside : {A : Type 0} (mem : Memory) (d e : Configuration) → effect code c ≡ Begin d e → m ≡ Some mem → IsMemory (bounds_of code) mem → Makes {A = A} code m (at c None t) Goes (at d (Some (begun_in c mem)) t)
     begins_outside mem d e x h is =
         let open_one = law.opens c d e [] runs.stands x in
@@ -128,7 +128,7 @@ module _ (code : Code) (v : IsValid code) (m : Option Memory) where
         is (CancelOuter k) e = refl
         is x e = absurd e
 
-  module _ (c : Configuration) (o : OpenTransaction Saved) (t : List ℕ) (runs : Runs code (at c (Some o) t)) where
+  module _ (c : Configuration) (o : OpenTransaction Saved) (t : List ℕ) (runs : RunsAtomically code (at c (Some o) t)) where
     abbrev words : AreMemories (bounds_of code) o
     words = runs.memories
 
@@ -156,7 +156,7 @@ module _ (code : Code) (v : IsValid code) (m : Option Memory) where
         ∙ ap (λ q. record { configuration = d; inside = Some (record { cancelled = cancelled_from code c o.cancelled; found = o.found; mem = o.mem; inner = record { cancelled = q; mem = o.mem } ∷ map (inner_by (cancelled_from code c)) o.inner; kept = o.kept }); founds = []; lefts = []; text = t; status = Running; wants = false }) (goes_on_at code c d e x))
 
   -- the innermost of several
-  module _ (c : Configuration) (o : OpenTransaction Saved) (i : InnerTransaction Saved) (is : List (InnerTransaction Saved)) (t : List ℕ) (runs : Runs code (at c (Some (with_memory o o.mem (i ∷ is))) t)) where
+  module _ (c : Configuration) (o : OpenTransaction Saved) (i : InnerTransaction Saved) (is : List (InnerTransaction Saved)) (t : List ℕ) (runs : RunsAtomically code (at c (Some (with_memory o o.mem (i ∷ is))) t)) where
     abbrev whole : OpenTransaction Saved
     whole = with_memory o o.mem (i ∷ is)
 
@@ -179,7 +179,7 @@ module _ (code : Code) (v : IsValid code) (m : Option Memory) where
         goes_to c (Some whole) t runs d (Some (rest o.mem)) t (subst (MayStand code d) tl r.3) (subst (AreRestored c d) tl r.4) (record { found = all.found; now = all.now; inner = all.inner.1 }) (by_effect c (Some whole) t runs (Commit d) e)
 
   -- the outermost alone
-  module _ (c : Configuration) (o : OpenTransaction Saved) (t : List ℕ) (runs : Runs code (at c (Some (with_memory o o.mem [])) t)) where
+  module _ (c : Configuration) (o : OpenTransaction Saved) (t : List ℕ) (runs : RunsAtomically code (at c (Some (with_memory o o.mem [])) t)) where
     abbrev alone : OpenTransaction Saved
     alone = with_memory o o.mem []
 
@@ -197,7 +197,7 @@ module _ (code : Code) (v : IsValid code) (m : Option Memory) where
         }
 
   -- a cancel of so many levels
-  module _ (c : Configuration) (o : OpenTransaction Saved) (t : List ℕ) (runs : Runs code (at c (Some o) t)) (n : ℕ) (cancels : Cancels (effect code c) n) where
+  module _ (c : Configuration) (o : OpenTransaction Saved) (t : List ℕ) (runs : RunsAtomically code (at c (Some o) t)) (n : ℕ) (cancels : Cancels (effect code c) n) where
     abbrev those : AreMemories (bounds_of code) o
     those = runs.memories
 
@@ -261,10 +261,10 @@ module _ (code : Code) (v : IsValid code) (m : Option Memory) where
       cancel_kept h = record { makes = by_levels ∙ ap (λ js. step_from js o.kept) all ∙ ap (λ b. step_from [] b) h; of = runs; left = tt }
 
   -- the same, of threads that are said otherwise
-  pub makes_of : {A : Type 0} (k l p q : Thread) (s : Signal A) → k ≡ p → l ≡ q → Makes code m p s q → Makes code m k s l
+  pub makes_of : {A : Type 0} (k l p q : AtomicThread) (s : Signal A) → k ≡ p → l ≡ q → Makes code m p s q → Makes code m k s l
   makes_of k l p q s e f h = subst (λ z. Makes code m z s l) (sym e) (subst (λ z. Makes code m p s z) (sym f) h)
 
-pub same_thread : (a b : Thread) → a.configuration ≡ b.configuration → a.open_in ≡ b.open_in → a.text ≡ b.text → a.status ≡ b.status → a ≡ b
+pub same_thread : (a b : AtomicThread) → a.configuration ≡ b.configuration → a.open_in ≡ b.open_in → a.text ≡ b.text → a.status ≡ b.status → a ≡ b
 same_thread a b c d e f =
     ap (λ z. record { configuration = z; open_in = a.open_in; text = a.text; status = a.status }) c
     ∙ ap (λ z. record { configuration = b.configuration; open_in = z; text = a.text; status = a.status }) d

@@ -11,7 +11,7 @@ use Rattle.bytecode.specs.Beginning.{beginning}
 use Rattle.bytecode.specs.Sequential.{Sequential, next, steps, start, outcome_of, end_of}
 use Rattle.atomic_code.specs.declared.kept.Signal.{Signal}
 use Rattle.atomic_code.specs.declared.kept.Signal.TheVariants.{Goes, Leaves, Wants}
-use Rattle.atomic_code.specs.Threads.{Thread, Runs, IsStanding, meant}
+use Rattle.atomic_code.specs.Threads.{AtomicThread, RunsAtomically, StandsAtomically, meant}
 use Rattle.atomic_code.specs.Carried.{finding, to_find}
 use Rattle.atomic_code.specs.inner.Making.{HasMemoryAtHand, after_step}
 use Rattle.atomic_code.specs.inner.Carrying.{ComesTo}
@@ -49,7 +49,7 @@ module _ (code : Code) (t : ℕ) (fs : List Memory) (most : ℕ) where
   abbrev first : Sequential Configuration
   first = start (beginning code t) fs
 
-  pub comes_to_first : (k : Thread) → k.configuration ≡ beginning code t → k.open_in ≡ None → k.text ≡ [] → k.status ≡ Running → Runs code k → HasComeTo code t fs most 0 [] k
+  pub comes_to_first : (k : AtomicThread) → k.configuration ≡ beginning code t → k.open_in ≡ None → k.text ≡ [] → k.status ≡ Running → RunsAtomically code k → HasComeTo code t fs most 0 [] k
   comes_to_first k c o x s runs = record {
     few = omega arith;
     does = sym (same k c o x s);
@@ -58,17 +58,17 @@ module _ (code : Code) (t : ℕ) (fs : List Memory) (most : ℕ) where
     runs = runs;
   }
     where
-      same : (k : Thread) → k.configuration ≡ beginning code t → k.open_in ≡ None → k.text ≡ [] → k.status ≡ Running → meant code fs [] false k ≡ first
+      same : (k : AtomicThread) → k.configuration ≡ beginning code t → k.open_in ≡ None → k.text ≡ [] → k.status ≡ Running → meant code fs [] false k ≡ first
       same k c o x s = ap (meant code fs [] false) (all k (record { configuration = beginning code t; open_in = None; text = []; status = Running }) c o x s)
         where
-          all : (a b : Thread) → a.configuration ≡ b.configuration → a.open_in ≡ b.open_in → a.text ≡ b.text → a.status ≡ b.status → a ≡ b
+          all : (a b : AtomicThread) → a.configuration ≡ b.configuration → a.open_in ≡ b.open_in → a.text ≡ b.text → a.status ≡ b.status → a ≡ b
           all a b c d e f =
               ap (λ z. record { configuration = z; open_in = a.open_in; text = a.text; status = a.status }) c
               ∙ ap (λ z. record { configuration = b.configuration; open_in = z; text = a.text; status = a.status }) d
               ∙ ap (λ z. record { configuration = b.configuration; open_in = b.open_in; text = z; status = a.status }) e
               ∙ ap (λ z. record { configuration = b.configuration; open_in = b.open_in; text = b.text; status = z }) f
 
-  module _ {A : Type 0} (made : ℕ) (ls : List Memory) (k : Thread) (h : HasComeTo code t fs most made ls k) (more : ℕ) (s : Signal A) (l : Thread) (x : ComesTo code (slice_get fs (length ls)) (most - made) k more s l) where
+  module _ {A : Type 0} (made : ℕ) (ls : List Memory) (k : AtomicThread) (h : HasComeTo code t fs most made ls k) (more : ℕ) (s : Signal A) (l : AtomicThread) (x : ComesTo code (slice_get fs (length ls)) (most - made) k more s l) where
     abbrev rest : List Memory
     rest = drop (suc (length ls)) fs
 
@@ -88,7 +88,7 @@ module _ (code : Code) (t : ℕ) (fs : List Memory) (most : ℕ) where
     to e = steps_add (effect code) made more first _ h.does ∙ ap (steps (effect code) more) from ∙ steps_after (effect code) more ls (with_founds (effect code) rest (finding code hand k))
         ∙ ap (after_lefts (effect code) ls) (steps_with (effect code) more rest (finding code hand k) (ap (λ (z : Sequential Configuration). z.wants) x.does ∙ e) ∙ ap (with_founds (effect code) rest) x.does)
 
-  module _ {A : Type 0} (made : ℕ) (ls : List Memory) (k : Thread) (h : HasComeTo code t fs most made ls k) (more : ℕ) (l : Thread) where
+  module _ {A : Type 0} (made : ℕ) (ls : List Memory) (k : AtomicThread) (h : HasComeTo code t fs most made ls k) (more : ℕ) (l : AtomicThread) where
     pub goes_outcome : ComesTo {A = A} code (slice_get fs (length ls)) (most - made) k more Goes l → outcome_of (steps (effect code) most first) ≡ record { lefts = ls; text = l.text; end = end_of false l.status }
     goes_outcome x =
         finishes code first _ most (made + more) (to made ls k h more Goes l x refl) (few_more made ls k h more Goes l x)
@@ -118,5 +118,5 @@ module _ (code : Code) (t : ℕ) (fs : List Memory) (most : ℕ) where
         does = to made ls k h more (Leaves left) l x refl ∙ ap (λ n. meant code (drop n fs) (ls ++ left.items ∷ []) false l) (let e : suc (length ls) ≡ length (ls ++ left.items ∷ []) = omega (arith, length-append ls (left.items ∷ [])) in e);
         outside = x.left.1;
         running = running;
-        runs = subst (IsStanding code l) running x.of;
+        runs = subst (StandsAtomically code l) running x.of;
       }

@@ -13,19 +13,19 @@ use Rattle.bytecode.specs.Valid.{bounds_of}
 use Rattle.frames.specs.Open.{MayStand, restored}
 
 -- a thread: of each open begin it keeps what the begin saved, and not where a cancel goes on
-pub record Thread : Type 0 where
+pub record AtomicThread : Type 0 where
   pub configuration : Configuration
   pub open_in : Option (OpenTransaction Saved)
   pub text : List ℕ
   pub status : Status
 
 -- a thread, and how many instructions it has made
-pub record ThreadState : Type 0 where
-  pub thread : Thread
+pub record AtomicThreadState : Type 0 where
+  pub thread : AtomicThread
   pub steps : ℕ
 
 -- thread t of a code at its beginning
-abbrev pub first_thread : Code → ℕ → Thread
+abbrev pub first_thread : Code → ℕ → AtomicThread
 first_thread code t = record { configuration = beginning code t; open_in = None; text = []; status = Running }
 
 -- where a cancel of a begin goes on, by what the begin saved
@@ -50,7 +50,7 @@ open_by f None = None
 open_by f (Some o) = Some (transaction_by f o)
 
 -- the thread of the code's meaning, with these memories to find and these left
-abbrev pub meant : Code → List Memory → List Memory → Bool → Thread → Sequential Configuration
+abbrev pub meant : Code → List Memory → List Memory → Bool → AtomicThread → Sequential Configuration
 meant code founds lefts wants k = record {
   configuration = k.configuration;
   inside = open_by (cancelled_from code k.configuration) k.open_in;
@@ -77,16 +77,16 @@ HasMemories bounds None = Unit {0}
 HasMemories bounds (Some o) = AreMemories bounds o
 
 -- a thread that runs may stand where it does, with the begins that are open there, and has memories of the code
-pub record Runs (code : Code) (k : Thread) : Type 0 where
+pub record RunsAtomically (code : Code) (k : AtomicThread) : Type 0 where
   pub stands : MayStand code k.configuration (begins_of k.open_in)
   pub memories : HasMemories (bounds_of code) k.open_in
 
 -- one that is over is in no transaction
-abbrev pub IsStanding : Code → Thread → Status → Type 0
-IsStanding code k Running = Runs code k
-IsStanding code k HasEnded = k.open_in ≡ None
-IsStanding code k (HasTrapped cause) = k.open_in ≡ None
+abbrev pub StandsAtomically : Code → AtomicThread → Status → Type 0
+StandsAtomically code k Running = RunsAtomically code k
+StandsAtomically code k HasEnded = k.open_in ≡ None
+StandsAtomically code k (HasTrapped cause) = k.open_in ≡ None
 
 -- the thread is one of this code
-unfoldable pub IsThreadOf : Code → Thread → Type 0
-IsThreadOf code k = IsStanding code k k.status
+unfoldable pub IsAtomicThreadOf : Code → AtomicThread → Type 0
+IsAtomicThreadOf code k = StandsAtomically code k k.status

@@ -3,7 +3,7 @@
 ghost use Rattle.std.specs.Prelude.{◌≡◌, ◌+◌, ◌<◌, ◌^◌, ℕ, IfOk, IfSome, IsSome, None, OnErr};
 ghost use Rattle.syntax.specs.Behaviours.{IsMemory};
 ghost use Rattle.bytecode.specs.Valid.{bounds_of};
-ghost use Rattle.atomic_code.specs.Threads.{IsThreadOf, first_thread};
+ghost use Rattle.atomic_code.specs.Threads.{IsAtomicThreadOf, first_thread};
 ghost use Rattle.atomic_code.specs.Carried.{BreaksOff, CarriesOn, end_by, memory_of};
 
 use crate::kept::{KeptThread, Signal};
@@ -23,7 +23,7 @@ pub struct AtomicThread<A: Allocator = Global> {
 }
 
 impl<A: Allocator> Model for AtomicThread<A> {
-    ghost use Rattle.atomic_code.specs.Threads.{ThreadState};
+    ghost use Rattle.atomic_code.specs.Threads.{AtomicThreadState};
 
     ghost Value = { ThreadState };
 
@@ -64,7 +64,7 @@ impl<A: Allocator + Copy> AtomicThread<A> {
         number: u32,
     ) -> Result<AtomicThread<A>, AllocError>
         ensures thread { IfOk result (λ t. t ≡ record { thread = first_thread code.now number; steps = 0 }) }
-        ensures of { IfOk result (λ t. IsThreadOf code.now t.thread) }
+        ensures of { IfOk result (λ t. IsAtomicThreadOf code.now t.thread) }
     {
         // The prover learns here that the code is valid.
         code.known();
@@ -93,7 +93,7 @@ impl<A: Allocator + Copy> AtomicThread<A> {
         found: &[u64],
         steps: u64,
     ) -> Result<Ran<A>, AllocError>
-        requires of { IsThreadOf code.now self.old.thread }
+        requires of { IsAtomicThreadOf code.now self.old.thread }
         requires found { IsMemory (bounds_of code.now) found.now }
         requires count { self.old.steps + steps < 2 ^ 64 }
         ensures ok { IfOk result
@@ -103,7 +103,7 @@ impl<A: Allocator + Copy> AtomicThread<A> {
         ensures left { IfOk result (λ r. IfSome r.left (λ m. IsMemory (bounds_of code.now) m.items)) }
         ensures outside { IfOk result (λ r. IsSome r.left → self.new.thread.open_in ≡ None) }
         ensures err { OnErr result (BreaksOff code.now found.now steps self.old self.new) }
-        ensures of { IsThreadOf code.now self.new.thread }
+        ensures of { IsAtomicThreadOf code.now self.new.thread }
     {
         // The prover learns here that the code is valid.
         code.known();

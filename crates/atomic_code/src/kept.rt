@@ -8,7 +8,7 @@ ghost use Rattle.bytecode.specs.Code.{effect, going, onward, returned, setting};
 ghost use Rattle.bytecode.specs.Valid.{IsValid, bounds_of};
 ghost use Rattle.frames.specs.Open.{CanRestore, IsConfigurationOf, restored};
 ghost use Rattle.frames.specs.Told.{IsCall, IsLocalStep, piece_of};
-ghost use Rattle.atomic_code.specs.Threads.{Runs, cancelled_from};
+ghost use Rattle.atomic_code.specs.Threads.{RunsAtomically, cancelled_from};
 ghost use Rattle.atomic_code.specs.inner.Making.{Cancels, HasMemoryAtHand, Makes, MayPrint, at_hand, thread_of};
 ghost use Rattle.atomic_code.specs.inner.Making.{saved_by, transaction_of};
 
@@ -82,7 +82,7 @@ impl<A: Allocator + Copy> KeptThread<A> {
     fn work<B: Allocator>(&mut self, code: &Code<B>) -> Signal<A>
         requires valid { IsValid code.now }
         requires running { self.old.status ≡ Running }
-        requires runs { Runs code.now (thread_of self.old) }
+        requires runs { RunsAtomically code.now (thread_of self.old) }
         requires told { IsLocalStep code.now self.old.frames.configuration }
         ensures { (m : Option Memory) → Makes code.now m (thread_of self.old) result (thread_of self.new) }
     {
@@ -93,7 +93,7 @@ impl<A: Allocator + Copy> KeptThread<A> {
     fn call<B: Allocator>(&mut self, code: &Code<B>) -> Result<Signal<A>, AllocError>
         requires valid { IsValid code.now }
         requires running { self.old.status ≡ Running }
-        requires runs { Runs code.now (thread_of self.old) }
+        requires runs { RunsAtomically code.now (thread_of self.old) }
         requires told { IsCall code.now self.old.frames.configuration }
         ensures ok { IfOk result (λ s. (m : Option Memory)
             → Makes code.now m (thread_of self.old) s (thread_of self.new)) }
@@ -107,7 +107,7 @@ impl<A: Allocator + Copy> KeptThread<A> {
     fn give_back<B: Allocator>(&mut self, code: &Code<B>, word: u64) -> Signal<A>
         requires valid { IsValid code.now }
         requires running { self.old.status ≡ Running }
-        requires runs { Runs code.now (thread_of self.old) }
+        requires runs { RunsAtomically code.now (thread_of self.old) }
         requires returns { effect code.now self.old.frames.configuration
             ≡ returned self.old.frames.configuration.frames word }
         requires caller { 0 < length self.old.frames.configuration.frames }
@@ -121,7 +121,7 @@ impl<A: Allocator + Copy> KeptThread<A> {
     fn print<B: Allocator>(&mut self, code: &Code<B>, doing: Doing) -> Result<Signal<A>, AllocError>
         requires valid { IsValid code.now }
         requires running { self.old.status ≡ Running }
-        requires runs { Runs code.now (thread_of self.old) }
+        requires runs { RunsAtomically code.now (thread_of self.old) }
         requires prints { effect code.now self.old.frames.configuration
             ≡ Effect.Print (piece_of code.now doing) (onward self.old.frames.configuration) }
         ensures ok { IfOk result (λ s. (m : Option Memory)
@@ -146,7 +146,7 @@ impl<A: Allocator + Copy> KeptThread<A> {
     ) -> Result<Signal<A>, AllocError>
         requires valid { IsValid code.now }
         requires running { self.old.status ≡ Running }
-        requires runs { Runs code.now (thread_of self.old) }
+        requires runs { RunsAtomically code.now (thread_of self.old) }
         requires outside { option_map transaction_of self.old.open_in ≡ None }
         requires found { HasMemoryAtHand (bounds_of code.now) (at_hand (λ m. m.now) found) }
         requires begins { effect code.now self.old.frames.configuration
@@ -177,7 +177,7 @@ impl<A: Allocator + Copy> KeptThread<A> {
     ) -> Result<Signal<A>, AllocError>
         requires valid { IsValid code.now }
         requires running { self.old.status ≡ Running }
-        requires runs { Runs code.now (thread_of self.old) }
+        requires runs { RunsAtomically code.now (thread_of self.old) }
         requires found { HasMemoryAtHand (bounds_of code.now) (at_hand (λ m. m.now) found) }
         requires begins { effect code.now self.old.frames.configuration
             ≡ Effect.Begin (onward self.old.frames.configuration) (going self.old.frames.configuration to) }
@@ -199,7 +199,7 @@ impl<A: Allocator + Copy> KeptThread<A> {
     fn read<B: Allocator>(&mut self, code: &Code<B>, d: u32, cell: u32) -> Signal<A>
         requires valid { IsValid code.now }
         requires running { self.old.status ≡ Running }
-        requires runs { Runs code.now (thread_of self.old) }
+        requires runs { RunsAtomically code.now (thread_of self.old) }
         requires reads { effect code.now self.old.frames.configuration
             ≡ Effect.Read cell (setting self.old.frames.configuration d) }
         requires there { d < length self.old.frames.configuration.registers }
@@ -218,7 +218,7 @@ impl<A: Allocator + Copy> KeptThread<A> {
     fn write<B: Allocator>(&mut self, code: &Code<B>, cell: u32, word: u64) -> Signal<A>
         requires valid { IsValid code.now }
         requires running { self.old.status ≡ Running }
-        requires runs { Runs code.now (thread_of self.old) }
+        requires runs { RunsAtomically code.now (thread_of self.old) }
         requires writes { effect code.now self.old.frames.configuration
             ≡ Effect.Write cell word (onward self.old.frames.configuration) }
         ensures { (m : Option Memory) → Makes code.now m (thread_of self.old) result (thread_of self.new) }
@@ -236,7 +236,7 @@ impl<A: Allocator + Copy> KeptThread<A> {
     fn make_irrevocable<B: Allocator>(&mut self, code: &Code<B>) -> Signal<A>
         requires valid { IsValid code.now }
         requires running { self.old.status ≡ Running }
-        requires runs { Runs code.now (thread_of self.old) }
+        requires runs { RunsAtomically code.now (thread_of self.old) }
         requires told { effect code.now self.old.frames.configuration
             ≡ Effect.Irrevocable (onward self.old.frames.configuration) }
         ensures { (m : Option Memory) → Makes code.now m (thread_of self.old) result (thread_of self.new) }
@@ -255,7 +255,7 @@ impl<A: Allocator + Copy> KeptThread<A> {
     fn commit<B: Allocator>(&mut self, code: &Code<B>) -> Signal<A>
         requires valid { IsValid code.now }
         requires running { self.old.status ≡ Running }
-        requires runs { Runs code.now (thread_of self.old) }
+        requires runs { RunsAtomically code.now (thread_of self.old) }
         requires commits { effect code.now self.old.frames.configuration
             ≡ Effect.Commit (onward self.old.frames.configuration) }
         ensures { (m : Option Memory) → Makes code.now m (thread_of self.old) result (thread_of self.new) }
@@ -280,7 +280,7 @@ impl<A: Allocator + Copy> KeptThread<A> {
     fn cancel<B: Allocator>(&mut self, code: &Code<B>, levels: u32) -> Signal<A>
         requires valid { IsValid code.now }
         requires running { self.old.status ≡ Running }
-        requires runs { Runs code.now (thread_of self.old) }
+        requires runs { RunsAtomically code.now (thread_of self.old) }
         requires cancels { Cancels (effect code.now self.old.frames.configuration) levels }
         ensures { (m : Option Memory) → Makes code.now m (thread_of self.old) result (thread_of self.new) }
     {
@@ -309,7 +309,7 @@ impl<A: Allocator + Copy> KeptThread<A> {
     fn trap<B: Allocator>(&mut self, code: &Code<B>, cause: Trap) -> Signal<A>
         requires valid { IsValid code.now }
         requires running { self.old.status ≡ Running }
-        requires runs { Runs code.now (thread_of self.old) }
+        requires runs { RunsAtomically code.now (thread_of self.old) }
         requires traps { effect code.now self.old.frames.configuration ≡ Effect.Traps cause }
         ensures { (m : Option Memory) → Makes code.now m (thread_of self.old) result (thread_of self.new) }
     {
@@ -325,7 +325,7 @@ impl<A: Allocator + Copy> KeptThread<A> {
     fn end<B: Allocator>(&mut self, code: &Code<B>) -> Signal<A>
         requires valid { IsValid code.now }
         requires running { self.old.status ≡ Running }
-        requires runs { Runs code.now (thread_of self.old) }
+        requires runs { RunsAtomically code.now (thread_of self.old) }
         requires ends { effect code.now self.old.frames.configuration ≡ Effect.End }
         ensures { (m : Option Memory) → Makes code.now m (thread_of self.old) result (thread_of self.new) }
     {
@@ -347,7 +347,7 @@ impl<A: Allocator + Copy> KeptThread<A> {
     ) -> Result<Signal<A>, AllocError>
         requires valid { IsValid code.now }
         requires running { self.old.status ≡ Running }
-        requires runs { Runs code.now (thread_of self.old) }
+        requires runs { RunsAtomically code.now (thread_of self.old) }
         requires found { HasMemoryAtHand (bounds_of code.now) (at_hand (λ m. m.now) found) }
         ensures ok { IfOk result
             (λ s. Makes code.now (at_hand (λ m. m.now) found.entry) (thread_of self.old) s (thread_of self.new)) }

@@ -9,7 +9,7 @@ use Rattle.command.specs.declared.request.Request.{Request}
 use Rattle.command.specs.declared.request.UsageFault.{UsageFault}
 use Rattle.command.specs.declared.request.UsageFault.TheVariants.{OutOfMemory, Help, Wrong}
 use Rattle.command.specs.Line.{program_app}
-use Rattle.command.specs.Asked.{AskNothing, Asks, Refuses}
+use Rattle.command.specs.Asked.{AskNothing, Requests, Refuses}
 use Rattle.command.specs.inner.Refusals.{IsOwn, HasGiven, SaysError}
 
 program_app-is_simple : is_simple program_app ≡ true
@@ -21,7 +21,7 @@ unfolding clap_on_literals
 program_app-is_free = refl
 
 -- what was met is what the words ask
-pub asked : (a : App) (words : List Text) (m : ArgMatches) (r : Request) → a ≡ program_app → HasMatchesOf a words m → (is_simple_and_free a ≡ true → fault_of a words ≡ []) → HasGiven (subcommand_rows_of m) r → Asks words r
+pub asked : (a : App) (words : List Text) (m : ArgMatches) (r : Request) → a ≡ program_app → HasMatchesOf a words m → (is_simple_and_free a ≡ true → fault_of a words ≡ []) → HasGiven (subcommand_rows_of m) r → Requests words r
 asked a words m r same has none met = record {
   taken = ap (λ x. fault_of x words) (sym same) ∙ none (ap is_simple_and_free same ∙ program_app-is_free);
   name = met.name;

@@ -116,7 +116,7 @@ IsRequest name given (Explain number) =
     (name ≡ codes "explain") × IsGiven given (codes "NN") number
 
 -- the words are those of a command, and make this request
-pub record Asks (words : List Text) (request : Request) : Type 0 where
+pub record Requests (words : List Text) (request : Request) : Type 0 where
   pub taken : fault_of program_app words ≡ []
   pub name : Text
   pub given : List Row
@@ -125,7 +125,7 @@ pub record Asks (words : List Text) (request : Request) : Type 0 where
 
 -- words that ask nothing
 abbrev pub AskNothing : List Text → Type 0
-AskNothing words = (request : Request) → Asks words request → ⊥
+AskNothing words = (request : Request) → Requests words request → ⊥
 
 -- help is asked for, or the version
 abbrev pub AskHelp : List Text → Type 0

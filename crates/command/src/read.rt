@@ -4,7 +4,7 @@ ghost use Rattle.std.specs.Prelude.{◌≡◌, IfOk, IfErr, codes, map};
 ghost use Rattle.clap.specs.Words.{first_of, found_of, rows_of, subcommand_rows_of};
 ghost use Rattle.command.specs.declared.request.Format.{Format};
 ghost use Rattle.command.specs.declared.request.Request.{Request};
-ghost use Rattle.command.specs.Asked.{Asks, IsFormat, IsRequest, Refuses};
+ghost use Rattle.command.specs.Asked.{Requests, IsFormat, IsRequest, Refuses};
 ghost use Rattle.command.specs.inner.Refusals.{AreNoRequest, IsOwn, HasGiven, SaysError};
 
 use crate::given::{fault_wanted, flag_given, text_given, text_wanted, wrong};
@@ -20,7 +20,7 @@ use std::alloc::Global;
 /// A command or an option that the program does not have is `Wrong`. Memory is taken from the global allocator, as
 /// `clap` does.
 pub fn command(alloc: Global, words: &[&str]) -> Result<Request, UsageFault>
-    ensures ok { IfOk result (Asks (map (λ w. w.now) words.now)) }
+    ensures ok { IfOk result (Requests (map (λ w. w.now) words.now)) }
     ensures err { IfErr result (Refuses (map (λ w. w.now) words.now)) }
 {
     let program = program(alloc)?;

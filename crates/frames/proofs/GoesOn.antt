@@ -13,7 +13,7 @@ use Rattle.bytecode.specs.Code.{Code, FunctionCode, Configuration, Frame, Instr,
 use Rattle.bytecode.specs.Valid.{Has, IsReached, at_first, IsWritten, IsValid, end_of}
 use Rattle.bytecode.proofs.Tables.{some_same}
 use Rattle.local_steps.specs.Local.{standing, AreWords}
-use Rattle.frames.specs.Open.{AreSaved, MayStand, AreRestored, GoesOn}
+use Rattle.frames.specs.Open.{AreSaved, MayStand, AreRestored, IsSuccessor}
 use Rattle.frames.proofs.Reached.{to_next, to_place, or_next, or_place}
 use Rattle.frames.proofs.Operators.{computed_fits, fitted_fits, word_fits, complemented_fits}
 use Rattle.frames.proofs.Registers.{words_set, words_append, words_of_registers, words_zero}
@@ -25,7 +25,7 @@ Stays code c ss d = MayStand code d ss × AreRestored c d ss
 
 -- wherever the effect goes on
 abbrev pub GoesWell : Code → Configuration → List Saved → Effect Configuration → Type 0
-GoesWell code c ss x = (d : Configuration) → GoesOn x d → Stays code c ss d
+GoesWell code c ss x = (d : Configuration) → IsSuccessor x d → Stays code c ss d
 
 -- back in a caller's frame
 returns_well : (code : Code) (p : ℕ) (rs : List ℕ) (fs : List Frame) (ss : List Saved) (w : ℕ) (m : MayStand code (standing p rs fs) ss) → m.top.begins ≡ [] → w < 2 ^ 64 → GoesWell code (standing p rs fs) ss (returned fs w)

@@ -77,18 +77,18 @@ abbrev pub AreRestored : Configuration → Configuration → List Saved → Type
 AreRestored c d ss = map (restored d) ss ≡ map (restored c) ss
 
 -- where an instruction goes on that opens no begin and closes none
-abbrev pub GoesOn : Effect Configuration → Configuration → Type 0
-GoesOn (Effect.Pure c) d = d ≡ c
-GoesOn (Effect.Print piece c) d = d ≡ c
-GoesOn (Effect.Read a k) d = (w : ℕ) × (w < 2 ^ 64) × (d ≡ k w)
-GoesOn (Effect.Write a w c) d = d ≡ c
-GoesOn (Effect.Irrevocable c) d = d ≡ c
-GoesOn x d = ⊥
+abbrev pub IsSuccessor : Effect Configuration → Configuration → Type 0
+IsSuccessor (Effect.Pure c) d = d ≡ c
+IsSuccessor (Effect.Print piece c) d = d ≡ c
+IsSuccessor (Effect.Read a k) d = (w : ℕ) × (w < 2 ^ 64) × (d ≡ k w)
+IsSuccessor (Effect.Write a w c) d = d ≡ c
+IsSuccessor (Effect.Irrevocable c) d = d ≡ c
+IsSuccessor x d = ⊥
 
 -- What a thread of the code keeps, whatever it does.
 pub record BeginsStayOpen (code : Code) : Type 0 where
   pub none_yet : (t : ℕ) → t < 2 ^ 32 → MayStand code (beginning code t) []
-  pub goes_on : (c d : Configuration) (ss : List Saved) → MayStand code c ss → GoesOn (effect code c) d →
+  pub goes_on : (c d : Configuration) (ss : List Saved) → MayStand code c ss → IsSuccessor (effect code c) d →
       MayStand code d ss × AreRestored c d ss
   pub steps : (n : ℕ) (c d : Configuration) (ss : List Saved) → MayStand code c ss → after_local code n c ≡ Some d →
       MayStand code d ss × AreRestored c d ss

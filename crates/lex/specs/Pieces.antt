@@ -27,24 +27,24 @@ abbrev pub IsWord : List ℕ → Type 0
 IsWord w = (0 < length w) × (is_letter (slice_index w 0) ≡ true) × Only is_part w
 
 -- `*/` stands at k
-abbrev pub Closes : List ℕ → ℕ → Type 0
-Closes w k = (slice_index w k ≡ 42) × (slice_index w (k + 1) ≡ 47)
+abbrev pub ClosesComment : List ℕ → ℕ → Type 0
+ClosesComment w k = (slice_index w k ≡ 42) × (slice_index w (k + 1) ≡ 47)
 
-abbrev pub Opens : List ℕ → Type 0
-Opens w = (slice_index w 0 ≡ 47) × (slice_index w 1 ≡ 42)
+abbrev pub OpensComment : List ℕ → Type 0
+OpensComment w = (slice_index w 0 ≡ 47) × (slice_index w 1 ≡ 42)
 
 -- from `/*` to the first `*/` behind it (C11 6.4.9)
 pub record IsComment (w : List ℕ) : Type 0 where
-  pub opens : Opens w
+  pub opens : OpensComment w
   pub large : 4 ≤ length w
-  pub closes : Closes w (length w - 2)
-  pub first : (k : ℕ) → 2 ≤ k → k + 2 < length w → Closes w k → ⊥
+  pub closes : ClosesComment w (length w - 2)
+  pub first : (k : ℕ) → 2 ≤ k → k + 2 < length w → ClosesComment w k → ⊥
 
 -- `/*` without a `*/` behind it
 pub record IsOpen (w : List ℕ) : Type 0 where
-  pub opens : Opens w
+  pub opens : OpensComment w
   pub large : 2 ≤ length w
-  pub never : (k : ℕ) → 2 ≤ k → k + 2 ≤ length w → Closes w k → ⊥
+  pub never : (k : ℕ) → 2 ≤ k → k + 2 ≤ length w → ClosesComment w k → ⊥
 
 -- `//` and more of its line (C11 6.4.9)
 pub record IsLine (w : List ℕ) : Type 0 where

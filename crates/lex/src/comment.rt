@@ -3,7 +3,7 @@
 ghost use Rattle.std.specs.Prelude.{◌≡◌, ◌≢◌, ℕ, List, ◌++◌, codes, ◌+◌, ◌<◌, ◌≤◌, ◌^◌, true, length, slice_index};
 ghost use Rattle.std.specs.Prelude.{take, MatchOption};
 ghost use Rattle.std.specs.Bool.{MatchBool};
-ghost use Rattle.lex.specs.Pieces.{Closes, FirstOnLine, IsInclude};
+ghost use Rattle.lex.specs.Pieces.{ClosesComment, FirstOnLine, IsInclude};
 ghost use Rattle.lex.specs.inner.Answers.{Answers};
 
 use crate::bytes::{blanks_len, is_blank, line_len, starts_part};
@@ -13,9 +13,9 @@ use crate::token::{Kind, Span};
 /// Where the first `*/` from the third byte on stands.
 fn close(rest: &[u8]) -> Option<usize>
     requires { length rest.now < 2 ^ 62 }
-    ensures { MatchOption result ((k : ℕ) → 2 ≤ k → k + 2 ≤ length rest.now → Closes rest.now k → ⊥)
-        (λ n. (2 ≤ n) × (n + 2 ≤ length rest.now) × Closes rest.now n
-        × ((k : ℕ) → 2 ≤ k → k < n → Closes rest.now k → ⊥)) }
+    ensures { MatchOption result ((k : ℕ) → 2 ≤ k → k + 2 ≤ length rest.now → ClosesComment rest.now k → ⊥)
+        (λ n. (2 ≤ n) × (n + 2 ≤ length rest.now) × ClosesComment rest.now n
+        × ((k : ℕ) → 2 ≤ k → k < n → ClosesComment rest.now k → ⊥)) }
 {
     let mut k = 2;
     'close: while k + 1 < rest.len() {

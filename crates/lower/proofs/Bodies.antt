@@ -15,7 +15,7 @@ use Rattle.lowered.specs.Expressions.{LocalScope}
 use Rattle.picked.specs.Lists.{Lists}
 use Rattle.picked.specs.declared.held.Exits.{Exits}
 use Rattle.picked.specs.Statements.{all_written}
-use Rattle.picked.specs.Programs.{body_written, Made, nothing_made, function_code, put_before, made_first, all_made, made_for}
+use Rattle.picked.specs.Programs.{body_written, FunctionCodes, nothing_made, function_code, put_before, made_first, all_made, made_for}
 use Rattle.lower.specs.inner.Parts.{made_behind}
 
 abbrev pub exits_of : Scalar → Exits
@@ -36,7 +36,7 @@ pub prototype_made : {A : Type 0} (p : Program) (item : OwnItem A) (f : OwnFunct
 prototype_made p item f from l is e =
     ap (λ i. all_made p (item_of i ∷ []) from l) is ∙ ap (λ o. made_first p (function_of f) (option_map stmts_of o) (all_made p []) from l) e
 
-pub nothing_behind : (m : Made) → made_behind m (nothing_made m.to m.lists) ≡ m
+pub nothing_behind : (m : FunctionCodes) → made_behind m (nothing_made m.to m.lists) ≡ m
 nothing_behind m = λ j. record m { functions = append-nil m.functions j; code = append-nil m.code j }
 
 -- an item, and then the others
@@ -62,23 +62,23 @@ front_and_rest p (item ∷ front) items from l =
     let more = all_made p front one.to one.lists in
     let rest = all_made p items more.to more.lists in
     first_and_rest p item (front ++ items) from l
-    ∙ ap (λ (m : Made). made_behind one m) (front_and_rest p front items one.to one.lists)
+    ∙ ap (λ (m : FunctionCodes). made_behind one m) (front_and_rest p front items one.to one.lists)
     ∙ (λ j. record { functions = sym (append_assoc one.functions more.functions rest.functions) j; code = sym (append_assoc one.code more.code rest.code) j; lists = rest.lists; to = rest.to })
-    ∙ sym (ap (λ (m : Made). made_behind m (all_made p items m.to m.lists)) (first_and_rest p item front from l))
+    ∙ sym (ap (λ (m : FunctionCodes). made_behind m (all_made p items m.to m.lists)) (first_and_rest p item front from l))
 
 module _ (p : Program) {A : Type 0} (items : List (OwnItem A)) (i : ℕ) (x : OwnItem A) (h : i < length items) (is : x ≡ get_or items i x) where
   pub one_more : map item_of (take (i + 1) items) ≡ map item_of (take i items) ++ item_of x ∷ []
   one_more = map_more item_of items i x h ∙ ap (λ y. map item_of (take i items) ++ item_of y ∷ []) (sym is)
 
   -- what is made of the first items, and of the next one
-  pub front_more : {done done' : Made} → done ≡ made_for p (map item_of (take i items)) → done' ≡ made_behind done (all_made p (item_of x ∷ []) done.to done.lists) → done' ≡ made_for p (map item_of (take (i + 1) items))
+  pub front_more : {done done' : FunctionCodes} → done ≡ made_for p (map item_of (take i items)) → done' ≡ made_behind done (all_made p (item_of x ∷ []) done.to done.lists) → done' ≡ made_for p (map item_of (take (i + 1) items))
   front_more d n =
       n
       ∙ (λ j. made_behind (d j) (all_made p (item_of x ∷ []) (d j).to (d j).lists))
       ∙ sym (ap (made_for p) one_more ∙ front_and_rest p (map item_of (take i items)) (item_of x ∷ []) 0 _)
 
 -- of all items
-pub front_last : (p : Program) {A : Type 0} (items : List (OwnItem A)) (i : ℕ) {done : Made} → length items ≤ i → done ≡ made_for p (map item_of (take i items)) → done ≡ made_for p (map item_of items)
+pub front_last : (p : Program) {A : Type 0} (items : List (OwnItem A)) (i : ℕ) {done : FunctionCodes} → length items ≤ i → done ≡ made_for p (map item_of (take i items)) → done ≡ made_for p (map item_of items)
 front_last p items i h d = d ∙ ap (λ its. made_for p (map item_of its)) (take_all i items h)
 
 -- functions of few registers

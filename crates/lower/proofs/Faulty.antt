@@ -16,13 +16,13 @@ use Rattle.bytecode.specs.Views.{instr_of}
 use Rattle.lowered.specs.Programs.{parameter_locals}
 use Rattle.picked.specs.Lists.{Lists}
 use Rattle.picked.specs.Simples.{Written}
-use Rattle.picked.specs.Programs.{Made, no_exits, body_written, nothing_ready, nothing_made, function_code, put_before, all_made, made_for, made_of, picked_code}
+use Rattle.picked.specs.Programs.{FunctionCodes, no_exits, body_written, nothing_ready, nothing_made, function_code, put_before, all_made, made_for, made_of, picked_code}
 use Rattle.picked.proofs.GrowingStmts.{stmts_more}
 use Rattle.lower.specs.declared.fault.LowerFault.{LowerFault}
 use Rattle.lower.specs.declared.fault.LowerFault.TheVariants.{OutOfMemory, TooManyRegisters, TooMuchCode, NestedTooDeep}
 use Rattle.lower.specs.Nested.{nested_too_deep}
 use Rattle.lower.specs.Limits.{picked_for}
-use Rattle.lower.specs.Faults.{IsFaultOf}
+use Rattle.lower.specs.Faults.{IsLowerFaultOf}
 use Rattle.lower.specs.inner.Parts.{made_behind, IsOfDefinition, IsOfItem, IsOfCode}
 use Rattle.lower.proofs.Better.{body_more}
 use Rattle.lower.proofs.Bodies.{definition_made, front_and_rest, front_more, one_more}
@@ -47,14 +47,14 @@ pub definition_fault : {A : Type 0} (p : Program) (item : OwnItem A) (f : OwnFun
 definition_fault p item f body slice from l done e is some same h =
     let F = function_of f in
     let w = body_written p F (stmts_of body) from l in
-    let made : Made = put_before (function_code F from w) w (nothing_made w.to w.lists) in
+    let made : FunctionCodes = put_before (function_code F from w) w (nothing_made w.to w.lists) in
     let a : IsOfDefinition F w.lists.registers (length (done ++ w.code)) e =
     subst (λ b. IsOfDefinition F (body_written p F (stmts_of b) from l).lists.registers (length (done ++ (body_written p F (stmts_of b) from l).code)) e) same h in
     let b : IsOfDefinition F w.lists.registers (length (done ++ made.code)) e =
     subst (λ xs. IsOfDefinition F w.lists.registers (length (done ++ xs)) e) (sym (append-nil w.code)) a in
     let c : IsOfItem (item_of item) made.functions (length (done ++ made.code)) e =
     subst (λ i. IsOfItem (item_of i) made.functions (length (done ++ made.code)) e) (sym is) (of_definition F from (length (done ++ made.code)) w e b) in
-    subst (λ (m : Made). IsOfItem (item_of item) m.functions (length (done ++ m.code)) e) (sym (definition_made p item f body from l is some)) c
+    subst (λ (m : FunctionCodes). IsOfItem (item_of item) m.functions (length (done ++ m.code)) e) (sym (definition_made p item f body from l is some)) c
 
 among : {A : Type 0} (items : List (OwnItem A)) (i : ℕ) (x : OwnItem A) → i < length items → x ≡ get_or items i x → Contains (map item_of items) (item_of x)
 among items i x h is =
@@ -90,7 +90,7 @@ of_one p before (Defines f) after codes n (TooMuchCode at) s c d b m h k =
 of_one p before (Defines f) after codes n (NestedTooDeep at) s c d b m h k = absurd k
 of_one p before item after codes n e s c d b m h k = absurd k
 
-pub item_fault : {A : Type 0} (items : List (OwnItem A)) (i : ℕ) (x : OwnItem A) (done : Made) (e : LowerFault) → i < length items → x ≡ get_or items i x →
+pub item_fault : {A : Type 0} (items : List (OwnItem A)) (i : ℕ) (x : OwnItem A) (done : FunctionCodes) (e : LowerFault) → i < length items → x ≡ get_or items i x →
     done ≡ made_for (map item_of items) (map item_of (take i items)) → length done.code ≤ 1048576 →
     IsOfItem (item_of x) (all_made (map item_of items) (item_of x ∷ []) done.to done.lists).functions (length (done.code ++ (all_made (map item_of items) (item_of x ∷ []) done.to done.lists).code)) e → IsOfCode (map item_of items) e
 item_fault items i x done e h is d b k =
@@ -104,13 +104,13 @@ item_fault items i x done e h is d b k =
     let there : made_behind done one ≡ made_for p first = front_more p items i x h is d refl in
     let rest = all_made p after (made_for p first).to (made_for p first).lists in
     let halves : p ≡ first ++ after = sym (ap (λ xs. map item_of xs) (take-append-drop (i + 1) items)) ∙ map-append item_of (take (i + 1) items) (drop (i + 1) items) in
-    let whole : made_of p ≡ made_behind (made_behind done one) rest = ap (made_for p) halves ∙ front_and_rest p first after 0 _ ∙ ap (λ (m : Made). made_behind m rest) (sym there) in
-    let lengths : length (made_of p).code ≡ length ((done.code ++ one.code) ++ rest.code) = ap (λ (m : Made). length m.code) whole in
+    let whole : made_of p ≡ made_behind (made_behind done one) rest = ap (made_for p) halves ∙ front_and_rest p first after 0 _ ∙ ap (λ (m : FunctionCodes). made_behind m rest) (sym there) in
+    let lengths : length (made_of p).code ≡ length ((done.code ++ one.code) ++ rest.code) = ap (λ (m : FunctionCodes). length m.code) whole in
     let sum : length ((done.code ++ one.code) ++ rest.code) ≡ length (done.code ++ one.code) + length rest.code = length-append (done.code ++ one.code) rest.code in
     let n : length (map (instr_of (made_of p).lists.arguments) (made_of p).code) ≡ length (made_of p).code = length-map (made_of p).code (instr_of (made_of p).lists.arguments) in
     of_one p before (item_of x) after one.functions (length (done.code ++ one.code)) e parts (among items i x h is)
-    (λ g c. subst (λ (m : Made). Contains m.functions g) (sym whole) (Contains-append_left (done.functions ++ one.functions) rest.functions g (Contains-append_right done.functions one.functions g c)))
-    (subst (λ (m : Made). length m.code ≤ 1048576) d b) (ap (λ (m : Made). length m.code) (there ∙ ap (made_for p) (one_more p items i x h is))) (omega (arith, lengths, sum, n)) k
+    (λ g c. subst (λ (m : FunctionCodes). Contains m.functions g) (sym whole) (Contains-append_left (done.functions ++ one.functions) rest.functions g (Contains-append_right done.functions one.functions g c)))
+    (subst (λ (m : FunctionCodes). length m.code ≤ 1048576) d b) (ap (λ (m : FunctionCodes). length m.code) (there ∙ ap (made_for p) (one_more p items i x h is))) (omega (arith, lengths, sum, n)) k
 
 -- what ? hands on
 pub handed_on : {X Y : Type 0} (r : Result X LowerFault) (s : Result Y LowerFault) (f : LowerFault) (P Q : LowerFault → Type 0) → IfErr r P → r ≡ Err f → IsErr s × IsErrAnd s (λ y. y ≡ f) → ((e : LowerFault) → P e → Q e) → IfErr s Q
@@ -118,7 +118,7 @@ handed_on r (Ok y) f P Q h e g k = tt
 handed_on r (Err y) f P Q h e g k = k y (subst P (sym g.1) (subst (λ q. IfErr q P) e h))
 
 -- where no transaction lies too deep
-pub of_program : (p : Program) (e : LowerFault) → nested_too_deep p ≡ None → IsOfCode p e → IsFaultOf p e
+pub of_program : (p : Program) (e : LowerFault) → nested_too_deep p ≡ None → IsOfCode p e → IsLowerFaultOf p e
 of_program p OutOfMemory n h = tt
 of_program p (TooManyRegisters at) n h = (n, h)
 of_program p (TooMuchCode at) n h = (n, h.0, h.1)

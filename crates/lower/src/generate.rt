@@ -9,7 +9,7 @@ ghost use Rattle.bytecode.specs.Views.{code_of, function_of as code_function};
 ghost use Rattle.lowered.specs.Means.{MeansItsProgram};
 ghost use Rattle.picked.specs.Programs.{body_written, all_made, picked_code};
 ghost use Rattle.lower.specs.Nested.{nested_too_deep};
-ghost use Rattle.lower.specs.Faults.{IsFaultOf};
+ghost use Rattle.lower.specs.Faults.{IsLowerFaultOf};
 ghost use Rattle.expression_code.specs.Lists.{lists_of};
 ghost use Rattle.lower.specs.inner.Parts.{made_in, made_behind, made_once};
 ghost use Rattle.lower.specs.inner.Parts.{IsOfDefinition, IsOfItem, IsOfCode};
@@ -192,7 +192,7 @@ pub fn lower<A: Allocator + Copy>(alloc: A, accepted: &Accepted<A>) -> Result<Co
     ensures globals { IfOk result (λ code. code.globals ≡ Source.globals (program_of accepted.now.safe.typed.unit)) }
     ensures worker { IfOk result HasWorker }
     ensures shallow { IfOk result (λ code. nested_too_deep (program_of accepted.now.safe.typed.unit) ≡ None) }
-    ensures fault { IfErr result (IsFaultOf (program_of accepted.now.safe.typed.unit)) }
+    ensures fault { IfErr result (IsLowerFaultOf (program_of accepted.now.safe.typed.unit)) }
 {
     picked_code_stands();
     picked_code_is_valid();

@@ -25,7 +25,7 @@ use Rattle.bytecode.specs.Effects.{Effect}
 use Rattle.bytecode.specs.Sequential.{start, meaning, sequential_step, outside}
 use Rattle.bytecode.specs.Code.{Code, FunctionCode, Configuration, Frame, Instr, bounds_of, effect, effect_of, called}
 use Rattle.bytecode.specs.Beginning.{worker_among, beginning_in, beginning}
-use Rattle.lowered.specs.Expressions.{LocalScope, At, Layout, named_ones, nameless_ones, arranged}
+use Rattle.lowered.specs.Expressions.{LocalScope, InstructionAt, Layout, named_ones, nameless_ones, arranged}
 use Rattle.lowered.specs.Statements.{locals_at_end}
 use Rattle.lowered.specs.Programs.{parameter_locals, no_exits, ConstantsCode, FunctionIsLowered, IsLowered}
 use Rattle.lowered.specs.Means.{MeansItsProgram}
@@ -218,18 +218,18 @@ module _ (p : Program) (code : Code) (are : HasCellsOf code p) where
   -- a function's body, up to its return
   abbrev GoesReturn : ℕ → ℕ → (a : Around) → (Answer Value → Outcome) → List Local → List Frame → Option Scalar → Type 0
   GoesReturn N K a after ls frames u =
-      (v : Value) (sh : Shared) (text : List ℕ) (rs : List ℕ) (q : ℕ) (r : Option ℕ) → At code q (Instr.Return r) → word_in r rs ≡ v.word → v.of ≡ unwrap_or u Int → v.word < modulus v.of → IsGood code a sh →
+      (v : Value) (sh : Shared) (text : List ℕ) (rs : List ℕ) (q : ℕ) (r : Option ℕ) → InstructionAt code q (Instr.Return r) → word_in r rs ≡ v.word → v.of ≡ unwrap_or u Int → v.word < modulus v.of → IsGood code a sh →
       Agrees (effect code) N K (holding a sh text (configuration code q rs frames)) (λ n. after (Gives v (state n ls (context_of a sh) text)))
 
   -- what follows a body
   abbrev leaving : List Local → Option Scalar → End → Action Value
   leaving outer u end = put_locals outer >> result_of u end
 
-  body_ends : (N K : ℕ) (layout : Layout) (a : Around) (ls : List Local) (frames : List Frame) (u : Option Scalar) (after : Answer Value → Outcome) (scope later : LocalScope) (last : ℕ) → At code last (Instr.Return None) → IsSeen a after → GoesReturn N K a after ls frames u →
+  body_ends : (N K : ℕ) (layout : Layout) (a : Around) (ls : List Local) (frames : List Frame) (u : Option Scalar) (after : Answer Value → Outcome) (scope later : LocalScope) (last : ℕ) → InstructionAt code last (Instr.Return None) → IsSeen a after → GoesReturn N K a after ls frames u →
       (end : End) (sh : Shared) (text : List ℕ) (ls1 : List Local) (rs : List ℕ) (q : ℕ) → IsGood code a sh → ArrivedAt p code layout (no_exits u) (HereAt p code layout later) (MoreAt p code layout scope) last end q ls1 rs →
       Agrees (effect code) N K (holding a sh text (configuration code q rs frames)) (λ n. after (go_on (Gives end (state n ls1 (context_of a sh) text)) (leaving ls u)))
   body_ends N K layout a ls frames u after scope later last i s go Next sh text ls1 rs q good arrived =
-      go (converted (unwrap_or u Int) (flag false)) sh text rs q None (subst (λ y. At code y (Instr.Return None)) (sym arrived.0) i) (sym (ap (λ (v : Value). v.word) (truth_converted Int (unwrap_or u Int) false))) refl (word_below (unwrap_or u Int) (number_of (flag false))) good
+      go (converted (unwrap_or u Int) (flag false)) sh text rs q None (subst (λ y. InstructionAt code y (Instr.Return None)) (sym arrived.0) i) (sym (ap (λ (v : Value). v.word) (truth_converted Int (unwrap_or u Int) false))) refl (word_below (unwrap_or u Int) (number_of (flag false))) good
   body_ends N K layout a ls frames u after scope later last i s go Breaks sh text ls1 rs q good arrived = astray (effect code) 0 (s.astray _)
   body_ends N K layout a ls frames u after scope later last i s go Continues sh text ls1 rs q good arrived = astray (effect code) 0 (s.astray _)
   body_ends N K layout a ls frames u after scope later last i s go (Returns v) sh text ls1 rs q good arrived =
@@ -244,7 +244,7 @@ module _ (p : Program) (code : Code) (are : HasCellsOf code p) where
       goes_by code a sh text (configuration code from rs frames) (configuration code (suc from) (slice_set rs r w) frames) (effect_at code from (Instr.Constant r w) rs frames c.0)
       (constants_run ws (suc r) (suc from) to a sh text (slice_set rs r w) frames c.1 go)
 
-  body_goes : (k : ℕ) (frames : List Frame) (layout : Layout) (cf : CallsFollow p (calls p k) code layout frames) (N K : ℕ) (a : Around) (ls : List Local) (u : Option Scalar) (after : Answer Value → Outcome) (scope later : LocalScope) (last : ℕ) → At code last (Instr.Return None) → IsSeen a after → GoesReturn N K a after ls frames u → GoesEnd p (calls p k) code layout frames cf are N K a (λ q. after (go_on q (leaving ls u))) (no_exits u) (HereAt p code layout later) (MoreAt p code layout scope) last
+  body_goes : (k : ℕ) (frames : List Frame) (layout : Layout) (cf : CallsFollow p (calls p k) code layout frames) (N K : ℕ) (a : Around) (ls : List Local) (u : Option Scalar) (after : Answer Value → Outcome) (scope later : LocalScope) (last : ℕ) → InstructionAt code last (Instr.Return None) → IsSeen a after → GoesReturn N K a after ls frames u → GoesEnd p (calls p k) code layout frames cf are N K a (λ q. after (go_on q (leaving ls u))) (no_exits u) (HereAt p code layout later) (MoreAt p code layout scope) last
   body_goes k frames layout cf N K a ls u after scope later last i s go = record { ends = body_ends N K layout a ls frames u after scope later last i s go; outer = tt }
 
   body_follows : (k : ℕ) (frames : List Frame) (g : FunctionCode) (f : Function) (body : Stmts) → (c : FunctionIsLowered p code g f body) → CallsFollow p (calls p k) code c.layout frames → (N K : ℕ) (vs : List Value) (rs : List ℕ) (o : Option (List Local)) → EnteredSo f.parameters vs o → (length vs ≡ length f.parameters → rs ≡ first_registers g (arranged f.parameters (words_for f.parameters vs))) → (a : Around) (sh : Shared) (text : List ℕ) (ls : List Local) (after : Answer Value → Outcome) → IsGood code a sh → IsSeen a after → GoesReturn N K a after ls frames f.result → Agrees (effect code) N K (holding a sh text (configuration code g.first rs frames)) (λ n. after (go_on (or_astray o (state n ls (context_of a sh) text)) (λ mine. locals >>= λ outer. put_locals mine >> (stmts p (calls p k) body >>= leaving outer f.result))))
@@ -256,7 +256,7 @@ module _ (p : Program) (code : Code) (are : HasCellsOf code p) where
       (body_goes k frames c.layout cf N K a ls f.result after (parameter_locals f.parameters) (locals_at_end body (parameter_locals f.parameters)) c.last c.returns s go))
 
   -- calls, with so many further frames to come
-  enters_frame : (frames : List Frame) (q d : ℕ) (rs : List ℕ) (args : List ℕ) (g : FunctionCode) (i : Instr) → length frames < 63 → effect_of code (configuration code q rs frames) (Some i) ≡ called (configuration code q rs frames) d args (Some g) → At code q i → effect code (configuration code q rs frames) ≡ Effect.Pure (configuration code g.first (first_registers g (map (slice_index rs) args)) (record { place = suc q; result = d; registers = rs } ∷ frames))
+  enters_frame : (frames : List Frame) (q d : ℕ) (rs : List ℕ) (args : List ℕ) (g : FunctionCode) (i : Instr) → length frames < 63 → effect_of code (configuration code q rs frames) (Some i) ≡ called (configuration code q rs frames) d args (Some g) → InstructionAt code q i → effect code (configuration code q rs frames) ≡ Effect.Pure (configuration code g.first (first_registers g (map (slice_index rs) args)) (record { place = suc q; result = d; registers = rs } ∷ frames))
   enters_frame frames q d rs args g i b e at =
       effect_at code q i rs frames at ∙ e
       ∙ ap (λ x. if x then Effect.Pure (configuration code g.first (first_registers g (map (slice_index rs) args)) (record { place = suc q; result = d; registers = rs } ∷ frames)) else Effect.Traps Frames) (lt-ltb (length frames) 63 b)

@@ -32,7 +32,7 @@ use Rattle.syntax.specs.Numbers.{fitted}
 use Rattle.syntax.proofs.Words.{fitted_below, narrows, truth_below, word_below}
 use Rattle.bytecode.specs.Effects.{Effect}
 use Rattle.bytecode.specs.Code.{Code, Configuration, Frame, Instr, effect, effect_of, or_traps, setting}
-use Rattle.lowered.specs.Expressions.{ValueTransactionCode, LocalScope, IsLike, At, LeadsTo, Branching, MayTake, constant_in, computing, complementing, arranged, Layout, GivenBy, Converts, DueCode, TypedCode, HandedCode, WordCode, OperandCode, VariableCode, ElementAt, Branches, BothHold, EitherHolds, ComparedWithZero, TruthCode, BranchCode, ConditionalCode, types_left, ExprCode, OwnTests, ArgsCode, CondCode}
+use Rattle.lowered.specs.Expressions.{ValueTransactionCode, LocalScope, IsLike, InstructionAt, LeadsTo, Branching, MayTake, constant_in, computing, complementing, arranged, Layout, GivenBy, Converts, DueCode, TypedCode, HandedCode, WordCode, OperandCode, VariableCode, ElementAt, Branches, BothHold, EitherHolds, ComparedWithZero, TruthCode, BranchCode, ConditionalCode, types_left, ExprCode, OwnTests, ArgsCode, CondCode}
 use Rattle.lowered.proofs.Locals.{word_typed, type_like, KnownLocal, newest_known}
 use Rattle.lowered.proofs.Conversions.{unconverted, truth_under, truth_converted, zero_in, zero_kept, operated_below}
 use Rattle.lowered.proofs.Agreement.{Agrees, astray, same, fewer}
@@ -221,7 +221,7 @@ module _ (p : Program) (call : Caller) (code : Code) (layout : Layout) (frames :
       (λ k sh1 text1 rs1 d. indexed g c.ri (nat_lt k.word (cells g.global)) k a sh1 text1 ls after c.mid to home free r t old rs1 known refl d.here c.reads (d.keeps.size ∙ h.size_is) (keeps_more layout home free old rs1 d.keeps) d.good s go)
 
   -- an unconditional jump, and a place that leads on
-  pub passes : {N K : ℕ} (a : Around) (sh : Shared) (text : List ℕ) (q to : ℕ) (rs : List ℕ) {does : ℕ → Outcome} → At code q (Instr.Jump to) → Agrees (effect code) N K (holding a sh text (configuration code to rs frames)) does → Agrees (effect code) N K (holding a sh text (configuration code q rs frames)) does
+  pub passes : {N K : ℕ} (a : Around) (sh : Shared) (text : List ℕ) (q to : ℕ) (rs : List ℕ) {does : ℕ → Outcome} → InstructionAt code q (Instr.Jump to) → Agrees (effect code) N K (holding a sh text (configuration code to rs frames)) does → Agrees (effect code) N K (holding a sh text (configuration code q rs frames)) does
   passes a sh text q to rs at go = goes_by code a sh text (configuration code q rs frames) (configuration code to rs frames) (effect_at code q (Instr.Jump to) rs frames at) go
 
   pub leads : {N K : ℕ} (a : Around) (sh : Shared) (text : List ℕ) (q to : ℕ) (rs : List ℕ) {does : ℕ → Outcome} → LeadsTo code q to → Agrees (effect code) N K (holding a sh text (configuration code to rs frames)) does → Agrees (effect code) N K (holding a sh text (configuration code q rs frames)) does
@@ -229,7 +229,7 @@ module _ (p : Program) (call : Caller) (code : Code) (layout : Layout) (frames :
   leads a sh text q to rs (inr i) go = passes a sh text q to rs i go
 
   -- a jump on a register, where it is known whether that is 0: it counts as an instruction
-  jumps : {N K : ℕ} (i : Instr) (hit miss : ℕ) (b : Bool) (w : ℕ) (a : Around) (sh : Shared) (text : List ℕ) (q ra : ℕ) (rs : List ℕ) (does : ℕ → Outcome) → At code q i → effect_of code (configuration code q rs frames) (Some i) ≡ Effect.Pure (if slice_index rs ra == 0 then configuration code hit rs frames else configuration code miss rs frames) → slice_index rs ra ≡ w → (w == 0) ≡ b → Agrees (effect code) N K (holding a sh text (configuration code (if b then hit else miss) rs frames)) does → Agrees (effect code) N (suc K) (holding a sh text (configuration code q rs frames)) does
+  jumps : {N K : ℕ} (i : Instr) (hit miss : ℕ) (b : Bool) (w : ℕ) (a : Around) (sh : Shared) (text : List ℕ) (q ra : ℕ) (rs : List ℕ) (does : ℕ → Outcome) → InstructionAt code q i → effect_of code (configuration code q rs frames) (Some i) ≡ Effect.Pure (if slice_index rs ra == 0 then configuration code hit rs frames else configuration code miss rs frames) → slice_index rs ra ≡ w → (w == 0) ≡ b → Agrees (effect code) N K (holding a sh text (configuration code (if b then hit else miss) rs frames)) does → Agrees (effect code) N (suc K) (holding a sh text (configuration code q rs frames)) does
   jumps i hit miss b w a sh text q ra rs does at e here zero_is go =
       goes code a sh text (configuration code q rs frames) (configuration code (if b then hit else miss) rs frames)
       (effect_at code q i rs frames at ∙ e ∙ ap (λ x. Effect.Pure (if x == 0 then configuration code hit rs frames else configuration code miss rs frames)) here ∙ ap (λ x. Effect.Pure (if x then configuration code hit rs frames else configuration code miss rs frames)) zero_is ∙ joined b hit miss rs)
@@ -284,11 +284,11 @@ module _ (p : Program) (call : Caller) (code : Code) (layout : Layout) (frames :
       tests from met unmet free → Holds scope ls layout free old → IsGood code a sh → IsSeen a after →
       GoesFlag N K a after ls met unmet free old → Does N (suc K) a sh text ls from old (λ s. after (run s))
 
-  zero_jumps : {N K : ℕ} (b : Bool) (w : ℕ) (a : Around) (sh : Shared) (text : List ℕ) (q r there on : ℕ) (rs : List ℕ) (does : ℕ → Outcome) → At code q (Instr.JumpZero r there) → LeadsTo code (suc q) on → slice_index rs r ≡ w → (w == 0) ≡ b → Agrees (effect code) N K (holding a sh text (configuration code (if b then there else on) rs frames)) does → Agrees (effect code) N (suc K) (holding a sh text (configuration code q rs frames)) does
+  zero_jumps : {N K : ℕ} (b : Bool) (w : ℕ) (a : Around) (sh : Shared) (text : List ℕ) (q r there on : ℕ) (rs : List ℕ) (does : ℕ → Outcome) → InstructionAt code q (Instr.JumpZero r there) → LeadsTo code (suc q) on → slice_index rs r ≡ w → (w == 0) ≡ b → Agrees (effect code) N K (holding a sh text (configuration code (if b then there else on) rs frames)) does → Agrees (effect code) N (suc K) (holding a sh text (configuration code q rs frames)) does
   zero_jumps true w a sh text q r there on rs does at l here e go = jumps (Instr.JumpZero r there) there (suc q) true w a sh text q r rs does at refl here e go
   zero_jumps false w a sh text q r there on rs does at l here e go = jumps (Instr.JumpZero r there) there (suc q) false w a sh text q r rs does at refl here e (leads a sh text (suc q) on rs l go)
 
-  nonzero_jumps : {N K : ℕ} (b : Bool) (w : ℕ) (a : Around) (sh : Shared) (text : List ℕ) (q r there on : ℕ) (rs : List ℕ) (does : ℕ → Outcome) → At code q (Instr.JumpNonzero r there) → LeadsTo code (suc q) on → slice_index rs r ≡ w → (w == 0) ≡ b → Agrees (effect code) N K (holding a sh text (configuration code (if b then on else there) rs frames)) does → Agrees (effect code) N (suc K) (holding a sh text (configuration code q rs frames)) does
+  nonzero_jumps : {N K : ℕ} (b : Bool) (w : ℕ) (a : Around) (sh : Shared) (text : List ℕ) (q r there on : ℕ) (rs : List ℕ) (does : ℕ → Outcome) → InstructionAt code q (Instr.JumpNonzero r there) → LeadsTo code (suc q) on → slice_index rs r ≡ w → (w == 0) ≡ b → Agrees (effect code) N K (holding a sh text (configuration code (if b then on else there) rs frames)) does → Agrees (effect code) N (suc K) (holding a sh text (configuration code q rs frames)) does
   nonzero_jumps true w a sh text q r there on rs does at l here e go = jumps (Instr.JumpNonzero r there) (suc q) there true w a sh text q r rs does at refl here e (leads a sh text (suc q) on rs l go)
   nonzero_jumps false w a sh text q r there on rs does at l here e go = jumps (Instr.JumpNonzero r there) (suc q) there false w a sh text q r rs does at refl here e go
 
@@ -537,7 +537,7 @@ module _ (p : Program) (call : Caller) (code : Code) (layout : Layout) (frames :
   CallsFollow =
       (N K : ℕ) (x : List ℕ) (vs : List Value) (number q d : ℕ) (args : List ℕ) (g : FunctionCode) (f : Function) (body : Stmts)
       (a : Around) (sh : Shared) (text : List ℕ) (ls : List Local) (rs : List ℕ) (after : Answer Value → Outcome) →
-      At code q (Instr.Call number d (arranged f.parameters args)) → slice_get code.functions number ≡ Some g → g.name ≡ x → definition_of p x ≡ Some (f, body) →
+      InstructionAt code q (Instr.Call number d (arranged f.parameters args)) → slice_get code.functions number ≡ Some g → g.name ≡ x → definition_of p x ≡ Some (f, body) →
       map (slice_index rs) args ≡ handed (map (λ q. q.of) f.parameters) vs → IsGood code a sh → IsSeen a after →
       ((v : Value) (sh1 : Shared) (text1 : List ℕ) → v.of ≡ unwrap_or f.result Int → v.word < modulus v.of → IsGood code a sh1 →
       Agrees (effect code) N K (holding a sh1 text1 (configuration code (suc q) (slice_set rs d v.word) frames)) (λ n. after (Gives v (state n ls (context_of a sh1) text1)))) →

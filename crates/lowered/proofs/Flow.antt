@@ -22,7 +22,7 @@ use Rattle.lowered.proofs.OuterCancels.{opened, OuterGoes, outer_as, outer_fewer
 use Rattle.syntax.specs.Actions.{Outside, Inside, Answer, Gives, Stops, Action, pure, stop, go_on, ◌>>=◌, ◌>>◌, tick, locals, put_locals, may_print}
 use Rattle.syntax.specs.Meaning.{InLocal, End, Next, Breaks, Continues, Returns, Cancels, CancelsOuter, mode_of, on_next, scoped, after_turn, loop, after_body, close_inner, close, leave, transaction, Caller, expr, simple, first_value, declare, holds, stepped, start_with, stmt, stmts}
 use Rattle.bytecode.specs.Code.{Code, Configuration, Frame, Instr, effect}
-use Rattle.lowered.specs.Expressions.{LocalScope, IsLike, At, LeadsTo, Layout}
+use Rattle.lowered.specs.Expressions.{LocalScope, IsLike, InstructionAt, LeadsTo, Layout}
 use Rattle.lowered.specs.Statements.{LocalAt, Exits, with_level, in_transaction, looping, with_local, with_declared, locals_of_start, locals_after, locals_at_end, Testing, Leaves, FirstValueCode, DeclareCode, IfCode, IfElseCode, WhileCode, DoWhileCode, HoldsCode, SteppedCode, StartCode, ForCode, TransactionCode, StmtCode, StmtsCode}
 use Rattle.lowered.proofs.Runs.{Enters, enters, Held, Around, Bare, Within, Shared, context_of, holding, state, IsSeen, on_seen, HasCellsOf, AreMemories, IsGood, Holds, configuration, effect_at, goes, goes_by, seen_spent, tick_goes, tick_counts, inner_held, outermost_held, begins_inner, begins_outermost, wants_one, commits_inner, cancels_inner, leaves_outermost, next_commit, next_cancel}
 use Rattle.lowered.proofs.Conversions.{truth_converted}
@@ -102,7 +102,7 @@ module _ (p : Program) (code : Code) (layout : Layout) where
   ArrivedAt x after others to Breaks q ls rs = Leaves code layout p q x.in_loop (Instr.Jump x.break_to) × others ls rs
   ArrivedAt x after others to Continues q ls rs = Leaves code layout p q x.in_loop (Instr.Jump x.continue_to) × others ls rs
   ArrivedAt x after others to (Returns v) q ls rs = (r : Option ℕ) × Leaves code layout p q x.in_function (Instr.Return r) × (word_in r rs ≡ (converted x.gives v).word)
-  ArrivedAt x after others to Cancels q ls rs = (x.innermost ≡ Some Atomic) × At code q Instr.Cancel
+  ArrivedAt x after others to Cancels q ls rs = (x.innermost ≡ Some Atomic) × InstructionAt code q Instr.Cancel
   ArrivedAt x after others to CancelsOuter q ls rs = ⊥
 
   abbrev pub HereAt : LocalScope → Holding
@@ -515,14 +515,14 @@ module _ (p : Program) (call : Caller) (code : Code) (layout : Layout) (frames :
   atomic_of mode e = ap some_mode e
 
   -- an outermost transaction is left by a commit
-  bare_commits : {N K : ℕ} (end : End) (kind : Kind) (found : Memory) (founds lefts : List Memory) (to : ℕ) (sh : Shared) (text : List ℕ) (ls : List Local) (old rs : List ℕ) (q : ℕ) (after : Answer End → Outcome) → At code q Instr.Commit → IsSeen Bare after → AreMemories code founds → Goes p call code layout frames cf are N K Bare (record { founds = founds; lefts = lefts ++ sh.memory ∷ []; memory = sh.memory; kept = sh.kept }) text ls (suc q) rs (λ s. after (Gives end s)) → Agrees (effect code) N K (holding (Within (outermost_held code (mode_of kind) (configuration code to old frames) found founds lefts)) sh text (configuration code q rs frames)) (λ n. after (leave founds lefts (record { end = end; locals = ls; memory = sh.memory }) (state n ls (Inside (mode_of kind) sh.memory) text)))
+  bare_commits : {N K : ℕ} (end : End) (kind : Kind) (found : Memory) (founds lefts : List Memory) (to : ℕ) (sh : Shared) (text : List ℕ) (ls : List Local) (old rs : List ℕ) (q : ℕ) (after : Answer End → Outcome) → InstructionAt code q Instr.Commit → IsSeen Bare after → AreMemories code founds → Goes p call code layout frames cf are N K Bare (record { founds = founds; lefts = lefts ++ sh.memory ∷ []; memory = sh.memory; kept = sh.kept }) text ls (suc q) rs (λ s. after (Gives end s)) → Agrees (effect code) N K (holding (Within (outermost_held code (mode_of kind) (configuration code to old frames) found founds lefts)) sh text (configuration code q rs frames)) (λ n. after (leave founds lefts (record { end = end; locals = ls; memory = sh.memory }) (state n ls (Inside (mode_of kind) sh.memory) text)))
   bare_commits end kind found founds lefts to sh text ls old rs q after i s g go =
       leaves_outermost code after (Gives end) (mode_of kind) found sh.memory founds lefts sh text ls ls (configuration code q rs frames) (configuration code (suc q) rs frames) (configuration code to old frames)
       (next_commit code (mode_of kind) found founds lefts sh text (configuration code q rs frames) (configuration code (suc q) rs frames) (configuration code to old frames) (effect_at code q Instr.Commit rs frames i)) s go
 
   bare_each : {N K : ℕ} (kind : Kind) (x : Exits) (scope : LocalScope) (ss : Stmts) (from to : ℕ) (c : TransactionCode code layout p kind x (BodyCode scope ss) from to) (found : Memory) (founds lefts : List Memory) (ls : List Local) (old : List ℕ) (after : Answer End → Outcome) → Here scope ls old → IsSeen Bare after → AreMemories code founds → GoesEnd N K Bare after x (Here scope) (Here scope) to → EndsGo N K (Within (outermost_held code (mode_of kind) (configuration code to old frames) found founds lefts)) (λ q. after (close kind founds lefts ls found q)) (in_transaction kind x) (Here scope) (Here scope) c.last
   bare_each kind x scope ss from to c found founds lefts ls old after h s g go Next sh text ls1 rs q good arrived =
-      bare_commits Next kind found founds lefts to sh text ls1 old rs q after (subst (λ y. At code y Instr.Commit) (sym arrived.0) c.commits) s g
+      bare_commits Next kind found founds lefts to sh text ls1 old rs q after (subst (λ y. InstructionAt code y Instr.Commit) (sym arrived.0) c.commits) s g
       (go.ends Next (record { founds = founds; lefts = lefts ++ sh.memory ∷ []; memory = sh.memory; kept = sh.kept }) text ls1 rs (suc q) g (ap suc arrived.0 ∙ sym c.to_is, arrived.1))
   bare_each kind x scope ss from to c found founds lefts ls old after h s g go Breaks sh text ls1 rs q good arrived =
       bare_commits Breaks kind found founds lefts to sh text ls1 old rs q after arrived.0.0 s g (go.ends Breaks (record { founds = founds; lefts = lefts ++ sh.memory ∷ []; memory = sh.memory; kept = sh.kept }) text ls1 rs (suc q) g (arrived.0.1, arrived.1))
@@ -577,7 +577,7 @@ module _ (p : Program) (call : Caller) (code : Code) (layout : Layout) (frames :
 
   inner_each : {N K : ℕ} (k : Held) (kind : Kind) (x : Exits) (scope : LocalScope) (ss : Stmts) (from to : ℕ) (c : TransactionCode code layout p kind x (BodyCode scope ss) from to) (sh : Shared) (ls : List Local) (old : List ℕ) (after : Answer End → Outcome) → Here scope ls old → IsGood code (Within k) sh → GoesEnd N K (Within k) after x (Here scope) (Here scope) to → EndsGo N K (Within (inner_held code k (mode_of kind) sh.memory (configuration code to old frames))) (λ q. after (close_inner k.mode kind ls sh.memory q)) (in_transaction kind x) (Here scope) (Here scope) c.last
   inner_each k kind x scope ss from to c sh ls old after h g go Next sh1 text ls1 rs q good arrived =
-      commits_inner code k sh1 text (mode_of kind) sh.memory (configuration code q rs frames) (configuration code (suc q) rs frames) (configuration code to old frames) (effect_at code q Instr.Commit rs frames (subst (λ y. At code y Instr.Commit) (sym arrived.0) c.commits))
+      commits_inner code k sh1 text (mode_of kind) sh.memory (configuration code q rs frames) (configuration code (suc q) rs frames) (configuration code to old frames) (effect_at code q Instr.Commit rs frames (subst (λ y. InstructionAt code y Instr.Commit) (sym arrived.0) c.commits))
       (go.ends Next sh1 text ls1 rs (suc q) (good_out k kind sh sh1 sh.memory (configuration code to old frames) g good) (ap suc arrived.0 ∙ sym c.to_is, arrived.1))
   inner_each k kind x scope ss from to c sh ls old after h g go Breaks sh1 text ls1 rs q good arrived =
       commits_inner code k sh1 text (mode_of kind) sh.memory (configuration code q rs frames) (configuration code (suc q) rs frames) (configuration code to old frames) (effect_at code q Instr.Commit rs frames arrived.0.0)

@@ -14,7 +14,7 @@ use Rattle.syntax.specs.Actions.{Outside, Inside, State, Answer, Gives, go_on, t
 use Rattle.syntax.specs.Meaning.{End, CancelsOuter, close_inner}
 use Rattle.bytecode.specs.Code.{Code, Configuration, Frame, Instr, effect}
 use Rattle.bytecode.specs.Sequential.{Sequential, OpenTransaction, InnerTransaction, next, outcome_of, sequential_step, cancel_step, outside}
-use Rattle.lowered.specs.Expressions.{At, Layout}
+use Rattle.lowered.specs.Expressions.{InstructionAt, Layout}
 use Rattle.lowered.specs.Statements.{cancelling, OuterCancelCode}
 use Rattle.lowered.proofs.Agreement.{Agrees, same, fewer, shown}
 use Rattle.lowered.proofs.Runs.{Held, Around, Bare, Within, Shared, context_of, holding, state, IsSeen, IsGood, configuration, effect_at, inner_held}
@@ -71,7 +71,7 @@ module _ (code : Code) where
   leaves_by after give left founds lefts text ls ls' d s0 e seen s g = fewer (effect code) (omega arith) (omega arith) (shown (effect code) _ e (s.spent _ ∙ sym seen) (λ n. refl) g)
 
   -- the instruction of an outer cancel
-  cancels_next : (frames : List Frame) (n : ℕ) (h : Held) (sh : Shared) (text : List ℕ) (q : ℕ) (rs : List ℕ) → At code q (cancelling n) → next (effect code) (holding (Within h) sh text (configuration code q rs frames)) ≡ cancel_step (holding (Within h) sh text (configuration code q rs frames)) (opened h sh) (drop n h.inner) sh.kept
+  cancels_next : (frames : List Frame) (n : ℕ) (h : Held) (sh : Shared) (text : List ℕ) (q : ℕ) (rs : List ℕ) → InstructionAt code q (cancelling n) → next (effect code) (holding (Within h) sh text (configuration code q rs frames)) ≡ cancel_step (holding (Within h) sh text (configuration code q rs frames)) (opened h sh) (drop n h.inner) sh.kept
   cancels_next frames zero h sh text q rs i = ap (λ x. sequential_step (holding (Within h) sh text (configuration code q rs frames)) false Running (holding (Within h) sh text (configuration code q rs frames)).inside x) (effect_at code q Instr.Cancel rs frames i)
   cancels_next frames (suc n) h sh text q rs i =
       let one_less : suc (suc n) - 1 ≡ suc n = omega arith in

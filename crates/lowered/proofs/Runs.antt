@@ -21,7 +21,7 @@ use Rattle.syntax.specs.Meaning.{End, mode_of, close_inner, enter}
 use Rattle.bytecode.specs.Effects.{Effect}
 use Rattle.bytecode.specs.Sequential.{Sequential, InnerTransaction, next, outcome_of, sequential_step, cancel_step, print_step, outside}
 use Rattle.bytecode.specs.Code.{Code, Configuration, Frame, Instr, bounds_of, effect, effect_of}
-use Rattle.lowered.specs.Expressions.{LocalScope, IsLike, At, MayTake, Layout}
+use Rattle.lowered.specs.Expressions.{LocalScope, IsLike, InstructionAt, MayTake, Layout}
 use Rattle.lowered.proofs.Locals.{AreWords}
 use Rattle.lowered.proofs.Agreement.{Agrees, quiet, ticked, shown, over, fewer}
 
@@ -211,7 +211,7 @@ module _ (code : Code) where
   configuration at registers frames = record { place = at; registers = registers; frames = frames }
 
   -- what the instruction at a place does
-  pub effect_at : (q : ℕ) (i : Instr) (registers : List ℕ) (frames : List Frame) → At code q i → effect code (configuration q registers frames) ≡ effect_of code (configuration q registers frames) (Some i)
+  pub effect_at : (q : ℕ) (i : Instr) (registers : List ℕ) (frames : List Frame) → InstructionAt code q i → effect code (configuration q registers frames) ≡ effect_of code (configuration q registers frames) (Some i)
   effect_at q i registers frames h = ap (λ o. effect_of code (configuration q registers frames) o) h
 
   next_pure : (a : Around) (sh : Shared) (text : List ℕ) (c c' : Configuration) → effect code c ≡ Effect.Pure c' → next (effect code) (holding a sh text c) ≡ holding a sh text c'

@@ -19,7 +19,7 @@ use Rattle.syntax.proofs.Words.{residue_below, word_below}
 use Rattle.syntax.proofs.Memories.{written_memory}
 use Rattle.bytecode.specs.Effects.{Effect}
 use Rattle.bytecode.specs.Code.{Code, Frame, Instr, effect, effect_of, setting, bounds_of, stored}
-use Rattle.lowered.specs.Expressions.{LocalScope, IsLike, At, Layout, Due, widening, constant_in, ConvertedBy}
+use Rattle.lowered.specs.Expressions.{LocalScope, IsLike, InstructionAt, Layout, Due, widening, constant_in, ConvertedBy}
 use Rattle.lowered.specs.Statements.{Target, LocalAt, CellAt, ElementOf, assigning, home_of, target_type, Spares, Coding, Testing, ValueCode, ResultCode, TestCode, VariableTarget, CheckedAt, UncheckedAt, TargetCode, ReadTarget, FetchCode, StoreCode, StoredCode, ExprStored, AssignCode, ChangeCode, Operating, OneCode, SimpleCode}
 use Rattle.lowered.proofs.Conversions.{residue_same, cell_residue, truth_converted}
 use Rattle.lowered.proofs.Agreement.{Agrees, astray, same}
@@ -106,7 +106,7 @@ module _ (p : Program) (call : Caller) (code : Code) (layout : Layout) (frames :
   stored_below cell t w bounded = subst (λ n. w % n < n) (sym bounded) (residue_below t w)
 
   -- a cell is written
-  cell_written : {N K : ℕ} (scope : LocalScope) (a : Around) (sh : Shared) (text : List ℕ) (ls : List Local) (after : Answer End → Outcome) (i : Instr) (q ra cell : ℕ) (t : Scalar) (rs : List ℕ) (v : Value) → At code q i → effect_of code (configuration code q rs frames) (Some i) ≡ Effect.Write cell (stored code cell (slice_index rs ra)) (configuration code (suc q) rs frames) → IsBounded code cell t → residue t (slice_index rs ra) ≡ (converted t v).word → Holds scope ls layout (length scope) rs → IsGood code a sh → IsSeen a after → GoesNext N K a after scope (suc q) → Goes N K a sh text ls q rs (λ s. after (go_on (assign (InCell cell t) v s) (λ u. pure Next)))
+  cell_written : {N K : ℕ} (scope : LocalScope) (a : Around) (sh : Shared) (text : List ℕ) (ls : List Local) (after : Answer End → Outcome) (i : Instr) (q ra cell : ℕ) (t : Scalar) (rs : List ℕ) (v : Value) → InstructionAt code q i → effect_of code (configuration code q rs frames) (Some i) ≡ Effect.Write cell (stored code cell (slice_index rs ra)) (configuration code (suc q) rs frames) → IsBounded code cell t → residue t (slice_index rs ra) ≡ (converted t v).word → Holds scope ls layout (length scope) rs → IsGood code a sh → IsSeen a after → GoesNext N K a after scope (suc q) → Goes N K a sh text ls q rs (λ s. after (go_on (assign (InCell cell t) v s) (λ u. pure Next)))
   cell_written scope Bare sh text ls after i q ra cell t rs v at e bounded here h g s go = astray (effect code) 0 (s.astray _)
   cell_written scope (Within k) sh text ls after i q ra cell t rs v at e bounded here h g s go =
       let w : ℕ = stored code cell (slice_index rs ra) in
@@ -116,7 +116,7 @@ module _ (p : Program) (call : Caller) (code : Code) (layout : Layout) (frames :
       (go (record sh { memory = slice_set sh.memory cell w }) text ls rs (written_memory (bounds_of code) sh.memory cell w (stored_below cell t (slice_index rs ra) bounded) g.0, g.1, g.2) h))
 
   -- a target is written
-  assigns : {N K : ℕ} (tg : Target) (at : Spot) (scope : LocalScope) (later : ℕ) (a : Around) (sh : Shared) (text : List ℕ) (ls : List Local) (after : Answer End → Outcome) (q ra : ℕ) (old rs : List ℕ) (v : Value) → length scope ≤ later → IsAt scope tg old at → Spares tg later → At code q (assigning tg ra) → Keeps layout (home_of tg) later old rs → Lies tg (slice_index rs ra) v → Holds scope ls layout (length scope) old → IsGood code a sh → IsSeen a after → GoesNext N K a after scope (suc q) → Goes N K a sh text ls q rs (λ s. after (go_on (assign at v s) (λ u. pure Next)))
+  assigns : {N K : ℕ} (tg : Target) (at : Spot) (scope : LocalScope) (later : ℕ) (a : Around) (sh : Shared) (text : List ℕ) (ls : List Local) (after : Answer End → Outcome) (q ra : ℕ) (old rs : List ℕ) (v : Value) → length scope ≤ later → IsAt scope tg old at → Spares tg later → InstructionAt code q (assigning tg ra) → Keeps layout (home_of tg) later old rs → Lies tg (slice_index rs ra) v → Holds scope ls layout (length scope) old → IsGood code a sh → IsSeen a after → GoesNext N K a after scope (suc q) → Goes N K a sh text ls q rs (λ s. after (go_on (assign at v s) (λ u. pure Next)))
   assigns (LocalAt l) at scope later a sh text ls after q ra old rs v room is_at sp i k here h g s go =
       let w : ℕ = slice_index rs ra in
       let len : length ls ≡ length scope = length_like scope ls h.like in
@@ -210,7 +210,7 @@ module _ (p : Program) (call : Caller) (code : Code) (layout : Layout) (frames :
       let go1 : GoesAt N K a after scope (CellAt g) ls from old = subst (λ x. GoesAt N K a after scope x ls from old) c (subst (λ x. GoesAt N K a after scope tg ls x old) e go) in
       go1 (InCell g.cell g.global.of) sh text old (refl, known) h good
 
-  checked : {N K : ℕ} (g : GlobalCells) (ri : ℕ) (b : Bool) (k : Value) (scope : LocalScope) (tg : Target) (a : Around) (sh : Shared) (text : List ℕ) (ls : List Local) (after : Answer Spot → Outcome) (q to : ℕ) (old rs : List ℕ) → AreBounded code g → nat_lt k.word (cells g.global) ≡ b → slice_index rs ri ≡ k.word → At code q (Instr.Check ri (cells g.global)) → to ≡ suc q → tg ≡ ElementOf g ri → Holds scope ls layout (length scope) rs → IsGood code a sh → IsSeen a after → GoesAt N K a after scope tg ls to old → Goes N K a sh text ls q rs (λ s. after ((if b then pure (InCell (g.cell + k.word) g.global.of) else trap Index) s))
+  checked : {N K : ℕ} (g : GlobalCells) (ri : ℕ) (b : Bool) (k : Value) (scope : LocalScope) (tg : Target) (a : Around) (sh : Shared) (text : List ℕ) (ls : List Local) (after : Answer Spot → Outcome) (q to : ℕ) (old rs : List ℕ) → AreBounded code g → nat_lt k.word (cells g.global) ≡ b → slice_index rs ri ≡ k.word → InstructionAt code q (Instr.Check ri (cells g.global)) → to ≡ suc q → tg ≡ ElementOf g ri → Holds scope ls layout (length scope) rs → IsGood code a sh → IsSeen a after → GoesAt N K a after scope tg ls to old → Goes N K a sh text ls q rs (λ s. after ((if b then pure (InCell (g.cell + k.word) g.global.of) else trap Index) s))
   checked {N = N} {K = K} g ri true k scope tg a sh text ls after q to old rs known e f i to_is tg_is h good s go =
       let go1 : GoesAt N K a after scope (ElementOf g ri) ls (suc q) old = subst (λ x. GoesAt N K a after scope x ls (suc q) old) tg_is (subst (λ x. GoesAt N K a after scope tg ls x old) to_is go) in
       goes_by code a sh text (configuration code q rs frames) (configuration code (suc q) rs frames)

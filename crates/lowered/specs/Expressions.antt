@@ -27,12 +27,12 @@ abbrev pub IsLike : LocalScope → List Local → Type 0
 IsLike scope ls = map shape ls ≡ map shape scope
 
 -- an instruction stands at a place
-abbrev pub At : Code → ℕ → Instr → Type 0
-At code q i = slice_get code.instructions q ≡ Some i
+abbrev pub InstructionAt : Code → ℕ → Instr → Type 0
+InstructionAt code q i = slice_get code.instructions q ≡ Some i
 
 -- one place is another, or jumps there
 abbrev pub LeadsTo : Code → (q to : ℕ) → Type 0
-LeadsTo code q to = (q ≡ to) ⊎ At code q (Instr.Jump to)
+LeadsTo code q to = (q ≡ to) ⊎ InstructionAt code q (Instr.Jump to)
 
 -- code from one place to another that gives a value of a type in a register, where those below `free` are kept
 abbrev pub Coded : Type 1
@@ -118,7 +118,7 @@ module _ (code : Code) (layout : Layout) where
     pub takes : MayTake home free r
     pub register : r < layout.writable
     pub type_is : t ≡ u
-    pub instr : At code from i
+    pub instr : InstructionAt code from i
 
   -- a value in the register ra comes to a register by a conversion: it lies there, or one instruction makes it
   abbrev pub ConvertedBy : Option (ℕ → ℕ → Instr) → Option ℕ → Scalar → (ra from to free r : ℕ) → Type 0
@@ -233,7 +233,7 @@ module _ (code : Code) (layout : Layout) where
     pub r : ℕ
     pub t : Scalar
     pub computes : value from mid free r t
-    pub jumps : At code mid (jump r there)
+    pub jumps : InstructionAt code mid (jump r there)
     pub leads : LeadsTo code (suc mid) on
 
   -- a condition: by its value, or as its operator has it
@@ -327,9 +327,9 @@ module _ (code : Code) (layout : Layout) where
   -- a value that is computed in a transaction of its own
   pub record ValueTransactionCode (e : Coded) (from to free r : ℕ) (t : Scalar) : Type 0 where
     pub last : ℕ
-    pub begins : At code from (Instr.Begin to)
+    pub begins : InstructionAt code from (Instr.Begin to)
     pub computes : e (suc from) last free r t
-    pub commits : At code last Instr.Commit
+    pub commits : InstructionAt code last Instr.Commit
     pub to_is : to ≡ suc last
 
   module _ (p : Program) where

@@ -7,7 +7,7 @@ use Rattle.syntax.specs.Tree.{Parameter, Stmts, Function, Program}
 use Rattle.syntax.specs.Names.{globals, definition_of}
 use Rattle.bytecode.specs.Code.{Instr, FunctionCode, Code}
 use Rattle.bytecode.specs.Beginning.{worker_among}
-use Rattle.lowered.specs.Expressions.{LocalScope, Layout, At}
+use Rattle.lowered.specs.Expressions.{LocalScope, Layout, InstructionAt}
 use Rattle.lowered.specs.Statements.{Exits, StmtsCode}
 
 -- the locals that a function begins with: its parameters, where they have names
@@ -31,7 +31,7 @@ no_exits result = record {
 -- words are set in registers from one on, one after another
 abbrev pub ConstantsCode : Code → ℕ → List ℕ → (from to : ℕ) → Type 0
 ConstantsCode code r [] from to = to ≡ from
-ConstantsCode code r (w ∷ ws) from to = At code from (Instr.Constant r w) × ConstantsCode code (suc r) ws (suc from) to
+ConstantsCode code r (w ∷ ws) from to = InstructionAt code from (Instr.Constant r w) × ConstantsCode code (suc r) ws (suc from) to
 
 -- the code of a function: its constants, its body, and a return where that runs off its end
 pub record FunctionIsLowered (p : Program) (code : Code) (g : FunctionCode) (f : Function) (body : Stmts) : Type 0 where
@@ -43,7 +43,7 @@ pub record FunctionIsLowered (p : Program) (code : Code) (g : FunctionCode) (f :
   pub registers : g.registers ≡ layout.writable + length layout.constants
   pub sets : ConstantsCode code layout.writable layout.constants g.first begins
   pub runs : StmtsCode code layout p (no_exits f.result) (parameter_locals f.parameters) body begins last
-  pub returns : At code last (Instr.Return None)
+  pub returns : InstructionAt code last (Instr.Return None)
 
 -- the code of a program: each function's code is that of the definition of its name, one is worker's, and its globals
 -- are the program's

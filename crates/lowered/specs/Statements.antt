@@ -15,7 +15,7 @@ use Rattle.syntax.specs.Meaning.{op_of, mode_of}
 use Rattle.syntax.specs.Formats.{Piece, Literal, Figure, pieces}
 use Rattle.syntax.specs.Names.{newest, global_of, cells, GlobalCells}
 use Rattle.bytecode.specs.Code.{Instr, Code}
-use Rattle.lowered.specs.Expressions.{LocalScope, Layout, At, LeadsTo, Coded, Due, Branching, converting, widening}
+use Rattle.lowered.specs.Expressions.{LocalScope, Layout, InstructionAt, LeadsTo, Coded, Due, Branching, converting, widening}
 use Rattle.lowered.specs.Expressions.{constant_in, GivenBy, ConvertedBy, ConvertedCode, TypedCode, WordCode}
 use Rattle.lowered.specs.Expressions.{OperandCode, BinaryCode, ExprCode, CondCode, ArgsCode}
 
@@ -112,8 +112,8 @@ module _ (code : Code) (layout : Layout) (p : Program) where
 
   -- so many commits, and then an instruction
   abbrev pub Leaves : ℕ → ℕ → Instr → Type 0
-  Leaves q zero i = At code q i
-  Leaves q (suc n) i = At code q Instr.Commit × Leaves (suc q) n i
+  Leaves q zero i = InstructionAt code q i
+  Leaves q (suc n) i = InstructionAt code q Instr.Commit × Leaves (suc q) n i
 
   -- a value somewhere above the locals
   pub record ValueCode (scope : LocalScope) (e : Coded) (from to r : ℕ) : Type 0 where
@@ -151,7 +151,7 @@ module _ (code : Code) (layout : Layout) (p : Program) where
     pub ri : ℕ
     pub ti : Scalar
     pub computes : index from mid free ri ti
-    pub checks : At code mid (Instr.Check ri (cells g.global))
+    pub checks : InstructionAt code mid (Instr.Check ri (cells g.global))
     pub to_is : to ≡ suc mid
     pub target_is : target ≡ ElementOf g ri
 
@@ -186,7 +186,7 @@ module _ (code : Code) (layout : Layout) (p : Program) where
   -- a value goes to its target, or lies there already
   abbrev pub StoreCode : Target → (r from to : ℕ) → Type 0
   StoreCode target r from to =
-      ((to ≡ suc from) × At code from (assigning target r)) ⊎ ((to ≡ from) × (home_of target ≡ Some r))
+      ((to ≡ suc from) × InstructionAt code from (assigning target r)) ⊎ ((to ≡ from) × (home_of target ≡ Some r))
 
   -- a value of some type in the register ra, which is converted first
   pub record StoredCode (target : Target) (s : Scalar) (ra from to free : ℕ) : Type 0 where
@@ -271,7 +271,7 @@ module _ (code : Code) (layout : Layout) (p : Program) where
   pub record DeclaratorCode (scope inner : LocalScope) (t : Scalar) (first : Option Expr) (rest : ℕ → Type 0)
       (from : ℕ) : Type 0 where
     pub below : length scope < layout.writable
-    pub zeroes : At code from (Instr.Constant (length scope) 0)
+    pub zeroes : InstructionAt code from (Instr.Constant (length scope) 0)
     pub mid : ℕ
     pub value : FirstValueCode inner (length scope, t) first (suc from) mid
     pub goes_on : rest mid
@@ -339,7 +339,7 @@ module _ (code : Code) (layout : Layout) (p : Program) where
 
   -- a condition; one that is missing always holds
   abbrev pub HoldsCode : LocalScope → Option Expr → (from met unmet : ℕ) → Type 0
-  HoldsCode scope None from met unmet = At code from (Instr.Jump met)
+  HoldsCode scope None from met unmet = InstructionAt code from (Instr.Jump met)
   HoldsCode scope (Some e) from met unmet = TestCode scope (Testing scope e) from met unmet
 
   abbrev pub SteppedCode : LocalScope → Option Simple → (from to : ℕ) → Type 0
@@ -377,16 +377,16 @@ module _ (code : Code) (layout : Layout) (p : Program) where
   pub record LiteralCode (text : List ℕ) (q : ℕ) : Type 0 where
     pub number : ℕ
     pub known : slice_get code.texts number ≡ Some text
-    pub prints : At code q (Instr.PrintText number)
+    pub prints : InstructionAt code q (Instr.PrintText number)
 
   abbrev pub PiecesCode : List Piece → List ℕ → (from to : ℕ) → Type 0
   PiecesCode [] rs from to = to ≡ from
   PiecesCode (Literal text ∷ ps) rs from to = LiteralCode text from × PiecesCode ps rs (suc from) to
   PiecesCode (Figure t ∷ ps) [] from to = ⊥
-  PiecesCode (Figure t ∷ ps) (r ∷ rs) from to = At code from (Instr.PrintNumber t r) × PiecesCode ps rs (suc from) to
+  PiecesCode (Figure t ∷ ps) (r ∷ rs) from to = InstructionAt code from (Instr.PrintNumber t r) × PiecesCode ps rs (suc from) to
 
   pub record PrintCode (scope : LocalScope) (format : List ℕ) (es : Exprs) (from to : ℕ) : Type 0 where
-    pub irrevocable : At code from Instr.Irrevocable
+    pub irrevocable : InstructionAt code from Instr.Irrevocable
     pub free : ℕ
     pub room : length scope ≤ free
     pub mid : ℕ
@@ -396,14 +396,14 @@ module _ (code : Code) (layout : Layout) (p : Program) where
 
   pub record TransactionCode (kind : Kind) (x : Exits) (body : Exits → ℕ → ℕ → Type 0) (from to : ℕ) : Type 0 where
     pub last : ℕ
-    pub begins : At code from (Instr.Begin to)
+    pub begins : InstructionAt code from (Instr.Begin to)
     pub runs : body (in_transaction kind x) (suc from) last
-    pub commits : At code last Instr.Commit
+    pub commits : InstructionAt code last Instr.Commit
     pub to_is : to ≡ suc last
 
   abbrev pub OuterCancelCode : Option ℕ → ℕ → Type 0
   OuterCancelCode None q = ⊥
-  OuterCancelCode (Some n) q = At code q (cancelling n)
+  OuterCancelCode (Some n) q = InstructionAt code q (cancelling n)
 
   abbrev mutual
     pub StmtCode : Exits → LocalScope → Stmt → (from to : ℕ) → Type 0
@@ -427,7 +427,7 @@ module _ (code : Code) (layout : Layout) (p : Program) where
         (mid : ℕ) × (r : ℕ) × ResultCode scope x.gives e from mid r
         × Leaves mid x.in_function (Instr.Return (Some r))
     StmtCode x scope (Transaction kind ss at) from to = TransactionCode kind x (λ y. StmtsCode y scope ss) from to
-    StmtCode x scope (Cancel at) from to = (x.innermost ≡ Some Atomic) × At code from Instr.Cancel
+    StmtCode x scope (Cancel at) from to = (x.innermost ≡ Some Atomic) × InstructionAt code from Instr.Cancel
     StmtCode x scope (CancelOuter at) from to = OuterCancelCode x.in_outer from
 
     pub StmtsCode : Exits → LocalScope → Stmts → (from to : ℕ) → Type 0

@@ -54,13 +54,13 @@ paused code (suc k) p = if is_local (access code p.thread) then paused code k (l
 
 -- So many steps bring the thread to this one, where its accesses get these answers in order,
 -- all of them, and no step stops.
-pub data Replays {C : Type 0} (code : C → Effect C) (th : Thread C) : ℕ → List Heard → Thread C → Type 0 where
-  none : Replays code th zero [] th
-  local_more : (n : ℕ) (hs : List Heard) (u : Thread C) → Replays code th n hs u → is_local (access code u) ≡ true →
-      Replays code th (suc n) hs (told code u Done).thread
-  heard_more : (n : ℕ) (hs : List Heard) (u : Thread C) (a : Answer) → Replays code th n hs u →
+pub data StepsHearing {C : Type 0} (code : C → Effect C) (th : Thread C) : ℕ → List Heard → Thread C → Type 0 where
+  none : StepsHearing code th zero [] th
+  local_more : (n : ℕ) (hs : List Heard) (u : Thread C) → StepsHearing code th n hs u → is_local (access code u) ≡ true →
+      StepsHearing code th (suc n) hs (told code u Done).thread
+  heard_more : (n : ℕ) (hs : List Heard) (u : Thread C) (a : Answer) → StepsHearing code th n hs u →
       is_local (access code u) ≡ false → stops (access code u) ≡ false
-      → Replays code th (suc n) (hs ++ record { access = access code u; answer = a } ∷ []) (told code u a).thread
+      → StepsHearing code th (suc n) (hs ++ record { access = access code u; answer = a } ∷ []) (told code u a).thread
 
 -- in some world that steps which do not stop lead to, the thread with this number has this part and was answered this
 pub record IsPartOf {C : Type 0} (code : C → Effect C) (init : ℕ → C) (m0 : List ℕ) (threads number : ℕ) (p : Part C)
@@ -114,22 +114,22 @@ IsAmong p (q ∷ qs) = (p ≡ q) ⊎ IsAmong p qs
 
 -- The word v of cell a, answered after the lock value l: it is that of a place of the run with at least half of l
 -- lock-taking steps before it, or that of a pair which the thread that has the lock has stored so far.
-abbrev pub HasWord : {C : Type 0} → Memory → World C → List Entry → ℕ → ℕ → ℕ → Type 0
-HasWord {C} m0 w es l a v =
+abbrev pub IsVisibleWord : {C : Type 0} → Memory → World C → List Entry → ℕ → ℕ → ℕ → Type 0
+IsVisibleWord {C} m0 w es l a v =
     ((before : List Entry) × (after : List Entry) × (es ≡ before ++ after) × (l ≤ 2 * count_takers before + 1)
     × (slice_index (last_memory m0 (run_of before)) a ≡ v))
     ⊎ ((t : ℕ) × (p : Part C) × (b : Attempt C) × (slice_get w.parts t ≡ Some p) × HasLock p b
     × IsAmong (a, v) (stored_of b.writes b.phase))
 
 abbrev pub WordOf : {C : Type 0} → Memory → World C → List Entry → ℕ → Access → Answer → Type 0
-WordOf m0 w es l (LoadWord a) (Value v) = HasWord m0 w es l a v
+WordOf m0 w es l (LoadWord a) (Value v) = IsVisibleWord m0 w es l a v
 WordOf m0 w es l x y = Unit {0}
 
 -- each word among these answers
-abbrev pub HaveWords : {C : Type 0} → Memory → World C → List Entry → ℕ → List Heard → Type 0
-HaveWords m0 w es l [] = Unit {0}
-HaveWords m0 w es l (h ∷ hs) = WordOf m0 w es l h.access h.answer
-    × HaveWords m0 w es (next_lock l (lock_value h.access h.answer)) hs
+abbrev pub AreVisibleWords : {C : Type 0} → Memory → World C → List Entry → ℕ → List Heard → Type 0
+AreVisibleWords m0 w es l [] = Unit {0}
+AreVisibleWords m0 w es l (h ∷ hs) = WordOf m0 w es l h.access h.answer
+    × AreVisibleWords m0 w es (next_lock l (lock_value h.access h.answer)) hs
 
 -- What holds of the answers of a thread in every world: the lock values never fall and are at most the lock,
 -- a lost swap found another value than the one that it swaps from, and each word is one that a place of the
@@ -138,7 +138,7 @@ pub record AnswersOk {C : Type 0} (m0 : Memory) (w : World C) (hs : List Heard) 
   pub ascend : Ascends hs
   pub bounded : LocksTo w.lock hs
   pub fit : AreAnswers hs
-  pub words : (es : List Entry) → IsMerge w.parts es → HaveWords m0 w es 0 hs
+  pub words : (es : List Entry) → IsMerge w.parts es → AreVisibleWords m0 w es 0 hs
 
 -- one of these answers is this lock value, to a load
 abbrev pub HasLoad : ℕ → List Heard → Type 0

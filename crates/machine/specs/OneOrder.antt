@@ -2,7 +2,7 @@
 -- what is said of live and dropped attempts is opacity (Guerraoui and Kapałka, PPoPP 2008).
 use Rattle.std.specs.Prelude.{◌≡◌, ◌⊎◌, ℕ, false, List, [], ◌∷◌, ◌++◌, Option, None, Some}
 use Rattle.std.specs.List.{slice_get}
-use Rattle.syntax.specs.Behaviours.{IsChained, IsWithin, Memory}
+use Rattle.syntax.specs.Behaviours.{IsChained, IsSubsequence, Memory}
 use Rattle.bytecode.specs.Effects.{Effect}
 use Rattle.norec_core.specs.Attempts.{Attempt, Completed}
 use Rattle.machine.specs.Computes.{ComputesOn}
@@ -59,7 +59,7 @@ WithIdle [] (x ∷ all) = IsIdle x × WithIdle [] all
 WithIdle (e ∷ es) (x ∷ all) = ((e ≡ x) × WithIdle es all) ⊎ (IsIdle x × WithIdle (e ∷ es) all)
 
 -- an attempt that has not ended, put into the order as if it was dropped now
-pub record MayStand {C : Type 0} (m0 : Memory) (t : ℕ) (p : Part C) (a : Attempt C) (seen all : List Entry)
+pub record MayDropNow {C : Type 0} (m0 : Memory) (t : ℕ) (p : Part C) (a : Attempt C) (seen all : List Entry)
     : Type 0 where
   pub in_time : StandsAfter (record { thread = t; item = idle_record p.base a }) seen all
   pub chained : IsChained m0 (run_of (insert (record { thread = t; item = idle_record p.base a }) all))
@@ -82,6 +82,6 @@ pub record IsInOneOrder {C : Type 0} (code : C → Effect C) (init : ℕ → C) 
       (attempts_after code init m0 threads ts)
   pub live : (t : ℕ) (p : Part C) (a : Attempt C) →
       slice_get (world_after code init m0 threads ts).parts t ≡ Some p → p.thread.attempt ≡ Some a →
-      MayStand m0 t p a (ended_before code init m0 threads ts t) (attempts_after code init m0 threads ts)
+      MayDropNow m0 t p a (ended_before code init m0 threads ts t) (attempts_after code init m0 threads ts)
   pub extended : (us : List ℕ) →
-      IsWithin (attempts_after code init m0 threads ts) (attempts_after code init m0 threads (ts ++ us))
+      IsSubsequence (attempts_after code init m0 threads ts) (attempts_after code init m0 threads (ts ++ us))

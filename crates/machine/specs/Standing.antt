@@ -28,14 +28,14 @@ HasInHand inner (Stores i) = inner ≡ []
 HasInHand inner _ = Unit {0}
 
 -- whatever an attempt may yet give to a register fits it
-pub record GivesWords {S : Type 0} (a : Attempt S) : Type 0 where
+pub record GivesRegisterWords {S : Type 0} (a : Attempt S) : Type 0 where
   pub writes : HaveWords a.writes
   pub marks : AllByRecursion (λ (k : Checkpoint S). HaveWords k.writes) a.inner
   pub in_hand : HasInHand a.inner a.phase
 
 abbrev pub GivesWordsIf : {S : Type 0} → Option (Attempt S) → Type 0
 GivesWordsIf None = Unit {0}
-GivesWordsIf (Some a) = GivesWords a
+GivesWordsIf (Some a) = GivesRegisterWords a
 
 -- a thread that runs may stand where it does, where its open begins saved these: they had the
 -- configurations of its attempt

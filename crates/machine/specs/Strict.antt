@@ -1,7 +1,7 @@
 -- Strict serializability: what a thread begins later stands behind all that has taken effect.
 use Rattle.std.specs.Prelude.{◌≡◌, ℕ, List, ◌++◌, None, Some}
 use Rattle.std.specs.List.{slice_get}
-use Rattle.syntax.specs.Behaviours.{Behaviour, IsWithin, Memory}
+use Rattle.syntax.specs.Behaviours.{Behaviour, IsSubsequence, Memory}
 use Rattle.bytecode.specs.Effects.{Effect}
 use Rattle.machine.specs.Explained.{IsExplainedBy}
 use Rattle.machine.specs.Merges.{Entry, own}
@@ -14,7 +14,7 @@ pub record StandsBehind (t : ℕ) (earlier later : List Entry) : Type 0 where
   pub front : List Entry
   pub rest : List Entry
   pub place : later ≡ front ++ rest
-  pub all : IsWithin earlier front
+  pub all : IsSubsequence earlier front
   pub mine : own t front ≡ own t earlier
 
 -- After any steps, and any more: the transactions that have taken effect are a run in which every thread stands; and

@@ -22,14 +22,14 @@ heard_run code (t ∷ ts) w heard = heard_run code ts (step code w t)
     (heard_of code w heard t (slice_get w.parts t) (slice_get heard t))
 
 -- the step is of a thread, and does not stop
-abbrev pub GoesOn : {C : Type 0} → (C → Effect C) → Option (Part C) → Type 0
-GoesOn code None = ⊥
-GoesOn code (Some p) = stops (access code p.thread) ≡ false
+abbrev pub DoesNotStop : {C : Type 0} → (C → Effect C) → Option (Part C) → Type 0
+DoesNotStop code None = ⊥
+DoesNotStop code (Some p) = stops (access code p.thread) ≡ false
 
 -- and so is each step of a trace
 abbrev pub RunsOn : {C : Type 0} → (C → Effect C) → List ℕ → World C → Type 0
 RunsOn code [] w = Unit {0}
-RunsOn code (t ∷ ts) w = GoesOn code (slice_get w.parts t) × RunsOn code ts (step code w t)
+RunsOn code (t ∷ ts) w = DoesNotStop code (slice_get w.parts t) × RunsOn code ts (step code w t)
 
 -- a world and its answers are those of a trace
 pub record IsTraced {C : Type 0} (code : C → Effect C) (init : ℕ → C) (m0 : List ℕ) (threads : ℕ) (w : World C)

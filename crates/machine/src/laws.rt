@@ -25,7 +25,7 @@ ghost use Rattle.machine.specs.Tallies.{CountsByMeaning};
 ghost use Rattle.machine.specs.Holders.{HoldersNeverAbort};
 ghost use Rattle.machine.specs.Addresses.{NamesCells};
 ghost use Rattle.machine.specs.Events.{EventsTell};
-ghost use Rattle.machine.specs.Answered.{Answered, AnswersOk, Heard, Replays};
+ghost use Rattle.machine.specs.Answered.{Answered, AnswersOk, Heard, StepsHearing};
 ghost use Rattle.machine.specs.Traces.{IsTraced, RunsOn, heard_run};
 ghost use Rattle.machine.specs.Moments.{BeginsPast};
 
@@ -168,7 +168,7 @@ pub fn events_tell<C>()
 pub fn instructions_are_local_steps()
     ensures { (code : Plain) (th : Thread Configuration) (n : ℕ) (d : Configuration) → th.status ≡ Running →
         after_local code n th.configuration ≡ Some d →
-        Replays (effect code) th n [] (record th { configuration = d }) }
+        StepsHearing (effect code) th n [] (record th { configuration = d }) }
 {}
 
 /// The addresses in an attempt's logs are cells, and so is the one that a thread's next access names.

@@ -3,7 +3,7 @@
 ghost use Rattle.std.specs.Prelude.{◌+◌, ◌<◌, ◌^◌, ℕ, []};
 ghost use Rattle.bytecode.specs.Code.{Code as Plain, Configuration, effect};
 ghost use Rattle.machine.specs.Threads.{Thread as PlainThread};
-ghost use Rattle.machine.specs.Answered.{Replays};
+ghost use Rattle.machine.specs.Answered.{StepsHearing};
 ghost use Rattle.machine.specs.Standing.{IsThreadOf};
 ghost use Rattle.machine.specs.Loads.{Counted, IsLoad, LoadsNext, MayLoad, loaded};
 
@@ -35,6 +35,6 @@ pub trait Loads {
     fn goes_on(&self)
         ensures { (code : Plain) → (s : Self) → (from : Counted) → (n : ℕ) → (at : Counted) → (k : ℕ)
             → (next : PlainThread Configuration) → leads code s from n self.now at
-            → Replays (effect code) at.thread k [] next → IsThreadOf code next
+            → StepsHearing (effect code) at.thread k [] next → IsThreadOf code next
             → leads code s from (n + k) self.now (record { thread = next; accesses = at.accesses }) };
 }

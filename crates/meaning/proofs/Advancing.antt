@@ -25,7 +25,7 @@ use Rattle.meaning.specs.declared.standing.Stop.{Stop}
 use Rattle.meaning.specs.declared.program.Source.{Source}
 use Rattle.meaning.specs.declared.machine.Local.{Local as OwnLocal}
 use Rattle.meaning.specs.inner.Machine.{end_of, items_in, local_in, program_in}
-use Rattle.meaning.specs.Frames.{Frame, context_framed, framed}
+use Rattle.meaning.specs.Frames.{StateExtension, context_framed, framed}
 use Rattle.meaning.specs.inner.Calls.{Begins, begun}
 use Rattle.meaning.specs.inner.Going.{Follow, IsStep, call_left, follows, gone_on}
 use Rattle.meaning.specs.inner.Left.{does_task, follow_of, left_gone_on, resumed}
@@ -84,7 +84,7 @@ module _ {A : Type 0} (source : Source A) where
       ∙ sym (went_is (resumed source l) (map (resumed source) ls) (end_of thread.end) run step f (bare thread.at) (state_at at more) (follow_of source next) h)
       ∙ sym (at_last thread.left.items ls l (end_of thread.end) (framed f (bare thread.at)) last))
 
-  shown_by : (why : Halt) (f : Frame) (s : State) (founds lefts : List Memory) (text : List ℕ) → s.context ≡ Outside founds lefts → s.text ≡ text →
+  shown_by : (why : Halt) (f : StateExtension) (s : State) (founds lefts : List Memory) (text : List ℕ) → s.context ≡ Outside founds lefts → s.text ≡ text →
       outcome_of (Stops why (framed f s)) ≡ record { lefts = f.lefts ++ lefts; text = f.text ++ text; end = Stopped why }
   shown_by why f s founds lefts text there printed = λ i. record { lefts = lefts_in (context_framed f (there i)); text = f.text ++ printed i; end = Stopped why }
 

@@ -4,7 +4,7 @@ use Rattle.syntax.specs.declared.numbers.Halt.{Halt}
 use Rattle.syntax.specs.declared.numbers.Halt.TheVariants.{Trapped, Wants, Spent, Astray}
 use Rattle.syntax.specs.Actions.{State, Answer, Gives, Stops, Action, go_on}
 use Rattle.syntax.specs.Meaning.{End}
-use Rattle.meaning.specs.Frames.{Frame, framed, Alike}
+use Rattle.meaning.specs.Frames.{StateExtension, framed, Alike}
 use Rattle.meaning.specs.inner.Going.{Follow, follows, gone_on, IsStep}
 use Rattle.meaning.proofs.Going.{same_answer}
 use Rattle.meaning.proofs.Sequences.{twice}
@@ -15,13 +15,13 @@ gone_on_last [] piece e s = sym (same_answer (piece e s))
 gone_on_last (x ∷ xs) piece e s = ap (λ r. go_on r x) (gone_on_last xs piece e s) ∙ sym (twice (piece e s) (gone_on xs) x)
 
 -- where there is no further memory, a stop is the same in a frame
-stops_framed : {X : Type 0} (f : Frame) (why : Halt) (s : State) (more : Answer X) → f.founds ≡ [] → Alike f (Stops why s) more → more ≡ Stops why (framed f s)
+stops_framed : {X : Type 0} (f : StateExtension) (why : Halt) (s : State) (more : Answer X) → f.founds ≡ [] → Alike f (Stops why s) more → more ≡ Stops why (framed f s)
 stops_framed f (Trapped t) s more none e = e
 stops_framed f Wants s more none e = e none
 stops_framed f Spent s more none e = e
 stops_framed f Astray s more none e = e
 
-module _ (piece : End → Action End) (pieces : List (End → Action End)) (e : End) (run : Action Follow) (step : IsStep piece e run) (f : Frame) (s now : State) where
+module _ (piece : End → Action End) (pieces : List (End → Action End)) (e : End) (run : Action Follow) (step : IsStep piece e run) (f : StateExtension) (s now : State) where
   first_is : gone_on (pieces ++ piece ∷ []) e (framed f s) ≡ go_on (go_on (run (framed f s)) follows) (gone_on pieces)
   first_is = gone_on_last pieces piece e (framed f s) ∙ ap (λ r. go_on r (gone_on pieces)) (step.does (framed f s))
 

@@ -4,16 +4,16 @@ use Rattle.syntax.specs.declared.numbers.Halt.TheVariants.{Trapped, Wants, Spent
 use Rattle.syntax.specs.Behaviours.{Memory}
 use Rattle.syntax.specs.Actions.{Context, Outside, Inside, State, Answer, Gives, Stops, Action}
 
-pub record Frame : Type 0 where
+pub record StateExtension : Type 0 where
   pub founds : List Memory
   pub lefts : List Memory
   pub text : List ℕ
 
-abbrev pub context_framed : Frame → Context → Context
+abbrev pub context_framed : StateExtension → Context → Context
 context_framed f (Outside founds lefts) = Outside (founds ++ f.founds) (f.lefts ++ lefts)
 context_framed f (Inside mode memory) = Inside mode memory
 
-abbrev pub framed : Frame → State → State
+abbrev pub framed : StateExtension → State → State
 framed f s = record {
   ticks = s.ticks;
   locals = s.locals;
@@ -23,7 +23,7 @@ framed f s = record {
 
 -- What an answer says of the answer in a frame. Where it wants a memory, that one wants it too, if there is no further
 -- one.
-abbrev pub Alike : {A : Type 0} → Frame → Answer A → Answer A → Type 0
+abbrev pub Alike : {A : Type 0} → StateExtension → Answer A → Answer A → Type 0
 Alike f (Gives a s) more = more ≡ Gives a (framed f s)
 Alike f (Stops (Trapped t) s) more = more ≡ Stops (Trapped t) (framed f s)
 Alike f (Stops Astray s) more = more ≡ Stops Astray (framed f s)
@@ -32,4 +32,4 @@ Alike f (Stops Wants s) more = f.founds ≡ [] → more ≡ Stops Wants (framed 
 
 -- a run does the same whatever stands round it
 pub record IsFramed {A : Type 0} (run : Action A) : Type 0 where
-  pub alike : (f : Frame) (s : State) → Alike f (run s) (run (framed f s))
+  pub alike : (f : StateExtension) (s : State) → Alike f (run s) (run (framed f s))

@@ -26,11 +26,11 @@ abbrev pub source_of : {A : Type 0} → Tree A → Source
 source_of u = record { program = program_of u; ends = u.end }
 
 -- what a fault says of the tokens; want of memory says nothing
-abbrev pub IsFaultOf : List Tok → ParseFault → Type 0
-IsFaultOf ts fault.OutOfMemory = Unit {0}
-IsFaultOf ts (fault.Unexpected at) = IsUnexpected Spells ts at
-IsFaultOf ts (fault.TooDeep at) = IsTooDeep Spells source_depth deepest_program ts at
-IsFaultOf ts (fault.Unfinished at) = IsUnfinished Spells ts at
+abbrev pub IsParseFaultOf : List Tok → ParseFault → Type 0
+IsParseFaultOf ts fault.OutOfMemory = Unit {0}
+IsParseFaultOf ts (fault.Unexpected at) = IsUnexpected Spells ts at
+IsParseFaultOf ts (fault.TooDeep at) = IsTooDeep Spells source_depth deepest_program ts at
+IsParseFaultOf ts (fault.Unfinished at) = IsUnfinished Spells ts at
 
 -- this program was found, if memory sufficed
 abbrev pub Finds : {A : Type 0} → Source → Result (Tree A) ParseFault → Type 0

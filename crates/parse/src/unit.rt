@@ -8,7 +8,7 @@ ghost use Rattle.syntax.specs.Grammar.{Source, Spells, source_depth, deepest_pro
 ghost use Rattle.parse.specs.inner.Reading.{Gives};
 ghost use Rattle.parse.specs.inner.Items.{shared_from, item_at, whole_program};
 ghost use Rattle.parse.specs.inner.Headings.{heading_of};
-ghost use Rattle.parse.specs.Faults.{IsFaultOf, Finds, source_of};
+ghost use Rattle.parse.specs.Faults.{IsParseFaultOf, Finds, source_of};
 ghost use Rattle.parse.specs.Keys.{key_of};
 
 use crate::cursor::{counted, is_next};
@@ -118,7 +118,7 @@ pub fn parse<A: Allocator + Copy>(alloc: A, tokens: &[Token<'_>]) -> Result<Unit
     // Its key is made of all names.
     ensures key { IfOk result (λ u. u.key ≡ key_of (toks tokens.now)) }
     // Which fault comes, and at which token.
-    ensures fault { IfErr result (λ f. IsFaultOf (toks tokens.now) f) }
+    ensures fault { IfErr result (λ f. IsParseFaultOf (toks tokens.now) f) }
     // What is spelled within the depth is found.
     ensures complete { (s : Source) → Spells s (toks tokens.now) → source_depth s ≤ deepest_program → Finds s result }
     // What is spelled deeper is refused.

@@ -68,40 +68,40 @@ body_written p f body from l =
     body_better p f body from l plain (in_loops from plain.code)
 
 -- the codes of functions, and the lists after them
-pub record Made : Type 0 where
+pub record FunctionCodes : Type 0 where
   pub functions : List FunctionCode
   pub code : List Instr
   pub lists : Lists
   pub to : ℕ
 
-abbrev pub nothing_made : ℕ → Lists → Made
+abbrev pub nothing_made : ℕ → Lists → FunctionCodes
 nothing_made from l = record { functions = []; code = []; lists = l; to = from }
 
 abbrev pub function_code : Function → ℕ → Written → FunctionCode
 function_code f from w =
     record { name = f.name.text; first = from; registers = w.lists.registers; parameters = length f.parameters }
 
-abbrev pub put_before : FunctionCode → Written → Made → Made
+abbrev pub put_before : FunctionCode → Written → FunctionCodes → FunctionCodes
 put_before g w rest =
     record { functions = g ∷ rest.functions; code = w.code ++ rest.code; lists = rest.lists; to = rest.to }
 
 -- a function's code, where it has a body, and then the rest
-abbrev pub made_first : Program → Function → Option Stmts → (ℕ → Lists → Made) → ℕ → Lists → Made
+abbrev pub made_first : Program → Function → Option Stmts → (ℕ → Lists → FunctionCodes) → ℕ → Lists → FunctionCodes
 made_first p f None rest from l = rest from l
 made_first p f (Some body) rest from l =
     let w = body_written p f body from l in put_before (function_code f from w) w (rest w.to w.lists)
 
 -- the functions that these items of a program define, in order
-abbrev pub all_made : Program → Program → ℕ → Lists → Made
+abbrev pub all_made : Program → Program → ℕ → Lists → FunctionCodes
 all_made p [] from l = nothing_made from l
 all_made p (Shares gs ∷ items) from l = all_made p items from l
 all_made p (Defines f ∷ items) from l = made_first p f f.body (all_made p items) from l
 
 -- the codes of the functions that these first items of a program define
-abbrev pub made_for : Program → Program → Made
+abbrev pub made_for : Program → Program → FunctionCodes
 made_for p items = all_made p items 0 (record { arguments = []; texts = []; registers = 0; layout = nothing_ready })
 
-abbrev pub made_of : Program → Made
+abbrev pub made_of : Program → FunctionCodes
 made_of p = made_for p p
 
 -- the code that is picked for a program

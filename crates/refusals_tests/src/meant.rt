@@ -2,7 +2,7 @@
 //! memory was refused.
 
 ghost use Rattle.std.specs.Prelude.{IfSome};
-ghost use Rattle.atomic_code.specs.Threads.{IsThreadOf};
+ghost use Rattle.atomic_code.specs.Threads.{IsAtomicThreadOf};
 
 use crate::seen::Seen;
 use atomic_code::{AtomicThread, Ran, is_memory};
@@ -104,7 +104,7 @@ pub fn mean_in_order<A: Allocator + Copy>(
 
 /// Thread 1 of a code at its beginning.
 fn begun<A: Allocator + Copy>(alloc: A, code: &Code<A>) -> Option<AtomicThread<A>>
-    ensures { IfSome result (λ t. IsThreadOf code.now t.thread) }
+    ensures { IfSome result (λ t. IsAtomicThreadOf code.now t.thread) }
 {
     match AtomicThread::new(alloc, code, 1) {
         Ok(thread) => Some(thread),
@@ -114,7 +114,7 @@ fn begun<A: Allocator + Copy>(alloc: A, code: &Code<A>) -> Option<AtomicThread<A
 
 /// Thread 1 of a code at its beginning, by a second call where the first was refused memory.
 fn begun_at_last<A: Allocator + Copy>(alloc: A, code: &Code<A>) -> Option<AtomicThread<A>>
-    ensures { IfSome result (λ t. IsThreadOf code.now t.thread) }
+    ensures { IfSome result (λ t. IsAtomicThreadOf code.now t.thread) }
 {
     match begun(alloc, code) {
         Some(thread) => Some(thread),
@@ -129,8 +129,8 @@ fn go<A: Allocator + Copy>(
     found: &[u64],
     most: u64,
 ) -> Option<Ran<A>>
-    requires { IsThreadOf code.now thread.old.thread }
-    ensures { IsThreadOf code.now thread.new.thread }
+    requires { IsAtomicThreadOf code.now thread.old.thread }
+    ensures { IsAtomicThreadOf code.now thread.new.thread }
 {
     if !is_memory(code, found) || thread.steps() > most {
         return None;
@@ -146,8 +146,8 @@ fn go_to<A: Allocator + Copy>(
     found: &[u64],
     steps: u64,
 )
-    requires { IsThreadOf code.now thread.old.thread }
-    ensures { IsThreadOf code.now thread.new.thread }
+    requires { IsAtomicThreadOf code.now thread.old.thread }
+    ensures { IsAtomicThreadOf code.now thread.new.thread }
 {
     'pieces: for _ in 0..10u32 {
         let _ran = go(thread, code, found, steps);
@@ -179,8 +179,8 @@ fn go_at_last<A: Allocator + Copy>(
     code: &Code<A>,
     found: &[u64],
 ) -> Option<Ran<A>>
-    requires { IsThreadOf code.now thread.old.thread }
-    ensures { IsThreadOf code.now thread.new.thread }
+    requires { IsAtomicThreadOf code.now thread.old.thread }
+    ensures { IsAtomicThreadOf code.now thread.new.thread }
 {
     match go(thread, code, found, MOST) {
         Some(ran) => Some(ran),
@@ -213,7 +213,7 @@ fn go_on<A: Allocator + Copy>(
     found: &[u64],
     seen: &mut Seen,
 ) -> Option<()>
-    requires { IsThreadOf code.now thread.old.thread }
+    requires { IsAtomicThreadOf code.now thread.old.thread }
 {
     'pieces: for _ in 0..10u32 {
         let Some(ran) = go_at_last(alloc, thread, code, found) else {

@@ -7,7 +7,7 @@ use Rattle.std.specs.Str.Parse.{AllDigits, IsNumeral}
 use Rattle.std.proofs.lemmas.Str.{digit_value_digit}
 use Rattle.std.proofs.lemmas.Str.Parse.{digit_from_value}
 use Rattle.replay.specs.declared.line.Line.{Line}
-use Rattle.replay.specs.Schedules.{AreSpaces, Asks, IsBad, Writes, letter}
+use Rattle.replay.specs.Schedules.{AreSpaces, Asks, IsBad, SpellsNumber, letter}
 use Rattle.replay.specs.inner.Rows.{is_space, is_digit, past, digits_of, behind, has_letter, behind_letter, IsCut}
 
 -- ---- a run at the front
@@ -145,7 +145,7 @@ found row thread apart accesses count over cut line a =
       over_is = cut.over_is ∙ ap past r4 ∙ none_left a.after a.spaces.2;
     }
 
-pub asks : (row thread : List ℕ) (apart accesses : Bool) (count over : List ℕ) → IsCut row thread apart accesses count over → apart ≡ true → over ≡ [] → (t n : ℕ) → Writes thread t → Writes count n → Asks row (record { thread = t; count = n; accesses = accesses })
+pub asks : (row thread : List ℕ) (apart accesses : Bool) (count over : List ℕ) → IsCut row thread apart accesses count over → apart ≡ true → over ≡ [] → (t n : ℕ) → SpellsNumber thread t → SpellsNumber count n → Asks row (record { thread = t; count = n; accesses = accesses })
 asks row thread apart accesses count over cut spaced none t n is_t is_n =
     let r1 : List ℕ = behind (past row) in
     let r2 : List ℕ = past r1 in

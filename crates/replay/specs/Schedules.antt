@@ -12,8 +12,8 @@ abbrev pub AreSpaces : List ℕ → Type 0
 AreSpaces row = AllByRecursion (λ b. b ≡ 32) row
 
 -- decimal digits that write this number, which is below 2 ^ 32
-abbrev pub Writes : List ℕ → ℕ → Type 0
-Writes digits n = IsNumeral 10 digits × (digits_value 10 digits ≡ n) × (n < 2 ^ 32)
+abbrev pub SpellsNumber : List ℕ → ℕ → Type 0
+SpellsNumber digits n = IsNumeral 10 digits × (digits_value 10 digits ≡ n) × (n < 2 ^ 32)
 
 -- the letter before a count, by whether it is one of accesses
 abbrev pub letter : Bool → List ℕ
@@ -31,8 +31,8 @@ pub record Asks (row : List ℕ) (line : Line) : Type 0 where
   pub row_is : row ≡ before ++ (thread ++ (between ++ (letter line.accesses ++ (count ++ after))))
   pub spaces : AreSpaces before × AreSpaces between × AreSpaces after
   pub apart : 0 < length between
-  pub thread_is : Writes thread line.thread
-  pub count_is : Writes count line.count
+  pub thread_is : SpellsNumber thread line.thread
+  pub count_is : SpellsNumber count line.count
 
 -- the lines of rows, of which those of spaces alone are none
 abbrev pub AreRows : List (List ℕ) → List Line → Type 0

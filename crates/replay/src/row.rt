@@ -3,7 +3,7 @@
 ghost use Rattle.std.specs.Prelude.{◌≡◌, ◌≤◌, ◌<◌, ◌^◌, [], drop, take, length, MatchOption, ℕ};
 ghost use Rattle.std.specs.List.{prefix_len};
 ghost use Rattle.std.specs.Str.Parse.{AllDigits};
-ghost use Rattle.replay.specs.Schedules.{Writes};
+ghost use Rattle.replay.specs.Schedules.{SpellsNumber};
 ghost use Rattle.replay.specs.inner.Rows.{is_space, is_digit, past, digits_of, behind, has_letter, behind_letter};
 ghost use Rattle.replay.specs.inner.Rows.{IsCut, IsRow};
 
@@ -78,7 +78,7 @@ fn letter(row: &[u8]) -> (bool, &[u8])
 /// The number that a row of digits writes, where there is one below 2^32.
 fn number(digits: &[u8]) -> Option<u32>
     requires { AllDigits 10 digits.now }
-    ensures { MatchOption result ((n : ℕ) → Writes digits.now n → ⊥) (λ n. Writes digits.now n) }
+    ensures { MatchOption result ((n : ℕ) → SpellsNumber digits.now n → ⊥) (λ n. SpellsNumber digits.now n) }
 {
     if digits.is_empty() {
         return None;

@@ -96,8 +96,8 @@ abbrev pub IsNext : Setup → SeatView → Access → Type 0
 IsNext key m x = (th : Thread Configuration) × Sits key m th × (access (effect key.code) th ≡ x)
 
 -- one step and its answer: local, or an access that the seat made
-abbrev pub Made : Access → SeatView → Answer → SeatView → Type 0
-Made x m a w = MatchBool (is_local x) ((w ≡ m) × (a ≡ Done)) ((n : ℕ) × (a ≡ reply x n) × Took m n w)
+abbrev pub IsSeatStep : Access → SeatView → Answer → SeatView → Type 0
+IsSeatStep x m a w = MatchBool (is_local x) ((w ≡ m) × (a ≡ Done)) ((n : ℕ) × (a ≡ reply x n) × Took m n w)
 
 -- the access names a cell, or swaps from a value that can be followed
 abbrev pub IsMakeable : ℕ → Access → Type 0

@@ -21,8 +21,8 @@ use Rattle.seats.specs.Views.{ViewPart, Views, Among}
 use Rattle.seats.specs.Rule.{IsRuled}
 
 -- the world is explained by a merge, as a run of what the threads do
-abbrev pub IsExplained : Behaviour → Setup → World Configuration → List Entry → Type 0
-IsExplained does key w es = IsExplainedBy does (bounds_of key.code) (initial_of key.code) key.threads w es
+abbrev pub IsExplainedAtSeats : Behaviour → Setup → World Configuration → List Entry → Type 0
+IsExplainedAtSeats does key w es = IsExplainedBy does (bounds_of key.code) (initial_of key.code) key.threads w es
 
 -- what the threads of the code do
 abbrev pub code_does : Code → Behaviour
@@ -35,7 +35,7 @@ code_does code = meaning (effect code) (beginning code)
 pub record RunsSay (key : Setup) (w : World Configuration) : Type 0 where
   pub entries : List Entry
   pub is_merge : IsMerge w.parts entries
-  pub each : (es : List Entry) → IsMerge w.parts es → IsExplained (code_does key.code) key w es
+  pub each : (es : List Entry) → IsMerge w.parts es → IsExplainedAtSeats (code_does key.code) key w es
   pub attempts : AttemptsCompute (effect key.code) (beginning key.code) (initial_of key.code) w
 
 -- Some list of steps leads to the world and to all answers, so it makes just what the threads did; and in it each

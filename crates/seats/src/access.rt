@@ -5,7 +5,7 @@ ghost use Rattle.bytecode.specs.Valid.{cells_of};
 ghost use Rattle.bytecode.specs.declared.limits.TheConstants.{MOST_CELLS};
 ghost use Rattle.norec_core.specs.Accesses.{stops};
 ghost use Rattle.norec_core.specs.declared.step.Access.TheVariants.{LoadLock, LoadWord, Swap, StoreWord, StoreLock};
-ghost use Rattle.seats.specs.Rule.{IsMakeable, IsNext, Made, Took};
+ghost use Rattle.seats.specs.Rule.{IsMakeable, IsNext, IsSeatStep, Took};
 
 use crate::rule::{Ruled, Setup, Told, View};
 use atomic_table::{Seat, Shared};
@@ -82,7 +82,7 @@ pub fn make<A: Allocator>(words: &Words<A>, seat: &mut Seat<(), View>, access: A
     requires goes_on { stops access ≡ false }
     requires makeable { IsMakeable (cells_of words.now.key.code) access }
     ensures seat { (seat.new.table_id ≡ seat.old.table_id) × (seat.new.id ≡ seat.old.id) }
-    ensures made { Made access seat.old.me result seat.new.me }
+    ensures made { IsSeatStep access seat.old.me result seat.new.me }
 {
     match access {
         Access::Local => Answer::Done,

@@ -27,7 +27,7 @@ use Rattle.syntax.specs.Actions.{Answer, Stops, Action, pure}
 use Rattle.syntax.specs.Meaning.{Spot, InLocal, InCell, End, Next, Breaks, Continues, Returns, Cancels, CancelsOuter, scoped, op_of, int_one, Caller, spot_from, named, element, expr, exprs, spot, changed, assigned, simple, first_value, declare, start_with, holds, stepped, return_value, stmt, stmts, entered, result_of, invoke, calls}
 use Rattle.syntax.specs.Threads.{outcome_of, first_state, worker_run}
 use Rattle.syntax.specs.Laws.{shape}
-use Rattle.syntax.specs.ScopeLaws.{Agrees, declared_by, body_scope}
+use Rattle.syntax.specs.ScopeLaws.{IsSubscope, declared_by, body_scope}
 use Rattle.syntax.proofs.TypedParts.{TypedExpr, TypedExprs, TypedTarget, TypedSimple, TypedDeclarators, TypedStart, TypedStmt, TypedStmts, stmts_parts}
 use Rattle.syntax.proofs.ValueTypes.{Found, found, shared_type}
 use Rattle.syntax.proofs.Fits.{newest_in, newest_by_shape, newest_behind, scope_in, agrees_by_shape, shape_agrees, one_more_fits, declared_fit, same_type_of, has_type}
@@ -127,7 +127,7 @@ named_behind names more ls os g h y k =
 
 -- where something runs: what is known, the locals' names and types, and what surrounds it
 record Here (p : Program) (known : Scope) (ls : Shapes) (a : Around) : Type 0 where
-  fits : Agrees known (scope_in p ls)
+  fits : IsSubscope known (scope_in p ls)
   named : Named a.locals ls
 
 here_more : (p : Program) (known : Scope) (ls : Shapes) (a : Around) (x : List ℕ) (t : Scalar) → Here p known ls a → Here p (with_number x t known) (ls ++ (x, t) ∷ []) (with_names (x ∷ []) a)
@@ -137,7 +137,7 @@ here_declared : (p : Program) (known : Scope) (ls : Shapes) (a : Around) (t : Sc
 here_declared p known ls a t ds h = record { fits = declared_fit p known ls t ds h.fits; named = named_behind a.locals (map (λ d. d.name.text) ds) ls (map (λ d. (d.name.text, t)) ds) h.named (λ y k. declared_named t ds y k) }
 
 here_still : (p : Program) (known : Scope) (ls : Shapes) (a : Around) → Here p known ls a → Here p known (ls ++ []) (with_names [] a)
-here_still p known ls a h = record { fits = subst (λ ms. Agrees known (scope_in p ms)) (sym (append-nil ls)) h.fits; named = subst (λ ms. Named a.locals ms) (sym (append-nil ls)) h.named }
+here_still p known ls a h = record { fits = subst (λ ms. IsSubscope known (scope_in p ms)) (sym (append-nil ls)) h.fits; named = subst (λ ms. Named a.locals ms) (sym (append-nil ls)) h.named }
 
 here_after : (p : Program) (known : Scope) (ls : Shapes) (a : Around) (s : Stmt) → Here p known ls a → Here p (scope_after s known) (ls ++ declared_by s) (with_names (names_of s) a)
 here_after p known ls a (Declare d) h = here_declared p known ls a d.of d.declarators h
@@ -222,7 +222,7 @@ module _ (p : Program) (call : Caller) (called : CallsGo p call) (outer : Option
       -- the type of a conditional expression is there
       typed_there : (e : Expr) → TypedExpr known e → IsTrue (not (is_void known e)) → (mine : List Local) → map shape mine ≡ ls → IsTrue (is_some (type_of (running_scope p mine) e))
       typed_there e h g mine f =
-          subst (λ t. IsTrue (is_some t)) (sym (same_type_of known (running_scope p mine) (agrees_by_shape p known mine (subst (λ ms. Agrees known (scope_in p ms)) (sym f) here.fits)) e h)) (has_type known e h g)
+          subst (λ t. IsTrue (is_some t)) (sym (same_type_of known (running_scope p mine) (agrees_by_shape p known mine (subst (λ ms. IsSubscope known (scope_in p ms)) (sym f) here.fits)) e h)) (has_type known e h g)
 
     mutual
       expr_goes : (a : Around) → Here p known ls a → (e : Expr) → TypedExpr known e → AllPermitted p outer (expr_sites e a) → Goes (mode_of a) ls ls Any (expr p call e)
@@ -418,7 +418,7 @@ module _ (p : Program) (accepted : IsAccepted p) where
       let around : Around = record { locals = parameter_names d.0.parameters; atomic = false; outer = false; in_any = false } in
       stmts_open p call called w d.1 known ms around false
       (record {
-        fits = subst (λ os. Agrees known (scope_in p os)) same (shape_agrees p known mine (typed.fits vs mine g));
+        fits = subst (λ os. IsSubscope known (scope_in p os)) same (shape_agrees p known mine (typed.fits vs mine g));
         named = λ y k. subst (λ os. IsTrue (is_some (newest_in os y))) (sym (entered_shapes d.0.parameters vs mine g) ∙ same) (parameters_named d.0.parameters y k);
       })
       (stmts_parts d.0.result d.1 known (parameter_names d.0.parameters) false typed.body)

@@ -10,7 +10,7 @@ use mathlib.Core.Option.{some-ne-none, some-injective}
 use Rattle.atomic_table.specs.Seated.{TableId}
 use Rattle.bytecode.specs.Code.{Configuration, effect}
 use Rattle.bytecode.proofs.Tables.{some_same}
-use Rattle.machine.specs.Answered.{Heard, Replays}
+use Rattle.machine.specs.Answered.{Heard, StepsHearing}
 use Rattle.machine.specs.States.{first_thread}
 use Rattle.machine.specs.Threads.{Thread, access}
 use Rattle.machine.specs.Worlds.{Part, World}
@@ -36,7 +36,7 @@ module _ (z : TableId) (key : Setup) (w : World Configuration) (heard : List (Li
   -- so many steps have led the world's thread of this number to where its loop ended in this way
   abbrev pub IsEnding : ℕ → Ending → Type 0
   IsEnding all e = (part : Part Configuration) × (slice_get w.parts n ≡ Some part) × (steps : ℕ) × (answers : List Heard)
-      × Replays (effect key.code) (first_thread key.code n) steps answers part.thread
+      × StepsHearing (effect key.code) (first_thread key.code n) steps answers part.thread
       × EndsBy e.stopped (access (effect key.code) part.thread) part.thread.status all steps
 
   none_here : NoWorker {A = Global} [] n
@@ -101,8 +101,8 @@ module _ (z : TableId) (key : Setup) (w : World Configuration) (heard : List (Li
               ap (slice_get w.parts) (sym same) ∙ there.0,
               x.steps,
               works.part.heard,
-              subst (λ (k : ℕ). Replays (effect key.code) (first_thread key.code k) x.steps works.part.heard works.now.thread) same
-                  (subst (λ t. Replays (effect key.code) (first_thread key.code x.number) x.steps works.part.heard t) (sym works.thread_is) works.replays),
+              subst (λ (k : ℕ). StepsHearing (effect key.code) (first_thread key.code k) x.steps works.part.heard works.now.thread) same
+                  (subst (λ t. StepsHearing (effect key.code) (first_thread key.code x.number) x.steps works.part.heard t) (sym works.thread_is) works.replays),
               subst (λ t. EndsBy e.stopped (access (effect key.code) t) t.status all x.steps) (sym works.thread_is) ended.0.1,
             ),
           )

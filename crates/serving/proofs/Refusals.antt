@@ -9,7 +9,7 @@ use Rattle.command.specs.declared.request.Task.{Task}
 use Rattle.command.specs.declared.request.Task.TheVariants.{Check, Listing, Run, Replay, Timeline, Picture, PrintSchedule, Source, Outcomes}
 use Rattle.lex.specs.declared.fault.LexFault.TheVariants.{FileTooLong}
 use Rattle.lex.specs.declared.lexer.TheConstants.{MOST_BYTES}
-use Rattle.lower.specs.Faults.{IsFaultOf}
+use Rattle.lower.specs.Faults.{IsLowerFaultOf}
 use Rattle.lower.specs.declared.fault.LowerFault.{LowerFault}
 use Rattle.lower.specs.declared.fault.LowerFault.TheVariants as limit
 use Rattle.serving.specs.declared.run.SourceFault.TheVariants.{Lex}
@@ -18,7 +18,7 @@ use Rattle.serving.specs.Checks.{IsSourceOf}
 use Rattle.serving.specs.Refusals.{IsLimit, IsRefused, IsUncoded}
 
 -- what is said of a limit by the code that is picked says what the source tells of it
-limit_of : (p : Program) (fault : LowerFault) → IsFaultOf p fault → IsLimit p fault
+limit_of : (p : Program) (fault : LowerFault) → IsLowerFaultOf p fault → IsLimit p fault
 limit_of p limit.OutOfMemory is = tt
 limit_of p (limit.TooManyRegisters at) is = (is.0, record { function = is.1.function; is_of = is.1.is_of; is_at = is.1.is_at })
 limit_of p (limit.TooMuchCode at) is = (
@@ -33,7 +33,7 @@ limit_of p (limit.TooMuchCode at) is = (
 limit_of p (limit.NestedTooDeep at) is = is
 
 -- the accepted program of a text has no code
-pub uncoded : (text : List ℕ) (source : Spelled) (fault : LowerFault) → IsSourceOf text source → ∥ IsAccepted source.program ∥₁ → IsFaultOf source.program fault → IsUncoded text fault
+pub uncoded : (text : List ℕ) (source : Spelled) (fault : LowerFault) → IsSourceOf text source → ∥ IsAccepted source.program ∥₁ → IsLowerFaultOf source.program fault → IsUncoded text fault
 uncoded text source fault spelled accepted is = record {
   source = source;
   spelled = spelled;

@@ -178,7 +178,7 @@ module _ (more_ticks : MoreTicks) (goes_on : GoesOn) (never_more : NeverMoreLeft
           ∙ ap (λ (v : Option ℕ). record { events = None; threads = ts; globals = gs; holder = v }) h
 
 module _ (more_ticks : MoreTicks) (goes_on : GoesOn) (never_more : NeverMoreLeft) (runs_are_orders : RunsAreOrders) where
-  pub runs_are_of_orders : laws.RunsAreOrders
+  pub runs_are_of_orders : laws.ConcurrentRunsAreOrders
   runs_are_of_orders threads budget text shown r none =
       let s = serial_run threads budget text shown r none in
       let o = an_order more_ticks goes_on never_more r.compiled.source.program threads shown s.0 runs_are_orders none s.2 in

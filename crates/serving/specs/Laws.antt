@@ -15,8 +15,8 @@ use Rattle.serving.specs.Runs.{RunsAtOnce}
 use Rattle.serving.specs.Replays.{IsReplayOf, Replays, behind_events}
 
 -- what a run of all threads shows, where each of them has ended or trapped, they show in some order
-abbrev pub RunsAreOrders : Type 0
-RunsAreOrders =
+abbrev pub ConcurrentRunsAreOrders : Type 0
+ConcurrentRunsAreOrders =
     (threads budget : ℕ) (text : List ℕ) (shown : Printed) → RunsAtOnce threads budget text shown →
     has_stopped shown ≡ false → RunsInSomeOrder threads text shown
 

@@ -2,7 +2,7 @@
 use Rattle.std.specs.Prelude.{ℕ, List}
 use Rattle.syntax.specs.Grammar.{Source}
 use Rattle.separation.specs.Touching.{IsAccepted}
-use Rattle.lower.specs.Faults.{IsFaultOf}
+use Rattle.lower.specs.Faults.{IsLowerFaultOf}
 use Rattle.lower.specs.declared.fault.LowerFault.{LowerFault}
 use Rattle.serving.specs.declared.run.SourceFault.{SourceFault}
 use Rattle.serving.specs.declared.run.SourceFault.TheVariants.{NoCode}
@@ -13,7 +13,7 @@ pub record PassesLimit (text : List ℕ) (fault : LowerFault) : Type 0 where
   pub source : Source
   pub spelled : IsSourceOf text source
   pub accepted : ∥ IsAccepted source.program ∥₁
-  pub because : IsFaultOf source.program fault
+  pub because : IsLowerFaultOf source.program fault
 
 -- what a fault of code says of a text; other faults say nothing here
 abbrev pub PassesLimitIf : List ℕ → SourceFault → Type 0

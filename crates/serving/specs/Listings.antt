@@ -6,11 +6,11 @@ use Rattle.bytecode.specs.Listing.{listing}
 use Rattle.serving.specs.Codes.{Compiles}
 
 -- a listing of such code
-pub record Lists (text listed : List ℕ) : Type 0 where
+pub record ShowsListing (text listed : List ℕ) : Type 0 where
   pub code : Code
   pub compiled : Compiles text code
   pub lists : listed ≡ listing code
 
 -- the status 0 tells of a listing that was written
 abbrev pub PrintsListing : List ℕ → ℕ → Option (List ℕ) → Option (List ℕ) → Type 0
-PrintsListing text status old new = status ≡ 0 → (listed : List ℕ) × Lists text listed × Appends old new listed
+PrintsListing text status old new = status ≡ 0 → (listed : List ℕ) × ShowsListing text listed × Appends old new listed

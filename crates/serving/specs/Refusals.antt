@@ -17,7 +17,7 @@ use Rattle.safety.specs.Answers as safety
 use Rattle.separation.specs.declared.fault.Violation.{Violation as SeparationViolation}
 use Rattle.separation.specs.Touching.{IsAccepted, IsSeparationFault}
 use Rattle.separation.specs.Answers as separation
-use Rattle.parse.specs.Faults.{IsFaultOf as IsParseFault}
+use Rattle.parse.specs.Faults.{IsParseFaultOf as IsParseFault}
 use Rattle.meaning.specs.InOrder.{IsFaultOfOrder, number_in as order_number}
 use Rattle.serving.specs.declared.run.SourceFault.{SourceFault}
 use Rattle.serving.specs.declared.run.SourceFault.TheVariants.{OutOfMemory, Lex, Parse, IllTyped, Unsafe, NotSeparate}

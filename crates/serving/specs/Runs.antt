@@ -11,7 +11,7 @@ use Rattle.syntax.specs.Threads.{thread}
 use Rattle.bytecode.specs.Code.{Code, Configuration, effect}
 use Rattle.norec_core.specs.declared.step.Stop.{Stop}
 use Rattle.norec_core.specs.declared.step.Stop.TheVariants as stop
-use Rattle.machine.specs.Answered.{Heard, Replays}
+use Rattle.machine.specs.Answered.{Heard, StepsHearing}
 use Rattle.machine.specs.States.{first_thread}
 use Rattle.machine.specs.Threads.{access}
 use Rattle.machine.specs.Worlds.{Part, World}
@@ -81,7 +81,7 @@ pub record IsThreadAtOnce (code : Code) (w : World Configuration) (budget n : �
   pub there : slice_get w.parts n ≡ Some part
   pub steps : ℕ
   pub answers : List Heard
-  pub makes : Replays (effect code) (first_thread code n) steps answers part.thread
+  pub makes : StepsHearing (effect code) (first_thread code n) steps answers part.thread
   pub stopped : Option Stop
   pub because : EndsBy stopped (access (effect code) part.thread) part.thread.status budget steps
   pub shows : shown ≡ record { end = end_at_once part.thread.status stopped; text = part.thread.text }

@@ -18,7 +18,7 @@ use Rattle.command.specs.declared.request.Task.TheVariants.{Check, Listing, Run,
 use Rattle.command.specs.declared.request.Task.TheVariants.{PrintSchedule, Source, Outcomes}
 use Rattle.serving.specs.Checks.{Accepts}
 use Rattle.serving.specs.Codes.{Compiles}
-use Rattle.serving.specs.Listings.{Lists}
+use Rattle.serving.specs.Listings.{ShowsListing}
 use Rattle.serving.specs.Outcomes.{IsListOfOutcomes}
 use Rattle.serving.specs.Orders.{RunsInOrder}
 use Rattle.serving.specs.Replays.{IsReplayOfText, lines_of_seed}
@@ -59,7 +59,7 @@ IsSeedSchedule seed threads count text written =
 -- what a task asks to be written
 abbrev pub IsAskedFor : Task → (schedule : Option (List ℕ)) → (text : List ℕ) → (written : List ℕ) → Type 0
 IsAskedFor Check schedule text written = Accepts text × (written ≡ codes "accepted\n")
-IsAskedFor Listing schedule text written = Lists text written
+IsAskedFor Listing schedule text written = ShowsListing text written
 IsAskedFor (Run threads budget counts) schedule text written = IsReportOf (RunsAtOnce threads budget text) written
 IsAskedFor (Replay threads steps) schedule text written = IsReplayReport threads steps schedule text written
 IsAskedFor (Timeline threads steps) schedule text written = IsReplayTimeline threads steps schedule text written

@@ -10,7 +10,7 @@ ghost use Rattle.bytecode.specs.Code.{Code as Plain, effect};
 ghost use Rattle.bytecode.specs.Valid.{IsValid};
 ghost use Rattle.machine.specs.Serializable.{IsOpaque};
 ghost use Rattle.serving.specs.Codes.{IsCodeOf};
-ghost use Rattle.serving.specs.Laws.{OrdersAreListed, ReplaysAreOrders, ReplaysLeaveOrders, RunsAreOrders};
+ghost use Rattle.serving.specs.Laws.{OrdersAreListed, ReplaysAreOrders, ReplaysLeaveOrders, ConcurrentRunsAreOrders};
 
 use bytecode::laws::valid_code_fits_its_cells;
 use lex::laws::one_list_of_tokens;
@@ -36,7 +36,7 @@ pub fn accepted_programs_are_opaque()
 /// replay behind its events. Where threads of a replay still run, but none has the lock, the globals are those that
 /// some order leaves, and each thread that has ended or trapped shows what it shows there.
 pub fn reports_are_orders()
-    ensures runs { RunsAreOrders }
+    ensures runs { ConcurrentRunsAreOrders }
     ensures replays { ReplaysAreOrders }
     ensures left { ReplaysLeaveOrders }
 {

@@ -2,7 +2,7 @@
 
 ghost use Rattle.std.specs.Prelude.{◌≡◌, IfOk, IfErr, string_bytes};
 ghost use Rattle.serving.specs.Limits.{PassesLimitIf};
-ghost use Rattle.serving.specs.Listings.{Lists};
+ghost use Rattle.serving.specs.Listings.{ShowsListing};
 ghost use Rattle.serving.specs.Refusals.{IsFaultOfText};
 
 use crate::compiled::compile;
@@ -12,7 +12,7 @@ use std::alloc::Allocator;
 
 /// The listing of the code of a source's text.
 pub fn list_source<A: Allocator + Copy>(alloc: A, text: &str) -> Result<String<A>, SourceFault>
-    ensures ok { IfOk result (λ s. Lists text.now (string_bytes s)) }
+    ensures ok { IfOk result (λ s. ShowsListing text.now (string_bytes s)) }
     ensures err { IfErr result (λ f. IsFaultOfText text.now f) }
     ensures limits { IfErr result (λ f. PassesLimitIf text.now f) }
 {

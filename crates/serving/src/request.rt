@@ -11,7 +11,7 @@ ghost use Rattle.report.specs.Views.{printed_of};
 ghost use Rattle.outcome_lists.specs.Lists.{list_text};
 ghost use Rattle.outcome_lists.specs.Views.{outcome_of};
 ghost use Rattle.serving.specs.Checks.{Accepts, SaysAccepted};
-ghost use Rattle.serving.specs.Listings.{Lists, PrintsListing};
+ghost use Rattle.serving.specs.Listings.{ShowsListing, PrintsListing};
 ghost use Rattle.picture.specs.Replayed.{IsDrawn};
 ghost use Rattle.serving.specs.Orders.{RunsInOrder, RunsInSomeOrder};
 ghost use Rattle.serving.specs.Outcomes.{IsListOfOutcomes, PrintsOutcomes, outcomes_status};
@@ -490,7 +490,7 @@ fn list<A: Allocator + Copy, W: Write, E: Write>(
     ensures status { result ≤ 4 }
     ensures listing { PrintsListing text.now result (W.contents out.old) (W.contents out.new) }
     ensures refused { result ≡ 1 → IsRefused text.now }
-    ensures written { WritesPart (Lists text.now) (W.contents out.old) (W.contents out.new) }
+    ensures written { WritesPart (ShowsListing text.now) (W.contents out.old) (W.contents out.new) }
     ensures untouched { result ≡ 1 → W.contents out.new ≡ W.contents out.old }
 {
     match list_source(alloc, text) {

@@ -13,7 +13,7 @@ use Rattle.syntax.specs.Types.{Known, Unknown, Number, Array, Callable, Scope, k
 use Rattle.syntax.specs.Typing.{is_unknown, may_be_function, same_type, same_types, same_result, agrees, has_name, defined_names, parameter_names, with_parameters, is_worker, demand, AreDistinct, AreTypedStmts, IsTypedBody, IsTypedFunction, AreTypedItems, AreDefined, IsTypedProgram}
 use Rattle.syntax.specs.Meaning.{bound, entered}
 use Rattle.syntax.specs.Laws.{shape}
-use Rattle.syntax.specs.ScopeLaws.{Agrees, CalledAreDefined, BodiesAreTyped, body_scope}
+use Rattle.syntax.specs.ScopeLaws.{IsSubscope, CalledAreDefined, BodiesAreTyped, body_scope}
 use Rattle.syntax.proofs.Demands.{AreMet, met_before, met_behind, is_met}
 use Rattle.syntax.proofs.Fits.{scope_in, agrees_by_shape, one_more_fits}
 use Rattle.syntax.proofs.ValueTypes.{or_known, scope_append, rest_met, agrees_before, same_type_is, same_result_is, both_true}
@@ -179,14 +179,14 @@ all_enter (q ∷ qs) (v ∷ vs) e =
     (bound q v ++ others.0, ap (option_map (λ ls. bound q v ++ ls)) others.1)
 
 -- the parameters' names are known as those locals
-parameters_fit : (p : Program) (known : Scope) (ls : List (List ℕ × Scalar)) (qs : List Parameter) → Agrees known (scope_in p ls) → Agrees (with_parameters qs known) (scope_in p (ls ++ shapes_of qs))
-parameters_fit p known ls [] h = subst (λ ms. Agrees known (scope_in p ms)) (sym (append-nil ls)) h
+parameters_fit : (p : Program) (known : Scope) (ls : List (List ℕ × Scalar)) (qs : List Parameter) → IsSubscope known (scope_in p ls) → IsSubscope (with_parameters qs known) (scope_in p (ls ++ shapes_of qs))
+parameters_fit p known ls [] h = subst (λ ms. IsSubscope known (scope_in p ms)) (sym (append-nil ls)) h
 parameters_fit p known ls (q ∷ qs) h = named q.of q.name (λ known ls h. parameters_fit p known ls qs h)
   where
-    named : (of : Scalar) (n : Option Name) → ((known : Scope) (ls : List (List ℕ × Scalar)) → Agrees known (scope_in p ls) → Agrees (with_parameters qs known) (scope_in p (ls ++ shapes_of qs))) → Agrees (with_parameters qs (unwrap_or (option_map (λ x. with_number x.text of known) n) known)) (scope_in p (ls ++ (unwrap_or (option_map (λ x. (x.text, of) ∷ []) n) [] ++ shapes_of qs)))
+    named : (of : Scalar) (n : Option Name) → ((known : Scope) (ls : List (List ℕ × Scalar)) → IsSubscope known (scope_in p ls) → IsSubscope (with_parameters qs known) (scope_in p (ls ++ shapes_of qs))) → IsSubscope (with_parameters qs (unwrap_or (option_map (λ x. with_number x.text of known) n) known)) (scope_in p (ls ++ (unwrap_or (option_map (λ x. (x.text, of) ∷ []) n) [] ++ shapes_of qs)))
     named of None others = others known ls h
     named of (Some x) others =
-        subst (λ ms. Agrees (with_parameters qs (with_number x.text of known)) (scope_in p ms)) (append_assoc ls ((x.text, of) ∷ []) (shapes_of qs))
+        subst (λ ms. IsSubscope (with_parameters qs (with_number x.text of known)) (scope_in p ms)) (append_assoc ls ((x.text, of) ∷ []) (shapes_of qs))
         (others (with_number x.text of known) (ls ++ (x.text, of) ∷ []) (one_more_fits p known ls x.text of h))
 
 first_known : (k k' : Known) → IsTrue (not (is_unknown k)) → or_known k k' ≡ k
@@ -196,7 +196,7 @@ first_known (Array t n) k' h = refl
 first_known (Callable r ts) k' h = refl
 
 -- what earlier items make known is known in the whole program
-earlier_agree : (p earlier later : List Item) → p ≡ earlier ++ later → Agrees (file_scope earlier) (scope_in p [])
+earlier_agree : (p earlier later : List Item) → p ≡ earlier ++ later → IsSubscope (file_scope earlier) (scope_in p [])
 earlier_agree p earlier later e x k = ap (λ items. file_scope items x) e ∙ scope_append earlier later x ∙ first_known (file_scope earlier x) (file_scope later x) k
 
 body_met : (earlier later : List Item) (f : Function) (body : Stmts) → f.body ≡ Some body → AreMet (AreTypedItems earlier (Defines f ∷ later)) → AreMet (AreTypedStmts f.result body (body_scope earlier f) (parameter_names f.parameters) false)
@@ -216,6 +216,6 @@ bodies_are_typed p h x d e =
       stands = whole;
       body = body_met s.earlier s.later d.0 d.1 s.body s.typed;
       fits = λ vs ls g. agrees_by_shape p (body_scope s.earlier d.0) ls
-          (subst (λ ms. Agrees (body_scope s.earlier d.0) (scope_in p ms)) (sym (entered_shapes d.0.parameters vs ls g))
+          (subst (λ ms. IsSubscope (body_scope s.earlier d.0) (scope_in p ms)) (sym (entered_shapes d.0.parameters vs ls g))
           (parameters_fit p (file_scope (s.earlier ++ Defines d.0 ∷ [])) [] d.0.parameters (earlier_agree p (s.earlier ++ Defines d.0 ∷ []) s.later whole)));
     }

@@ -20,7 +20,7 @@ use Rattle.syntax.specs.Behaviours.{Memory}
 use Rattle.syntax.specs.Actions.{Context, Outside, Inside, State, Answer, Gives, Stops, Action, pure, stop, go_on, ◌>>=◌, ◌>>◌, spend, tick, store_at, may_print_at, may_print, print_piece}
 use Rattle.syntax.specs.Meaning.{Spot, InLocal, InCell, assign, print_pieces, End, Next, Breaks, Continues, Returns, Cancels, CancelsOuter, mode_of, scoped, after_turn, turns, loop, after_body, Left, undoes, left_or, left_by, close_inner, close, enter, transaction, op_of, int_one, Caller, expr, spot, changed, assigned, simple, first_value, declare, return_value, stmt, calls}
 use Rattle.syntax.specs.Laws.{WhereGiven, shape, BeginsWithLocals}
-use Rattle.syntax.specs.ScopeLaws.{LocalsExact, ScopeFits, Agrees, declared_by}
+use Rattle.syntax.specs.ScopeLaws.{LocalsExact, ScopeFits, IsSubscope, declared_by}
 use Rattle.syntax.proofs.Expressions.{LeavesLocals, named_holds, element_holds, expr_holds, exprs_holds, fetch_holds, or_trap_holds, calls_holds}
 use Rattle.syntax.proofs.OlderLocals.{KeepsOlder, then_older, on_older, if_older, pure_older, loop_older, after_body_older, same_shapes, start_older, holds_older, stepped_older, scoped_older, stmt_older, stmts_older}
 use Rattle.syntax.proofs.Fits.{scope_in, agrees_by_shape, shape_agrees, declared_fit}
@@ -245,13 +245,13 @@ pub locals_exact : LocalsExact
 locals_exact p frames st s = stmt_adds p (calls p frames) (calls_holds p frames) st s
 
 -- what is known after a statement
-after_agrees : (p : Program) (st : Stmt) (known : Scope) (ls ms : List Local) → Agrees known (running_scope p ls) → map shape ms ≡ map shape ls ++ declared_by st → Agrees (scope_after st known) (running_scope p ms)
-after_agrees p st known ls ms g e = agrees_by_shape p (scope_after st known) ms (subst (λ x. Agrees (scope_after st known) (scope_in p x)) (sym e) (behind st (shape_agrees p known ls g)))
+after_agrees : (p : Program) (st : Stmt) (known : Scope) (ls ms : List Local) → IsSubscope known (running_scope p ls) → map shape ms ≡ map shape ls ++ declared_by st → IsSubscope (scope_after st known) (running_scope p ms)
+after_agrees p st known ls ms g e = agrees_by_shape p (scope_after st known) ms (subst (λ x. IsSubscope (scope_after st known) (scope_in p x)) (sym e) (behind st (shape_agrees p known ls g)))
   where
-    none : Agrees known (scope_in p (map shape ls)) → Agrees known (scope_in p (map shape ls ++ []))
-    none h = subst (λ x. Agrees known (scope_in p x)) (sym (append-nil (map shape ls))) h
+    none : IsSubscope known (scope_in p (map shape ls)) → IsSubscope known (scope_in p (map shape ls ++ []))
+    none h = subst (λ x. IsSubscope known (scope_in p x)) (sym (append-nil (map shape ls))) h
 
-    behind : (st : Stmt) → Agrees known (scope_in p (map shape ls)) → Agrees (scope_after st known) (scope_in p (map shape ls ++ declared_by st))
+    behind : (st : Stmt) → IsSubscope known (scope_in p (map shape ls)) → IsSubscope (scope_after st known) (scope_in p (map shape ls ++ declared_by st))
     behind Empty h = none h
     behind (Declare d) h = declared_fit p known (map shape ls) d.of d.declarators h
     behind (Do s) h = none h
@@ -272,6 +272,6 @@ after_agrees p st known ls ms g e = agrees_by_shape p (scope_after st known) ms 
 pub scope_fits : ScopeFits
 scope_fits p frames st s known g = fit (stmt p (calls p frames) st s) (locals_exact p frames st s)
   where
-    fit : (r : Answer End) → WhereGiven r (λ end now. map shape now.locals ≡ map shape s.locals ++ declared_by st) → WhereGiven r (λ end now. Agrees (scope_after st known) (running_scope p now.locals))
+    fit : (r : Answer End) → WhereGiven r (λ end now. map shape now.locals ≡ map shape s.locals ++ declared_by st) → WhereGiven r (λ end now. IsSubscope (scope_after st known) (running_scope p now.locals))
     fit (Gives end now) e = after_agrees p st known s.locals now.locals g e
     fit (Stops why now) e = tt

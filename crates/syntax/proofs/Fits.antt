@@ -12,11 +12,11 @@ use Rattle.syntax.specs.Names.{Local, newest_from}
 use Rattle.syntax.specs.Types.{Known, Unknown, Number, Array, Callable, Scope, file_scope, with_number, number_type, element_type, call_type, common_of, unary_type, binary_type, type_of, running_scope}
 use Rattle.syntax.specs.Typing.{is_unknown, may_be_number, may_be_array, may_be_function, gives_nothing, is_void, knows}
 use Rattle.syntax.specs.Laws.{shape}
-use Rattle.syntax.specs.ScopeLaws.{Agrees, TypesAgree}
+use Rattle.syntax.specs.ScopeLaws.{IsSubscope, TypesAgree}
 use Rattle.syntax.proofs.TypedParts.{TypedExpr, expr_parts}
 
 -- a typed expression has the same type wherever the names that are known stand for the same
-module _ (known other : Scope) (agrees : Agrees known other) where
+module _ (known other : Scope) (agrees : IsSubscope known other) where
   pub same_type_of : (e : Expr) → TypedExpr known e → type_of other e ≡ type_of known e
   same_type_of (Variable x) h = ap number_type (agrees x.text h.0)
   same_type_of (Constant n t at) h = refl
@@ -136,10 +136,10 @@ number_known (Some l) rest = refl
 pub running_by_shape : (p : Program) (ls : List Local) (x : List ℕ) → running_scope p ls x ≡ scope_in p (map shape ls) x
 running_by_shape p ls x = number_known (newest_from 0 ls x) (file_scope p x) ∙ ap (λ o. unwrap_or (option_map (λ t. Number t) o) (file_scope p x)) (newest_by_shape 0 ls x)
 
-pub agrees_by_shape : (p : Program) (known : Scope) (ls : List Local) → Agrees known (scope_in p (map shape ls)) → Agrees known (running_scope p ls)
+pub agrees_by_shape : (p : Program) (known : Scope) (ls : List Local) → IsSubscope known (scope_in p (map shape ls)) → IsSubscope known (running_scope p ls)
 agrees_by_shape p known ls h x k = running_by_shape p ls x ∙ h x k
 
-pub shape_agrees : (p : Program) (known : Scope) (ls : List Local) → Agrees known (running_scope p ls) → Agrees known (scope_in p (map shape ls))
+pub shape_agrees : (p : Program) (known : Scope) (ls : List Local) → IsSubscope known (running_scope p ls) → IsSubscope known (scope_in p (map shape ls))
 shape_agrees p known ls h x k = sym (running_by_shape p ls x) ∙ h x k
 
 -- one declared name more, in both scopes
@@ -147,14 +147,14 @@ one_more_known : (b : Bool) (t : Scalar) (o : Option Scalar) (k k' : Known) → 
 one_more_known true t o k k' h g = refl
 one_more_known false t o k k' h g = h g
 
-pub one_more_fits : (p : Program) (known : Scope) (ls : List (List ℕ × Scalar)) (x : List ℕ) (t : Scalar) → Agrees known (scope_in p ls) → Agrees (with_number x t known) (scope_in p (ls ++ (x, t) ∷ []))
+pub one_more_fits : (p : Program) (known : Scope) (ls : List (List ℕ × Scalar)) (x : List ℕ) (t : Scalar) → IsSubscope known (scope_in p ls) → IsSubscope (with_number x t known) (scope_in p (ls ++ (x, t) ∷ []))
 one_more_fits p known ls x t h y k =
     ap (λ o. unwrap_or (option_map (λ t. Number t) o) (file_scope p y)) (newest_behind ls ((x, t) ∷ []) y)
     ∙ one_more_known (bytes_eq x y) t (newest_in ls y) (known y) (file_scope p y) (λ g. h y g) k
 
 -- the names of a declaration, one after another
-pub declared_fit : (p : Program) (known : Scope) (ls : List (List ℕ × Scalar)) (t : Scalar) (ds : List Declarator) → Agrees known (scope_in p ls) → Agrees (knows t ds known) (scope_in p (ls ++ map (λ d. (d.name.text, t)) ds))
-declared_fit p known ls t [] h = subst (λ ms. Agrees known (scope_in p ms)) (sym (append-nil ls)) h
+pub declared_fit : (p : Program) (known : Scope) (ls : List (List ℕ × Scalar)) (t : Scalar) (ds : List Declarator) → IsSubscope known (scope_in p ls) → IsSubscope (knows t ds known) (scope_in p (ls ++ map (λ d. (d.name.text, t)) ds))
+declared_fit p known ls t [] h = subst (λ ms. IsSubscope known (scope_in p ms)) (sym (append-nil ls)) h
 declared_fit p known ls t (d ∷ ds) h =
-    subst (λ ms. Agrees (knows t ds (with_number d.name.text t known)) (scope_in p ms)) (append_assoc ls ((d.name.text, t) ∷ []) (map (λ d. (d.name.text, t)) ds))
+    subst (λ ms. IsSubscope (knows t ds (with_number d.name.text t known)) (scope_in p ms)) (append_assoc ls ((d.name.text, t) ∷ []) (map (λ d. (d.name.text, t)) ds))
     (declared_fit p (with_number d.name.text t known) (ls ++ (d.name.text, t) ∷ []) t ds (one_more_fits p known ls d.name.text t h))

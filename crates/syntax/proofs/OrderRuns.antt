@@ -12,7 +12,7 @@ use Rattle.syntax.specs.declared.numbers.Halt.TheVariants.{Trapped, Wants, Spent
 use Rattle.syntax.specs.Behaviours.{Memory, ThreadEnd, Ended, Stopped, Step, IsChained, of_thread, founds_of, lefts_of, last_memory}
 use Rattle.syntax.specs.Orders.{Progress, entries, entry, finds, if_wanting, last_left, outcomes}
 use Rattle.syntax.specs.Threads.{thread}
-use Rattle.syntax.specs.Laws.{Begins, GoesOn, LeftAsManyAsFound, NeverMoreLeft}
+use Rattle.syntax.specs.Laws.{IsOutcomePrefix, GoesOn, LeftAsManyAsFound, NeverMoreLeft}
 use Rattle.syntax.specs.OrderLaws.{OrdersAreRuns, ShowsRun}
 use Rattle.syntax.proofs.RunOrders.{as_many, founds_own, is_wanting, last_after, lefts_own, of_other}
 
@@ -111,7 +111,7 @@ module _ (left_as_many : LeftAsManyAsFound) (never_more : NeverMoreLeft) (goes_o
     abbrev next : Progress
     next = record { memory = last_left M more; founds = slice_set now.founds t (f ++ M ∷ []) }
 
-    b : Begins (thread p t f ticks) (thread p t (f ++ M ∷ []) (ticks + 0))
+    b : IsOutcomePrefix (thread p t f ticks) (thread p t (f ++ M ∷ []) (ticks + 0))
     b = goes_on p t f (M ∷ []) ticks 0
 
     begins : (thread p t (f ++ M ∷ []) ticks).lefts ≡ (thread p t f ticks).lefts ++ b.further

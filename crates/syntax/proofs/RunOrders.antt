@@ -11,7 +11,7 @@ use Rattle.syntax.specs.declared.numbers.Halt.TheVariants.{Trapped, Wants, Spent
 use Rattle.syntax.specs.Behaviours.{Memory, Outcome, ThreadEnd, Ended, Stopped, Step, IsChained, of_thread, founds_of, lefts_of, last_memory}
 use Rattle.syntax.specs.Orders.{Progress, entries, entry, finds, if_wanting, last_left, outcomes}
 use Rattle.syntax.specs.Threads.{thread, IsSourceRun}
-use Rattle.syntax.specs.Laws.{Begins, GoesOn, LeftAsManyAsFound, NeverMoreLeft}
+use Rattle.syntax.specs.Laws.{IsOutcomePrefix, GoesOn, LeftAsManyAsFound, NeverMoreLeft}
 use Rattle.syntax.specs.OrderLaws.{IsItsOrder, RunsAreOrders}
 use Rattle.syntax.proofs.MoreFounds.{more_founds}
 
@@ -146,7 +146,7 @@ module _ (left_as_many : LeftAsManyAsFound) (never_more : NeverMoreLeft) (goes_o
 
     first_lefts : (f x ls ms : List Memory) → whole ≡ f ++ x → (thread p t whole ticks).lefts ≡ ls ++ ms → length ls ≡ length f → (thread p t f ticks).lefts ≡ ls
     first_lefts f x ls ms e is l =
-        let b : Begins (thread p t f ticks) (thread p t (f ++ x) (ticks + 0)) = goes_on p t f x ticks 0 in
+        let b : IsOutcomePrefix (thread p t f ticks) (thread p t (f ++ x) (ticks + 0)) = goes_on p t f x ticks 0 in
         let n : ticks + 0 ≡ ticks = omega arith in
         same_front (thread p t f ticks).lefts ls b.further ms (filled f x e ∙ sym l)
         (sym b.lefts ∙ ap (λ k. (thread p t (f ++ x) k).lefts) n ∙ ap (λ w. (thread p t w ticks).lefts) (sym e) ∙ is)

@@ -8,7 +8,7 @@ use Rattle.syntax.specs.Actions.{lefts_in}
 use Rattle.syntax.proofs.Further.{state_of, added, with_founds, with_more, Follows, Grown, Extends}
 use Rattle.syntax.specs.Behaviours.{ThreadEnd, Ended, Stopped, Outcome}
 use Rattle.syntax.specs.Threads.{outcome_of, first_state, worker_run, thread}
-use Rattle.syntax.specs.Laws.{Begins, MoreTicks, MoreMemories, GoesOn}
+use Rattle.syntax.specs.Laws.{IsOutcomePrefix, MoreTicks, MoreMemories, GoesOn}
 use Rattle.syntax.proofs.MeaningSteady.{worker_steady}
 
 added_is : (n k : ℕ) → added n k ≡ n + k
@@ -33,7 +33,7 @@ further_lefts : (extra : List Memory) (p : Context) → lefts_in (with_founds ex
 further_lefts extra (Outside f l) = refl
 further_lefts extra (Inside mode m) = refl
 
-begins_grown : (s : State) (r : Answer (Unit {0})) (end : ThreadEnd) → Grown s (state_of r) → Begins (record { lefts = lefts_in s.context; text = s.text; end = end }) (outcome_of r)
+begins_grown : (s : State) (r : Answer (Unit {0})) (end : ThreadEnd) → Grown s (state_of r) → IsOutcomePrefix (record { lefts = lefts_in s.context; text = s.text; end = end }) (outcome_of r)
 begins_grown s r end g =
     let l = lefts_follow s.context (state_of r).context g.context in
     record { printed = g.printed; text = outcome_text r ∙ g.text; further = l.0; lefts = outcome_lefts r ∙ l.1 }
@@ -41,7 +41,7 @@ begins_grown s r end g =
 abbrev outcome : List Memory → List ℕ → ThreadEnd → Outcome
 outcome lefts text end = record { lefts = lefts; text = text; end = end }
 
-begins_all : (o : Outcome) → Begins o o
+begins_all : (o : Outcome) → IsOutcomePrefix o o
 begins_all o = record { printed = []; text = sym (append-nil o.text); further = []; lefts = sym (append-nil o.lefts) }
 
 -- an end that stays
@@ -62,10 +62,10 @@ stays_alone k (Stops Astray s) more e spent = ap outcome_of e ∙ same_outcome k
 stays_alone k (Stops Spent s) more e spent = absurd (spent refl)
 stays_alone k (Stops Wants s) more e spent = ap outcome_of (e.1 refl) ∙ same_outcome k [] s (Stopped Wants)
 
-begins : (k : ℕ) (extra : List Memory) (r more : Answer (Unit {0})) → Extends k extra r more → Begins (outcome_of r) (outcome_of more)
-begins k extra (Gives u s) more e = subst (λ o. Begins (outcome_of (Gives u s)) o) (sym (stays k extra (Gives u s) more e (λ x. cc) (λ x. cc))) (begins_all (outcome_of (Gives u s)))
-begins k extra (Stops (Trapped t) s) more e = subst (λ o. Begins (outcome_of (Stops (Trapped t) s)) o) (sym (stays k extra (Stops (Trapped t) s) more e (λ x. cc) (λ x. cc))) (begins_all (outcome_of (Stops (Trapped t) s)))
-begins k extra (Stops Astray s) more e = subst (λ o. Begins (outcome_of (Stops Astray s)) o) (sym (stays k extra (Stops Astray s) more e (λ x. cc) (λ x. cc))) (begins_all (outcome_of (Stops Astray s)))
+begins : (k : ℕ) (extra : List Memory) (r more : Answer (Unit {0})) → Extends k extra r more → IsOutcomePrefix (outcome_of r) (outcome_of more)
+begins k extra (Gives u s) more e = subst (λ o. IsOutcomePrefix (outcome_of (Gives u s)) o) (sym (stays k extra (Gives u s) more e (λ x. cc) (λ x. cc))) (begins_all (outcome_of (Gives u s)))
+begins k extra (Stops (Trapped t) s) more e = subst (λ o. IsOutcomePrefix (outcome_of (Stops (Trapped t) s)) o) (sym (stays k extra (Stops (Trapped t) s) more e (λ x. cc) (λ x. cc))) (begins_all (outcome_of (Stops (Trapped t) s)))
+begins k extra (Stops Astray s) more e = subst (λ o. IsOutcomePrefix (outcome_of (Stops Astray s)) o) (sym (stays k extra (Stops Astray s) more e (λ x. cc) (λ x. cc))) (begins_all (outcome_of (Stops Astray s)))
 begins k extra (Stops Spent s) more e = begins_grown s more (Stopped Spent) e
 begins k extra (Stops Wants s) more e = begins_grown s more (Stopped Wants) e.0
 
@@ -84,4 +84,4 @@ more_memories p t founds extra n k spent wants =
 
 pub goes_on : GoesOn
 goes_on p t founds extra n k =
-    subst (λ m. Begins (thread p t founds n) (thread p t (founds ++ extra) m)) (added_is n k) (begins k extra _ _ (extends p t founds extra n k))
+    subst (λ m. IsOutcomePrefix (thread p t founds n) (thread p t (founds ++ extra) m)) (added_is n k) (begins k extra _ _ (extends p t founds extra n k))

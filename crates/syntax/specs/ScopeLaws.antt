@@ -22,8 +22,8 @@ CalledAreDefined =
     (d : Function × Stmts) × (definition_of p x ≡ Some d) × (known_function d.0 ≡ Callable result takes)
 
 -- each name that is known in one scope is known as the same in another
-abbrev pub Agrees : (known other : Scope) → Type 0
-Agrees known other = (x : List ℕ) → IsTrue (not (is_unknown (known x))) → other x ≡ known x
+abbrev pub IsSubscope : (known other : Scope) → Type 0
+IsSubscope known other = (x : List ℕ) → IsTrue (not (is_unknown (known x))) → other x ≡ known x
 
 -- the scope of a definition's body: the items up to it, and its parameters
 abbrev pub body_scope : List Item → Function → Scope
@@ -37,7 +37,7 @@ pub record StandsTyped (p : Program) (d : Function × Stmts) : Type 0 where
   pub body : AreAllMet (AreTypedStmts d.0.result d.1 (body_scope earlier d.0) (parameter_names d.0.parameters) false)
   -- with the arguments as its locals, what is known as it runs agrees with what is known of its body
   pub fits : (vs : List Value) (ls : List Local) → entered d.0.parameters vs ≡ Some ls →
-      Agrees (body_scope earlier d.0) (running_scope p ls)
+      IsSubscope (body_scope earlier d.0) (running_scope p ls)
 
 abbrev pub BodiesAreTyped : Type 0
 BodiesAreTyped =
@@ -47,14 +47,14 @@ BodiesAreTyped =
 -- a typed expression has the same type where what is known agrees, and it has one if it is not void
 abbrev pub TypesAgree : Type 0
 TypesAgree =
-    (known other : Scope) → Agrees known other → (e : Expr) → AreAllMet (IsTyped known e) →
+    (known other : Scope) → IsSubscope known other → (e : Expr) → AreAllMet (IsTyped known e) →
     (type_of other e ≡ type_of known e) × (IsTrue (not (is_void known e)) → IsTrue (is_some (type_of known e)))
 
 -- where what is known as a program runs agrees with what is known of a statement, it does so after the statement
 abbrev pub ScopeFits : Type 0
 ScopeFits =
-    (p : Program) (frames : ℕ) (st : Stmt) (s : State) (known : Scope) → Agrees known (running_scope p s.locals) →
-    WhereGiven (stmt p (calls p frames) st s) (λ end now. Agrees (scope_after st known) (running_scope p now.locals))
+    (p : Program) (frames : ℕ) (st : Stmt) (s : State) (known : Scope) → IsSubscope known (running_scope p s.locals) →
+    WhereGiven (stmt p (calls p frames) st s) (λ end now. IsSubscope (scope_after st known) (running_scope p now.locals))
 
 -- the names and types that a statement declares
 abbrev pub declared_by : Stmt → List (List ℕ × Scalar)

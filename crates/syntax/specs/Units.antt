@@ -22,6 +22,6 @@ pub record IsFigureAt (t : Scalar) (next : ℕ) (format : List ℕ) (i : ℕ) : 
   pub after : i < next
   pub within : next ≤ length format
 
-abbrev pub IsAt : U.Unit → List ℕ → ℕ → Type 0
-IsAt (unit.Byte c next) format i = IsByteAt c next format i
-IsAt (unit.Figure t next) format i = IsFigureAt t next format i
+abbrev pub IsUnitAt : U.Unit → List ℕ → ℕ → Type 0
+IsUnitAt (unit.Byte c next) format i = IsByteAt c next format i
+IsUnitAt (unit.Figure t next) format i = IsFigureAt t next format i

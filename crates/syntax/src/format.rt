@@ -2,7 +2,7 @@
 
 ghost use Rattle.std.specs.Prelude.{◌≡◌, ◌<◌, ◌≤◌, ◌+◌, length, drop, IfSome};
 ghost use Rattle.syntax.specs.Formats.{figure_at};
-ghost use Rattle.syntax.specs.Units.{IsAt};
+ghost use Rattle.syntax.specs.Units.{IsUnitAt};
 
 use lex::token::Scalar;
 
@@ -30,7 +30,7 @@ fn figure_at(format: &[u8], i: usize) -> Option<(Scalar, usize)>
 /// What stands at a place of a format.
 pub fn unit_at(format: &[u8], i: usize) -> Unit
     requires { i < length format.now }
-    ensures { IsAt result format.now i }
+    ensures { IsUnitAt result format.now i }
 {
     let byte = format[i];
     if byte != b'%' || format.len() - i == 1 {

@@ -1,7 +1,7 @@
 -- What a worker does goes on from what it did.
 use Rattle.std.proofs.Common.{◌≡◌, ◌≤◌, ℕ, ◌+◌, List, [], ◌++◌, refl, sym, ap, ◌∙◌, subst, arith, add-zero, append-nil, append_assoc}
 use Rattle.atomic_table.specs.Seated.{TableId}
-use Rattle.machine.specs.Answered.{Replays}
+use Rattle.machine.specs.Answered.{StepsHearing}
 use Rattle.bytecode.specs.Code.{Configuration}
 use Rattle.machine.specs.Worlds.{Part}
 use Rattle.machine.proofs.answers.Answering.{replays_on}
@@ -16,7 +16,7 @@ begins_on : {A : Type 0} (xs ys zs : List A) → Grows xs ys → Grows ys zs →
 begins_on xs ys zs g h = (g.0 ++ h.0, h.1 ∙ ap (λ l. l ++ h.0) g.1 ∙ append_assoc xs g.0 h.0)
 
 pub goes_nowhere : (code : Code) (p : ViewPart) (now : Part Configuration) → GoesOnFrom code p now p now
-goes_nowhere code p now = record { count = 0; more = []; heard = sym (append-nil p.heard); steps = Replays.none; records = ([], sym (append-nil now.records)); floor = (refl, refl) }
+goes_nowhere code p now = record { count = 0; more = []; heard = sym (append-nil p.heard); steps = StepsHearing.none; records = ([], sym (append-nil now.records)); floor = (refl, refl) }
 
 pub goes_further : (code : Code) (p q r : ViewPart) (a b c : Part Configuration) → GoesOnFrom code p a q b → GoesOnFrom code q b r c → GoesOnFrom code p a r c
 goes_further code p q r a b c f g = record {

@@ -11,7 +11,7 @@ use Rattle.machine.specs.Standing.{IsThreadOf}
 use Rattle.machine.specs.States.{IsWordOf, told_twice}
 use Rattle.machine.proofs.keeping.Words.{word_fits}
 use Rattle.seats.specs.Setup.{Setup}
-use Rattle.seats.specs.Rule.{IsNext, Made, SeatView, Took}
+use Rattle.seats.specs.Rule.{IsNext, IsSeatStep, SeatView, Took}
 use Rattle.workers.specs.Works.{GoesOnFrom, Works}
 use Rattle.workers.proofs.Going.{goes_further}
 use Rattle.workers.proofs.Turns.{answer_ready, ready_makeable, ready_next, stepped}
@@ -25,7 +25,7 @@ module _ (key : Setup) (number : ℕ) (th : Thread Configuration) (steps accesse
   word_makeable = ready_makeable key number th steps accesses m works code same ready r (LoadWord cell) first_is
 
   module _ (word : ℕ) (w : SeatView) (took : Took m word w) where
-    made : Made (LoadWord cell) m (Value word) w
+    made : IsSeatStep (LoadWord cell) m (Value word) w
     made = (word, refl, took)
 
     -- its word fits a register

@@ -5,7 +5,7 @@ use Rattle.bytecode.specs.Code.{Configuration}
 use Rattle.bytecode.specs.Initial.{initial_of}
 use Rattle.bytecode.specs.Valid.{IsValid}
 use Rattle.atomic_table.specs.Seated.{TableId}
-use Rattle.machine.specs.Answered.{Answered, Replays}
+use Rattle.machine.specs.Answered.{Answered, StepsHearing}
 use Rattle.machine.specs.Threads.{Thread}
 use Rattle.machine.specs.Worlds.{new_part, new_world}
 use Rattle.seats.specs.Setup.{Setup}
@@ -60,7 +60,7 @@ module _ (key : Setup) where
     thread_is = refl;
     valid = valid;
     of_code = of_code;
-    replays = Replays.none;
+    replays = StepsHearing.none;
     counted = refl;
     fewer = omega arith;
     since = tt;

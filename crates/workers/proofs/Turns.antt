@@ -5,7 +5,7 @@ use Rattle.norec_core.specs.declared.step.Access.{Access}
 use Rattle.norec_core.specs.declared.step.Access.TheVariants.{LoadLock, LoadWord, Local, StoreLock, StoreWord, Swap}
 use Rattle.norec_core.specs.declared.step.Answer.{Answer}
 use Rattle.norec_core.specs.declared.step.Answer.TheVariants.{Done}
-use Rattle.machine.specs.Answered.{Heard, Replays, is_local, local_step, paused}
+use Rattle.machine.specs.Answered.{Heard, StepsHearing, is_local, local_step, paused}
 use Rattle.bytecode.specs.Code.{Configuration}
 use Rattle.machine.specs.Threads.{Thread, access, told}
 use Rattle.norec_core.specs.Accesses.{IsAnswerTo, cost, stops}
@@ -22,7 +22,7 @@ use Rattle.bytecode.specs.Valid.{bounds_of, cells_of}
 use Rattle.bytecode.proofs.Fits.{fits_cells}
 use Rattle.seats.proofs.Codes.{count_bounds, initial_fits}
 use Rattle.seats.specs.Setup.{Setup, IsPart}
-use Rattle.seats.specs.Rule.{IsMakeable, IsNext, Made, SeatView, Sits, Took, TookAs, more_heard, reply}
+use Rattle.seats.specs.Rule.{IsMakeable, IsNext, IsSeatStep, SeatView, Sits, Took, TookAs, more_heard, reply}
 use Rattle.machine.specs.States.{IsWordOf}
 use Rattle.workers.specs.Works.{GoesOnFrom, Works}
 
@@ -94,7 +94,7 @@ module _ (key : Setup) (number : ℕ) (th : Thread Configuration) (steps accesse
           thread_is = ap (λ (t : Thread Configuration). (told (effect key.code) t Done).thread) works.thread_is;
           valid = works.valid;
           of_code = of_code;
-          replays = rw add-one (Replays.local_more steps works.part.heard th works.replays far);
+          replays = rw add-one (StepsHearing.local_more steps works.part.heard th works.replays far);
           counted = works.counted;
           fewer = (let f = works.fewer in omega arith);
           since = works.since;
@@ -104,7 +104,7 @@ module _ (key : Setup) (number : ℕ) (th : Thread Configuration) (steps accesse
           count = 1;
           more = [];
           heard = sym (append-nil works.part.heard);
-          steps = Replays.local_more 0 [] works.now.thread Replays.none far_now;
+          steps = StepsHearing.local_more 0 [] works.now.thread StepsHearing.none far_now;
           records = local_grows (effect key.code) works.now;
           floor = (refl, refl);
         },
@@ -142,7 +142,7 @@ module _ (key : Setup) (number : ℕ) (th : Thread Configuration) (steps accesse
             thread_is = ap (λ (t : Thread Configuration). (told (effect key.code) t a).thread) works.thread_is;
             valid = works.valid;
             of_code = of_code;
-            replays = rw add-one (Replays.heard_more steps works.part.heard th a works.replays far on);
+            replays = rw add-one (StepsHearing.heard_more steps works.part.heard th a works.replays far on);
             counted = (let c = works.counted in let l = length-append works.part.heard (record { access = x; answer = a } ∷ []) in omega arith);
             fewer = (let f = works.fewer in omega arith);
             since = one.since;
@@ -153,15 +153,15 @@ module _ (key : Setup) (number : ℕ) (th : Thread Configuration) (steps accesse
             count = 1;
             more = record { access = x; answer = a } ∷ [];
             heard = refl;
-            steps = subst (λ (y : Access). Replays (effect key.code) works.now.thread 1 (record { access = y; answer = a } ∷ []) (told (effect key.code) works.now.thread a).thread) access_now
-                (Replays.heard_more 0 [] works.now.thread a Replays.none (ap is_local access_now ∙ far) (ap stops access_now ∙ on));
+            steps = subst (λ (y : Access). StepsHearing (effect key.code) works.now.thread 1 (record { access = y; answer = a } ∷ []) (told (effect key.code) works.now.thread a).thread) access_now
+                (StepsHearing.heard_more 0 [] works.now.thread a StepsHearing.none (ap is_local access_now ∙ far) (ap stops access_now ∙ on));
             records = added_grows works.now.records _;
             floor = (refl, refl);
           },
         )
 
   -- the answer of a step is of its access, and a loaded word is one of its cell's type
-  pub made_fits : (answer : Answer) (w : SeatView) → Made (access (effect key.code) th) m answer w → IsAnswerTo (access (effect key.code) th) answer × IsWordOf key.code (access (effect key.code) th) answer
+  pub made_fits : (answer : Answer) (w : SeatView) → IsSeatStep (access (effect key.code) th) m answer w → IsAnswerTo (access (effect key.code) th) answer × IsWordOf key.code (access (effect key.code) th) answer
   made_fits answer w made = at (access (effect key.code) th) (is_local (access (effect key.code) th)) refl refl made
     where
       at : (x : Access) (b : Bool) → access (effect key.code) th ≡ x → is_local (access (effect key.code) th) ≡ b → MatchBool b ((w ≡ m) × (answer ≡ Done)) ((n : ℕ) × (answer ≡ reply (access (effect key.code) th) n) × Took m n w)
@@ -173,7 +173,7 @@ module _ (key : Setup) (number : ℕ) (th : Thread Configuration) (steps accesse
           subst (λ (y : Answer). IsAnswerTo (access (effect key.code) th) y × IsWordOf key.code (access (effect key.code) th) y) (sym made.1) (o.answers, word)
 
   -- after a step
-  pub steps_on : (answer : Answer) (w : SeatView) → stops (access (effect key.code) th) ≡ false → IsThreadOf key.code (told (effect key.code) th answer).thread → Made (access (effect key.code) th) m answer w
+  pub steps_on : (answer : Answer) (w : SeatView) → stops (access (effect key.code) th) ≡ false → IsThreadOf key.code (told (effect key.code) th answer).thread → IsSeatStep (access (effect key.code) th) m answer w
       → (is : Works key number (told (effect key.code) th answer).thread (steps + 1) (accesses + cost (access (effect key.code) th)) w) × GoesOnFrom key.code works.part works.now is.part is.now
   unfolding Later
   steps_on answer w on of_code made =
@@ -199,9 +199,9 @@ module _ (key : Setup) (number : ℕ) (th : Thread Configuration) (steps accesse
     pub ready_next : IsNext key m x
     ready_next = (th, sits_at key number th steps accesses m works, sym is_now)
 
-    module _ (answer : Answer) (w : SeatView) (made : Made x m answer w) where
-      made_it : Made (access (effect key.code) th) m answer w
-      made_it = subst (λ (y : Access). Made y m answer w) is_now made
+    module _ (answer : Answer) (w : SeatView) (made : IsSeatStep x m answer w) where
+      made_it : IsSeatStep (access (effect key.code) th) m answer w
+      made_it = subst (λ (y : Access). IsSeatStep y m answer w) is_now made
 
       pub answer_ready : IsAnswerTo (access (effect code) ready) answer × IsWordOf code (access (effect code) ready) answer
       answer_ready = subst (λ (z : Code × Access). IsAnswerTo z.1 answer × IsWordOf z.0 z.1 answer) (λ i. (same i, access (effect (same i)) (sym r i))) (made_fits key number th steps accesses m works answer w made_it)
@@ -219,4 +219,4 @@ module _ (key : Setup) (number : ℕ) (th : Thread Configuration) (steps accesse
   module _ (ready : Thread Configuration) (r : ready ≡ th) (count : ℕ) (n : count ≡ accesses) where
     pub not_stepped : (is : Works key number ready steps count m) × GoesOnFrom key.code works.part works.now is.part is.now
     not_stepped = subst (λ (z : Thread Configuration × ℕ). (is : Works key number z.0 steps z.1 m) × GoesOnFrom key.code works.part works.now is.part is.now) (λ i. (sym r i, sym n i))
-        (works, record { count = 0; more = []; heard = sym (append-nil works.part.heard); steps = Replays.none; records = ([], sym (append-nil works.now.records)); floor = (refl, refl) })
+        (works, record { count = 0; more = []; heard = sym (append-nil works.part.heard); steps = StepsHearing.none; records = ([], sym (append-nil works.now.records)); floor = (refl, refl) })

@@ -18,13 +18,13 @@ use Rattle.machine.specs.Threads.{Thread, access, resumed, told, told_of, told_o
 use Rattle.machine.specs.Standing.{IsThreadOf}
 use Rattle.machine.specs.States.{IsWordOf, StandsAt, ThreadState}
 use Rattle.seats.specs.Setup.{Setup}
-use Rattle.seats.specs.Rule.{IsNext, Made, SeatView, Took}
+use Rattle.seats.specs.Rule.{IsNext, IsSeatStep, SeatView, Took}
 use Rattle.workers.specs.Works.{GoesOnFrom, Works}
 use Rattle.workers.proofs.Turns.{answer_ready, ready_makeable, ready_next, stepped}
 
 module _ (key : Setup) (number : ℕ) (th : Thread Configuration) (steps accesses : ℕ) (m : SeatView) (works : Works key number th steps accesses m) (code : Code) (same : key.code ≡ code) where
   -- after one access
-  module _ (x : Access) (x_is : access (effect code) th ≡ x) (one : cost x ≡ 1) (on : stops x ≡ false) (answer : Answer) (w : SeatView) (made : Made x m answer w)
+  module _ (x : Access) (x_is : access (effect code) th ≡ x) (one : cost x ≡ 1) (on : stops x ≡ false) (answer : Answer) (w : SeatView) (made : IsSeatStep x m answer w)
       (next : Thread Configuration) (next_is : next ≡ (told (effect code) th answer).thread) (of_code : IsThreadOf code next) (all count : ℕ) (all_is : all ≡ steps + 1) (count_is : count ≡ accesses + 1) where
     accessed : (is : Works key number next all count w) × GoesOnFrom key.code works.part works.now is.part is.now
     accessed =

@@ -17,7 +17,7 @@ use Rattle.workers.specs.declared.close.CloseReason.{CloseReason}
 use Rattle.workers.specs.declared.close.CloseReason.TheVariants.{OutOfMemory, Missing, LockHeld}
 use Rattle.seats.specs.Setup.{Setup, IsWorldOf}
 use Rattle.seats.specs.Views.{ViewPart}
-use Rattle.seats.specs.Saying.{DropsSay, IsExplained, RunsSay, code_does}
+use Rattle.seats.specs.Saying.{DropsSay, IsExplainedAtSeats, RunsSay, code_does}
 use Rattle.workers.specs.Workers.{AreWorkersOf}
 
 -- A is the allocator
@@ -72,7 +72,7 @@ module _ {A : Type 0} where
     pub runs : RunsSay key world
     -- the same run explains each program that the code means
     pub programs : (does : Behaviour) → Means (bounds_of key.code) (code_does key.code) does → key.threads ≤ 2 ^ 32 →
-        (es : List Entry) → IsMerge world.parts es → IsExplained does key world es
+        (es : List Entry) → IsMerge world.parts es → IsExplainedAtSeats does key world es
     -- no thread was dropped more often than others took the lock
     pub drops : DropsSay key world heard
     -- where no worker's thread has the lock it is even, and then the cells are the last memory of each of these runs

@@ -22,14 +22,14 @@ use Rattle.workers.specs.declared.run.RunMemory.{RunMemory}
 use Rattle.workers.specs.declared.run.RunMemory.TheVariants.{Words, LockHeld}
 use Rattle.workers.specs.declared.run.RunReport.{RunReport}
 use Rattle.seats.specs.Setup.{Setup}
-use Rattle.seats.specs.Saying.{IsExplained}
+use Rattle.seats.specs.Saying.{IsExplainedAtSeats}
 use Rattle.workers.specs.Workers.{AreWorkersOf, IsWorkerOf}
 use Rattle.workers.specs.Closing.{AllHere, Closes, Holds, NoneHolds}
 
 -- one of these has this number
-abbrev pub IsNumbered : {X : Type 0} → (X → ℕ) → List X → ℕ → Type 0
-IsNumbered number [] n = ⊥
-IsNumbered number (x ∷ xs) n = (number x ≡ n) ⊎ IsNumbered number xs n
+abbrev pub HasNumber : {X : Type 0} → (X → ℕ) → List X → ℕ → Type 0
+HasNumber number [] n = ⊥
+HasNumber number (x ∷ xs) n = (number x ≡ n) ⊎ HasNumber number xs n
 
 -- a thread that no stop ended is over, or has made all its steps; one that a stop ended runs still, has made fewer, and
 -- its next step was not made for this reason
@@ -38,15 +38,15 @@ EndsBy None x st all steps = st ≡ Running → steps ≡ all
 EndsBy (Some e) x st all steps = (st ≡ Running) × (steps < all) × Because e x
 
 -- so many threads can be run
-abbrev pub IsThreadCount : ℕ → Type 0
-IsThreadCount threads = (0 < threads) × (threads ≤ 64)
+abbrev pub IsWorkerCount : ℕ → Type 0
+IsWorkerCount threads = (0 < threads) × (threads ≤ 64)
 
 -- why nothing is reported: the number of threads is refused exactly where it is not 1 to 64, and no thread is started
 -- where it is refused
 abbrev pub IsRunRefused : RunFault → ℕ → Type 0
 IsRunRefused OutOfMemory threads = Unit {0}
 IsRunRefused Threads threads = (threads ≡ 0) ⊎ (64 < threads)
-IsRunRefused NotStarted threads = IsThreadCount threads
+IsRunRefused NotStarted threads = IsWorkerCount threads
 
 abbrev pub run_number : RunFault → ℕ
 run_number OutOfMemory = 0
@@ -110,4 +110,4 @@ module _ {A : Type 0} where
     pub here : AllHere workers key.threads
     pub memory : IsMemoryOf r.memory workers cells
     pub ends : AreEnded key all workers r.ends.items
-    pub program : (es : List Entry) → IsMerge closes.world.parts es → IsExplained does key closes.world es
+    pub program : (es : List Entry) → IsMerge closes.world.parts es → IsExplainedAtSeats does key closes.world es

@@ -11,7 +11,7 @@ use Rattle.norec_core.specs.declared.step.Stop.{Stop}
 use Rattle.norec_core.specs.declared.step.Stop.TheVariants.{OutOfMemory, SequenceUsedUp}
 use Rattle.norec_core.specs.Accesses.{stops}
 use Rattle.norec_core.specs.Attempts.{Attempt}
-use Rattle.machine.specs.Answered.{Heard, LocksFrom, Replays, paused}
+use Rattle.machine.specs.Answered.{Heard, LocksFrom, StepsHearing, paused}
 use Rattle.machine.specs.Computes.{HasComputed}
 use Rattle.machine.specs.Merges.{Entry, own, run_of}
 use Rattle.machine.specs.Threads.{Thread, access}
@@ -37,7 +37,7 @@ pub record Works (key : Setup) (number : ℕ) (th : Thread Configuration) (steps
   pub thread_is : now.thread ≡ th
   pub valid : IsValid key.code
   pub of_code : IsThreadOf key.code th
-  pub replays : Replays (effect key.code) (first_thread key.code number) steps part.heard th
+  pub replays : StepsHearing (effect key.code) (first_thread key.code number) steps part.heard th
   pub counted : length part.heard ≡ accesses
   pub fewer : accesses ≤ steps
   pub since : LocksFrom part.floor (drop part.floor_at part.heard)
@@ -54,7 +54,7 @@ pub record GoesOnFrom (code : Code) (p : ViewPart) (now : Part Configuration)
   pub count : ℕ
   pub more : List Heard
   pub heard : q.heard ≡ p.heard ++ more
-  pub steps : Replays (effect code) now.thread count more later.thread
+  pub steps : StepsHearing (effect code) now.thread count more later.thread
   pub records : Grows now.records later.records
   pub floor : (q.floor ≡ p.floor) × (q.floor_at ≡ p.floor_at)
 

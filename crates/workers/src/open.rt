@@ -7,7 +7,7 @@ ghost use Rattle.machine.specs.States.{first_thread};
 ghost use Rattle.seats.specs.Views.{first_part, first_view};
 ghost use Rattle.workers.specs.Seen.{setup_of, table_of};
 ghost use Rattle.workers.specs.Workers.{AreWorkersFrom};
-ghost use Rattle.workers.specs.Opening.{IsRefused, hall_number};
+ghost use Rattle.workers.specs.Opening.{IsHallFaultOf, hall_number};
 
 use crate::hall::Hall;
 use crate::tally::Tally;
@@ -141,7 +141,7 @@ impl<A: Allocator + Copy> Hall<A> {
             × (0 < threads) × (threads ≤ 64)) }
         ensures workers { IfOk result (λ r. (vec_len r.1 ≡ threads)
             × AreWorkersFrom (table_of r.0) (setup_of r.0) 0 r.1.items) }
-        ensures fault { IfErr result (λ e. IsRefused e threads) }
+        ensures fault { IfErr result (λ e. IsHallFaultOf e threads) }
     {
         if threads == 0 || threads > MOST_THREADS {
             return Err(HallFault::Threads);

@@ -6,8 +6,8 @@ ghost use Rattle.bytecode.specs.Valid.{bounds_of};
 ghost use Rattle.seats.specs.Saying.{code_does};
 ghost use Rattle.workers.specs.Seen.{setup_of, table_of, worker_number};
 ghost use Rattle.workers.specs.Workers.{IsWorkerOf, AreWorkersOf, StepsOn};
-ghost use Rattle.workers.specs.Driving.{AreDrivenOf, AreFresh, AreEnded, AllPromise, EndsAt, IsNumbered, IsRunRefused};
-ghost use Rattle.workers.specs.Driving.{IsThreadCount, Ran, TellsMemory, run_number, driven_number, handle_number};
+ghost use Rattle.workers.specs.Driving.{AreDrivenOf, AreFresh, AreEnded, AllPromise, EndsAt, HasNumber, IsRunRefused};
+ghost use Rattle.workers.specs.Driving.{IsWorkerCount, Ran, TellsMemory, run_number, driven_number, handle_number};
 
 use crate::close::{Finished, Outcome, gather, holder};
 use crate::hall::Hall;
@@ -155,7 +155,7 @@ fn drive_all<R: Threads + Wait + Sync, G: Gate + Sync>(
 ) -> Result<Vec<Driven>, DriveFault>
     requires { AreWorkersOf hall.now.table.shared.table_id hall.now.setup workers.items × AreFresh workers.items }
     ensures { IfOk result (λ v. AreDrivenOf hall.now.table.shared.table_id hall.now.setup budget v.items
-        × ((n : ℕ) → IsNumbered worker_number workers.items n → IsNumbered driven_number v.items n)) }
+        × ((n : ℕ) → HasNumber worker_number workers.items n → HasNumber driven_number v.items n)) }
 {
     thread::scope(
         thread::scope_env(),
@@ -165,7 +165,7 @@ fn drive_all<R: Threads + Wait + Sync, G: Gate + Sync>(
                 × AreFresh workers.items }
             ensures { IfOk result
                 (λ v. AreDrivenOf hall.entry.now.table.shared.table_id hall.entry.now.setup budget v.items
-                × ((n : ℕ) → IsNumbered worker_number workers.items n → IsNumbered driven_number v.items n)) }
+                × ((n : ℕ) → HasNumber worker_number workers.items n → HasNumber driven_number v.items n)) }
         {
             let handles = start_all(scope, alloc, hall, workers, budget, gate)?;
             join_driven(rt, alloc, hall, budget, handles)
@@ -214,7 +214,7 @@ fn start_all<'s, E, G: Gate + Sync>(
 ) -> Result<Vec<PromisedHandle<Driven, OfHall<'s>>>, DriveFault>
     requires { AreWorkersOf hall.now.table.shared.table_id hall.now.setup workers.items × AreFresh workers.items }
     ensures { IfOk result (λ v. AllPromise hall.now budget v.items
-        × ((n : ℕ) → IsNumbered worker_number workers.items n → IsNumbered handle_number v.items n)) }
+        × ((n : ℕ) → HasNumber worker_number workers.items n → HasNumber handle_number v.items n)) }
 {
     let mut handles = Vec::new(alloc);
     while let Some(worker) = workers.pop() {
@@ -237,7 +237,7 @@ fn join_driven<'s, R: Threads>(
 ) -> Result<Vec<Driven>, DriveFault>
     requires { AllPromise hall.now budget handles.items }
     ensures driven { IfOk result (λ v. AreDrivenOf hall.now.table.shared.table_id hall.now.setup budget v.items
-        × ((n : ℕ) → IsNumbered handle_number handles.entry.items n → IsNumbered driven_number v.items n)) }
+        × ((n : ℕ) → HasNumber handle_number handles.entry.items n → HasNumber driven_number v.items n)) }
     ensures fault { IfErr result (λ e. e ≡ DriveFault.OutOfMemory) }
 {
     let mut all = Vec::new(alloc);
@@ -337,7 +337,7 @@ fn unpack_into(
     requires none_yet { (workers.old.items ≡ []) × (ends.old.items ≡ []) }
     ensures { OnOk result (AreWorkersOf hall.now.table.shared.table_id hall.now.setup workers.new.items
         × AreEnded hall.now.setup budget workers.new.items ends.new.items
-        × ((n : ℕ) → IsNumbered driven_number driven.old.items n → IsNumbered worker_number workers.new.items n)) }
+        × ((n : ℕ) → HasNumber driven_number driven.old.items n → HasNumber worker_number workers.new.items n)) }
 {
     while let Some(one) = driven.pop() {
         note(&one, ends, overheld)?;
@@ -356,7 +356,7 @@ fn unpack(
     requires { AreDrivenOf hall.now.table.shared.table_id hall.now.setup budget driven.items }
     ensures { IfOk result (λ r. AreWorkersOf hall.now.table.shared.table_id hall.now.setup r.0.items
         × AreEnded hall.now.setup budget r.0.items r.1.items
-        × ((n : ℕ) → IsNumbered driven_number driven.items n → IsNumbered worker_number r.0.items n)) }
+        × ((n : ℕ) → HasNumber driven_number driven.items n → HasNumber worker_number r.0.items n)) }
 {
     let mut workers = Vec::new(alloc);
     let mut ends = Vec::new(alloc);
@@ -389,7 +389,7 @@ fn reported(
     driven: Vec<Driven>,
 ) -> Result<RunReport, DriveFault>
     requires driven { AreDrivenOf hall.table.shared.table_id hall.setup budget driven.items }
-    requires here { (n : ℕ) → n < hall.setup.threads → IsNumbered driven_number driven.items n }
+    requires here { (n : ℕ) → n < hall.setup.threads → HasNumber driven_number driven.items n }
     requires few { hall.setup.threads ≤ 64 }
     ensures { IfOk result (λ r. (does : Behaviour) → Means (bounds_of hall.setup.code) (code_does hall.setup.code) does
         → Ran does hall.setup budget r) }
@@ -423,7 +423,7 @@ fn run_workers<R: Threads + Wait + Sync, G: Gate + Sync>(
     gate: &G,
 ) -> Result<RunReport, DriveFault>
     requires workers { AreWorkersOf hall.table.shared.table_id hall.setup workers.items × AreFresh workers.items }
-    requires here { (n : ℕ) → n < hall.setup.threads → IsNumbered worker_number workers.items n }
+    requires here { (n : ℕ) → n < hall.setup.threads → HasNumber worker_number workers.items n }
     requires few { hall.setup.threads ≤ 64 }
     ensures { IfOk result (λ r. (does : Behaviour) → Means (bounds_of hall.setup.code) (code_does hall.setup.code) does
         → Ran does hall.setup budget r) }
@@ -451,7 +451,7 @@ pub fn run_all<R: Threads + Wait + Sync, G: Gate + Sync>(
 ) -> Result<RunReport, RunFault>
     ensures report { IfOk result (λ r. (does : Behaviour) → Means (bounds_of code.now) (code_does code.now) does
         → Ran does (record { code = code.now; threads = threads }) budget r) }
-    ensures few { OnOk result (IsThreadCount threads) }
+    ensures few { OnOk result (IsWorkerCount threads) }
     ensures fault { IfErr result (λ e. IsRunRefused e threads) }
 {
     let (hall, workers) = match Hall::open(alloc, code, threads) {

@@ -26,7 +26,7 @@ use Rattle.machine.specs.Standing.{IsThreadOf}
 use Rattle.machine.specs.States.{IsWordOf, ThreadState, attempt_has_lock, thread_has_lock}
 use Rattle.machine.specs.Tallies.{IsOpenAfter, IsOverAfter}
 use Rattle.machine.specs.Threads.{Thread, access, told}
-use Rattle.machine.specs.Traces.{GoesOn, RunsOn, heard_run}
+use Rattle.machine.specs.Traces.{DoesNotStop, RunsOn, heard_run}
 use Rattle.machine.specs.Worlds.{Part, World, answer, lock_after, new_world, part_after, run, step, step_of, words_after}
 use Rattle.machine.proofs.answers.Answering.{reached}
 use Rattle.machine.proofs.answers.Holding.{memory, runs, swaps_even, unheld, within}
@@ -101,7 +101,7 @@ module _ (code : Code) where
   accesses_on [] us w = omega arith
   accesses_on (u ∷ ts) us w = let e = accesses_on ts us (step (effect code) w u) in omega arith
 
-  runs_more : (ts : List ℕ) (t : ℕ) (w : World Configuration) → RunsOn (effect code) ts w → GoesOn (effect code) (slice_get (run (effect code) ts w).parts t) → RunsOn (effect code) (ts ++ t ∷ []) w
+  runs_more : (ts : List ℕ) (t : ℕ) (w : World Configuration) → RunsOn (effect code) ts w → DoesNotStop (effect code) (slice_get (run (effect code) ts w).parts t) → RunsOn (effect code) (ts ++ t ∷ []) w
   runs_more [] t w all on = (on, tt)
   runs_more (u ∷ ts) t w all on = (all.0, runs_more ts t (step (effect code) w u) all.1 on)
 
@@ -238,7 +238,7 @@ module _ (s : Simulation) (lock : ℕ) (words : List ℕ) (threads : List Thread
             (changed s.code (length (s.trace ++ t ∷ [])) threads w.parts t y q (allowed s.code (length s.trace) (length (s.trace ++ t ∷ [])) threads w.parts (let l = length-append s.trace (t ∷ []) in omega arith) k.threads_are) is_part);
         accesses_are = (λ i. k.accesses_are i + cost (sym same_access i)) ∙ ap (λ n. accesses_of s + n) (ap (cost_next s.code) (sym part.1)) ∙ sym (accesses_more s.code s.trace t (new_world (beginning s.code) (initial_of s.code) s.threads));
         at_most = (let one = at_most_one a in let f = k.at_most in let l = length-append s.trace (t ∷ []) in omega arith);
-        runs_on = runs_more s.code s.trace t (new_world (beginning s.code) (initial_of s.code) s.threads) k.runs_on (subst (GoesOn (effect s.code)) (sym part.1) (ap stops same_access ∙ on));
+        runs_on = runs_more s.code s.trace t (new_world (beginning s.code) (initial_of s.code) s.threads) k.runs_on (subst (DoesNotStop (effect s.code)) (sym part.1) (ap stops same_access ∙ on));
       }
 
     -- the thread made ready for its step

@@ -8,7 +8,7 @@ use Rattle.std.proofs.lemmas.List.Sums.{prefix_len-le-length}
 use Rattle.lex.specs.declared.token.Fixed.{Fixed}
 use Rattle.lex.specs.Spelling.{spelling}
 use Rattle.lex.specs.Bytes.{is_letter, is_part, in_line, Only}
-use Rattle.lex.specs.Pieces.{IsWord, IsComment, IsOpen, IsLine, IsDirective, Closes, Shape, Longest}
+use Rattle.lex.specs.Pieces.{IsWord, IsComment, IsOpen, IsLine, IsDirective, ClosesComment, Shape, Longest}
 use Rattle.lex.specs.Pieces as s
 use Rattle.lex.proofs.pieces.Runs.{only_run, only_most, front_byte}
 use Rattle.lex.proofs.pieces.Classes.{slash, class, letter_class, byte_class, word_only, directive_only, slash_only, slash_length, Slashed, closed, line, unclosed, fixed, front_class}
@@ -79,10 +79,10 @@ fixed_size rest n k le c e =
     let same : length (take n rest) ≡ length (spelling k) = ap (λ (z : List ℕ). length z) e in
     omega arith
 
-closes_front : (rest : List ℕ) (n k : ℕ) → k + 1 < n → Closes rest k → Closes (take n rest) k
+closes_front : (rest : List ℕ) (n k : ℕ) → k + 1 < n → ClosesComment rest k → ClosesComment (take n rest) k
 closes_front rest n k lt h = (front_byte rest n k (omega arith) ∙ h.0, front_byte rest n (k + 1) lt ∙ h.1)
 
-closes_back : (rest : List ℕ) (n k : ℕ) → k + 1 < n → Closes (take n rest) k → Closes rest k
+closes_back : (rest : List ℕ) (n k : ℕ) → k + 1 < n → ClosesComment (take n rest) k → ClosesComment rest k
 closes_back rest n k lt h = (sym (front_byte rest n k (omega arith)) ∙ h.0, sym (front_byte rest n (k + 1) lt) ∙ h.1)
 
 pub line_two : (rest : List ℕ) → 2 ≤ length rest → slice_index rest 0 ≡ 47 → slice_index rest 1 ≡ 47 → 2 ≤ prefix_len in_line rest
@@ -123,7 +123,7 @@ line_longest rest least a b = record {
     go zero le x = omega arith
     go (suc n) le x = by (suc n) le (slash_only (take (suc n) rest) x (front_class rest (suc n) (omega arith) x ∙ byte_class (slice_index rest 0) 47 a))
 
-pub comment_piece : (rest : List ℕ) (k : ℕ) → slice_index rest 0 ≡ 47 → slice_index rest 1 ≡ 42 → 2 ≤ k → k + 2 ≤ length rest → Closes rest k → ((j : ℕ) → 2 ≤ j → j < k → Closes rest j → ⊥) → IsComment (take (k + 2) rest)
+pub comment_piece : (rest : List ℕ) (k : ℕ) → slice_index rest 0 ≡ 47 → slice_index rest 1 ≡ 42 → 2 ≤ k → k + 2 ≤ length rest → ClosesComment rest k → ((j : ℕ) → 2 ≤ j → j < k → ClosesComment rest j → ⊥) → IsComment (take (k + 2) rest)
 comment_piece rest k a b two le here none =
     let size : length (take (k + 2) rest) ≡ k + 2 = length-take-le (k + 2) rest le in
     record {
@@ -133,14 +133,14 @@ comment_piece rest k a b two le here none =
       first = λ j le lt h. none j le (omega arith) (closes_back rest (k + 2) j (omega arith) h);
     }
 
-pub comment_longest : (rest : List ℕ) (k : ℕ) → slice_index rest 0 ≡ 47 → slice_index rest 1 ≡ 42 → 2 ≤ k → k + 2 ≤ length rest → Closes rest k → ((j : ℕ) → 2 ≤ j → j < k → Closes rest j → ⊥) → Longest rest (k + 2)
+pub comment_longest : (rest : List ℕ) (k : ℕ) → slice_index rest 0 ≡ 47 → slice_index rest 1 ≡ 42 → 2 ≤ k → k + 2 ≤ length rest → ClosesComment rest k → ((j : ℕ) → 2 ≤ j → j < k → ClosesComment rest j → ⊥) → Longest rest (k + 2)
 comment_longest rest k a b two le here none = record {
   within = le;
   shaped = s.comment (comment_piece rest k a b two le here none);
   longest = λ n le x. go n le x;
 }
   where
-    more : (n : ℕ) → n ≤ length rest → ((k + 2 < n) → Closes (take n rest) k → ⊥) → n ≤ k + 2
+    more : (n : ℕ) → n ≤ length rest → ((k + 2 < n) → ClosesComment (take n rest) k → ⊥) → n ≤ k + 2
     more n le never = elim (cases_lt (k + 2) n) [
       | inl lt ↦ absurd (never lt (closes_front rest n k (omega arith) here))
       | inr ge ↦ ge
@@ -156,7 +156,7 @@ comment_longest rest k a b two le here none = record {
     go zero le x = omega arith
     go (suc n) le x = by (suc n) le (slash_only (take (suc n) rest) x (front_class rest (suc n) (omega arith) x ∙ byte_class (slice_index rest 0) 47 a))
 
-pub open_piece : (rest : List ℕ) → 2 ≤ length rest → slice_index rest 0 ≡ 47 → slice_index rest 1 ≡ 42 → ((j : ℕ) → 2 ≤ j → j + 2 ≤ length rest → Closes rest j → ⊥) → IsOpen (take (length rest) rest)
+pub open_piece : (rest : List ℕ) → 2 ≤ length rest → slice_index rest 0 ≡ 47 → slice_index rest 1 ≡ 42 → ((j : ℕ) → 2 ≤ j → j + 2 ≤ length rest → ClosesComment rest j → ⊥) → IsOpen (take (length rest) rest)
 open_piece rest le a b none =
     let size : length (take (length rest) rest) ≡ length rest = length-take-le (length rest) rest (omega arith) in
     record {
@@ -165,7 +165,7 @@ open_piece rest le a b none =
       never = λ j two le h. none j two (omega arith) (closes_back rest (length rest) j (omega arith) h);
     }
 
-pub open_longest : (rest : List ℕ) → 2 ≤ length rest → slice_index rest 0 ≡ 47 → slice_index rest 1 ≡ 42 → ((j : ℕ) → 2 ≤ j → j + 2 ≤ length rest → Closes rest j → ⊥) → Longest rest (length rest)
+pub open_longest : (rest : List ℕ) → 2 ≤ length rest → slice_index rest 0 ≡ 47 → slice_index rest 1 ≡ 42 → ((j : ℕ) → 2 ≤ j → j + 2 ≤ length rest → ClosesComment rest j → ⊥) → Longest rest (length rest)
 open_longest rest le a b none = record {
   within = omega arith;
   shaped = s.open_comment (open_piece rest le a b none);

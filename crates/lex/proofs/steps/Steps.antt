@@ -15,7 +15,7 @@ use Rattle.lex.specs.Tokens.{Terminal}
 use Rattle.lex.specs.Tokens as tokens
 use Rattle.lex.specs.Bytes.{is_letter, is_digit, is_part, is_glue, in_line, starts}
 use Rattle.lex.specs.Faults.{FaultAt, character_len}
-use Rattle.lex.specs.Pieces.{Closes, IsOpen, IsDirective, IsInclude, FirstOnLine, Constant, typed, value, Gap, Says, Parted, Longest, IsGap, IsToken, Inside}
+use Rattle.lex.specs.Pieces.{ClosesComment, IsOpen, IsDirective, IsInclude, FirstOnLine, Constant, typed, value, Gap, Says, Parted, Longest, IsGap, IsToken, Inside}
 use Rattle.lex.specs.Pieces as s
 use Rattle.lex.specs.inner.Strings.{Unclosed}
 use Rattle.lex.specs.declared.constant.Suffix.{Suffix}
@@ -47,13 +47,13 @@ token_of text rest at len t e l m p = record {
 
 -- ---- comments
 
-pub comment_step : (text rest : List ℕ) (at k : ℕ) → rest ≡ drop at text → slice_index text at ≡ 47 → slice_index text (at + 1) ≡ 42 → (2 ≤ k) × (k + 2 ≤ length rest) × Closes rest k × ((j : ℕ) → 2 ≤ j → j < k → Closes rest j → ⊥) → IsGap text at (k + 2)
+pub comment_step : (text rest : List ℕ) (at k : ℕ) → rest ≡ drop at text → slice_index text at ≡ 47 → slice_index text (at + 1) ≡ 42 → (2 ≤ k) × (k + 2 ≤ length rest) × ClosesComment rest k × ((j : ℕ) → 2 ≤ j → j < k → ClosesComment rest j → ⊥) → IsGap text at (k + 2)
 comment_step text rest at k e a b h =
     let zeroth : slice_index rest 0 ≡ 47 = rest_zero text rest at e ∙ a in
     let first : slice_index rest 1 ≡ 42 = rest_first text rest at 1 e ∙ b in
     gap_of text rest at (k + 2) e (comment_longest rest k zeroth first h.0 h.1 h.2 h.3) (Gap.comment (comment_piece rest k zeroth first h.0 h.1 h.2 h.3))
 
-pub open_step : (text rest : List ℕ) (at : ℕ) → rest ≡ drop at text → at + 1 < length text → slice_index text at ≡ 47 → slice_index text (at + 1) ≡ 42 → ((j : ℕ) → 2 ≤ j → j + 2 ≤ length rest → Closes rest j → ⊥) → FaultAt text at (fault.OpenComment (record { start = at; «end» = length text }))
+pub open_step : (text rest : List ℕ) (at : ℕ) → rest ≡ drop at text → at + 1 < length text → slice_index text at ≡ 47 → slice_index text (at + 1) ≡ 42 → ((j : ℕ) → 2 ≤ j → j + 2 ≤ length rest → ClosesComment rest j → ⊥) → FaultAt text at (fault.OpenComment (record { start = at; «end» = length text }))
 open_step text rest at e lt a b none =
     let zeroth : slice_index rest 0 ≡ 47 = rest_zero text rest at e ∙ a in
     let first : slice_index rest 1 ≡ 42 = rest_first text rest at 1 e ∙ b in

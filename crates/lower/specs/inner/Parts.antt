@@ -5,7 +5,7 @@ use Rattle.syntax.specs.Tree.{Function, Item, Defines, Program}
 use Rattle.bytecode.specs.Code.{FunctionCode}
 use Rattle.bytecode.specs.Views.{function_of}
 use Rattle.picked.specs.Simples.{Written}
-use Rattle.picked.specs.Programs.{Made, function_code}
+use Rattle.picked.specs.Programs.{FunctionCodes, function_code}
 use Rattle.expression_code.specs.Lists.{lists_of}
 use Rattle.lower.specs.declared.generate.Making.{Making}
 use Rattle.lower.specs.declared.fault.LowerFault.{LowerFault}
@@ -13,7 +13,7 @@ use Rattle.lower.specs.declared.fault.LowerFault.TheVariants.{OutOfMemory, TooMa
 use Rattle.lower.specs.Limits.{NeedsTooMany, PassesWith, IsTooMuch}
 
 module _ {A : Type 0} where
-  abbrev pub made_in : Making A → Made
+  abbrev pub made_in : Making A → FunctionCodes
   made_in m = record {
     functions = map function_of m.functions.items;
     code = m.code.items;
@@ -22,12 +22,12 @@ module _ {A : Type 0} where
   }
 
 -- what is made of items, and behind it what is made of others
-abbrev pub made_behind : Made → Made → Made
+abbrev pub made_behind : FunctionCodes → FunctionCodes → FunctionCodes
 made_behind a b =
     record { functions = a.functions ++ b.functions; code = a.code ++ b.code; lists = b.lists; to = b.to }
 
 -- what is made of one definition
-abbrev pub made_once : Function → ℕ → Written → Made
+abbrev pub made_once : Function → ℕ → Written → FunctionCodes
 made_once f from w =
     record { functions = function_code f from w ∷ []; code = w.code; lists = w.lists; to = w.to }
 

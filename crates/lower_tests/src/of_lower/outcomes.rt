@@ -3,7 +3,7 @@
 //! the memory that the one before it left.
 
 ghost use Rattle.std.specs.Prelude.{IfSome};
-ghost use Rattle.atomic_code.specs.Threads.{IsThreadOf};
+ghost use Rattle.atomic_code.specs.Threads.{IsAtomicThreadOf};
 
 use crate::accepted::accepted_of;
 use crate::asserted::assert_none;
@@ -114,7 +114,7 @@ fn source_lines(alloc: Global, accepted: &Accepted, ticks: u64) -> Option<String
 
 /// A thread at its beginning.
 fn begin(alloc: Global, code: &Code) -> Option<AtomicThread>
-    ensures { IfSome result (λ t. IsThreadOf code.now t.thread) }
+    ensures { IfSome result (λ t. IsAtomicThreadOf code.now t.thread) }
 {
     match AtomicThread::new(alloc, code, 3) {
         Ok(thread) => Some(thread),
@@ -124,8 +124,8 @@ fn begin(alloc: Global, code: &Code) -> Option<AtomicThread>
 
 /// One instruction of a thread, which finds this memory or leaves another there.
 fn step(thread: &mut AtomicThread, code: &Code, memory: &mut Vec<u64>) -> Result<(), AllocError>
-    requires { IsThreadOf code.now thread.old.thread }
-    ensures { IsThreadOf code.now thread.new.thread }
+    requires { IsAtomicThreadOf code.now thread.old.thread }
+    ensures { IsAtomicThreadOf code.now thread.new.thread }
 {
     if thread.steps() > 1_000_000 {
         return Ok(());
@@ -171,7 +171,7 @@ fn carry_on(
     lines: &mut String,
     steps: u32,
 ) -> Result<(), AllocError>
-    requires { IsThreadOf code.now thread.old.thread }
+    requires { IsAtomicThreadOf code.now thread.old.thread }
 {
     let mut last = 0;
     'steps: for _ in 0..steps {

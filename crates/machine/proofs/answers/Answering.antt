@@ -6,7 +6,7 @@ use Rattle.norec_core.specs.declared.step.Access.{Access}
 use Rattle.norec_core.specs.declared.step.Access.TheVariants.{Local}
 use Rattle.norec_core.specs.declared.step.Answer.{Answer}
 use Rattle.norec_core.specs.declared.step.Answer.TheVariants.{Done}
-use Rattle.machine.specs.Answered.{Answered, Heard, hearing, is_local, Replays, local_step, paused}
+use Rattle.machine.specs.Answered.{Answered, Heard, hearing, is_local, StepsHearing, local_step, paused}
 use Rattle.machine.specs.Threads.{Thread, access, told}
 use Rattle.machine.specs.Worlds.{Part, Reached, Record, World, added, answer, lock_after, part_after, recorded, step_of, words_after}
 use Rattle.norec_core.specs.Accesses.{stops}
@@ -70,11 +70,11 @@ module _ {C : Type 0} (code : C → Effect C) where
   paused_more (suc k) t a p far = let q = if_some (is_local (access code t.thread)) (paused code k (local_step code t)) a p in rw q.0 (paused_more k (local_step code t) a q.1 far)
 
   -- a replay after another
-  pub replays_on : (th u v : Thread C) (n m : ℕ) (hs gs : List Heard) → Replays code th n hs u → Replays code u m gs v → Replays code th (n + m) (hs ++ gs) v
-  replays_on th u v n m hs gs r Replays.none = subst (λ (z : ℕ × List Heard). Replays code th z.0 z.1 v) (λ i. (sym (add-zero n) i, sym (append-nil hs) i)) r
-  replays_on th u v n m hs gs r (Replays.local_more k fs x q far) = subst (λ (z : ℕ). Replays code th z (hs ++ gs) v) (sym (add-suc n k)) (Replays.local_more (n + k) (hs ++ gs) x (replays_on th u x n k hs gs r q) far)
-  replays_on th u v n m hs gs r (Replays.heard_more k fs x a q far on) =
-      subst (λ (z : ℕ × List Heard). Replays code th z.0 z.1 v) (λ i. (sym (add-suc n k) i, append_assoc hs fs (record { access = access code x; answer = a } ∷ []) i)) (Replays.heard_more (n + k) (hs ++ fs) x a (replays_on th u x n k hs fs r q) far on)
+  pub replays_on : (th u v : Thread C) (n m : ℕ) (hs gs : List Heard) → StepsHearing code th n hs u → StepsHearing code u m gs v → StepsHearing code th (n + m) (hs ++ gs) v
+  replays_on th u v n m hs gs r StepsHearing.none = subst (λ (z : ℕ × List Heard). StepsHearing code th z.0 z.1 v) (λ i. (sym (add-zero n) i, sym (append-nil hs) i)) r
+  replays_on th u v n m hs gs r (StepsHearing.local_more k fs x q far) = subst (λ (z : ℕ). StepsHearing code th z (hs ++ gs) v) (sym (add-suc n k)) (StepsHearing.local_more (n + k) (hs ++ gs) x (replays_on th u x n k hs gs r q) far)
+  replays_on th u v n m hs gs r (StepsHearing.heard_more k fs x a q far on) =
+      subst (λ (z : ℕ × List Heard). StepsHearing code th z.0 z.1 v) (λ i. (sym (add-suc n k) i, append_assoc hs fs (record { access = access code x; answer = a } ∷ []) i)) (StepsHearing.heard_more (n + k) (hs ++ fs) x a (replays_on th u x n k hs fs r q) far on)
 
   module _ (init : ℕ → C) (m0 : List ℕ) (threads : ℕ) where
     -- one step, by its access

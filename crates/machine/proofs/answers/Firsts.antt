@@ -17,7 +17,7 @@ use Rattle.norec_core.specs.declared.step.Outcome.{Outcome}
 use Rattle.norec_core.specs.declared.step.Outcome.TheVariants as outcome
 use Rattle.norec_core.specs.declared.step.Phase.{Phase}
 use Rattle.norec_core.specs.declared.step.Phase.TheVariants.{AtOperation, ReadsLock, Stores, ValidatesEntry, ValidatesTime}
-use Rattle.machine.specs.Answered.{HasLoad, Heard, LocksFrom, Replays}
+use Rattle.machine.specs.Answered.{HasLoad, Heard, LocksFrom, StepsHearing}
 use Rattle.machine.specs.Threads.{Thread, access, access_of, op_of, outside_access, own_step, print_inside, told, told_inside, told_of, told_outside, told_running}
 
 abbrev FirstIf : {C : Type 0} → ℕ → Option (Attempt C) → Type 0
@@ -171,10 +171,10 @@ module _ {C : Type 0} (code : C → Effect C) (th : Thread C) (idle : th.attempt
       at (Some a) f = let g = goes_on a (told code u answer).thread.attempt e (told_same code u a f answer) in subst (λ n. HasLoad n more) (sym g) (was a f)
 
   -- an attempt that a thread has which had none, began with one of the answers since
-  pub first_heard : (n : ℕ) (hs : List Heard) (v : Thread C) → Replays code th n hs v → (b : Attempt C) → v.attempt ≡ Some b → HasLoad b.first hs
-  first_heard n hs v Replays.none b e = let x : None ≡ Some b = sym idle ∙ e in absurd (cc)
-  first_heard n hs v (Replays.local_more k gs u r far) b e = one_step u gs gs Done b e (λ a f. first_heard k gs u r a f) (λ g f. absurd (cc))
-  first_heard n hs v (Replays.heard_more k gs u answer r far on) b e =
+  pub first_heard : (n : ℕ) (hs : List Heard) (v : Thread C) → StepsHearing code th n hs v → (b : Attempt C) → v.attempt ≡ Some b → HasLoad b.first hs
+  first_heard n hs v StepsHearing.none b e = let x : None ≡ Some b = sym idle ∙ e in absurd (cc)
+  first_heard n hs v (StepsHearing.local_more k gs u r far) b e = one_step u gs gs Done b e (λ a f. first_heard k gs u r a f) (λ g f. absurd (cc))
+  first_heard n hs v (StepsHearing.heard_more k gs u answer r far on) b e =
       one_step u gs (gs ++ record { access = access code u; answer = answer } ∷ []) answer b e (λ a f. load_front a.first gs _ (first_heard k gs u r a f)) (λ g f. load_last b.first gs (record { access = access code u; answer = answer }) g f)
 
 -- so it is not below their floor

@@ -9,7 +9,7 @@ use Rattle.norec_core.specs.declared.step.Access.{Access}
 use Rattle.norec_core.specs.declared.step.Access.TheVariants.{LoadWord, Swap}
 use Rattle.norec_core.specs.declared.step.Answer.{Answer}
 use Rattle.norec_core.specs.declared.step.Answer.TheVariants.{Value}
-use Rattle.machine.specs.Answered.{Answered, AnswersOk, HasWord, HaveWords, Heard, IsAmong, NumbersBelow, WordOf, lock_value, next_lock}
+use Rattle.machine.specs.Answered.{Answered, AnswersOk, IsVisibleWord, AreVisibleWords, Heard, IsAmong, NumbersBelow, WordOf, lock_value, next_lock}
 use Rattle.machine.specs.Explained.{HasLock, IsExplainedBy}
 use Rattle.machine.specs.inner.Invariant.{LeftIs, LockIs, Now, RecordOk}
 use Rattle.machine.specs.Merges.{Entry, IsMerge}
@@ -90,7 +90,7 @@ module _ {C : Type 0} (code : C → Effect C) (init : ℕ → C) (bounds : List 
 
   -- a word that was answered, in a merge
   module _ (es : List Entry) (m : IsMerge w.parts es) where
-    has_word : (l a v : ℕ) → InHistory s.history w.words l a v → HasWord m0 w es l a v
+    has_word : (l a v : ℕ) → InHistory s.history w.words l a v → IsVisibleWord m0 w es l a v
     has_word l a v (inl f) =
         let h = s.history in
         let c : Cut 0 f.0 es = cut 0 f.0 0 es h.top refl f.1 (omega arith) f.2 m.sorted (whole code init bounds m0 w h s.invariant es m) in
@@ -105,7 +105,7 @@ module _ {C : Type 0} (code : C → Effect C) (init : ℕ → C) (bounds : List 
         )
     has_word l a v (inr f) = at s.history.holder refl s.invariant.history.lock
       where
-        at : (o : Option ℕ) → s.history.holder ≡ o → LockIs s.history o → HasWord m0 w es l a v
+        at : (o : Option ℕ) → s.history.holder ≡ o → LockIs s.history o → IsVisibleWord m0 w es l a v
         at None g lk = absurd (subst (IsAmong (a, v)) lk.1 f.1)
         at (Some t) g lk =
             let p = part_at w.parts t (s.invariant.holder t g) in
@@ -117,7 +117,7 @@ module _ {C : Type 0} (code : C → Effect C) (init : ℕ → C) (bounds : List 
     has_one l (LoadWord a) (Value v) f = has_word l a v f
     has_one l x y f = tt
 
-    have_words : (l : ℕ) (hs : List Heard) → WordsIn s.history w.words l hs → HaveWords m0 w es l hs
+    have_words : (l : ℕ) (hs : List Heard) → WordsIn s.history w.words l hs → AreVisibleWords m0 w es l hs
     have_words l [] f = tt
     have_words l (x ∷ hs) f = (has_one l x.access x.answer f.0, have_words (next_lock l (lock_value x.access x.answer)) hs f.1)
 

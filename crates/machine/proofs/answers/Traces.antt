@@ -5,7 +5,7 @@ use Rattle.std.proofs.lemmas.Option.{slice_get_within}
 use Rattle.bytecode.specs.Effects.{Effect}
 use Rattle.machine.specs.Answered.{Answered, Heard}
 use Rattle.machine.specs.Serializable.{world_after}
-use Rattle.machine.specs.Traces.{GoesOn, IsTraced, RunsOn, heard_of, heard_run}
+use Rattle.machine.specs.Traces.{DoesNotStop, IsTraced, RunsOn, heard_of, heard_run}
 use Rattle.machine.specs.Worlds.{Part, World, new_parts, new_world, run, step, step_of}
 use Rattle.machine.proofs.runs.Explained.{part_at}
 
@@ -51,7 +51,7 @@ module _ {C : Type 0} (code : C → Effect C) where
         let said_at : slice_get (heard_run code g.trace (new_world init m0 threads) (replicate threads [])) t ≡ Some hs = ap (λ h. slice_get h t) (sym g.answers) ∙ there in
         record {
           trace = g.trace ++ t ∷ [];
-          runs_on = runs-append g.trace (t ∷ []) (new_world init m0 threads) g.runs_on (subst (GoesOn code) (sym at) on, tt);
+          runs_on = runs-append g.trace (t ∷ []) (new_world init m0 threads) g.runs_on (subst (DoesNotStop code) (sym at) on, tt);
           world = ap (λ x. step code x t) g.world ∙ sym (run-append g.trace (t ∷ []) (new_world init m0 threads));
           answers =
               ap (λ (o : Option (Part C) × Option (List Heard)). heard_of code v said t o.0 o.1) (λ i. (sym here i, sym there i))
@@ -64,7 +64,7 @@ module _ {C : Type 0} (code : C → Effect C) where
     further [] w heard r f = r
     further (t ∷ ts) w heard r f = further ts (step code w t) _ (at (slice_get w.parts t) refl f.0) f.1
       where
-        at : (o : Option (Part C)) → slice_get w.parts t ≡ o → GoesOn code o → Answered code init m0 threads (step code w t) (heard_of code w heard t o (slice_get heard t))
+        at : (o : Option (Part C)) → slice_get w.parts t ≡ o → DoesNotStop code o → Answered code init m0 threads (step code w t) (heard_of code w heard t o (slice_get heard t))
         at None e g = absurd g
         at (Some p) e g =
             let lt = slice_get_within w.parts t p e in

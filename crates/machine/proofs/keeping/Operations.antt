@@ -14,7 +14,7 @@ use Rattle.norec_core.specs.declared.step.Phase.{Phase}
 use Rattle.norec_core.specs.declared.step.Phase.TheVariants.{AtOperation, ReadsLock, ValidatesTime, ValidatesEntry, Stores}
 use Rattle.norec_core.specs.Attempts.{Checkpoint, Attempt, Completed}
 use Rattle.norec_core.specs.Phases.{CoreStep, on, on_snapshot, validating, idle, core_word, core_read, core_store, core_swap, core_commit, core_cancel, core_operation, core_check, core_time, core_compare, core_phase, core_begin, core_step, core_access, phase_access, operation_access, read_access}
-use Rattle.machine.specs.Standing.{begins_of, HaveWords, HasInHand, GivesWords, GivesWordsIf}
+use Rattle.machine.specs.Standing.{begins_of, HaveWords, HasInHand, GivesRegisterWords, GivesWordsIf}
 use Rattle.machine.proofs.Levels.{all_left}
 use Rattle.machine.proofs.keeping.Words.{FitsRegister}
 
@@ -85,13 +85,13 @@ put_words ad v (p ∷ ps) g h = at (p.0 == ad) (put_words ad v ps g h.1)
     at true k = (g, h.1)
     at false k = (h.0, k)
 
-module _ {S : Type 0} (now : S) (a : Attempt S) (w : GivesWords a) where
+module _ {S : Type 0} (now : S) (a : Attempt S) (w : GivesRegisterWords a) where
   abbrev old : List S
   old = begins_of (Some a)
 
   -- the attempt goes on with the same begins and logs
   abbrev Same : Attempt S → Type 0
-  Same b = (begins_of (Some b) ≡ old) × GivesWords b
+  Same b = (begins_of (Some b) ≡ old) × GivesRegisterWords b
 
   module _ (o : Op) where
     going : (b : Attempt S) → Same b → Does now old o (on b outcome.Going)

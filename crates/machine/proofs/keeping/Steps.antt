@@ -7,7 +7,7 @@ use Rattle.nesting.specs.Begins.{Saved}
 use Rattle.bytecode.specs.Effects.{Effect, after_cancel}
 use Rattle.bytecode.specs.Effects.Effect.{Pure, Print, Begin, Read, Write, Commit, Cancel, CancelOuter, Irrevocable, Traps, End}
 use Rattle.bytecode.specs.Code.{Code, Configuration, effect}
-use Rattle.frames.specs.Open.{MayStand, AreRestored, GoesOn, restored, saved_in, BeginsStayOpen}
+use Rattle.frames.specs.Open.{MayStand, AreRestored, IsSuccessor, restored, saved_in, BeginsStayOpen}
 use Rattle.norec_core.specs.declared.step.Op.{Op}
 use Rattle.norec_core.specs.declared.step.Op.TheVariants as op
 use Rattle.norec_core.specs.declared.step.Outcome.{Outcome}
@@ -97,9 +97,9 @@ module _ (code : Code) (law : BeginsStayOpen code) where
     here : (x : Effect Configuration) (r : Outcome) (o : Option (Attempt Saved)) → begins_of o ≡ ss → GivesWordsIf o → Leaves code c x r o c Running
     here x r o e w = runs_at x r o c (subst (MayStand code c) (sym e) m) refl w
 
-    on_at : (x : Effect Configuration) (r : Outcome) (o : Option (Attempt Saved)) (d : Configuration) → effect code c ≡ x → GoesOn x d → begins_of o ≡ ss → GivesWordsIf o → Leaves code c x r o d Running
+    on_at : (x : Effect Configuration) (r : Outcome) (o : Option (Attempt Saved)) (d : Configuration) → effect code c ≡ x → IsSuccessor x d → begins_of o ≡ ss → GivesWordsIf o → Leaves code c x r o d Running
     on_at x r o d ex g e w =
-        let h = law.goes_on c d ss m (subst (λ z. GoesOn z d) (sym ex) g) in
+        let h = law.goes_on c d ss m (subst (λ z. IsSuccessor z d) (sym ex) g) in
         runs_at x r o d (subst (MayStand code d) (sym e) h.0) (subst (AreRestored c d) (sym e) h.1) w
 
     module _ (s : Saved) (o : Op) (n : CoreStep Saved) (same : o ≡ op.Begin → s ≡ saved_in c) where

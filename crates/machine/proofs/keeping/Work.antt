@@ -8,7 +8,7 @@ use Rattle.nesting.specs.Begins.{Saved}
 use Rattle.bytecode.specs.Effects.{Effect}
 use Rattle.bytecode.specs.Effects.Effect.{Pure, Print, Irrevocable, Traps, End}
 use Rattle.bytecode.specs.Code.{Code, Configuration, effect}
-use Rattle.frames.specs.Open.{MayStand, AreRestored, GoesOn, restored, BeginsStayOpen}
+use Rattle.frames.specs.Open.{MayStand, AreRestored, IsSuccessor, restored, BeginsStayOpen}
 use Rattle.norec_core.specs.declared.step.Answer.{Answer}
 use Rattle.norec_core.specs.Attempts.{Attempt}
 use Rattle.norec_core.specs.Cores.{is_kept}
@@ -49,7 +49,7 @@ module _ (code : Code) (law : BeginsStayOpen code) (k : Kept) (y : Answer) (runn
   th = shown k
 
   -- the thread goes on in its frames, and may have printed
-  moved : (l : Kept) (d : Configuration) (t : List ℕ) (n : Next Configuration) → GoesOn (effect code c) d → n ≡ quiet (record th { configuration = d; text = t }) →
+  moved : (l : Kept) (d : Configuration) (t : List ℕ) (n : Next Configuration) → IsSuccessor (effect code c) d → n ≡ quiet (record th { configuration = d; text = t }) →
       l.configuration ≡ d → l.core.attempt ≡ k.core.attempt → l.trapping ≡ k.trapping → l.text ≡ t → l.status ≡ k.status → Makes code n l event.Quiet
   moved l d t n g e cl al tl xl sl =
       let h = law.goes_on c d (begins_of k.core.attempt) runs.stands g in
@@ -82,7 +82,7 @@ module _ (code : Code) (law : BeginsStayOpen code) (k : Kept) (y : Answer) (runn
   -- a local step, a call and a return
   pub work_moves : (l : Kept) → effect code c ≡ Pure l.configuration → l.core.attempt ≡ k.core.attempt → l.trapping ≡ k.trapping → l.text ≡ k.text → l.status ≡ k.status → Makes code (told (effect code) th y) l event.Quiet
   work_moves l e al tl xl sl =
-      moved l l.configuration k.text (told (effect code) th y) (subst (λ (z : Effect Configuration). GoesOn z l.configuration) (sym e) refl) (by_effect (Pure l.configuration) _ e (told_pure (effect code) th y running th.attempt l.configuration)) refl al tl xl sl
+      moved l l.configuration k.text (told (effect code) th y) (subst (λ (z : Effect Configuration). IsSuccessor z l.configuration) (sym e) refl) (by_effect (Pure l.configuration) _ e (told_pure (effect code) th y running th.attempt l.configuration)) refl al tl xl sl
 
   may_print : (att : Option (Attempt Saved)) → (is_some att ≡ true → is_kept att ≡ true) → MayPrint (effect code) th y running (shown_from c att)
   may_print None h = tt
@@ -90,7 +90,7 @@ module _ (code : Code) (law : BeginsStayOpen code) (k : Kept) (y : Answer) (runn
 
   pub work_prints : (l : Kept) (p : List ℕ) (d : Configuration) → effect code c ≡ Print p d → (is_some k.core.attempt ≡ true → is_kept k.core.attempt ≡ true) → l.configuration ≡ d → l.core.attempt ≡ k.core.attempt → l.trapping ≡ k.trapping → l.text ≡ k.text ++ p → l.status ≡ k.status → Makes code (told (effect code) th y) l event.Quiet
   work_prints l p d e h cl al tl xl sl =
-      moved l d (k.text ++ p) (told (effect code) th y) (subst (λ (z : Effect Configuration). GoesOn z d) (sym e) refl) (by_effect (Print p d) _ e (told_print (effect code) th y running th.attempt p d (may_print k.core.attempt h))) cl al tl xl sl
+      moved l d (k.text ++ p) (told (effect code) th y) (subst (λ (z : Effect Configuration). IsSuccessor z d) (sym e) refl) (by_effect (Print p d) _ e (told_print (effect code) th y running th.attempt p d (may_print k.core.attempt h))) cl al tl xl sl
 
   still : (l : Kept) (x : Effect Configuration) → effect code c ≡ x → told_of (effect code) th th.attempt x y ≡ quiet th → l ≡ k → Makes code (told (effect code) th y) l event.Quiet
   still l x e h same =
@@ -127,7 +127,7 @@ module _ (code : Code) (law : BeginsStayOpen code) (k : Kept) (y : Answer) (runn
     outside x n e h = by_effect x n e (ap (λ (z : Option (Attempt Saved)). told_of (effect code) th (shown_from c z) x y) none ∙ outside_is (effect code) th y running x n h)
 
     pub work_irrevocable_outside : (l : Kept) (d : Configuration) → effect code c ≡ Irrevocable d → l.configuration ≡ d → l.core.attempt ≡ k.core.attempt → l.trapping ≡ k.trapping → l.text ≡ k.text → l.status ≡ k.status → Makes code (told (effect code) th y) l event.Quiet
-    work_irrevocable_outside l d e cl al tl xl sl = moved l d k.text (told (effect code) th y) (subst (λ (z : Effect Configuration). GoesOn z d) (sym e) refl) (outside (Irrevocable d) _ e refl) cl al tl xl sl
+    work_irrevocable_outside l d e cl al tl xl sl = moved l d k.text (told (effect code) th y) (subst (λ (z : Effect Configuration). IsSuccessor z d) (sym e) refl) (outside (Irrevocable d) _ e refl) cl al tl xl sl
 
 -- a thread that is over
 module _ (code : Code) (k : Kept) (y : Answer) (none : k.core.attempt ≡ None) where

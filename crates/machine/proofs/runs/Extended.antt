@@ -2,7 +2,7 @@
 use Rattle.std.proofs.Common.{◌≡◌, ◌≢◌, ◌==◌, ◌⊎◌, inl, inr, ℕ, true, false, cond, List, [], ◌∷◌, ◌++◌, Option, None, Some, map, refl, sym, ◌∙◌, ap, subst, slice_get, append_assoc, append-nil}
 use Rattle.std.proofs.lemmas.List.{map-append}
 use Rattle.std.proofs.lemmas.Bool.Decides.{eqb_tells}
-use Rattle.syntax.specs.Behaviours.{IsMemory, IsWithin, Step, of_thread}
+use Rattle.syntax.specs.Behaviours.{IsMemory, IsSubsequence, Step, of_thread}
 use Rattle.bytecode.specs.Effects.{Effect, FitsCells}
 use Rattle.machine.specs.inner.Invariant.{History, Invariant}
 use Rattle.machine.specs.Merges.{Entry, IsMerge, insert_made, made_of, merged, own, run_of, step_of_entry}
@@ -30,11 +30,11 @@ module _ {C : Type 0} (code : C → Effect C) (init : ℕ → C) (bounds : List 
   merged-append [] us w es = refl
   merged-append (t ∷ ts) us w es = merged-append ts us (step code w t) _
 
-  within_made : (seen : List Step) (u : ℕ) (o : Option Record) (es : List Entry) → IsWithin seen (run_of es) → IsWithin seen (run_of (insert_made u o es))
+  within_made : (seen : List Step) (u : ℕ) (o : Option Record) (es : List Entry) → IsSubsequence seen (run_of es) → IsSubsequence seen (run_of (insert_made u o es))
   within_made seen u None es w = w
   within_made seen u (Some x) es w = within_run (record { thread = u; item = x }) seen es w
 
-  within_merged : (seen : List Step) (ts : List ℕ) (w : World C) (es : List Entry) → IsWithin seen (run_of es) → IsWithin seen (run_of (merged code ts w es))
+  within_merged : (seen : List Step) (ts : List ℕ) (w : World C) (es : List Entry) → IsSubsequence seen (run_of es) → IsSubsequence seen (run_of (merged code ts w es))
   within_merged seen [] w es i = i
   within_merged seen (t ∷ ts) w es i = within_merged seen ts (step code w t) _ (within_made seen t (made_of code w (slice_get w.parts t)) es i)
 
@@ -55,7 +55,7 @@ module _ {C : Type 0} (code : C → Effect C) (init : ℕ → C) (bounds : List 
       let m = (serializable code init bounds m0 is_memory fits threads ts).is_merge in
       let later = merged-append ts us w0 [] in
       record {
-        in_order = subst (λ l. IsWithin (run_of es) (run_of l)) (sym later) (within_merged (run_of es) us w es (within_self (run_of es)));
+        in_order = subst (λ l. IsSubsequence (run_of es) (run_of l)) (sym later) (within_merged (run_of es) us w es (within_self (run_of es)));
         own_first = λ t.
             let g = own_merged t us w r.0 es r.1 m in (
               steps_by t g.0,

@@ -2,7 +2,7 @@
 use Rattle.std.proofs.Common.{◌≡◌, ◌≢◌, ◌≤◌, ◌*◌, ◌==◌, ◌%◌, ◌⊎◌, inl, inr, ℕ, Bool, true, false, List, [], ◌∷◌, Option, None, Some, refl, sym, ◌∙◌, ap, subst, slice_get, set, arith}
 use Rattle.std.specs.List.{AllByRecursion}
 use Rattle.std.proofs.lemmas.Bool.Decides.{eqb_tells}
-use Rattle.syntax.specs.Behaviours.{IsMemory, IsWithin}
+use Rattle.syntax.specs.Behaviours.{IsMemory, IsSubsequence}
 use Rattle.bytecode.specs.Effects.{Effect, FitsCells}
 use Rattle.norec_core.specs.Attempts.{Attempt, Completed}
 use Rattle.machine.specs.inner.Invariant.{History, Invariant, LeftIs, Now}
@@ -35,12 +35,12 @@ recorded_at a base x None g e = absurd (cc)
 recorded_at a base x (Some y) g e = let r : record_of base y ≡ x = cc in ap (λ (z : Record). z.snapshot) (sym r) ∙ g
 
 module _ {C : Type 0} (code : C → Effect C) (init : ℕ → C) (bounds : List ℕ) (m0 : List ℕ) (is_memory : IsMemory bounds m0) (fits : FitsCells code bounds) (t : ℕ) where
-  pub among : (o o' : Option (Attempt C)) (es fs seen : List Entry) → ((l : List Entry) → IsWithin l es → IsWithin l fs) → IsWithin seen es → IsWithin (seen_after o o' es seen) fs
+  pub among : (o o' : Option (Attempt C)) (es fs seen : List Entry) → ((l : List Entry) → IsSubsequence l es → IsSubsequence l fs) → IsSubsequence seen es → IsSubsequence (seen_after o o' es seen) fs
   among None (Some a) es fs seen up m = up es (within_self es)
   among None None es fs seen up m = up seen m
   among (Some a) o' es fs seen up m = up seen m
 
-  pub within_made : (l : List Entry) (u : ℕ) (o : Option Record) (es : List Entry) → IsWithin l es → IsWithin l (insert_made u o es)
+  pub within_made : (l : List Entry) (u : ℕ) (o : Option Record) (es : List Entry) → IsSubsequence l es → IsSubsequence l (insert_made u o es)
   within_made l u None es w = w
   within_made l u (Some x) es w = within_insert (record { thread = u; item = x }) l es w
 
@@ -93,7 +93,7 @@ module _ {C : Type 0} (code : C → Effect C) (init : ℕ → C) (bounds : List 
               rw now (own p here low)
           by (inr f) = rw (get-set_other w.parts u t q f.1) (low_same (attempt_of (slice_get w.parts t)) es seen low)
 
-  joined_after : (w : World C) (h : History) (es seen : List Entry) → Invariant code bounds init m0 h w → IsMerge w.parts es → IsWithin seen es → LowFor (attempt_of (slice_get w.parts t)) seen → (x : Record) → made_of code w (slice_get w.parts t) ≡ Some x → StandsAfter (record { thread = t; item = x }) seen es
+  joined_after : (w : World C) (h : History) (es seen : List Entry) → Invariant code bounds init m0 h w → IsMerge w.parts es → IsSubsequence seen es → LowFor (attempt_of (slice_get w.parts t)) seen → (x : Record) → made_of code w (slice_get w.parts t) ≡ Some x → StandsAfter (record { thread = t; item = x }) seen es
   joined_after w h es seen v m in_es low x j = at (slice_get w.parts t) refl low j
     where
       snap_key : (b : Bool) → 2 * x.snapshot ≤ key_of x.snapshot b
@@ -112,7 +112,7 @@ module _ {C : Type 0} (code : C → Effect C) (init : ℕ → C) (bounds : List 
               let k = snap_key x.took_lock in
               placed (record { thread = t; item = x }) 0 es seen m.sorted in_es (all_map (λ f. key f ≤ 2 * a.first) (λ f. key f ≤ key_of x.snapshot x.took_lock) seen (λ f le. omega arith) l')
 
-  over : (ts : List ℕ) (w : World C) (h : History) (es seen : List Entry) → Invariant code bounds init m0 h w → IsMerge w.parts es → IsWithin seen es → LowFor (attempt_of (slice_get w.parts t)) seen → (x : Record) → made_of code (run code ts w) (slice_get (run code ts w).parts t) ≡ Some x → StandsAfter (record { thread = t; item = x }) (seen_at code t ts w es seen) (merged code ts w es)
+  over : (ts : List ℕ) (w : World C) (h : History) (es seen : List Entry) → Invariant code bounds init m0 h w → IsMerge w.parts es → IsSubsequence seen es → LowFor (attempt_of (slice_get w.parts t)) seen → (x : Record) → made_of code (run code ts w) (slice_get (run code ts w).parts t) ≡ Some x → StandsAfter (record { thread = t; item = x }) (seen_at code t ts w es seen) (merged code ts w es)
   over [] w h es seen v m in_es low x j = joined_after w h es seen v m in_es low x j
   over (u ∷ us) w h es seen v m in_es low x j =
       let s = step_invariant code bounds init m0 fits w h u v in

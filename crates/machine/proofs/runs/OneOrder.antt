@@ -1,13 +1,13 @@
 -- All attempts in one order.
 use Rattle.std.proofs.Common.{◌≡◌, ◌≤◌, ◌*◌, ℕ, Bool, true, false, List, [], ◌∷◌, ◌++◌, Option, None, Some, refl, sym, ◌∙◌, ap, subst, slice_get, arith}
 use Rattle.std.specs.List.{AllByRecursion}
-use Rattle.syntax.specs.Behaviours.{IsMemory, IsWithin}
+use Rattle.syntax.specs.Behaviours.{IsMemory, IsSubsequence}
 use Rattle.bytecode.specs.Effects.{Effect, FitsCells}
 use Rattle.norec_core.specs.Attempts.{Attempt, Completed}
 use Rattle.machine.specs.Computes.{ComputesOn}
 use Rattle.machine.specs.inner.Invariant.{History, Invariant, Moves, Now, RecordOk}
 use Rattle.machine.specs.Merges.{Entry, IsMerge, IsSorted, insert, insert_made, key, key_of, made_of, merged}
-use Rattle.machine.specs.OneOrder.{IsInOneOrder, MayStand, WithIdle, attempted, ended, ended_before, ended_by, ended_in, idle_record}
+use Rattle.machine.specs.OneOrder.{IsInOneOrder, MayDropNow, WithIdle, attempted, ended, ended_before, ended_by, ended_in, idle_record}
 use Rattle.machine.specs.Serializable.{StandsAfter, attempt_of, merge_after, world_after}
 use Rattle.machine.specs.Threads.{Next, access, told}
 use Rattle.machine.specs.Worlds.{Part, Record, World, added, answer, new_world, part_after, record_of, recorded, run, step, step_of}
@@ -45,7 +45,7 @@ module _ {C : Type 0} (code : C → Effect C) (init : ℕ → C) (bounds : List 
   attempted-append [] us w es = refl
   attempted-append (t ∷ ts) us w es = attempted-append ts us (step code w t) _
 
-  within_attempted : (seen : List Entry) (us : List ℕ) (w : World C) (all : List Entry) → IsWithin seen all → IsWithin seen (attempted code us w all)
+  within_attempted : (seen : List Entry) (us : List ℕ) (w : World C) (all : List Entry) → IsSubsequence seen all → IsSubsequence seen (attempted code us w all)
   within_attempted seen [] w all i = i
   within_attempted seen (u ∷ us) w all i = within_attempted seen us (step code w u) _ (within_made code init bounds m0 is_memory fits u seen u (ended_in code w (slice_get w.parts u)) all i)
 
@@ -112,7 +112,7 @@ module _ {C : Type 0} (code : C → Effect C) (init : ℕ → C) (bounds : List 
     pub h : History
     pub invariant : Invariant code bounds init m0 h w
     pub good : Good h es all
-    pub among : IsWithin seen all
+    pub among : IsSubsequence seen all
     pub low : LowFor (attempt_of (slice_get w.parts t)) seen
 
   over : (us : List ℕ) (t : ℕ) (w : World C) (es all seen : List Entry) → GoodAfter t w es all seen → GoodAfter t (run code us w) (merged code us w es) (attempted code us w all) (ended_by code t us w all seen)
@@ -146,7 +146,7 @@ module _ {C : Type 0} (code : C → Effect C) (init : ℕ → C) (bounds : List 
   snap_key n false = omega arith
 
   -- where an entry is put that has the snapshot of the attempt
-  put : (t : ℕ) (a : Attempt C) (x : Record) (all seen : List Entry) → IsSorted 0 all → IsWithin seen all → a.first ≤ a.snapshot → x.snapshot ≡ a.snapshot → AllByRecursion (λ (f : Entry). key f ≤ 2 * a.first) seen → StandsAfter (record { thread = t; item = x }) seen all
+  put : (t : ℕ) (a : Attempt C) (x : Record) (all seen : List Entry) → IsSorted 0 all → IsSubsequence seen all → a.first ≤ a.snapshot → x.snapshot ≡ a.snapshot → AllByRecursion (λ (f : Entry). key f ≤ 2 * a.first) seen → StandsAfter (record { thread = t; item = x }) seen all
   put t a x all seen sorted in_all since is low =
       let up = snap_key x.snapshot x.took_lock in
       placed (record { thread = t; item = x }) 0 all seen sorted in_all (all_map (λ f. key f ≤ 2 * a.first) (λ f. key f ≤ key_of x.snapshot x.took_lock) seen (λ f le. omega (arith, le, since, is, up)) low)
@@ -161,7 +161,7 @@ module _ {C : Type 0} (code : C → Effect C) (init : ℕ → C) (bounds : List 
         computes = computing;
         in_time = timed;
         live = living;
-        extended = λ us. subst (λ l. IsWithin (attempted code ts (new_world init m0 threads) []) l) (sym (attempted-append ts us (new_world init m0 threads) [])) (within_attempted _ us (world_after code init m0 threads ts) _ (within_self _));
+        extended = λ us. subst (λ l. IsSubsequence (attempted code ts (new_world init m0 threads) []) l) (sym (attempted-append ts us (new_world init m0 threads) [])) (within_attempted _ us (world_after code init m0 threads ts) _ (within_self _));
       }
     where
       computing : (t : ℕ) (p : Part C) (a : Attempt C) → slice_get (world_after code init m0 threads ts).parts t ≡ Some p → p.thread.attempt ≡ Some a → (es : List Entry) → IsMerge (world_after code init m0 threads ts).parts es → ComputesOn code init es t p a p.base
@@ -186,7 +186,7 @@ module _ {C : Type 0} (code : C → Effect C) (init : ℕ → C) (bounds : List 
                   let gd = after threads ts t in
                   put t a x _ _ gd.good.sorted gd.among now.steady.since (same_snapshot p.base a x n.completed o' g.1 j'') l
 
-      living : (t : ℕ) (p : Part C) (a : Attempt C) → slice_get (world_after code init m0 threads ts).parts t ≡ Some p → p.thread.attempt ≡ Some a → MayStand m0 t p a (ended_before code init m0 threads ts t) (attempted code ts (new_world init m0 threads) [])
+      living : (t : ℕ) (p : Part C) (a : Attempt C) → slice_get (world_after code init m0 threads ts).parts t ≡ Some p → p.thread.attempt ≡ Some a → MayDropNow m0 t p a (ended_before code init m0 threads ts t) (attempted code ts (new_world init m0 threads) [])
       living t p a e has =
           let g = after threads ts t in
           let merge = (serializable code init bounds m0 is_memory fits threads ts).is_merge in

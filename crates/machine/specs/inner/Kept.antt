@@ -22,7 +22,7 @@ use Rattle.norec_core.specs.Cores.{CoreState}
 use Rattle.norec_core.specs.Saved.{if_some, attempt_as}
 use Rattle.machine.specs.declared.event.Event.{Event}
 use Rattle.machine.specs.declared.event.Event.TheVariants as event
-use Rattle.machine.specs.Answered.{Replays}
+use Rattle.machine.specs.Answered.{StepsHearing}
 use Rattle.machine.specs.Threads.{Thread, Next}
 use Rattle.machine.specs.Standing.{begins_of, GivesWordsIf}
 use Rattle.machine.specs.States.{Ready}
@@ -154,6 +154,6 @@ pub record Makes (code : Code) (n : Next Configuration) (k : Kept) (e : Event) :
 
 -- so many local steps lead the thread there
 pub record Advances (code : Code) (k : Kept) (n : ℕ) (l : Kept) : Type 0 where
-  pub steps : Replays (effect code) (shown k) n [] (shown l)
+  pub steps : StepsHearing (effect code) (shown k) n [] (shown l)
   pub of : IsKeptOf code l
   pub within : AreWithin l.configuration (begins_of l.core.attempt)

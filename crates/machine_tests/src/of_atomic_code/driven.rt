@@ -1,7 +1,7 @@
 //! Threads carried on, and what they come to, as plain values.
 
 ghost use Rattle.std.specs.Prelude.{IfSome};
-ghost use Rattle.atomic_code.specs.Threads.{IsThreadOf};
+ghost use Rattle.atomic_code.specs.Threads.{IsAtomicThreadOf};
 
 use crate::of_atomic_code::built::code_of;
 use atomic_code::{AtomicThread, End, Ran, is_memory};
@@ -11,7 +11,7 @@ use syntax::numbers::Status;
 
 /// A thread at its beginning, if memory is there.
 pub fn begin<A: Allocator + Copy>(alloc: A, code: &Code<A>, number: u32) -> Option<AtomicThread<A>>
-    ensures { IfSome result (λ t. IsThreadOf code.now t.thread) }
+    ensures { IfSome result (λ t. IsAtomicThreadOf code.now t.thread) }
 {
     match AtomicThread::new(alloc, code, number) {
         Ok(thread) => Some(thread),
@@ -35,8 +35,8 @@ pub fn go<A: Allocator + Copy>(
     word: u64,
     steps: u32,
 ) -> Option<(u64, Option<u64>, Option<End>)>
-    requires { IsThreadOf code.now thread.old.thread }
-    ensures { IsThreadOf code.now thread.new.thread }
+    requires { IsAtomicThreadOf code.now thread.old.thread }
+    ensures { IsAtomicThreadOf code.now thread.new.thread }
 {
     if thread.steps() > 1_000_000_000_000 {
         return None;
@@ -58,8 +58,8 @@ pub fn in_pieces<A: Allocator + Copy>(
     calls: u32,
     each: u32,
 ) -> Option<u64>
-    requires { IsThreadOf code.now thread.old.thread }
-    ensures { IsThreadOf code.now thread.new.thread }
+    requires { IsAtomicThreadOf code.now thread.old.thread }
+    ensures { IsAtomicThreadOf code.now thread.new.thread }
 {
     let mut word = None;
     'calls: for call in 0..calls {
@@ -77,8 +77,8 @@ pub fn in_turns<A: Allocator + Copy>(
     calls: u32,
     first: u64,
 ) -> u64
-    requires { IsThreadOf code.now thread.old.thread }
-    ensures { IsThreadOf code.now thread.new.thread }
+    requires { IsAtomicThreadOf code.now thread.old.thread }
+    ensures { IsAtomicThreadOf code.now thread.new.thread }
 {
     let mut word = first;
     'calls: for _ in 0..calls {

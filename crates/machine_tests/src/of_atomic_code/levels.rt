@@ -1,7 +1,7 @@
 //! Cancels of several levels: of 2 to 16, into a level that is left and out of the outermost one, with the lock kept
 //! and without.
 
-ghost use Rattle.atomic_code.specs.Threads.{IsThreadOf};
+ghost use Rattle.atomic_code.specs.Threads.{IsAtomicThreadOf};
 
 use crate::asserted::assert_that;
 use crate::of_atomic_code::driven::{begin, go};
@@ -52,8 +52,8 @@ fn cancels_in_place<A: Allocator + Copy, B: Allocator>(
     refusing: &Refusing<B>,
     levels: Levels,
 ) -> bool
-    requires { IsThreadOf code.now thread.old.thread }
-    ensures { IsThreadOf code.now thread.new.thread }
+    requires { IsAtomicThreadOf code.now thread.old.thread }
+    ensures { IsAtomicThreadOf code.now thread.new.thread }
 {
     refusing.refuse(1);
     let made = go(thread, code, 9, 1);
@@ -68,8 +68,8 @@ fn goes_on<A: Allocator + Copy>(
     code: &Code<A>,
     levels: Levels,
 ) -> bool
-    requires { IsThreadOf code.now thread.old.thread }
-    ensures { IsThreadOf code.now thread.new.thread }
+    requires { IsAtomicThreadOf code.now thread.old.thread }
+    ensures { IsAtomicThreadOf code.now thread.new.thread }
 {
     let made = go(thread, code, 9, 100);
     let _rest = go(thread, code, 9, 100);
@@ -83,7 +83,7 @@ fn does_both<A: Allocator + Copy, B: Allocator>(
     refusing: &Refusing<B>,
     levels: Levels,
 ) -> bool
-    requires { IsThreadOf code.now thread.old.thread }
+    requires { IsAtomicThreadOf code.now thread.old.thread }
 {
     let opened = go(thread, code, 9, levels.opening());
     if opened != Some((u64::from(levels.opening()), None, None)) {

@@ -13,7 +13,7 @@ use Rattle.meaning.specs.declared.standing.Gone.{Gone}
 use Rattle.meaning.specs.declared.standing.Gone.TheVariants as gone
 use Rattle.meaning.specs.declared.program.Source.{Source}
 use Rattle.meaning.specs.inner.Machine.{end_of, items_in}
-use Rattle.meaning.specs.Frames.{Frame, framed}
+use Rattle.meaning.specs.Frames.{StateExtension, framed}
 use Rattle.meaning.specs.inner.Going.{Follow}
 use Rattle.meaning.specs.inner.Left.{follow_of, left_gone_on}
 
@@ -40,7 +40,7 @@ module _ {A : Type 0} where
     text = [];
   }
 
-  abbrev pub frame_of : List Memory → Shown A → Frame
+  abbrev pub frame_of : List Memory → Shown A → StateExtension
   frame_of founds shown = record { founds = founds; lefts = memories_in shown.lefts.items; text = shown.text.items }
 
   -- what a step comes to is this answer

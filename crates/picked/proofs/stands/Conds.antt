@@ -14,7 +14,7 @@ use Rattle.bytecode.specs.declared.instr.Instr.{Instr}
 use Rattle.bytecode.specs.declared.instr.Instr.TheVariants as own
 use Rattle.bytecode.specs.Code.{Code}
 use Rattle.bytecode.specs.Views.{instr_of}
-use Rattle.lowered.specs.Expressions.{Coded, Layout, Branching, At, LeadsTo, MayTake, Branches, BothHold, EitherHolds, IsNought, ComparedWithZero, TruthCode, ConditionalCode}
+use Rattle.lowered.specs.Expressions.{Coded, Layout, Branching, InstructionAt, LeadsTo, MayTake, Branches, BothHold, EitherHolds, IsNought, ComparedWithZero, TruthCode, ConditionalCode}
 use Rattle.picked.specs.declared.draft.Draft.TheVariants as draft
 use Rattle.picked.specs.Lists.{Lists, used}
 use Rattle.picked.specs.Conditions.{Condition, test_in, jump_if, jump_if_not, completed, going_on, going_back, turned, by_value, opposite, first_of, joined, is_nought, zero_test, zero_tested}
@@ -33,9 +33,9 @@ module _ (code : Code) (arguments : List ℕ) (layout : Layout) where
     pub to_is : c.to ≡ from + length c.code
     pub grows : Grows l c.lists
     pub holds : Fits code arguments layout c.lists → (there on : ℕ) → Stand code arguments from (map (completed there on) c.code) →
-        At code c.to (instr_of arguments (jump_if c.at_zero c.register there)) → LeadsTo code (suc c.to) on → T from there on free
+        InstructionAt code c.to (instr_of arguments (jump_if c.at_zero c.register there)) → LeadsTo code (suc c.to) on → T from there on free
     pub fails : Fits code arguments layout c.lists → (there on : ℕ) → Stand code arguments from (map (completed on there) c.code) →
-        At code c.to (instr_of arguments (jump_if_not c.at_zero c.register there)) → LeadsTo code (suc c.to) on → T from on there free
+        InstructionAt code c.to (instr_of arguments (jump_if_not c.at_zero c.register there)) → LeadsTo code (suc c.to) on → T from on there free
 
   value_decides : (A : Coded) (B : Branching) (from free : ℕ) (l : Lists) (e : Emitted) → Emits code arguments layout A from free l e → Decides (Branches code layout A B) from free l (by_value e.code e.lists e.held)
   value_decides A B from free l e h = record {
@@ -59,9 +59,9 @@ module _ (code : Code) (arguments : List ℕ) (layout : Layout) where
     to_is = let x = h.to_is in let y : length (map turned c.code) ≡ length c.code = length-map c.code turned in omega (arith, x, y);
     grows = h.grows;
     holds = λ f there on st at leads. make there on
-        (h.fails f there on (subst (Stand code arguments from) (turned_are there on c.code) st) (subst (λ i. At code c.to (instr_of arguments i)) (opposite_if c.at_zero c.register there) at) leads);
+        (h.fails f there on (subst (Stand code arguments from) (turned_are there on c.code) st) (subst (λ i. InstructionAt code c.to (instr_of arguments i)) (opposite_if c.at_zero c.register there) at) leads);
     fails = λ f there on st at leads. make on there
-        (h.holds f there on (subst (Stand code arguments from) (turned_are on there c.code) st) (subst (λ i. At code c.to (instr_of arguments i)) (opposite_if_not c.at_zero c.register there) at) leads);
+        (h.holds f there on (subst (Stand code arguments from) (turned_are on there c.code) st) (subst (λ i. InstructionAt code c.to (instr_of arguments i)) (opposite_if_not c.at_zero c.register there) at) leads);
   }
 
   -- a condition with its jump
@@ -179,7 +179,7 @@ module _ (code : Code) (arguments : List ℕ) (layout : Layout) where
               decides = goes_on T from free l c h (fits_before code arguments layout c.lists (used into c.lists) (grows_used c.lists c.lists into (grows_same c.lists)) f) (c.to + 3) first;
               gives_one = given code arguments layout home long Int (c.to + 1) (suc (c.to + 1)) free into refl m register rest.0;
               one_leads = inr rest.1.0;
-              gives_zero = given code arguments layout home short Int (c.to + 3) (suc (c.to + 3)) free into refl m register (subst (λ q. At code q (instr_of arguments short)) (omega arith) rest.1.1.0);
+              gives_zero = given code arguments layout home short Int (c.to + 3) (suc (c.to + 3)) free into refl m register (subst (λ q. InstructionAt code q (instr_of arguments short)) (omega arith) rest.1.1.0);
               zero_leads = inl (omega arith);
             };
       }

@@ -16,7 +16,7 @@ use Rattle.syntax.specs.Names.{Local, GlobalCells, newest, global_of, definition
 use Rattle.syntax.specs.Types.{Callable, Scope, number_type, element_type as element_of_symbol, call_type, common_of, binary_type, type_of, running_scope, known_function}
 use Rattle.syntax.specs.Typing.{may_be_function, gives_nothing}
 use Rattle.syntax.specs.Typing.{IsTypedProgram}
-use Rattle.syntax.specs.ScopeLaws.{Agrees}
+use Rattle.syntax.specs.ScopeLaws.{IsSubscope}
 use Rattle.syntax.proofs.TypedParts.{Knows, Gives, TypedExpr, TypedExprs}
 use Rattle.syntax.proofs.Fits.{scope_in, same_type_of, agrees_by_shape, shape_agrees}
 use Rattle.syntax.proofs.ValueTypes.{Found}
@@ -93,7 +93,7 @@ module _ (p : Program) (code : Code) (arguments : List ℕ) (layout : Layout) (t
     pub grows : Grows l e.lists
     pub stands : Fits code arguments layout e.lists → Stand code arguments from e.code → A from e.to free e.registers
 
-  module _ (known : Scope) (scope : LocalScope) (agrees : Agrees known (running_scope p scope)) where
+  module _ (known : Scope) (scope : LocalScope) (agrees : IsSubscope known (running_scope p scope)) where
     variable_emits : (home : Option ℕ) (o : Option (ℕ × Scalar)) (g : Option GlobalCells) (t : Scalar) → VariableFound (length scope) o g t → (from into free : ℕ) (l : Lists) → MayTake home free into →
         Emits code arguments layout (VariableCode code layout home (length scope) o g) from free l (variable o g from into l)
     variable_emits home (Some x) g t h from into free l m = in_local_emits code arguments layout (length scope) x.0 x.1 from free l h.0
@@ -204,8 +204,8 @@ module _ (p : Program) (code : Code) (arguments : List ℕ) (layout : Layout) (t
                   };
             }
 
-    like_agrees : (ls : List Local) → IsLike scope ls → Agrees known (running_scope p ls)
-    like_agrees ls like = agrees_by_shape p known ls (subst (λ m. Agrees known (scope_in p m)) (sym like) (shape_agrees p known scope agrees))
+    like_agrees : (ls : List Local) → IsLike scope ls → IsSubscope known (running_scope p ls)
+    like_agrees ls like = agrees_by_shape p known ls (subst (λ m. IsSubscope known (scope_in p m)) (sym like) (shape_agrees p known scope agrees))
 
     -- a value that did not come into the register that was asked for lies in a local's own
     elsewhere : (e : Expr) → TypedExpr known e → (from into free : ℕ) (l : Lists) →

@@ -11,7 +11,7 @@ use Rattle.syntax.specs.Names.{defined, definition_of}
 use Rattle.syntax.specs.Types.{Scope, Callable, Number, Array, Unknown, Known, file_scope, running_scope}
 use Rattle.syntax.specs.Typing.{demand, may_be_function, has_name, defined_names, parameter_names, agrees, is_worker, AreDefined, AreDistinct, AreTypedItems, IsTypedBody, IsTypedFunction, IsTypedProgram}
 use Rattle.syntax.specs.Laws.{shape}
-use Rattle.syntax.specs.ScopeLaws.{Agrees, body_scope}
+use Rattle.syntax.specs.ScopeLaws.{IsSubscope, body_scope}
 use Rattle.syntax.proofs.Demands.{AreMet, met_before, is_met}
 use Rattle.syntax.proofs.TypedParts.{stmts_parts}
 use Rattle.syntax.proofs.Fits.{scope_in, agrees_by_shape, shape_agrees}
@@ -23,7 +23,7 @@ use Rattle.bytecode.specs.declared.limits.TheConstants.{MOST_REGISTERS}
 use Rattle.bytecode.specs.Code.{Code, FunctionCode, Instr as Plain}
 use Rattle.bytecode.specs.Views.{instr_of}
 use Rattle.bytecode.specs.Beginning.{worker_among}
-use Rattle.lowered.specs.Expressions.{LocalScope, Layout, At}
+use Rattle.lowered.specs.Expressions.{LocalScope, Layout, InstructionAt}
 use Rattle.lowered.specs.Statements.{StmtsCode}
 use Rattle.lowered.specs.Programs as Lowered
 use Rattle.lowered.specs.Programs.{parameter_locals, FunctionIsLowered, IsLowered}
@@ -32,7 +32,7 @@ use Rattle.picked.specs.Names.{Callee, callee_at, callee_first, callee_from}
 use Rattle.picked.specs.Simples.{Written}
 use Rattle.picked.specs.Statements.{all_written}
 use Rattle.picked.specs.Loops.{in_loops}
-use Rattle.picked.specs.Programs.{no_exits, body_with, nothing_ready, all_set, body_ready, body_better, body_written, Made, function_code, put_before, made_first, all_made, made_of, picked_code}
+use Rattle.picked.specs.Programs.{no_exits, body_with, nothing_ready, all_set, body_ready, body_better, body_written, FunctionCodes, function_code, put_before, made_first, all_made, made_of, picked_code}
 use Rattle.picked.proofs.stands.Standing.{Stand, front, behind, IsFront, front_same, front_front, IsReadyIn, nothing_is_found, all_are_found}
 use Rattle.picked.proofs.stands.Exprs.{CalleesStand, DefinedAreCallees}
 use Rattle.picked.proofs.Leaner.{body_leaner}
@@ -154,7 +154,7 @@ module _ (p : Program) (typed : IsTypedProgram p) (cancels : CancelsAreFit p) wh
     goes_on : GoesOn l w.lists
     named : length f.parameters ≤ w.lists.registers
     stands : (layout : Layout) → IsReadyIn layout found → w.lists.registers ≤ layout.writable → GoesOn w.lists final → Stand code final.arguments from w.code →
-        StmtsCode code layout p (Lowered.no_exits f.result) (parameter_locals f.parameters) body from last × At code last (Plain.Return None)
+        StmtsCode code layout p (Lowered.no_exits f.result) (parameter_locals f.parameters) body from last × InstructionAt code last (Plain.Return None)
 
   body_runs : (found : Layout) (f : Function) (body : Stmts) → definition_of p f.name.text ≡ Some (f, body) → (from : ℕ) (l : Lists) → BodyRuns found f body from l (body_with found p f body from l)
   body_runs found f body e from l =
@@ -164,7 +164,7 @@ module _ (p : Program) (typed : IsTypedProgram p) (cancels : CancelsAreFit p) wh
       let known : Scope = body_scope t.earlier f in
       let vs : List Value = replicate n (record { of = Int; word = 0 }) in
       let enters = all_enter f.parameters vs (length-replicate n (record { of = Int; word = 0 })) in
-      let agrees : Agrees known (running_scope p scope) = agrees_by_shape p known scope (subst (λ m. Agrees known (scope_in p m)) (entered_shapes f.parameters vs enters.0 enters.1 ∙ sym (parameters_are f.parameters)) (shape_agrees p known enters.0 (t.fits vs enters.0 enters.1))) in
+      let agrees : IsSubscope known (running_scope p scope) = agrees_by_shape p known scope (subst (λ m. IsSubscope known (scope_in p m)) (entered_shapes f.parameters vs enters.0 enters.1 ∙ sym (parameters_are f.parameters)) (shape_agrees p known enters.0 (t.fits vs enters.0 enters.1))) in
       let first : Lists = record l { registers = n; layout = found } in
       let made = all_written p body (no_exits f.result) scope from first in
       let writes : (layout : Layout) → Writes p code final.arguments layout (StmtsCode code layout p (Lowered.no_exits f.result) scope body) from first made = (λ layout.
@@ -313,12 +313,12 @@ module _ (p : Program) (typed : IsTypedProgram p) (cancels : CancelsAreFit p) wh
     defines : definition_of p g.name ≡ Some (function, body)
     lowered : FunctionIsLowered p code g function body
 
-  record MadeStands (from : ℕ) (l : Lists) (made : Made) : Type 0 where
+  record MadeStands (from : ℕ) (l : Lists) (made : FunctionCodes) : Type 0 where
     to_is : made.to ≡ from + length made.code
     goes_on : GoesOn l made.lists
     stands : GoesOn made.lists final → Stand code final.arguments from made.code → (number : ℕ) (g : FunctionCode) → slice_get made.functions number ≡ Some g → IsOne g
 
-  one_more_stands : (f : Function) (body : Stmts) → definition_of p f.name.text ≡ Some (f, body) → (from : ℕ) (l : Lists) (w : Written) (rest : Made) → BodyStands f body from l w → MadeStands w.to w.lists rest → MadeStands from l (put_before (function_code f from w) w rest)
+  one_more_stands : (f : Function) (body : Stmts) → definition_of p f.name.text ≡ Some (f, body) → (from : ℕ) (l : Lists) (w : Written) (rest : FunctionCodes) → BodyStands f body from l w → MadeStands w.to w.lists rest → MadeStands from l (put_before (function_code f from w) w rest)
   one_more_stands f body e from l w rest b r = record {
     to_is = let x = b.to_is in let y = r.to_is in let u : length (w.code ++ rest.code) ≡ length w.code + length rest.code = length-append w.code rest.code in omega (arith, x, y, u);
     goes_on = on_further l w.lists rest.lists b.goes_on r.goes_on;

@@ -12,7 +12,7 @@ use Rattle.syntax.specs.Names.{GlobalCells, cells, newest, global_of}
 use Rattle.syntax.specs.Types.{Scope, with_number, running_scope}
 use Rattle.syntax.specs.Typing.{IsTypedProgram, knows, may_be_assigned, scope_of_start}
 use Rattle.syntax.specs.Laws.{shape}
-use Rattle.syntax.specs.ScopeLaws.{Agrees}
+use Rattle.syntax.specs.ScopeLaws.{IsSubscope}
 use Rattle.syntax.proofs.TypedParts.{TypedExpr, TypedTarget, TypedSimple, TypedDeclarators, TypedStart}
 use Rattle.syntax.proofs.Fits.{scope_in, agrees_by_shape, shape_agrees, one_more_fits}
 use Rattle.syntax.proofs.ValueTypes.{Found}
@@ -37,23 +37,23 @@ with_target a t = record { code = a.code; lists = a.lists; target = t; to = a.to
 
 module _ (p : Program) where
   -- one more local is known in both
-  pub one_more_agrees : (known : Scope) (scope : LocalScope) (x : List ℕ) (t : Scalar) → Agrees known (running_scope p scope) → Agrees (with_number x t known) (running_scope p (with_local scope x t))
+  pub one_more_agrees : (known : Scope) (scope : LocalScope) (x : List ℕ) (t : Scalar) → IsSubscope known (running_scope p scope) → IsSubscope (with_number x t known) (running_scope p (with_local scope x t))
   one_more_agrees known scope x t h =
       agrees_by_shape p (with_number x t known) (with_local scope x t)
-      (subst (λ m. Agrees (with_number x t known) (scope_in p m)) (sym (map-append shape scope (record { name = x; of = t; word = 0 } ∷ [])))
+      (subst (λ m. IsSubscope (with_number x t known) (scope_in p m)) (sym (map-append shape scope (record { name = x; of = t; word = 0 } ∷ [])))
       (one_more_fits p known (map shape scope) x t (shape_agrees p known scope h)))
 
-  pub declared_agrees : (t : Scalar) (ds : List Declarator) (known : Scope) (scope : LocalScope) → Agrees known (running_scope p scope) → Agrees (knows t ds known) (running_scope p (with_declared t ds scope))
+  pub declared_agrees : (t : Scalar) (ds : List Declarator) (known : Scope) (scope : LocalScope) → IsSubscope known (running_scope p scope) → IsSubscope (knows t ds known) (running_scope p (with_declared t ds scope))
   declared_agrees t [] known scope h = h
   declared_agrees t (d ∷ ds) known scope h = declared_agrees t ds (with_number d.name.text t known) (with_local scope d.name.text t) (one_more_agrees known scope d.name.text t h)
 
-  pub start_agrees : (s : Start) (known : Scope) (scope : LocalScope) → Agrees known (running_scope p scope) → Agrees (scope_of_start s known) (running_scope p (locals_of_start s scope))
+  pub start_agrees : (s : Start) (known : Scope) (scope : LocalScope) → IsSubscope known (running_scope p scope) → IsSubscope (scope_of_start s known) (running_scope p (locals_of_start s scope))
   start_agrees Nothing known scope h = h
   start_agrees (Declares d) known scope h = declared_agrees d.of d.declarators known scope h
   start_agrees (Does s) known scope h = h
 
 module _ (p : Program) (code : Code) (arguments : List ℕ) (layout : Layout) (typed : IsTypedProgram p) (stand : CalleesStand p code) (defined : DefinedAreCallees p) where
-  module _ (known : Scope) (scope : LocalScope) (agrees : Agrees known (running_scope p scope)) where
+  module _ (known : Scope) (scope : LocalScope) (agrees : IsSubscope known (running_scope p scope)) where
     -- where an assignment goes, with its index tested or to be read at once
     abbrev Goes : Bool → Expr → (from to : ℕ) → Target → Type 0
     Goes true lhs from to t = TargetCode code layout p scope lhs from to (length scope) t
@@ -259,7 +259,7 @@ module _ (p : Program) (code : Code) (arguments : List ℕ) (layout : Layout) (t
   one_longer : (scope : LocalScope) (x : List ℕ) (t : Scalar) → length (with_local scope x t) ≡ suc (length scope)
   one_longer scope x t = let h : length (with_local scope x t) ≡ length scope + 1 = length-append scope (record { name = x; of = t; word = 0 } ∷ []) in omega (arith, h)
 
-  first_writes : (known : Scope) (scope : LocalScope) → Agrees known (running_scope p scope) → (i : ℕ) (t : Scalar) (first : Option Expr) → length scope ≡ suc i → IfSome first (TypedExpr known) → (from : ℕ) (l : Lists) →
+  first_writes : (known : Scope) (scope : LocalScope) → IsSubscope known (running_scope p scope) → (i : ℕ) (t : Scalar) (first : Option Expr) → length scope ≡ suc i → IfSome first (TypedExpr known) → (from : ℕ) (l : Lists) →
       Writes p code arguments layout (FirstValueCode code layout p scope (i, t) first) from l (first_written p scope i t first from l)
   first_writes known scope agrees i t None n h from l = nothing_writes p code arguments layout from l
   first_writes known scope agrees i t (Some e) n h from l =
@@ -272,7 +272,7 @@ module _ (p : Program) (code : Code) (arguments : List ℕ) (layout : Layout) (t
         stands = λ f st. record { free = suc i; room = omega (arith, n); stores = w.stands f st };
       }
 
-  pub declared_writes : (t : Scalar) (ds : List Declarator) (known : Scope) (scope : LocalScope) → Agrees known (running_scope p scope) → TypedDeclarators known t ds → (from : ℕ) (l : Lists) →
+  pub declared_writes : (t : Scalar) (ds : List Declarator) (known : Scope) (scope : LocalScope) → IsSubscope known (running_scope p scope) → TypedDeclarators known t ds → (from : ℕ) (l : Lists) →
       Writes p code arguments layout (DeclareCode code layout p t ds scope) from l (declared_written p t ds scope from l)
   declared_writes t [] known scope agrees h from l = nothing_writes p code arguments layout from l
   declared_writes t (d ∷ ds) known scope agrees h from l =
@@ -303,7 +303,7 @@ module _ (p : Program) (code : Code) (arguments : List ℕ) (layout : Layout) (t
             };
       }
 
-  pub start_writes : (s : Start) (known : Scope) (scope : LocalScope) → Agrees known (running_scope p scope) → TypedStart known s → (from : ℕ) (l : Lists) →
+  pub start_writes : (s : Start) (known : Scope) (scope : LocalScope) → IsSubscope known (running_scope p scope) → TypedStart known s → (from : ℕ) (l : Lists) →
       Writes p code arguments layout (StartCode code layout p scope s) from l (start_written p s scope from l)
   start_writes Nothing known scope agrees h from l = nothing_writes p code arguments layout from l
   start_writes (Declares d) known scope agrees h from l = declared_writes d.of d.declarators known scope agrees h from l

@@ -6,7 +6,7 @@ use Rattle.bytecode.specs.declared.instr.Instr.{Instr}
 use Rattle.bytecode.specs.Code.{Code}
 use Rattle.bytecode.specs.Views.{instr_of}
 use Rattle.bytecode.specs.declared.limits.TheConstants.{MOST_REGISTERS}
-use Rattle.lowered.specs.Expressions.{Layout, At, MayTake, GivenBy}
+use Rattle.lowered.specs.Expressions.{Layout, InstructionAt, MayTake, GivenBy}
 use Rattle.picked.specs.Lists.{Lists, used}
 use Rattle.picked.specs.Expressions.{ready_from}
 use Rattle.picked.specs.Programs.{nothing_ready}
@@ -15,7 +15,7 @@ use Rattle.picked.specs.Programs.{nothing_ready}
 module _ (code : Code) (arguments : List ℕ) where
   abbrev pub Stand : ℕ → List Instr → Type 0
   Stand q [] = Unit {0}
-  Stand q (i ∷ is) = At code q (instr_of arguments i) × Stand (suc q) is
+  Stand q (i ∷ is) = InstructionAt code q (instr_of arguments i) × Stand (suc q) is
 
   pub front : (q : ℕ) (a b : List Instr) → Stand q (a ++ b) → Stand q a
   front q [] b h = tt
@@ -116,5 +116,5 @@ module _ (code : Code) (arguments : List ℕ) (layout : Layout) where
   is_register l r h = let a = h.registers in let b = max_right l.registers (suc r) in omega (arith, a, b)
 
   -- one instruction that gives a value
-  pub given : (home : Option ℕ) (i : Instr) (u : Scalar) (from to free r : ℕ) → to ≡ suc from → MayTake home free r → r < layout.writable → At code from (instr_of arguments i) → GivenBy code layout home (instr_of arguments i) u from to free r u
+  pub given : (home : Option ℕ) (i : Instr) (u : Scalar) (from to free r : ℕ) → to ≡ suc from → MayTake home free r → r < layout.writable → InstructionAt code from (instr_of arguments i) → GivenBy code layout home (instr_of arguments i) u from to free r u
   given home i u from to free r e m s at = record { to_is = e; takes = m; register = s; type_is = refl; instr = at }

@@ -15,13 +15,13 @@ use Rattle.syntax.specs.Formats.{Piece, Literal, Figure, pieces, figures}
 use Rattle.syntax.specs.Types.{Scope, running_scope}
 use Rattle.syntax.specs.Typing as Typing
 use Rattle.syntax.specs.Typing.{IsTypedProgram, count, scope_of_start}
-use Rattle.syntax.specs.ScopeLaws.{Agrees}
+use Rattle.syntax.specs.ScopeLaws.{IsSubscope}
 use Rattle.syntax.proofs.TypedParts.{TypedExprs, TypedExpr, TypedSimple, TypedStmt, TypedStmts}
 use Rattle.bytecode.specs.declared.instr.Instr.{Instr}
 use Rattle.bytecode.specs.declared.instr.Instr.TheVariants as own
 use Rattle.bytecode.specs.Code.{Code, Instr as Plain}
 use Rattle.bytecode.specs.Views.{instr_of}
-use Rattle.lowered.specs.Expressions.{LocalScope, Coded, Layout, At, TypedCode, types_left, ExprCode, CondCode, ArgsCode}
+use Rattle.lowered.specs.Expressions.{LocalScope, Coded, Layout, InstructionAt, TypedCode, types_left, ExprCode, CondCode, ArgsCode}
 use Rattle.lowered.specs.Statements as Lowered
 use Rattle.lowered.specs.Statements.{StartCode, IfCode, IfElseCode, WhileCode, DoWhileCode, ForCode, PrintCode, TransactionCode, OuterCancelCode, Exits, with_level, in_transaction, cancelling, looping, locals_of_start, locals_after, Leaves, ResultCode, TestCode, HoldsCode, SteppedCode, PiecesCode, StmtCode, StmtsCode}
 use Rattle.picked.specs.declared.held.Exits.{Exits as OwnExits}
@@ -117,7 +117,7 @@ registers_are p scope ts (Exprs.◌∷◌ e es) from free l =
 
 module _ (p : Program) where
   -- a statement keeps what is known and its locals alike
-  pub after_agrees : (s : Stmt) (known : Scope) (scope : LocalScope) → Agrees known (running_scope p scope) → Agrees (Typing.scope_after s known) (running_scope p (locals_after s scope))
+  pub after_agrees : (s : Stmt) (known : Scope) (scope : LocalScope) → IsSubscope known (running_scope p scope) → IsSubscope (Typing.scope_after s known) (running_scope p (locals_after s scope))
   after_agrees Empty known scope h = h
   after_agrees (Declare d) known scope h = declared_agrees p d.of d.declarators known scope h
   after_agrees (Do s) known scope h = h
@@ -188,12 +188,12 @@ module _ (p : Program) (code : Code) (arguments : List ℕ) (layout : Layout) wh
         to_is = let a = g.to_is in omega (arith, a);
         grows = g.grows;
         stands = λ f st.
-            (subst (λ i. At code from i) (printing_is t r) st.0, subst (λ q. PiecesCode code layout p ps rs q rest.to) (omega arith) (g.stands f (subst (λ q. Stand code arguments q rest.code) (omega arith) st.1)));
+            (subst (λ i. InstructionAt code from i) (printing_is t r) st.0, subst (λ q. PiecesCode code layout p ps rs q rest.to) (omega arith) (g.stands f (subst (λ q. Stand code arguments q rest.code) (omega arith) st.1)));
       }
 
 module _ (p : Program) (code : Code) (arguments : List ℕ) (layout : Layout) (typed : IsTypedProgram p) (stand : CalleesStand p code) (defined : DefinedAreCallees p) where
   -- a condition and a jump that is taken where it holds
-  back_writes : (known : Scope) (scope : LocalScope) → Agrees known (running_scope p scope) → (c : Expr) → TypedExpr known c → (there from : ℕ) (l : Lists) →
+  back_writes : (known : Scope) (scope : LocalScope) → IsSubscope known (running_scope p scope) → (c : Expr) → TypedExpr known c → (there from : ℕ) (l : Lists) →
       Writes p code arguments layout (λ from to. TestCode code layout p scope (CondCode code layout p scope c) from there to) from l (tested_back (condition p scope c from (length scope) l) there)
   back_writes known scope agrees c h there from l =
       let k = condition p scope c from (length scope) l in
@@ -206,7 +206,7 @@ module _ (p : Program) (code : Code) (arguments : List ℕ) (layout : Layout) (t
       }
 
   -- a condition, and a jump past what is done where it holds
-  module _ (known : Scope) (scope : LocalScope) (agrees : Agrees known (running_scope p scope)) (c : Expr) (h : TypedExpr known c) (from : ℕ) (l : Lists) where
+  module _ (known : Scope) (scope : LocalScope) (agrees : IsSubscope known (running_scope p scope)) (c : Expr) (h : TypedExpr known c) (from : ℕ) (l : Lists) where
     abbrev k : Condition
     k = condition p scope c from (length scope) l
 
@@ -272,8 +272,8 @@ module _ (p : Program) (code : Code) (arguments : List ℕ) (layout : Layout) (t
         }
 
   -- loops: jumps and pads, and the parts behind them
-  jump_at : (n q to : ℕ) → n ≡ q → At code n (Plain.Jump to) → At code q (Plain.Jump to)
-  jump_at n q to e h = subst (λ m. At code m (Plain.Jump to)) e h
+  jump_at : (n q to : ℕ) → n ≡ q → InstructionAt code n (Plain.Jump to) → InstructionAt code q (Plain.Jump to)
+  jump_at n q to e h = subst (λ m. InstructionAt code m (Plain.Jump to)) e h
 
   loop_writes : (x : Exits) (scope : LocalScope) (c : Expr) (A : Exits → ℕ → ℕ → Type 0) (from : ℕ) (l : Lists) (a test : Written) →
       Writes p code arguments layout (A (looping x (from + 1) from)) (from + 2) l a →
@@ -379,17 +379,17 @@ module _ (p : Program) (code : Code) (arguments : List ℕ) (layout : Layout) (t
             };
       }
 
-  step_writes : (known : Scope) (scope : LocalScope) → Agrees known (running_scope p scope) → (step : Option Simple) → IfSome step (TypedSimple known) → (from : ℕ) (l : Lists) →
+  step_writes : (known : Scope) (scope : LocalScope) → IsSubscope known (running_scope p scope) → (step : Option Simple) → IfSome step (TypedSimple known) → (from : ℕ) (l : Lists) →
       Writes p code arguments layout (SteppedCode code layout p scope step) from l (for_step p scope step from l)
   step_writes known scope agrees None h from l = nothing_writes p code arguments layout from l
   step_writes known scope agrees (Some s) h from l = simple_writes p code arguments layout typed stand defined known scope agrees s h from l
 
-  test_writes : (known : Scope) (scope : LocalScope) → Agrees known (running_scope p scope) → (c : Option Expr) → IfSome c (TypedExpr known) → (there from : ℕ) (l : Lists) →
+  test_writes : (known : Scope) (scope : LocalScope) → IsSubscope known (running_scope p scope) → (c : Option Expr) → IfSome c (TypedExpr known) → (there from : ℕ) (l : Lists) →
       Writes p code arguments layout (λ from' to. HoldsCode code layout p scope c from' there to) from l (for_test p scope c there from l)
   test_writes known scope agrees None h there from l = one_writes p code arguments layout (λ from' to. HoldsCode code layout p scope None from' there to) (own.Jump there) from l (λ at. at)
   test_writes known scope agrees (Some c) h there from l = back_writes known scope agrees c h there from l
 
-  return_writes : (known : Scope) (scope : LocalScope) → Agrees known (running_scope p scope) → (e : Expr) → TypedExpr known e → (u v : Scalar) (n m from : ℕ) → u ≡ v → m ≡ n → (l : Lists) →
+  return_writes : (known : Scope) (scope : LocalScope) → IsSubscope known (running_scope p scope) → (e : Expr) → TypedExpr known e → (u v : Scalar) (n m from : ℕ) → u ≡ v → m ≡ n → (l : Lists) →
       Writes p code arguments layout (λ from to. (mid : ℕ) × (r : ℕ) × ResultCode code layout p scope u e from mid r × Leaves code layout p mid m (Plain.Return (Some r))) from l
       (returned n (due p scope v e from (length scope) (length scope) l))
   return_writes known scope agrees e h u v n m from gives same l =
@@ -402,7 +402,7 @@ module _ (p : Program) (code : Code) (arguments : List ℕ) (layout : Layout) (t
       (left_writes p code arguments layout n i x.held.to x.lists)
       (λ a b. (x.held.to, x.held.register, record { free = length scope; room = omega arith; computes = subst (λ t. TypedCode code layout None e (ExprCode code layout p None scope e) t from x.held.to (length scope) x.held.register) (sym gives) a }, subst (λ k. Leaves code layout p x.held.to k (Plain.Return (Some x.held.register))) (sym same) b))
 
-  print_writes : (known : Scope) (scope : LocalScope) → Agrees known (running_scope p scope) → (format : List ℕ) (es : Exprs) → TypedExprs known es → IsTrue (length (figures (pieces format)) == count es) → (from : ℕ) (l : Lists) →
+  print_writes : (known : Scope) (scope : LocalScope) → IsSubscope known (running_scope p scope) → (format : List ℕ) (es : Exprs) → TypedExprs known es → IsTrue (length (figures (pieces format)) == count es) → (from : ℕ) (l : Lists) →
       Writes p code arguments layout (PrintCode code layout p scope format es) from l (print_written (all_emitted p scope [] es (from + 1) (length scope) l) (pieces format))
   print_writes known scope agrees format es h n from l =
       let args = all_emitted p scope [] es (from + 1) (length scope) l in
@@ -458,11 +458,11 @@ module _ (p : Program) (code : Code) (arguments : List ℕ) (layout : Layout) (t
       Writes p code arguments layout (λ from to. OuterCancelCode code layout p levels from) from l (one_written (Own.cancelling n) from l)
   outer_cancel_writes None inside n e from l = absurd inside
   outer_cancel_writes (Some levels) inside n e from l =
-      subst (λ n. Writes p code arguments layout (λ from to. At code from (cancelling levels)) from l (one_written (Own.cancelling n) from l)) (sym e)
-      (one_writes p code arguments layout (λ from to. At code from (cancelling levels)) (Own.cancelling (suc levels)) from l (λ a. subst (λ i. At code from i) (cancelling_is levels) a))
+      subst (λ n. Writes p code arguments layout (λ from to. InstructionAt code from (cancelling levels)) from l (one_written (Own.cancelling n) from l)) (sym e)
+      (one_writes p code arguments layout (λ from to. InstructionAt code from (cancelling levels)) (Own.cancelling (suc levels)) from l (λ a. subst (λ i. InstructionAt code from i) (cancelling_is levels) a))
 
   mutual
-    pub stmt_writes : (s : Stmt) (known : Scope) (looping : Bool) (scope : LocalScope) (x : OwnExits) (y : Exits) → Agrees known (running_scope p scope) → SameExits x y → TypedStmt s known looping → CancelsFit s (enclosing y) → (from : ℕ) (l : Lists) →
+    pub stmt_writes : (s : Stmt) (known : Scope) (looping : Bool) (scope : LocalScope) (x : OwnExits) (y : Exits) → IsSubscope known (running_scope p scope) → SameExits x y → TypedStmt s known looping → CancelsFit s (enclosing y) → (from : ℕ) (l : Lists) →
         Writes p code arguments layout (StmtCode code layout p y scope s) from l (written p s x scope from l)
     stmt_writes Empty known looping scope x y agrees same h c from l = nothing_writes p code arguments layout from l
     stmt_writes (Declare d) known looping scope x y agrees same h c from l = declared_writes p code arguments layout typed stand defined d.of d.declarators known scope agrees h from l
@@ -519,7 +519,7 @@ module _ (p : Program) (code : Code) (arguments : List ℕ) (layout : Layout) (t
     stmt_writes (Cancel at) known looping scope x y agrees same h c from l = one_writes p code arguments layout (StmtCode code layout p y scope (Cancel at)) own.Cancel from l (λ a. (c, a))
     stmt_writes (CancelOuter at) known looping scope x y agrees same h c from l = outer_cancel_writes y.in_outer c x.to_outer same.to_outer from l
 
-    pub stmts_write : (ss : Stmts) (known : Scope) (looping : Bool) (scope : LocalScope) (x : OwnExits) (y : Exits) → Agrees known (running_scope p scope) → SameExits x y → TypedStmts ss known looping → AllCancelsFit ss (enclosing y) → (from : ℕ) (l : Lists) →
+    pub stmts_write : (ss : Stmts) (known : Scope) (looping : Bool) (scope : LocalScope) (x : OwnExits) (y : Exits) → IsSubscope known (running_scope p scope) → SameExits x y → TypedStmts ss known looping → AllCancelsFit ss (enclosing y) → (from : ℕ) (l : Lists) →
         Writes p code arguments layout (StmtsCode code layout p y scope ss) from l (all_written p ss x scope from l)
     stmts_write Stmts.[] known looping scope x y agrees same h c from l = nothing_writes p code arguments layout from l
     stmts_write (Stmts.◌∷◌ s ss) known looping scope x y agrees same h c from l =

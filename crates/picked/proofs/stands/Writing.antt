@@ -10,7 +10,7 @@ use Rattle.bytecode.specs.declared.instr.Instr.{Instr}
 use Rattle.bytecode.specs.declared.instr.Instr.TheVariants as own
 use Rattle.bytecode.specs.Code.{Code, Instr as Plain}
 use Rattle.bytecode.specs.Views.{instr_of}
-use Rattle.lowered.specs.Expressions.{LocalScope, Coded, Layout, At, MayTake, constant_in, widening as lowered_widening, GivenBy, ConvertedBy, ExprCode}
+use Rattle.lowered.specs.Expressions.{LocalScope, Coded, Layout, InstructionAt, MayTake, constant_in, widening as lowered_widening, GivenBy, ConvertedBy, ExprCode}
 use Rattle.lowered.specs.Statements.{Target, LocalAt, CellAt, ElementOf, home_of, target_type, due as due_at, Spares, FetchCode, StoreCode, WordStored, ExprStored}
 use Rattle.picked.specs.declared.held.Target.{Target as OwnTarget}
 use Rattle.picked.specs.declared.held.Target.TheVariants as target
@@ -51,7 +51,7 @@ module _ (p : Program) (code : Code) (arguments : List ℕ) (layout : Layout) wh
   pub nothing_writes : (from : ℕ) (l : Lists) → Writes (λ from to. to ≡ from) from l (nothing_written from l)
   nothing_writes from l = record { to_is = omega arith; grows = grows_same l; stands = λ f st. refl }
 
-  pub one_writes : (A : ℕ → ℕ → Type 0) (i : Instr) (from : ℕ) (l : Lists) → (At code from (instr_of arguments i) → A from (from + 1)) → Writes A from l (one_written i from l)
+  pub one_writes : (A : ℕ → ℕ → Type 0) (i : Instr) (from : ℕ) (l : Lists) → (InstructionAt code from (instr_of arguments i) → A from (from + 1)) → Writes A from l (one_written i from l)
   one_writes A i from l make = record { to_is = omega arith; grows = grows_same l; stands = λ f st. make st.0 }
 
   pub writes_as : (A B : ℕ → ℕ → Type 0) (from : ℕ) (l : Lists) (w : Written) → Writes A from l w → (A from w.to → B from w.to) → Writes B from l w

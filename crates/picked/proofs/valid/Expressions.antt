@@ -11,7 +11,7 @@ use Rattle.syntax.specs.Numbers.{common, operand_type}
 use Rattle.syntax.specs.Names.{GlobalCells, cells, newest, global_of, globals, initial_from}
 use Rattle.syntax.specs.Types.{Known, Number, Callable, Scope, file_scope, running_scope}
 use Rattle.syntax.specs.Typing.{may_be_function, takes_so_many, count, IsTypedProgram}
-use Rattle.syntax.specs.ScopeLaws.{Agrees}
+use Rattle.syntax.specs.ScopeLaws.{IsSubscope}
 use Rattle.syntax.proofs.TypedParts.{Knows, TypedExpr, TypedExprs}
 use Rattle.bytecode.specs.declared.instr.Instr.{Instr}
 use Rattle.bytecode.specs.declared.instr.Instr.TheVariants as own
@@ -41,7 +41,7 @@ module _ (p : Program) (code : Code) (arguments : List ℕ) (f : FunctionCode) (
   pub cells_are : (x : List ℕ) (c : GlobalCells) → global_of p x ≡ Some c → c.cell + cells c.global ≤ cells_of code
   cells_are x c e = subst (λ gs. c.cell + cells c.global ≤ length (initial_from gs)) (sym shares) (let h = cells_lie 0 (globals p) x c e in omega (arith, h))
 
-  module _ (known : Scope) (scope : LocalScope) (agrees : Agrees known (running_scope p scope)) where
+  module _ (known : Scope) (scope : LocalScope) (agrees : IsSubscope known (running_scope p scope)) where
     -- a global that a variable stands for has its one cell
     pub cell_is : (x : Name) (t : Scalar) → Knows known x → known x.text ≡ Number t → newest scope x.text ≡ None → (c : GlobalCells) → global_of p x.text ≡ Some c → c.cell + 1 ≤ cells_of code
     cell_is x t h k n c e =

@@ -10,7 +10,7 @@ use Rattle.bytecode.specs.declared.instr.Instr.TheVariants as own
 use Rattle.bytecode.specs.Code.{Code, FunctionCode, Instr as Plain}
 use Rattle.bytecode.specs.Valid.{cancel_of, cancelled_in}
 use Rattle.bytecode.specs.Views.{instr_of}
-use Rattle.lowered.specs.Expressions.{At}
+use Rattle.lowered.specs.Expressions.{InstructionAt}
 use Rattle.lowered.specs.Statements.{with_level}
 use Rattle.picked.specs.declared.held.Exits.{Exits}
 use Rattle.picked.specs.Lists.{Lists}
@@ -185,7 +185,7 @@ module _ (code : Code) (arguments : List ℕ) (f : FunctionCode) (end : ℕ) whe
       one_part (Exiting bs x loops m) bs (cancelling x.to_outer) from l (λ o k first last are e exits. outer_cancel_good o m.in_outer x.to_outer from bs inside exits.to_outer are exits.outer_cancels)
 
   -- what a cancel leads to in one transaction more
-  cancelled_here : (open_at : ℕ → List ℕ) (b to : ℕ) (bs : List ℕ) → At code b (Plain.Begin to) → Meets code arguments f end open_at (to, bs) → IsCancelled 0 (b ∷ bs) open_at
+  cancelled_here : (open_at : ℕ → List ℕ) (b to : ℕ) (bs : List ℕ) → InstructionAt code b (Plain.Begin to) → Meets code arguments f end open_at (to, bs) → IsCancelled 0 (b ∷ bs) open_at
   cancelled_here o b to bs begins out =
       (omega arith, subst (λ s. AllByRecursion (Meets code arguments f end o) (cancel_of s [] (λ (to : ℕ). (to, bs) ∷ []))) (sym begins) (out, tt))
 

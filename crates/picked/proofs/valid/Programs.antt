@@ -11,7 +11,7 @@ use Rattle.syntax.specs.declared.numbers.Value.{Value}
 use Rattle.syntax.specs.Names.{globals, definition_of}
 use Rattle.syntax.specs.Types.{Scope, Known, Callable, file_scope, running_scope, known_function}
 use Rattle.syntax.specs.Typing.{demand, may_be_function, has_name, defined_names, parameter_names, agrees, is_worker, same_types, AreDistinct, AreTypedItems, IsTypedBody, IsTypedFunction, IsTypedProgram}
-use Rattle.syntax.specs.ScopeLaws.{Agrees, body_scope}
+use Rattle.syntax.specs.ScopeLaws.{IsSubscope, body_scope}
 use Rattle.syntax.proofs.Demands.{AreMet, met_before, is_met}
 use Rattle.syntax.proofs.TypedParts.{stmts_parts}
 use Rattle.syntax.proofs.Fits.{scope_in, agrees_by_shape, shape_agrees}
@@ -30,7 +30,7 @@ use Rattle.picked.specs.Names.{callee_at}
 use Rattle.picked.specs.Simples.{Written}
 use Rattle.picked.specs.Statements.{all_written}
 use Rattle.picked.specs.Loops.{Looped, is_more, one_more, looped_by, looped_from, in_loops}
-use Rattle.picked.specs.Programs.{no_exits, body_with, nothing_ready, all_set, body_ready, body_better, body_written, Made, function_code, put_before, made_first, all_made, made_of, picked_code}
+use Rattle.picked.specs.Programs.{no_exits, body_with, nothing_ready, all_set, body_ready, body_better, body_written, FunctionCodes, function_code, put_before, made_first, all_made, made_of, picked_code}
 use Rattle.picked.specs.Laws.{IsWithinLimits}
 use Rattle.picked.proofs.Leaner.{body_leaner}
 use Rattle.picked.proofs.stands.Standing.{Stand, front, behind, IsFront, front_same}
@@ -137,7 +137,7 @@ module _ (p : Program) (typed : IsTypedProgram p) (cancels : CancelsAreFit p) (c
       let known : Scope = body_scope t.earlier f in
       let vs : List Value = replicate n (record { of = Int; word = 0 }) in
       let enters = all_enter f.parameters vs (length-replicate n (record { of = Int; word = 0 })) in
-      let agrees : Agrees known (running_scope p scope) = agrees_by_shape p known scope (subst (λ m. Agrees known (scope_in p m)) (entered_shapes f.parameters vs enters.0 enters.1 ∙ sym (parameters_are f.parameters)) (shape_agrees p known enters.0 (t.fits vs enters.0 enters.1))) in
+      let agrees : IsSubscope known (running_scope p scope) = agrees_by_shape p known scope (subst (λ m. IsSubscope known (scope_in p m)) (entered_shapes f.parameters vs enters.0 enters.1 ∙ sym (parameters_are f.parameters)) (shape_agrees p known enters.0 (t.fits vs enters.0 enters.1))) in
       let first : Lists = record l { registers = n; layout = layout } in
       let made = all_written p body (no_exits f.result) scope from first in
       let end : ℕ = made.to + 1 in
@@ -279,7 +279,7 @@ module _ (p : Program) (typed : IsTypedProgram p) (cancels : CancelsAreFit p) wh
   abbrev Covers : List FunctionCode → ℕ → Type 0
   Covers functions q = (number : ℕ) × (g : FunctionCode) × (slice_get functions number ≡ Some g) × (g.first ≤ q) × (q < end_before code (drop (suc number) functions))
 
-  record MadeValid (from : ℕ) (l : Lists) (made : Made) : Type 0 where
+  record MadeValid (from : ℕ) (l : Lists) (made : FunctionCodes) : Type 0 where
     to_is : made.to ≡ from + length made.code
     goes_on : GoesOn l made.lists
     begins : made.to ≡ length code.instructions → end_before code made.functions ≡ from
@@ -287,7 +287,7 @@ module _ (p : Program) (typed : IsTypedProgram p) (cancels : CancelsAreFit p) wh
     valid : made.to ≡ length code.instructions → GoesOn made.lists final → Stand code final.arguments from made.code → ((number : ℕ) (g : FunctionCode) → slice_get made.functions number ≡ Some g → g.registers ≤ MOST_REGISTERS) →
         (number : ℕ) (g : FunctionCode) → slice_get made.functions number ≡ Some g → IsValidFunction code g (end_before code (drop (suc number) made.functions))
 
-  one_more_valid : (f : Function) (from : ℕ) (l : Lists) (w : Written) (rest : Made) → BodyValid f from l w → MadeValid w.to w.lists rest → MadeValid from l (put_before (function_code f from w) w rest)
+  one_more_valid : (f : Function) (from : ℕ) (l : Lists) (w : Written) (rest : FunctionCodes) → BodyValid f from l w → MadeValid w.to w.lists rest → MadeValid from l (put_before (function_code f from w) w rest)
   one_more_valid f from l w rest b r = record {
     to_is = let x = b.to_is in let y = r.to_is in let u : length (w.code ++ rest.code) ≡ length w.code + length rest.code = length-append w.code rest.code in omega (arith, x, y, u);
     goes_on = on_further l w.lists rest.lists b.goes_on r.goes_on;

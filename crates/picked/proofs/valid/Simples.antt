@@ -12,7 +12,7 @@ use Rattle.syntax.specs.Meaning.{op_of}
 use Rattle.syntax.specs.Names.{GlobalCells, cells, newest, global_of, globals}
 use Rattle.syntax.specs.Types.{Scope, with_number, running_scope}
 use Rattle.syntax.specs.Typing.{IsTypedProgram, may_be_assigned}
-use Rattle.syntax.specs.ScopeLaws.{Agrees}
+use Rattle.syntax.specs.ScopeLaws.{IsSubscope}
 use Rattle.syntax.proofs.TypedParts.{TypedExpr, TypedTarget, TypedSimple, TypedDeclarators, TypedStart}
 use Rattle.bytecode.specs.declared.instr.Instr.{Instr}
 use Rattle.bytecode.specs.declared.instr.Instr.TheVariants as own
@@ -174,7 +174,7 @@ module _ (code : Code) (arguments : List ℕ) (f : FunctionCode) (end : ℕ) whe
       }
 
   module _ (p : Program) (typed : IsTypedProgram p) (takes : CalleesTake p code) (defined : DefinedAreCallees p) (shares : code.globals ≡ globals p) where
-    module _ (known : Scope) (scope : LocalScope) (agrees : Agrees known (running_scope p scope)) where
+    module _ (known : Scope) (scope : LocalScope) (agrees : IsSubscope known (running_scope p scope)) where
       sound : (e : Expr) → TypedExpr known e → (from into free : ℕ) (l : Lists) → Sound code arguments f end from l (emitted p scope e from into free l)
       sound e h from into free l = expr_sound p code arguments f end typed takes defined shares known scope agrees e h from into free l
 
@@ -228,7 +228,7 @@ module _ (code : Code) (arguments : List ℕ) (f : FunctionCode) (end : ℕ) whe
       simple_flat (Assign lhs (Some op) e) h from l = adjusted_flat op lhs (Some e) h.0 h.1 h.2 from l
       simple_flat (Adjust lhs by) h from l = adjusted_flat (op_of by) lhs None h.0 tt h.1 from l
 
-    first_flat : (known : Scope) (scope : LocalScope) → Agrees known (running_scope p scope) → (i : ℕ) (t : Scalar) (first : Option Expr) → IfSome first (TypedExpr known) → (from : ℕ) (l : Lists) → i < l.registers → Flat from l (first_written p scope i t first from l)
+    first_flat : (known : Scope) (scope : LocalScope) → IsSubscope known (running_scope p scope) → (i : ℕ) (t : Scalar) (first : Option Expr) → IfSome first (TypedExpr known) → (from : ℕ) (l : Lists) → i < l.registers → Flat from l (first_written p scope i t first from l)
     first_flat known scope agrees i t None h from l k = nothing_flat from l
     first_flat known scope agrees i t (Some e) h from l k =
         let s : Scalar = emitted_type p scope e in
@@ -236,7 +236,7 @@ module _ (code : Code) (arguments : List ℕ) (f : FunctionCode) (end : ℕ) whe
         then_stored_flat (target.Local i t) from l (expr_fitting (target.Local i t) s e v from i l)
         (expr_fitting_sound (target.Local i t) s e v from i l (sound known scope agrees e h from i (suc i) l)) k
 
-    pub declared_flat : (t : Scalar) (ds : List Declarator) (known : Scope) (scope : LocalScope) → Agrees known (running_scope p scope) → TypedDeclarators known t ds → (from : ℕ) (l : Lists) → Flat from l (declared_written p t ds scope from l)
+    pub declared_flat : (t : Scalar) (ds : List Declarator) (known : Scope) (scope : LocalScope) → IsSubscope known (running_scope p scope) → TypedDeclarators known t ds → (from : ℕ) (l : Lists) → Flat from l (declared_written p t ds scope from l)
     declared_flat t [] known scope agrees h from l = nothing_flat from l
     declared_flat t (d ∷ ds) known scope agrees h from l =
         let i : ℕ = length scope in
@@ -262,7 +262,7 @@ module _ (code : Code) (arguments : List ℕ) (f : FunctionCode) (end : ℕ) whe
         }) in
         then_flat from l one (declared_written p t ds inner one.to one.lists) one_is (declared_flat t ds known' inner ahead h.1 one.to one.lists)
 
-    pub start_flat : (s : Start) (known : Scope) (scope : LocalScope) → Agrees known (running_scope p scope) → TypedStart known s → (from : ℕ) (l : Lists) → Flat from l (start_written p s scope from l)
+    pub start_flat : (s : Start) (known : Scope) (scope : LocalScope) → IsSubscope known (running_scope p scope) → TypedStart known s → (from : ℕ) (l : Lists) → Flat from l (start_written p s scope from l)
     start_flat Nothing known scope agrees h from l = nothing_flat from l
     start_flat (Declares d) known scope agrees h from l = declared_flat d.of d.declarators known scope agrees h from l
     start_flat (Does s) known scope agrees h from l = simple_flat known scope agrees s h from l

@@ -10,7 +10,7 @@ use Rattle.syntax.specs.Names.{globals}
 use Rattle.syntax.specs.Types.{Scope, running_scope}
 use Rattle.syntax.specs.Typing as Typing
 use Rattle.syntax.specs.Typing.{IsTypedProgram, scope_of_start}
-use Rattle.syntax.specs.ScopeLaws.{Agrees}
+use Rattle.syntax.specs.ScopeLaws.{IsSubscope}
 use Rattle.syntax.proofs.TypedParts.{TypedExprs, TypedExpr, TypedSimple, TypedStmt, TypedStmts}
 use Rattle.bytecode.specs.declared.instr.Instr.{Instr}
 use Rattle.bytecode.specs.declared.instr.Instr.TheVariants as own
@@ -268,7 +268,7 @@ module _ (code : Code) (arguments : List ℕ) (f : FunctionCode) (end : ℕ) whe
       ))
 
   module _ (p : Program) (typed : IsTypedProgram p) (takes : CalleesTake p code) (defined : DefinedAreCallees p) (shares : code.globals ≡ globals p) where
-    module _ (known : Scope) (scope : LocalScope) (agrees : Agrees known (running_scope p scope)) where
+    module _ (known : Scope) (scope : LocalScope) (agrees : IsSubscope known (running_scope p scope)) where
       test : (c : Expr) → TypedExpr known c → (from : ℕ) (l : Lists) → TestSound code arguments f end from l (condition p scope c from (length scope) l)
       test c h from l = test_sound p code arguments f end typed takes defined shares known scope agrees c h from (length scope) l
 
@@ -304,7 +304,7 @@ module _ (code : Code) (arguments : List ℕ) (f : FunctionCode) (end : ℕ) whe
           (λ o k exits r are. record { begins = []; are = are ∙ all_left bs x.in_function exits.in_function; written = in_size code arguments f end v.held.register v.lists s.held k; asks = refl; leads = tt }))
 
     mutual
-      pub stmt_part : (s : Stmt) (known : Scope) (loops : Bool) (scope : LocalScope) (x : Exits) (m : Enclosing) → Agrees known (running_scope p scope) → TypedStmt s known loops → CancelsFit s m → (bs : List ℕ) (from : ℕ) (l : Lists) →
+      pub stmt_part : (s : Stmt) (known : Scope) (loops : Bool) (scope : LocalScope) (x : Exits) (m : Enclosing) → IsSubscope known (running_scope p scope) → TypedStmt s known loops → CancelsFit s m → (bs : List ℕ) (from : ℕ) (l : Lists) →
           Part code arguments f end (Exiting code arguments f end bs x loops m) bs from l (written p s x scope from l)
       stmt_part Empty known loops scope x m agrees h c bs from l = flat_part code arguments f end (Exiting code arguments f end bs x loops m) bs from l (nothing_written from l) (nothing_flat code arguments f end from l)
       stmt_part (Declare d) known loops scope x m agrees h c bs from l =
@@ -359,7 +359,7 @@ module _ (code : Code) (arguments : List ℕ) (f : FunctionCode) (end : ℕ) whe
       stmt_part (Cancel at) known loops scope x m agrees h c bs from l = cancel_part code arguments f end bs x loops m c from l
       stmt_part (CancelOuter at) known loops scope x m agrees h c bs from l = outer_cancel_part code arguments f end bs x loops m c from l
 
-      pub stmts_part : (ss : Stmts) (known : Scope) (loops : Bool) (scope : LocalScope) (x : Exits) (m : Enclosing) → Agrees known (running_scope p scope) → TypedStmts ss known loops → AllCancelsFit ss m → (bs : List ℕ) (from : ℕ) (l : Lists) →
+      pub stmts_part : (ss : Stmts) (known : Scope) (loops : Bool) (scope : LocalScope) (x : Exits) (m : Enclosing) → IsSubscope known (running_scope p scope) → TypedStmts ss known loops → AllCancelsFit ss m → (bs : List ℕ) (from : ℕ) (l : Lists) →
           Part code arguments f end (Exiting code arguments f end bs x loops m) bs from l (all_written p ss x scope from l)
       stmts_part Stmts.[] known loops scope x m agrees h c bs from l = flat_part code arguments f end (Exiting code arguments f end bs x loops m) bs from l (nothing_written from l) (nothing_flat code arguments f end from l)
       stmts_part (Stmts.◌∷◌ s ss) known loops scope x m agrees h c bs from l =

@@ -4,7 +4,7 @@ use Rattle.bytecode.specs.Valid.{IsValid}
 use Rattle.bytecode.specs.Views.{code_of}
 use Rattle.picked.specs.Programs.{picked_code}
 use Rattle.lower.specs.Nested.{items_too_deep, nested_too_deep}
-use Rattle.lower.specs.Faults.{IsFaultOf}
+use Rattle.lower.specs.Faults.{IsLowerFaultOf}
 use Rattle.lower.specs.inner.Parts.{IsOfCode}
 use Rattle.expression_code.specs.Views.{program_in}
 use Rattle.lower.proofs.Faulty.{handed_on, of_program}
@@ -41,5 +41,5 @@ returns-in_err-parts-clause-fault g c =
     let own : program_in c.in-Ok.names ≡ p = lent_program c.args.accepted.now c.in-Ok.ensures c.typed-typed.ensures c.safe.ensures in
     let items : map item_of c.as_slice.result.now ≡ p = (λ j. map item_of (c.as_slice.ensures j)) ∙ lent_program c.args.accepted.now c.unit.ensures c.typed-typed.ensures c.safe.ensures in
     let shallow : nested_too_deep p ≡ None = sym (ap (λ xs. items_too_deep xs 16) items) ∙ sym c.first_too_deep.ensures ∙ c.in-None.is in
-    handed_on c.lower_parts.result c.from_residual.result c.in_err-parts.field-0.0 (IsOfCode (program_in c.in-Ok.names)) (IsFaultOf p) c.lower_parts.ensures.fault c.in_err-parts.was c.from_residual.ensures
+    handed_on c.lower_parts.result c.from_residual.result c.in_err-parts.field-0.0 (IsOfCode (program_in c.in-Ok.names)) (IsLowerFaultOf p) c.lower_parts.ensures.fault c.in_err-parts.was c.from_residual.ensures
     (λ e h. of_program p e shallow (subst (λ x. IsOfCode x e) own h))

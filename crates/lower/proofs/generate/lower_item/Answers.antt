@@ -4,7 +4,7 @@ use Rattle.syntax.specs.Names.{shared_by}
 use Rattle.syntax.specs.Views.{item_of, function_of, global_of, stmts_of}
 use Rattle.bytecode.specs.Code.{FunctionCode}
 use Rattle.bytecode.specs.Views.{function_of as code_function}
-use Rattle.picked.specs.Programs.{Made, all_made, body_written, function_code}
+use Rattle.picked.specs.Programs.{FunctionCodes, all_made, body_written, function_code}
 use Rattle.expression_code.specs.Lists.{lists_of}
 use Rattle.lower.specs.inner.Parts.{made_in, made_behind, made_once, IsOfDefinition, IsOfItem}
 use Rattle.expression_code.specs.Views.{program_in}
@@ -50,7 +50,7 @@ returns-in_ok-lower_definition-in-Some-clause-few g c =
     let f = c.in-Function.f in
     let from = c.args.making.now.to in
     let l = lists_of c.args.making.now.lists in
-    subst (AllByRecursion (λ (h : FunctionCode). h.registers ≤ 65535)) (sym (ap (λ (m : Made). m.functions) c.in_ok-lower_definition-in-Some.ensures.made))
+    subst (AllByRecursion (λ (h : FunctionCode). h.registers ≤ 65535)) (sym (ap (λ (m : FunctionCodes). m.functions) c.in_ok-lower_definition-in-Some.ensures.made))
     (few_more (map code_function c.args.making.now.functions.items) (function_code (function_of f) from (body_written p (function_of f) (stmts_of c.as_slice.result.now) from l)) c.requires.few c.in_ok-lower_definition-in-Some.ensures.registers)
 
 pub returns-in_err-lower_definition-in-Some-clause-fault : goal.returns-in_err-lower_definition-in-Some-clause-fault

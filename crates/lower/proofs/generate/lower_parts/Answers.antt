@@ -5,7 +5,7 @@ use Rattle.syntax.specs.Names.{globals, shared_by}
 use Rattle.syntax.specs.Views.{item_of, global_of}
 use Rattle.bytecode.specs.Code.{FunctionCode}
 use Rattle.bytecode.specs.Views.{instr_of, function_of as code_function}
-use Rattle.picked.specs.Programs.{Made, all_made}
+use Rattle.picked.specs.Programs.{FunctionCodes, all_made}
 use Rattle.lower.specs.inner.Parts.{made_in, IsOfItem, IsOfCode}
 use Rattle.expression_code.specs.Views.{program_in}
 use Rattle.lower.proofs.Bodies.{front_more, front_last}
@@ -62,10 +62,10 @@ returns-clause-code g c =
     let h : length items ≤ i = subst (λ xs. length xs ≤ i) c.as_slice-item-items.ensures c.items-test.false in
     let made = front_last p items i h inv.made in
     let done = map global_of c.items.making.globals.items in
-    let fs = ap (λ xs. map code_function xs) c.from_vec.ensures ∙ ap (λ (m : Made). m.functions) made in
-    let is = c.from_vec-2.ensures ∙ ap (λ (m : Made). m.code) made in
-    let regs = c.from_vec-3.ensures ∙ ap (λ (m : Made). m.lists.arguments) made in
-    let ts = c.from_vec-4.ensures ∙ ap (λ (m : Made). m.lists.texts) made in
+    let fs = ap (λ xs. map code_function xs) c.from_vec.ensures ∙ ap (λ (m : FunctionCodes). m.functions) made in
+    let is = c.from_vec-2.ensures ∙ ap (λ (m : FunctionCodes). m.code) made in
+    let regs = c.from_vec-3.ensures ∙ ap (λ (m : FunctionCodes). m.lists.arguments) made in
+    let ts = c.from_vec-4.ensures ∙ ap (λ (m : FunctionCodes). m.lists.texts) made in
     let gs : map global_of c.from_vec-5.result ≡ globals p =
     ap (λ xs. map global_of xs) c.from_vec-5.ensures
     ∙ sym (append-nil done)

@@ -1,7 +1,7 @@
 use Rattle.std.proofs.Common.{◌≡◌, ◌<◌, length, ap, sym, subst, ◌∙◌, arith, eqb-true, true≢false}
 use Rattle.std.specs.Str.Parse.{AllDigits}
 use Rattle.std.proofs.lemmas.List.{nil_from_length}
-use Rattle.replay.specs.Schedules.{Writes}
+use Rattle.replay.specs.Schedules.{SpellsNumber}
 use Rattle.replay.specs.inner.Rows.{behind, past, behind_letter}
 use Rattle.replay.proofs.Rows.{all_past, asks, bad, digits_are, some_left}
 use Rattle.replay.proofs.row.read_row.Goals as goal
@@ -29,7 +29,7 @@ pub returns-in_default : goal.returns-in_default
 returns-in_default c =
     let p = c.cut_row-parts.result in
     bad c.args.row.now p.thread.now p.apart p.accesses p.count.now p.over.now c.cut_row-parts.ensures (subst (λ z. 0 < length z) c.past.ensures (some_left c.past.result.now (sym c.is_empty.ensures ∙ c.if-is_empty.false)))
-    (λ line a f. c.in_default.ensures line.thread (subst (λ d. Writes d line.thread) (sym f.thread_is) a.thread_is))
+    (λ line a f. c.in_default.ensures line.thread (subst (λ d. SpellsNumber d line.thread) (sym f.thread_is) a.thread_is))
 
 pub number-requires-2 : goal.number-requires-2
 number-requires-2 c = subst (AllDigits 10) (sym c.cut_row-parts.ensures.count_is) (digits_are (behind_letter (past (behind (past c.args.row.now)))))
@@ -44,4 +44,4 @@ pub returns-in-None : goal.returns-in-None
 returns-in-None c =
     let p = c.cut_row-parts.result in
     bad c.args.row.now p.thread.now p.apart p.accesses p.count.now p.over.now c.cut_row-parts.ensures (subst (λ z. 0 < length z) c.past.ensures (some_left c.past.result.now (sym c.is_empty.ensures ∙ c.if-is_empty.false)))
-    (λ line a f. c.in-None.ensures line.count (subst (λ d. Writes d line.count) (sym f.count_is) a.count_is))
+    (λ line a f. c.in-None.ensures line.count (subst (λ d. SpellsNumber d line.count) (sym f.count_is) a.count_is))

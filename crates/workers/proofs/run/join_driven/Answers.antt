@@ -1,7 +1,7 @@
 use Rattle.std.proofs.Common.{ℕ, sym, subst}
 use Rattle.workers.specs.declared.hall.Hall.{Hall}
 use Rattle.workers.specs.Workers.{IsWorkerOf}
-use Rattle.workers.specs.Driving.{AllPromise, AreDrivenOf, EndsAt, IsNumbered, driven_number, handle_number}
+use Rattle.workers.specs.Driving.{AllPromise, AreDrivenOf, EndsAt, HasNumber, driven_number, handle_number}
 use Rattle.workers.proofs.Drives.{driven_more, promised_without}
 use Rattle.workers.proofs.Numbers.{moved}
 use Rattle.workers.proofs.run.join_driven.Goals as goal
@@ -16,5 +16,5 @@ loop-handle-preserved g c =
     record {
       promised = p.0;
       driven = subst (AreDrivenOf hall.table.shared.table_id hall.setup all) (sym (c.in-Ok.ensures.items)) (driven_more hall.table.shared.table_id hall.setup all c.loop-handle.all.items c.join.result c.loop-handle.invariant.driven is);
-      numbers = moved handle_number driven_number (IsNumbered handle_number c.args.handles.items) c.loop-handle.handles.items c.pop.new.self.items c.in-Some.handle c.loop-handle.all.items _ c.join.result c.loop-handle.invariant.numbers c.in-Some.ensures.items c.in-Ok.ensures.items (sym c.join.ensures.2);
+      numbers = moved handle_number driven_number (HasNumber handle_number c.args.handles.items) c.loop-handle.handles.items c.pop.new.self.items c.in-Some.handle c.loop-handle.all.items _ c.join.result c.loop-handle.invariant.numbers c.in-Some.ensures.items c.in-Ok.ensures.items (sym c.join.ensures.2);
     }

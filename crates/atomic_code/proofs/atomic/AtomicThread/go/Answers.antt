@@ -1,5 +1,5 @@
 use Rattle.std.proofs.Common.{◌+◌, refl, ap, sym, subst}
-use Rattle.atomic_code.specs.Threads.{IsThreadOf, ThreadState}
+use Rattle.atomic_code.specs.Threads.{IsAtomicThreadOf, AtomicThreadState}
 use Rattle.atomic_code.specs.inner.Making as making
 use Rattle.atomic_code.proofs.Threads.{breaks_of, breaks_off, runs_by, runs_of, is_thread_of}
 use Rattle.atomic_code.proofs.atomic.AtomicThread.go.Goals as goal
@@ -8,7 +8,7 @@ use Rattle.atomic_code.proofs.atomic.AtomicThread.go.Goals.{in-Err, in-Ok-Goes, 
 pub carry_on-made-requires-clause-runs : goal.carry_on-made-requires-clause-runs
 carry_on-made-requires-clause-runs g c =
     let k = making.thread_of {A = g.row.A.Denot} c.self.inside.held in
-    runs_of c.args.code.now k (runs_by k.status c.in-None.ensures) (subst (IsThreadOf c.args.code.now) (sym (ap (λ (s : ThreadState). s.thread) c.self.view_is)) c.requires.of)
+    runs_of c.args.code.now k (runs_by k.status c.in-None.ensures) (subst (IsAtomicThreadOf c.args.code.now) (sym (ap (λ (s : AtomicThreadState). s.thread) c.self.view_is)) c.requires.of)
 
 pub returns-after-outcome-clause-err : goal.returns-after-outcome-clause-err
 returns-after-outcome-clause-err g c =
@@ -17,7 +17,7 @@ returns-after-outcome-clause-err g c =
     elim c.match-outcome.branch [
       | in-Err w ↦
           let h = rw w.in-Err.is at c.carry_on-made.ensures in
-          rw w.result-is (breaks_off c.args.code.now c.known.ensures c.args.found.now c.args.steps k c.carry_on-made.result.0 l h c.args.self.now _ (ap (λ (s : ThreadState). s.thread) c.self.view_is) refl (ap (λ (s : ThreadState). s.steps + c.carry_on-made.result.0) c.self.view_is))
+          rw w.result-is (breaks_off c.args.code.now c.known.ensures c.args.found.now c.args.steps k c.carry_on-made.result.0 l h c.args.self.now _ (ap (λ (s : AtomicThreadState). s.thread) c.self.view_is) refl (ap (λ (s : AtomicThreadState). s.steps + c.carry_on-made.result.0) c.self.view_is))
       | in-Ok-Goes w ↦ rw w.result-is tt
       | in-Ok-Leaves w ↦ rw w.result-is tt
       | in-Ok-Wants w ↦ rw w.result-is tt
