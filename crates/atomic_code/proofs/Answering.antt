@@ -11,7 +11,7 @@ use Rattle.bytecode.specs.Sequential.{OpenTransaction, InnerTransaction}
 use Rattle.bytecode.specs.Valid.{IsValid, bounds_of}
 use Rattle.bytecode.proofs.Fits.{fits_cells}
 use Rattle.frames.proofs.Keeping.{begins_stay_open}
-use Rattle.frames.specs.Open.{CanRestore, IsConfigurationOf, MayStand, restored, saved_in}
+use Rattle.frames.specs.Open.{CanRestore, IsConfigurationOf, MayStand, begin_configuration, saved_in}
 use Rattle.atomic_code.specs.declared.kept.Signal.{Signal}
 use Rattle.atomic_code.specs.declared.kept.Signal.TheVariants.{Goes, Leaves}
 use Rattle.atomic_code.specs.Threads.{AtomicThread, AreMemories, RunsAtomically, begins_of, cancelled_from}
@@ -119,7 +119,7 @@ module _ (code : Code) (v : IsValid code) (k : AtomicThread) (running : k.status
     cell_written a w d e = subst (λ n. a < n) (sym (sized (bounds_of code) o.mem words.now)) ((fits_cells code v).writes c d a w e).0
 
   -- a begin that is open can be gone back to
-  pub goes_back : (inner : List Saved) (s : Saved) (ss : List Saved) → begins_of k.open_in ≡ inner ++ s ∷ ss → CanRestore c s × IsConfigurationOf code (restored c s)
+  pub goes_back : (inner : List Saved) (s : Saved) (ss : List Saved) → begins_of k.open_in ≡ inner ++ s ∷ ss → CanRestore c s × IsConfigurationOf code (begin_configuration c s)
   goes_back inner s ss e =
       let g = (begins_stay_open code v).goes_back c inner s ss (subst (MayStand code c) e runs.stands) in
       (g.2, (ss, g.0))
@@ -134,8 +134,8 @@ module _ (code : Code) (v : IsValid code) (k : AtomicThread) (running : k.status
         ap begins_of some ∙ ap (λ js. map saved js ++ o.cancelled ∷ []) (sym (take-append-drop n o.inner)) ∙ ap (λ js. js ++ o.cancelled ∷ []) (map-append saved (take n o.inner) (drop n o.inner))
         ∙ append_assoc (map saved (take n o.inner)) (map saved (drop n o.inner)) (o.cancelled ∷ []) ∙ ap (λ js. map saved (take n o.inner) ++ (map saved js ++ o.cancelled ∷ [])) e
 
-    pub goes_back_inside : (i : InnerTransaction Saved) (is : List (InnerTransaction Saved)) → drop n o.inner ≡ i ∷ is → CanRestore c i.cancelled × IsConfigurationOf code (restored c i.cancelled)
+    pub goes_back_inside : (i : InnerTransaction Saved) (is : List (InnerTransaction Saved)) → drop n o.inner ≡ i ∷ is → CanRestore c i.cancelled × IsConfigurationOf code (begin_configuration c i.cancelled)
     goes_back_inside i is e = goes_back (map saved (take n o.inner)) i.cancelled (map saved is ++ o.cancelled ∷ []) (begins_at (i ∷ is) e)
 
-    pub goes_back_outermost : drop n o.inner ≡ [] → CanRestore c o.cancelled × IsConfigurationOf code (restored c o.cancelled)
+    pub goes_back_outermost : drop n o.inner ≡ [] → CanRestore c o.cancelled × IsConfigurationOf code (begin_configuration c o.cancelled)
     goes_back_outermost e = goes_back (map saved (take n o.inner)) o.cancelled [] (begins_at [] e)

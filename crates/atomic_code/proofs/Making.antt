@@ -14,7 +14,7 @@ use Rattle.bytecode.specs.Sequential.{Sequential, OpenTransaction, InnerTransact
 use Rattle.bytecode.specs.Valid.{IsValid, bounds_of}
 use Rattle.bytecode.proofs.Fits.{fits_cells}
 use Rattle.frames.proofs.Keeping.{begins_stay_open}
-use Rattle.frames.specs.Open.{BeginsStayOpen, MayStand, AreRestored, IsSuccessor, restored, saved_in}
+use Rattle.frames.specs.Open.{BeginsStayOpen, MayStand, AreRestored, IsSuccessor, begin_configuration, saved_in}
 use Rattle.atomic_code.specs.declared.kept.Signal.{Signal}
 use Rattle.atomic_code.specs.declared.kept.Signal.TheVariants.{Goes, Leaves}
 use Rattle.std.specs.Prelude.{Vec}
@@ -25,7 +25,7 @@ use Rattle.atomic_code.proofs.Memories.{written, word_at}
 use Rattle.atomic_code.proofs.Moves.{shown_there}
 
 -- what a begin saves here is restored to all
-restored_saved : (c : Configuration) → restored c (saved_in c) ≡ c
+restored_saved : (c : Configuration) → begin_configuration c (saved_in c) ≡ c
 restored_saved c = ap (λ n. record { place = c.place; registers = c.registers; frames = drop n c.frames }) zero_left
   where
     zero_left : suc (length c.frames) - suc (length c.frames) ≡ 0
@@ -111,7 +111,7 @@ module _ (code : Code) (v : IsValid code) (m : Option Memory) where
     pub begins_outside : {A : Type 0} (mem : Memory) (d e : Configuration) → effect code c ≡ Begin d e → m ≡ Some mem → IsMemory (bounds_of code) mem → Makes {A = A} code m (at c None t) Goes (at d (Some (begun_in c mem)) t)
     begins_outside mem d e x h is =
         let open_one = law.opens c d e [] runs.stands x in
-        let back : restored d (saved_in c) ≡ restored c (saved_in c) = open_one.1 ∙ sym (restored_saved c) in
+        let back : begin_configuration d (saved_in c) ≡ begin_configuration c (saved_in c) = open_one.1 ∙ sym (restored_saved c) in
         goes_to c None t runs d (Some (begun_in c mem)) t open_one.0 (ap (λ y. y ∷ []) back) (record { found = is; now = is; inner = tt })
         (by_effect c None t runs (Begin d e) x ∙ ap (λ fs. found_next (finding code m (at c None t)) d e fs) (ap (to_find {S = Saved} None) h)
         ∙ ap (λ q. record { configuration = d; inside = Some (record { cancelled = q; found = mem; mem = mem; inner = []; kept = false }); founds = []; lefts = []; text = t; status = Running; wants = false }) (goes_on_at code c d e x))
@@ -149,9 +149,9 @@ module _ (code : Code) (v : IsValid code) (m : Option Memory) where
     pub begins_inside : {A : Type 0} (d e : Configuration) → effect code c ≡ Begin d e → Makes {A = A} code m (at c (Some o) t) Goes (at d (Some (with_memory o o.mem (record { cancelled = saved_in c; mem = o.mem } ∷ o.inner))) t)
     begins_inside d e x =
         let open_one = law.opens c d e (begins_of (Some o)) runs.stands x in
-        let back : restored d (saved_in c) ≡ restored c (saved_in c) = open_one.1 ∙ sym (restored_saved c) in
+        let back : begin_configuration d (saved_in c) ≡ begin_configuration c (saved_in c) = open_one.1 ∙ sym (restored_saved c) in
         let p = with_memory o o.mem (record { cancelled = saved_in c; mem = o.mem } ∷ o.inner) in
-        goes_to c (Some o) t runs d (Some p) t open_one.0 (ap (λ y. y ∷ map (restored d) (begins_of (Some o))) back ∙ ap (λ ys. restored c (saved_in c) ∷ ys) open_one.2) (record { found = words.found; now = words.now; inner = (words.now, words.inner) })
+        goes_to c (Some o) t runs d (Some p) t open_one.0 (ap (λ y. y ∷ map (begin_configuration d) (begins_of (Some o))) back ∙ ap (λ ys. begin_configuration c (saved_in c) ∷ ys) open_one.2) (record { found = words.found; now = words.now; inner = (words.now, words.inner) })
         (by_effect c (Some o) t runs (Begin d e) x
         ∙ ap (λ q. record { configuration = d; inside = Some (record { cancelled = cancelled_from code c o.cancelled; found = o.found; mem = o.mem; inner = record { cancelled = q; mem = o.mem } ∷ map (inner_by (cancelled_from code c)) o.inner; kept = o.kept }); founds = []; lefts = []; text = t; status = Running; wants = false }) (goes_on_at code c d e x))
 

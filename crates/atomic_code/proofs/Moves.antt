@@ -4,7 +4,7 @@ use Rattle.nesting.specs.Begins.{Saved}
 use Rattle.bytecode.specs.Effects.{after_cancel}
 use Rattle.bytecode.specs.Code.{Code, Configuration, effect}
 use Rattle.bytecode.specs.Sequential.{OpenTransaction, InnerTransaction}
-use Rattle.frames.specs.Open.{AreRestored, restored}
+use Rattle.frames.specs.Open.{AreRestored, begin_configuration}
 use Rattle.atomic_code.specs.Threads.{cancelled_from, inner_by, open_by, begins_of}
 
 module _ {S T : Type 0} where
@@ -37,7 +37,7 @@ module _ {S T : Type 0} where
 same_cancelled : (code : Code) (c d : Configuration) (ss : List Saved) → AreRestored c d ss → map (cancelled_from code d) ss ≡ map (cancelled_from code c) ss
 same_cancelled code c d ss e =
     let h : Configuration → Configuration = λ x. after_cancel (effect code x) x in
-    two_maps h (restored d) ss ∙ ap (map h) e ∙ sym (two_maps h (restored c) ss)
+    two_maps h (begin_configuration d) ss ∙ ap (map h) e ∙ sym (two_maps h (begin_configuration c) ss)
 
 pub shown_there : (code : Code) (c d : Configuration) (o : Option (OpenTransaction Saved)) → AreRestored c d (begins_of o) → open_by (cancelled_from code d) o ≡ open_by (cancelled_from code c) o
 shown_there code c d o e = same_open (cancelled_from code d) (cancelled_from code c) o (same_cancelled code c d (begins_of o) e)

@@ -11,7 +11,7 @@ use Rattle.bytecode.specs.Beginning.{beginning}
 use Rattle.bytecode.specs.Sequential.{Sequential, next, steps, start, outcome_of, end_of}
 use Rattle.atomic_code.specs.declared.kept.Signal.{Signal}
 use Rattle.atomic_code.specs.declared.kept.Signal.TheVariants.{Goes, Leaves, Wants}
-use Rattle.atomic_code.specs.Threads.{AtomicThread, RunsAtomically, StandsAtomically, meant}
+use Rattle.atomic_code.specs.Threads.{AtomicThread, RunsAtomically, StandsAtomically, meaning_thread}
 use Rattle.atomic_code.specs.Carried.{finding, to_find}
 use Rattle.atomic_code.specs.inner.Making.{HasMemoryAtHand, after_step}
 use Rattle.atomic_code.specs.inner.Carrying.{ComesTo}
@@ -58,8 +58,8 @@ module _ (code : Code) (t : ℕ) (fs : List Memory) (most : ℕ) where
     runs = runs;
   }
     where
-      same : (k : AtomicThread) → k.configuration ≡ beginning code t → k.open_in ≡ None → k.text ≡ [] → k.status ≡ Running → meant code fs [] false k ≡ first
-      same k c o x s = ap (meant code fs [] false) (all k (record { configuration = beginning code t; open_in = None; text = []; status = Running }) c o x s)
+      same : (k : AtomicThread) → k.configuration ≡ beginning code t → k.open_in ≡ None → k.text ≡ [] → k.status ≡ Running → meaning_thread code fs [] false k ≡ first
+      same k c o x s = ap (meaning_thread code fs [] false) (all k (record { configuration = beginning code t; open_in = None; text = []; status = Running }) c o x s)
         where
           all : (a b : AtomicThread) → a.configuration ≡ b.configuration → a.open_in ≡ b.open_in → a.text ≡ b.text → a.status ≡ b.status → a ≡ b
           all a b c d e f =
@@ -76,9 +76,9 @@ module _ (code : Code) (t : ℕ) (fs : List Memory) (most : ℕ) where
     hand = slice_get fs (length ls)
 
     -- where it stood, said by the memory at hand
-    from : meant code (drop (length ls) fs) ls false k ≡ after_lefts (effect code) ls (with_founds (effect code) rest (finding code hand k))
-    from = ap (λ f. meant code f ls false k) (sym (next_found fs (length ls)) ∙ ap (λ o. to_find o hand ++ rest) (sym h.outside))
-        ∙ ap (λ z. meant code (to_find k.open_in hand ++ rest) z false k) (sym (append-nil ls))
+    from : meaning_thread code (drop (length ls) fs) ls false k ≡ after_lefts (effect code) ls (with_founds (effect code) rest (finding code hand k))
+    from = ap (λ f. meaning_thread code f ls false k) (sym (next_found fs (length ls)) ∙ ap (λ o. to_find o hand ++ rest) (sym h.outside))
+        ∙ ap (λ z. meaning_thread code (to_find k.open_in hand ++ rest) z false k) (sym (append-nil ls))
 
     few_more : made + more ≤ most
     few_more = let a = x.few in let b = h.few in omega arith
@@ -97,16 +97,16 @@ module _ (code : Code) (t : ℕ) (fs : List Memory) (most : ℕ) where
 
     pub wants_outcome : ComesTo {A = A} code (slice_get fs (length ls)) (most - made) k more Wants l → outcome_of (steps (effect code) most first) ≡ record { lefts = ls; text = l.text; end = end_of true l.status }
     wants_outcome x =
-        finishes code first (after_lefts (effect code) ls (meant code [] [] true l)) most (made + more)
+        finishes code first (after_lefts (effect code) ls (meaning_thread code [] [] true l)) most (made + more)
         (steps_add (effect code) made more first _ h.does ∙ ap (steps (effect code) more) none_from ∙ steps_after (effect code) more ls (finding code (slice_get fs (length ls)) k) ∙ ap (after_lefts (effect code) ls) x.does)
         (few_more made ls k h more Wants l x)
         (λ lt. want_stays (effect code) _ refl)
         ∙ ap (λ z. record { lefts = z; text = l.text; end = end_of true l.status }) (append-nil ls)
       where
-        none_from : meant code (drop (length ls) fs) ls false k ≡ after_lefts (effect code) ls (finding code (slice_get fs (length ls)) k)
+        none_from : meaning_thread code (drop (length ls) fs) ls false k ≡ after_lefts (effect code) ls (finding code (slice_get fs (length ls)) k)
         none_from =
-            ap (λ f. meant code f ls false k) (none_found fs (length ls) x.left ∙ ap (λ m. to_find {S = Saved} None m) (sym x.left) ∙ ap (λ o. to_find o (slice_get fs (length ls))) (sym h.outside))
-            ∙ ap (λ z. meant code (to_find k.open_in (slice_get fs (length ls))) z false k) (sym (append-nil ls))
+            ap (λ f. meaning_thread code f ls false k) (none_found fs (length ls) x.left ∙ ap (λ m. to_find {S = Saved} None m) (sym x.left) ∙ ap (λ o. to_find o (slice_get fs (length ls))) (sym h.outside))
+            ∙ ap (λ z. meaning_thread code (to_find k.open_in (slice_get fs (length ls))) z false k) (sym (append-nil ls))
 
     module _ (left : Vec ℕ A) (x : ComesTo code (slice_get fs (length ls)) (most - made) k more (Leaves left) l) where
       pub over_outcome : (l.status ≡ Running → ⊥) → outcome_of (steps (effect code) most first) ≡ record { lefts = ls ++ left.items ∷ []; text = l.text; end = end_of false l.status }
@@ -115,7 +115,7 @@ module _ (code : Code) (t : ℕ) (fs : List Memory) (most : ℕ) where
       pub goes_on : l.status ≡ Running → HasComeTo code t fs most (made + more) (ls ++ left.items ∷ []) l
       goes_on running = record {
         few = few_more made ls k h more (Leaves left) l x;
-        does = to made ls k h more (Leaves left) l x refl ∙ ap (λ n. meant code (drop n fs) (ls ++ left.items ∷ []) false l) (let e : suc (length ls) ≡ length (ls ++ left.items ∷ []) = omega (arith, length-append ls (left.items ∷ [])) in e);
+        does = to made ls k h more (Leaves left) l x refl ∙ ap (λ n. meaning_thread code (drop n fs) (ls ++ left.items ∷ []) false l) (let e : suc (length ls) ≡ length (ls ++ left.items ∷ []) = omega (arith, length-append ls (left.items ∷ [])) in e);
         outside = x.left.1;
         running = running;
         runs = subst (StandsAtomically code l) running x.of;

@@ -10,7 +10,7 @@ use Rattle.bytecode.specs.Code.{Code, Configuration, effect}
 use Rattle.bytecode.specs.Beginning.{beginning}
 use Rattle.bytecode.specs.Sequential.{Sequential, OpenTransaction, InnerTransaction}
 use Rattle.bytecode.specs.Valid.{bounds_of}
-use Rattle.frames.specs.Open.{MayStand, restored}
+use Rattle.frames.specs.Open.{MayStand, begin_configuration}
 
 -- a thread: of each open begin it keeps what the begin saved, and not where a cancel goes on
 pub record AtomicThread : Type 0 where
@@ -30,7 +30,7 @@ first_thread code t = record { configuration = beginning code t; open_in = None;
 
 -- where a cancel of a begin goes on, by what the begin saved
 abbrev pub cancelled_from : Code → Configuration → Saved → Configuration
-cancelled_from code c s = after_cancel (effect code (restored c s)) (restored c s)
+cancelled_from code c s = after_cancel (effect code (begin_configuration c s)) (begin_configuration c s)
 
 -- transactions with each begin said by a function of it
 abbrev pub inner_by : {S T : Type 0} → (S → T) → InnerTransaction S → InnerTransaction T
@@ -50,8 +50,8 @@ open_by f None = None
 open_by f (Some o) = Some (transaction_by f o)
 
 -- the thread of the code's meaning, with these memories to find and these left
-abbrev pub meant : Code → List Memory → List Memory → Bool → AtomicThread → Sequential Configuration
-meant code founds lefts wants k = record {
+abbrev pub meaning_thread : Code → List Memory → List Memory → Bool → AtomicThread → Sequential Configuration
+meaning_thread code founds lefts wants k = record {
   configuration = k.configuration;
   inside = open_by (cancelled_from code k.configuration) k.open_in;
   founds = founds;

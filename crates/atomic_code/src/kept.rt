@@ -4,9 +4,9 @@ ghost use Rattle.std.specs.Prelude.{◌≡◌, ◌<◌, ◌↔◌, ℕ, Option, 
 ghost use Rattle.syntax.specs.declared.numbers.Status.TheVariants.{Running};
 ghost use Rattle.syntax.specs.Behaviours.{Memory};
 ghost use Rattle.bytecode.specs.Effects.{Effect, after_cancel};
-ghost use Rattle.bytecode.specs.Code.{effect, going, onward, returned, setting};
+ghost use Rattle.bytecode.specs.Code.{effect, going, onward, return_effect, setting};
 ghost use Rattle.bytecode.specs.Valid.{IsValid, bounds_of};
-ghost use Rattle.frames.specs.Open.{CanRestore, IsConfigurationOf, restored};
+ghost use Rattle.frames.specs.Open.{CanRestore, IsConfigurationOf, begin_configuration};
 ghost use Rattle.frames.specs.Told.{IsCall, IsLocalStep, piece_of};
 ghost use Rattle.atomic_code.specs.Threads.{RunsAtomically, cancelled_from};
 ghost use Rattle.atomic_code.specs.inner.Making.{Cancels, HasMemoryAtHand, Makes, MayPrint, at_hand, thread_of};
@@ -60,7 +60,7 @@ fn go_back<A: Allocator + Copy, B: Allocator>(
     begun: &Begun<A>,
 )
     requires back { CanRestore frames.old.configuration (saved_by begun.now) }
-    requires of { IsConfigurationOf code.now (restored frames.old.configuration (saved_by begun.now)) }
+    requires of { IsConfigurationOf code.now (begin_configuration frames.old.configuration (saved_by begun.now)) }
     ensures { frames.new.configuration ≡ cancelled_from code.now frames.old.configuration (saved_by begun.now) }
 {
     frames.restore(begun.registers.as_slice(), begun.frames, begun.place);
@@ -109,7 +109,7 @@ impl<A: Allocator + Copy> KeptThread<A> {
         requires running { self.old.status ≡ Running }
         requires runs { RunsAtomically code.now (thread_of self.old) }
         requires returns { effect code.now self.old.frames.configuration
-            ≡ returned self.old.frames.configuration.frames word }
+            ≡ return_effect self.old.frames.configuration.frames word }
         requires caller { 0 < length self.old.frames.configuration.frames }
         ensures { (m : Option Memory) → Makes code.now m (thread_of self.old) result (thread_of self.new) }
     {

@@ -7,7 +7,7 @@ use Rattle.bytecode.specs.Code.{Code, FunctionCode, Instr}
 use Rattle.bytecode.specs.declared.walk.Arrival.{Arrival}
 use Rattle.bytecode.specs.declared.walk.Arrival.TheVariants.{Unseen, Outside}
 use Rattle.bytecode.specs.Valid.{KeepsOpen}
-use Rattle.bytecode.specs.inner.Walking.{Arrivals, arrival_at, visited, given, way_of, went_by}
+use Rattle.bytecode.specs.inner.Walking.{Arrivals, arrival_at, visit_place, walk_answer, way_of, went_by}
 use Rattle.bytecode.proofs.Tables.{some_same}
 use Rattle.bytecode.proofs.Arrivals.{seen_one}
 use Rattle.bytecode.proofs.Meets.{visited_gives}
@@ -17,9 +17,9 @@ use Rattle.bytecode.proofs.Fails.{goes_nowhere}
 use Rattle.bytecode.proofs.Ends.{place_bounds, starts, finishes, all_made, taken_arrival}
 
 module _ (code : Code) (f : FunctionCode) where
-  pub init : (first n : ℕ) (ms0 ms : Arrivals) (work0 work : List ℕ) (b : Bool) → f.first ≡ first → ms0 ≡ replicate n Unseen → work0 ≡ [] → visited first ms0 work0 first Outside ≡ given b ms work → b ≡ true → Walked code f ms work 0
+  pub init : (first n : ℕ) (ms0 ms : Arrivals) (work0 work : List ℕ) (b : Bool) → f.first ≡ first → ms0 ≡ replicate n Unseen → work0 ≡ [] → visit_place first ms0 work0 first Outside ≡ walk_answer b ms work → b ≡ true → Walked code f ms work 0
   init first n ms0 ms work0 work b e m w h t =
-      let v : visited f.first (replicate n Unseen) [] f.first Outside ≡ Some (ms, work) = rw (e, ← m, ← w, h, t) refl in
+      let v : visit_place f.first (replicate n Unseen) [] f.first Outside ≡ Some (ms, work) = rw (e, ← m, ← w, h, t) refl in
       starts code f n ms work (visited_gives f.first (replicate n Unseen) [] f.first Outside (ms, work) refl v)
 
   -- a place that is taken lies among the arrivals
@@ -38,9 +38,9 @@ module _ (code : Code) (f : FunctionCode) where
 
   -- what going on from the place q with the arrival m by an instruction gives
   abbrev pub Went : (first : ℕ) (ms ms' : Arrivals) (work work' : List ℕ) (q : ℕ) (m : Arrival) (b : Bool) → List Instr → Type 0
-  Went first ms ms' work work' q m b is = (i : Instr) → slice_get is q ≡ Some i → went_by is first ms work q m (way_of i) ≡ given b ms' work'
+  Went first ms ms' work work' q m b is = (i : Instr) → slice_get is q ≡ Some i → went_by is first ms work q m (way_of i) ≡ walk_answer b ms' work'
 
-  went : (first : ℕ) (ms ms' : Arrivals) (work work' : List ℕ) (q : ℕ) (m : Arrival) (b : Bool) (is : List Instr) (i : Instr) → code.instructions ≡ is → f.first ≡ first → slice_get code.instructions q ≡ Some i → Went first ms ms' work work' q m b is → went_by code.instructions f.first ms work q m (way_of i) ≡ given b ms' work'
+  went : (first : ℕ) (ms ms' : Arrivals) (work work' : List ℕ) (q : ℕ) (m : Arrival) (b : Bool) (is : List Instr) (i : Instr) → code.instructions ≡ is → f.first ≡ first → slice_get code.instructions q ≡ Some i → Went first ms ms' work work' q m b is → went_by code.instructions f.first ms work q m (way_of i) ≡ walk_answer b ms' work'
   went first ms ms' work work' q m b is i h e s g =
       subst (λ x. Went x ms ms' work work' q m b code.instructions) (sym e) (subst (Went first ms ms' work work' q m b) (sym h) g) i s
 
@@ -55,7 +55,7 @@ module _ (code : Code) (f : FunctionCode) where
       let d : t.0 ≡ m = some_same t.0 m (sym t.1 ∙ subst (λ x. arrival_at x ms q ≡ Some m) (sym e) at) in
       let i = some_instr q (in_code first end ms old work q made e w o long (rw hs ends)) in
       let h = went first ms ms' work work' q m b is i.0 hs e i.1 g in
-      goes_on code f ms work q made i.0 m (ms', work') (taken code f ms work q made w') i.1 (t.1 ∙ ap Some d) (subst (λ x. seen_one x ≡ 1) d t.2) (h ∙ ap (λ x. given x ms' work') t0)
+      goes_on code f ms work q made i.0 m (ms', work') (taken code f ms work q made w') i.1 (t.1 ∙ ap Some d) (subst (λ x. seen_one x ≡ 1) d t.2) (h ∙ ap (λ x. walk_answer x ms' work') t0)
 
   pub goes_not : (first end : ℕ) (ms ms' : Arrivals) (old work work' : List ℕ) (q made : ℕ) (m : Arrival) (b : Bool) (is : List Instr) → code.instructions ≡ is → f.first ≡ first → first + length ms ≡ end → end ≤ length is → Walked code f ms old made → old ≡ work ++ q ∷ [] → arrival_at first ms q ≡ Some m → Went first ms ms' work work' q m b is → b ≡ false → KeepsOpen code f end → ⊥
   goes_not first end ms ms' old work work' q made m b is hs e long ends w o at g t0 k =
@@ -64,7 +64,7 @@ module _ (code : Code) (f : FunctionCode) where
       let d : t.0 ≡ m = some_same t.0 m (sym t.1 ∙ subst (λ x. arrival_at x ms q ≡ Some m) (sym e) at) in
       let i = some_instr q (in_code first end ms old work q made e w o long (rw hs ends)) in
       let h = went first ms ms' work work' q m b is i.0 hs e i.1 g in
-      goes_nowhere code f end ms work q i.0 m (rw e long) w.found i.1 (t.1 ∙ ap Some d) (subst (λ x. seen_one x ≡ 1) d t.2) (h ∙ ap (λ x. given x ms' work') t0) k
+      goes_nowhere code f end ms work q i.0 m (rw e long) w.found i.1 (t.1 ∙ ap Some d) (subst (λ x. seen_one x ≡ 1) d t.2) (h ∙ ap (λ x. walk_answer x ms' work') t0) k
 
   pub ends_here : (first end : ℕ) (ms : Arrivals) (old : List ℕ) (made : ℕ) → f.first ≡ first → Walked code f ms old made → old ≡ [] → first + length ms ≡ end → KeepsOpen code f end
   ends_here first end ms old made e w o long = finishes code f ms made end (subst (λ x. Walked code f ms x made) o w) (rw e long)

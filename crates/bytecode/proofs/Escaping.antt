@@ -6,15 +6,15 @@ use Rattle.std.proofs.lemmas.Bool.{cases_lt}
 use Rattle.std.proofs.lemmas.Bool.Decides.{nat_tests}
 use Rattle.std.proofs.lemmas.List.{append-nil}
 use Rattle.std.proofs.lemmas.Str.{encode_ascii, inside_one}
-use Rattle.bytecode.specs.Listing.{escaped}
+use Rattle.bytecode.specs.Listing.{listing_escape}
 
 unequal : (b n : ℕ) → b ≢ n → (b == n) ≡ false
 unequal b n h = grind (arith, nat_tests)
 
-keeps : (b : ℕ) → b ≢ 10 → b ≢ 9 → b ≢ 92 → b ≢ 34 → escaped b ≡ b ∷ []
+keeps : (b : ℕ) → b ≢ 10 → b ≢ 9 → b ≢ 92 → b ≢ 34 → listing_escape b ≡ b ∷ []
 keeps b h i j k = rw (unequal b 10 h, unequal b 9 i, unequal b 92 j, unequal b 34 k) refl
 
-high : (bs rest : List ℕ) → ((k : ℕ) → k < length bs → 128 ≤ slice_index bs k) → flat_map escaped (bs ++ rest) ≡ bs ++ flat_map escaped rest
+high : (bs rest : List ℕ) → ((k : ℕ) → k < length bs → 128 ≤ slice_index bs k) → flat_map listing_escape (bs ++ rest) ≡ bs ++ flat_map listing_escape rest
 high [] rest h = refl
 high (b ∷ bs) rest h =
     let big : 128 ≤ b = h 0 (omega arith) in
@@ -26,12 +26,12 @@ encode_high c le k lt = elim (cases_lt (slice_index (encode c) k) 128) [
   | inr big ↦ big
 ]
 
-plain_char : (c : ℕ) (rest : List ℕ) → c ≢ 10 → c ≢ 9 → c ≢ 92 → c ≢ 34 → encode c ++ flat_map escaped rest ≡ flat_map escaped (encode c ++ rest)
+plain_char : (c : ℕ) (rest : List ℕ) → c ≢ 10 → c ≢ 9 → c ≢ 92 → c ≢ 34 → encode c ++ flat_map listing_escape rest ≡ flat_map listing_escape (encode c ++ rest)
 plain_char c rest h i j k = elim (cases_lt c 128) [
   | inl lt ↦ rw (encode_ascii c lt) (rw (keeps c h i j k) refl)
   | inr le ↦ sym (high (encode c) rest (encode_high c le))
 ]
 
-pub plain_turn : (old new before after whole : List ℕ) (c : ℕ) → c ≢ 10 → c ≢ 9 → c ≢ 92 → c ≢ 34 → old ≡ encode c ++ new → after ≡ before ++ encode c → before ++ flat_map escaped old ≡ whole → after ++ flat_map escaped new ≡ whole
+pub plain_turn : (old new before after whole : List ℕ) (c : ℕ) → c ≢ 10 → c ≢ 9 → c ≢ 92 → c ≢ 34 → old ≡ encode c ++ new → after ≡ before ++ encode c → before ++ flat_map listing_escape old ≡ whole → after ++ flat_map listing_escape new ≡ whole
 plain_turn old new before after whole c h i j k o a w =
-    ap (λ (z : List ℕ). z ++ flat_map escaped new) a ∙ append_assoc before (encode c) (flat_map escaped new) ∙ ap (λ (z : List ℕ). before ++ z) (plain_char c new h i j k) ∙ ap (λ (z : List ℕ). before ++ flat_map escaped z) (sym o) ∙ w
+    ap (λ (z : List ℕ). z ++ flat_map listing_escape new) a ∙ append_assoc before (encode c) (flat_map listing_escape new) ∙ ap (λ (z : List ℕ). before ++ z) (plain_char c new h i j k) ∙ ap (λ (z : List ℕ). before ++ flat_map listing_escape z) (sym o) ∙ w

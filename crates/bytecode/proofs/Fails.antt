@@ -8,7 +8,7 @@ use Rattle.bytecode.specs.declared.walk.Arrival.{Arrival}
 use Rattle.bytecode.specs.declared.walk.Arrival.TheVariants.{Unseen, Outside, Inside}
 use Rattle.bytecode.specs.declared.walk.Way.{Way}
 use Rattle.bytecode.specs.declared.walk.Way.TheVariants.{On, To, Both, Opens, Closes, Cancels, CancelsOuter, Ends}
-use Rattle.bytecode.specs.inner.Walking.{Arrivals, arrival_at, visited, way_of, reopened, begun, cancelled, begin_round, cancelled_at, twice, went_by}
+use Rattle.bytecode.specs.inner.Walking.{Arrivals, arrival_at, visit_place, way_of, reopen_begin, begin_target, cancel_to, begin_round, cancelled_at, twice, went_by}
 use Rattle.bytecode.proofs.Tables.{IsChain, some_same, IsFound}
 use Rattle.bytecode.proofs.Arrivals.{seen_table, seen_one, innermost, id_of, table, chain_grows}
 use Rattle.bytecode.proofs.Meets.{State, visited_gives, visited_fails}
@@ -72,10 +72,10 @@ module _ (code : Code) (f : FunctionCode) (end : ℕ) (ms : Arrivals) (work : Li
   asked : asks_by (way_of i) begins
   asked = asks_of begins i (subst (λ o. AsksOpen o begins) stands (keeps.asks q begins reached))
 
-  no_one_way : (to : ℕ) (bs : List ℕ) (m' : Arrival) → seen_one m' ≡ 1 → leads_by code q begins (way_of i) ≡ (to, bs) ∷ [] → IsChain (table f.first ms) (id_of m') bs → visited f.first ms work to m' ≡ None → ⊥
+  no_one_way : (to : ℕ) (bs : List ℕ) (m' : Arrival) → seen_one m' ≡ 1 → leads_by code q begins (way_of i) ≡ (to, bs) ∷ [] → IsChain (table f.first ms) (id_of m') bs → visit_place f.first ms work to m' ≡ None → ⊥
   no_one_way to bs m' one l c h = visited_fails code f end ms work to m' bs long found (leads_to to bs (subst (λ x. Contains x (to, bs)) (sym l) (first_of (to, bs)))) c one h keeps
 
-  no_two_ways : (to : ℕ) (o : Option State) → seen_one m ≡ 1 → way_of i ≡ Both to → visited f.first ms work (suc q) m ≡ o → twice f.first to m o ≡ None → ⊥
+  no_two_ways : (to : ℕ) (o : Option State) → seen_one m ≡ 1 → way_of i ≡ Both to → visit_place f.first ms work (suc q) m ≡ o → twice f.first to m o ≡ None → ⊥
   no_two_ways to None one w e h =
       let l : leads_by code q begins (way_of i) ≡ (suc q, begins) ∷ (to, begins) ∷ [] = ap (leads_by code q begins) w in
       let r = leads_to (suc q) begins (subst (λ x. Contains x (suc q, begins)) (sym l) (Contains-append_left ((suc q, begins) ∷ []) ((to, begins) ∷ []) (suc q, begins) (first_of (suc q, begins)))) in
@@ -87,25 +87,25 @@ module _ (code : Code) (f : FunctionCode) (end : ℕ) (ms : Arrivals) (work : Li
       let r' = leads_to to begins (subst (λ x. Contains x (to, begins)) (sym l) (Contains-push ((suc q, begins) ∷ []) (to, begins))) in
       visited_fails code f end t.0 t.1 to m begins (let g = v.long in omega (arith, g, long)) (found_after code f ms t.0 work t.1 (suc q) m begins found r chain v) r' (chain_grows (table f.first ms) (table f.first t.0) v.grows (id_of m) begins chain) one h keeps
 
-  no_way_back : (to : ℕ) (bs : List ℕ) (b : ℕ) (parent : Option ℕ) (o : Option Arrival) → leads_by code q begins (way_of i) ≡ (to, bs) ∷ [] → table f.first ms b ≡ Some parent → IsChain (table f.first ms) parent bs → arrival_at f.first ms b ≡ o → reopened f.first ms work to o ≡ None → ⊥
+  no_way_back : (to : ℕ) (bs : List ℕ) (b : ℕ) (parent : Option ℕ) (o : Option Arrival) → leads_by code q begins (way_of i) ≡ (to, bs) ∷ [] → table f.first ms b ≡ Some parent → IsChain (table f.first ms) parent bs → arrival_at f.first ms b ≡ o → reopen_begin f.first ms work to o ≡ None → ⊥
   no_way_back to bs b parent None l t c e h = cc (t, ap innermost e)
   no_way_back to bs b parent (Some Unseen) l t c e h = cc (t, ap innermost e)
   no_way_back to bs b parent (Some Outside) l t c e h = no_one_way to bs Outside refl l (subst (λ x. IsChain (table f.first ms) x bs) (some_same parent None (sym t ∙ ap innermost e)) c) h
   no_way_back to bs b parent (Some (Inside d)) l t c e h = no_one_way to bs (Inside d) refl l (subst (λ x. IsChain (table f.first ms) x bs) (some_same parent (Some d) (sym t ∙ ap innermost e)) c) h
 
-  no_cancel : (bs : List ℕ) (b : ℕ) (parent : Option ℕ) (o : Option Instr) → IsBegin o → slice_get code.instructions b ≡ o → leads_by code q begins (way_of i) ≡ cancelled_in code (b ∷ bs) → table f.first ms b ≡ Some parent → IsChain (table f.first ms) parent bs → cancelled f.first ms work (arrival_at f.first ms b) (begun o) ≡ None → ⊥
+  no_cancel : (bs : List ℕ) (b : ℕ) (parent : Option ℕ) (o : Option Instr) → IsBegin o → slice_get code.instructions b ≡ o → leads_by code q begins (way_of i) ≡ cancelled_in code (b ∷ bs) → table f.first ms b ≡ Some parent → IsChain (table f.first ms) parent bs → cancel_to f.first ms work (arrival_at f.first ms b) (begin_target o) ≡ None → ⊥
   no_cancel bs b parent (Some (Instr.Begin to)) z e l t c h =
       no_way_back to bs b parent (arrival_at f.first ms b) (l ∙ ap (λ x. cancel_of x [] (λ to. (to, bs) ∷ [])) e) t c refl h
   no_cancel bs b parent o z e l t c h = z
 
-  no_close : (b : ℕ) (bs : List ℕ) → way_of i ≡ Closes → begins ≡ bs → IsChain (table f.first ms) (Some b) bs → reopened f.first ms work (suc q) (arrival_at f.first ms b) ≡ None → ⊥
+  no_close : (b : ℕ) (bs : List ℕ) → way_of i ≡ Closes → begins ≡ bs → IsChain (table f.first ms) (Some b) bs → reopen_begin f.first ms work (suc q) (arrival_at f.first ms b) ≡ None → ⊥
   no_close b [] w e c h = cc c
   no_close b (d ∷ bs) w e c h =
       let g : b ≡ d = some_same b d c.0 in
       no_way_back (suc q) bs b c.1 (arrival_at f.first ms b) (ap (λ x. leads_by code q x (way_of i)) e ∙ ap (leads_by code q (d ∷ bs)) w) (ap (table f.first ms) g ∙ c.2) c.3 refl h
 
   -- a cancel of the first of these begins
-  no_cancels : (b : ℕ) (bs : List ℕ) → AreBegins code bs → leads_by code q begins (way_of i) ≡ cancelled_in code bs → IsChain (table f.first ms) (Some b) bs → cancelled f.first ms work (arrival_at f.first ms b) (begun (slice_get code.instructions b)) ≡ None → ⊥
+  no_cancels : (b : ℕ) (bs : List ℕ) → AreBegins code bs → leads_by code q begins (way_of i) ≡ cancelled_in code bs → IsChain (table f.first ms) (Some b) bs → cancel_to f.first ms work (arrival_at f.first ms b) (begin_target (slice_get code.instructions b)) ≡ None → ⊥
   no_cancels b [] z l c h = cc c
   no_cancels b (d ∷ bs) z l c h =
       let g : b ≡ d = some_same b d c.0 in

@@ -8,7 +8,7 @@ use Rattle.bytecode.specs.declared.walk.Arrival.{Arrival}
 use Rattle.bytecode.specs.declared.walk.Arrival.TheVariants.{Unseen, Outside, Inside}
 use Rattle.bytecode.specs.declared.walk.Way.{Way}
 use Rattle.bytecode.specs.declared.walk.Way.TheVariants.{On, To, Both, Opens, Closes, Cancels, CancelsOuter, Ends}
-use Rattle.bytecode.specs.inner.Walking.{Arrivals, arrival_at, visited, way_of, reopened, begun, cancelled, begin_round, cancelled_at, twice, went_by}
+use Rattle.bytecode.specs.inner.Walking.{Arrivals, arrival_at, visit_place, way_of, reopen_begin, begin_target, cancel_to, begin_round, cancelled_at, twice, went_by}
 use Rattle.bytecode.proofs.Tables.{IsChain, some_same}
 use Rattle.bytecode.proofs.Arrivals.{seen_table, seen_one, innermost, id_of, table, chain_grows}
 use Rattle.bytecode.proofs.Meets.{State, visited_gives}
@@ -27,7 +27,7 @@ module _ (code : Code) (f : FunctionCode) (ms : Arrivals) (work : List ℕ) (q m
   asked : asks_by (way_of i) begins → AsksOpen (slice_get code.instructions q) begins
   asked h = subst (λ o. AsksOpen o begins) (sym stands) (asks_to begins i h)
 
-  one_way : (to : ℕ) (bs : List ℕ) (m' : Arrival) (s : State) → seen_one m' ≡ 1 → asks_by (way_of i) begins → leads_by code q begins (way_of i) ≡ (to, bs) ∷ [] → IsChain (table f.first ms) (id_of m') bs → visited f.first ms work to m' ≡ Some s → Walked code f s.0 s.1 (suc made)
+  one_way : (to : ℕ) (bs : List ℕ) (m' : Arrival) (s : State) → seen_one m' ≡ 1 → asks_by (way_of i) begins → leads_by code q begins (way_of i) ≡ (to, bs) ∷ [] → IsChain (table f.first ms) (id_of m') bs → visit_place f.first ms work to m' ≡ Some s → Walked code f s.0 s.1 (suc made)
   one_way to bs m' s one a l c h =
       let v = visited_gives f.first ms work to m' s one h in
       let r = leads_to to bs (subst (λ x. Contains x (to, bs)) (sym l) (first_of (to, bs))) in
@@ -48,7 +48,7 @@ module _ (code : Code) (f : FunctionCode) (ms : Arrivals) (work : List ℕ) (q m
     leads = λ q' bs' d. absurd (let c = leads_in [] l q' bs' d in omega (arith, c.1));
   }))
 
-  two_ways : (to : ℕ) (s : State) (o : Option State) → seen_one m ≡ 1 → way_of i ≡ Both to → visited f.first ms work (suc q) m ≡ o → twice f.first to m o ≡ Some s → Walked code f s.0 s.1 (suc made)
+  two_ways : (to : ℕ) (s : State) (o : Option State) → seen_one m ≡ 1 → way_of i ≡ Both to → visit_place f.first ms work (suc q) m ≡ o → twice f.first to m o ≡ Some s → Walked code f s.0 s.1 (suc made)
   two_ways to s None one w e h = cc h
   two_ways to s (Some t) one w e h =
       let l : leads_by code q begins (way_of i) ≡ (suc q, begins) ∷ (to, begins) ∷ [] = ap (leads_by code q begins) w in
@@ -70,31 +70,31 @@ module _ (code : Code) (f : FunctionCode) (ms : Arrivals) (work : List ℕ) (q m
       })
 
   -- back under an enclosing begin
-  back : (to : ℕ) (bs : List ℕ) (b : ℕ) (parent : Option ℕ) (s : State) (o : Option Arrival) → asks_by (way_of i) begins → leads_by code q begins (way_of i) ≡ (to, bs) ∷ [] → table f.first ms b ≡ Some parent → IsChain (table f.first ms) parent bs → arrival_at f.first ms b ≡ o → reopened f.first ms work to o ≡ Some s → Walked code f s.0 s.1 (suc made)
+  back : (to : ℕ) (bs : List ℕ) (b : ℕ) (parent : Option ℕ) (s : State) (o : Option Arrival) → asks_by (way_of i) begins → leads_by code q begins (way_of i) ≡ (to, bs) ∷ [] → table f.first ms b ≡ Some parent → IsChain (table f.first ms) parent bs → arrival_at f.first ms b ≡ o → reopen_begin f.first ms work to o ≡ Some s → Walked code f s.0 s.1 (suc made)
   back to bs b parent s None a l t c e h = cc h
   back to bs b parent s (Some Unseen) a l t c e h = cc h
   back to bs b parent s (Some Outside) a l t c e h = one_way to bs Outside s refl a l (subst (λ x. IsChain (table f.first ms) x bs) (some_same parent None (sym t ∙ ap innermost e)) c) h
   back to bs b parent s (Some (Inside d)) a l t c e h = one_way to bs (Inside d) s refl a l (subst (λ x. IsChain (table f.first ms) x bs) (some_same parent (Some d) (sym t ∙ ap innermost e)) c) h
 
-  cancelled_back : (bs : List ℕ) (b : ℕ) (parent : Option ℕ) (s : State) (o : Option Instr) → slice_get code.instructions b ≡ o → asks_by (way_of i) begins → leads_by code q begins (way_of i) ≡ cancelled_in code (b ∷ bs) → table f.first ms b ≡ Some parent → IsChain (table f.first ms) parent bs → cancelled f.first ms work (arrival_at f.first ms b) (begun o) ≡ Some s → Walked code f s.0 s.1 (suc made)
+  cancelled_back : (bs : List ℕ) (b : ℕ) (parent : Option ℕ) (s : State) (o : Option Instr) → slice_get code.instructions b ≡ o → asks_by (way_of i) begins → leads_by code q begins (way_of i) ≡ cancelled_in code (b ∷ bs) → table f.first ms b ≡ Some parent → IsChain (table f.first ms) parent bs → cancel_to f.first ms work (arrival_at f.first ms b) (begin_target o) ≡ Some s → Walked code f s.0 s.1 (suc made)
   cancelled_back bs b parent s (Some (Instr.Begin to)) e a l t c h =
       back to bs b parent s (arrival_at f.first ms b) a (l ∙ ap (λ x. cancel_of x [] (λ to. (to, bs) ∷ [])) e) t c refl h
   cancelled_back bs b parent s o e a l t c h = cc h
 
-  closes : (b : ℕ) (bs : List ℕ) (s : State) → way_of i ≡ Closes → begins ≡ bs → IsChain (table f.first ms) (Some b) bs → reopened f.first ms work (suc q) (arrival_at f.first ms b) ≡ Some s → Walked code f s.0 s.1 (suc made)
+  closes : (b : ℕ) (bs : List ℕ) (s : State) → way_of i ≡ Closes → begins ≡ bs → IsChain (table f.first ms) (Some b) bs → reopen_begin f.first ms work (suc q) (arrival_at f.first ms b) ≡ Some s → Walked code f s.0 s.1 (suc made)
   closes b [] s w e c h = cc c
   closes b (d ∷ bs) s w e c h =
       let g : b ≡ d = some_same b d c.0 in
       back (suc q) bs b c.1 s (arrival_at f.first ms b) (subst (λ x. asks_by x begins) (sym w) (λ n. cc (e, n))) (ap (λ x. leads_by code q x (way_of i)) e ∙ ap (leads_by code q (d ∷ bs)) w) (ap (table f.first ms) g ∙ c.2) c.3 refl h
 
   -- a cancel of the first of these begins
-  cancels : (b : ℕ) (bs : List ℕ) (s : State) → asks_by (way_of i) begins → leads_by code q begins (way_of i) ≡ cancelled_in code bs → IsChain (table f.first ms) (Some b) bs → cancelled f.first ms work (arrival_at f.first ms b) (begun (slice_get code.instructions b)) ≡ Some s → Walked code f s.0 s.1 (suc made)
+  cancels : (b : ℕ) (bs : List ℕ) (s : State) → asks_by (way_of i) begins → leads_by code q begins (way_of i) ≡ cancelled_in code bs → IsChain (table f.first ms) (Some b) bs → cancel_to f.first ms work (arrival_at f.first ms b) (begin_target (slice_get code.instructions b)) ≡ Some s → Walked code f s.0 s.1 (suc made)
   cancels b [] s a l c h = cc c
   cancels b (d ∷ bs) s a l c h =
       let g : b ≡ d = some_same b d c.0 in
       cancelled_back bs b c.1 s (slice_get code.instructions b) refl a (l ∙ ap (λ x. cancelled_in code (x ∷ bs)) (sym g)) (ap (table f.first ms) g ∙ c.2) c.3 h
 
-  cancels_one : (b : ℕ) (s : State) → way_of i ≡ Cancels → IsChain (table f.first ms) (Some b) begins → cancelled f.first ms work (arrival_at f.first ms b) (begun (slice_get code.instructions b)) ≡ Some s → Walked code f s.0 s.1 (suc made)
+  cancels_one : (b : ℕ) (s : State) → way_of i ≡ Cancels → IsChain (table f.first ms) (Some b) begins → cancel_to f.first ms work (arrival_at f.first ms b) (begin_target (slice_get code.instructions b)) ≡ Some s → Walked code f s.0 s.1 (suc made)
   cancels_one b s w c h = cancels b begins s (subst (λ x. asks_by x begins) (sym w) (not_empty (table f.first ms) b begins c)) (ap (leads_by code q begins) w) c h
 
   cancels_outer : (n b : ℕ) (s : State) (x : Option ℕ) → begin_round f.first ms (n - 1) b ≡ x → way_of i ≡ CancelsOuter n → IsChain (table f.first ms) (Some b) begins → cancelled_at code.instructions f.first ms work x ≡ Some s → Walked code f s.0 s.1 (suc made)
@@ -114,9 +114,9 @@ module _ (code : Code) (f : FunctionCode) (ms : Arrivals) (work : List ℕ) (q m
 
   -- all ways on, by the instruction
   goes_by : (w : Way) (n : Arrival) (s : State) → seen_one m ≡ 1 → way_of i ≡ w → m ≡ n → went_by code.instructions f.first ms work q n w ≡ Some s → Walked code f s.0 s.1 (suc made)
-  goes_by On n s one w e h = one_way (suc q) begins m s one (subst (λ x. asks_by x begins) (sym w) tt) (ap (leads_by code q begins) w) chain (ap (visited f.first ms work (suc q)) e ∙ h)
-  goes_by (To to) n s one w e h = one_way to begins m s one (subst (λ x. asks_by x begins) (sym w) tt) (ap (leads_by code q begins) w) chain (ap (visited f.first ms work to) e ∙ h)
-  goes_by (Both to) n s one w e h = two_ways to s (visited f.first ms work (suc q) m) one w refl (ap (λ x. twice f.first to x (visited f.first ms work (suc q) x)) e ∙ h)
+  goes_by On n s one w e h = one_way (suc q) begins m s one (subst (λ x. asks_by x begins) (sym w) tt) (ap (leads_by code q begins) w) chain (ap (visit_place f.first ms work (suc q)) e ∙ h)
+  goes_by (To to) n s one w e h = one_way to begins m s one (subst (λ x. asks_by x begins) (sym w) tt) (ap (leads_by code q begins) w) chain (ap (visit_place f.first ms work to) e ∙ h)
+  goes_by (Both to) n s one w e h = two_ways to s (visit_place f.first ms work (suc q) m) one w refl (ap (λ x. twice f.first to x (visit_place f.first ms work (suc q) x)) e ∙ h)
   goes_by Opens n s one w e h = one_way (suc q) (q ∷ begins) (Inside q) s refl (subst (λ x. asks_by x begins) (sym w) tt) (ap (leads_by code q begins) w) (refl, id_of m, at, chain) h
   goes_by Closes (Inside b) s one w e h = closes b begins s w refl (subst (λ x. IsChain (table f.first ms) (id_of x) begins) e chain) h
   goes_by Cancels (Inside b) s one w e h = cancels_one b s w (subst (λ x. IsChain (table f.first ms) (id_of x) begins) e chain) h

@@ -114,14 +114,14 @@ functions_text code (f ∷ rest) =
 abbrev pub escapes : List (ℕ × List ℕ)
 escapes = (10, codes "\\n") ∷ (9, codes "\\t") ∷ (92, codes "\\\\") ∷ (34, codes "\\\"") ∷ []
 
-abbrev pub escaped : ℕ → List ℕ
-escaped c = unwrap_or (lookup (λ k. c == k) escapes) (c ∷ [])
+abbrev pub listing_escape : ℕ → List ℕ
+listing_escape c = unwrap_or (lookup (λ k. c == k) escapes) (c ∷ [])
 
 -- texts by their numbers, from one on
 abbrev pub texts_text : ℕ → List (List ℕ) → List ℕ
 texts_text k [] = []
 texts_text k (t ∷ ts) =
-    codes "text " ++ decimal k ++ codes " \"" ++ flat_map escaped t ++ codes "\"\n" ++ texts_text (suc k) ts
+    codes "text " ++ decimal k ++ codes " \"" ++ flat_map listing_escape t ++ codes "\"\n" ++ texts_text (suc k) ts
 
 abbrev pub listing : Code → List ℕ
 listing code = functions_text code code.functions ++ texts_text 0 code.texts

@@ -2,7 +2,7 @@
 
 ghost use Rattle.std.specs.Prelude.{◌≡◌, ◌++◌, ◌<◌, length, OnOk};
 ghost use Rattle.syntax.specs.Numbers.{residue};
-ghost use Rattle.bytecode.specs.Code.{bounds_of, stored};
+ghost use Rattle.bytecode.specs.Code.{bounds_of, word_for_cell};
 ghost use Rattle.bytecode.specs.Initial.{initial_of};
 ghost use Rattle.bytecode.specs.Valid.{IsValid};
 
@@ -38,7 +38,7 @@ impl<A: Allocator> Code<A> {
     /// What a cell keeps of a word: its residue for the cell's type. Takes a look at each global up to the cell's.
     pub fn stored(&self, cell: u32, word: u64) -> u64
         requires { cell < length (bounds_of self.now) }
-        ensures { result ≡ stored self.now cell word }
+        ensures { result ≡ word_for_cell self.now cell word }
     {
         let mut left = cell as usize;
         'each: for global in self.globals() {

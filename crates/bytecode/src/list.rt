@@ -2,8 +2,8 @@
 
 ghost use Rattle.std.specs.Prelude.{◌≡◌, ◌+◌, ◌-◌, ◌<◌, ◌^◌, ◌++◌, ◌∷◌, [], OnOk, IfOk, string_bytes, codes, decimal};
 ghost use Rattle.std.specs.Prelude.{flat_map, map, length};
-ghost use Rattle.bytecode.specs.Flat.{decoded};
-ghost use Rattle.bytecode.specs.Listing.{cut_text, lines_from, escaped, functions_text, text_at, texts_text};
+ghost use Rattle.bytecode.specs.Flat.{instruction_from};
+ghost use Rattle.bytecode.specs.Listing.{cut_text, lines_from, listing_escape, functions_text, text_at, texts_text};
 ghost use Rattle.bytecode.specs.Listing as spec;
 ghost use Rattle.bytecode.specs.Views.{function_of};
 ghost use Rattle.bytecode.specs.inner.Kept.{AreWhole};
@@ -26,7 +26,7 @@ fn push_lines<A: Allocator>(
     requires whole { AreWhole words.now firsts.now }
     requires few { from + length firsts.now < 2 ^ 64 }
     ensures { OnOk result (string_bytes text.new ≡ string_bytes text.old
-        ++ lines_from (map function_of functions.now) from (map (decoded words.now) firsts.now)) }
+        ++ lines_from (map function_of functions.now) from (map (instruction_from words.now) firsts.now)) }
 {
     let mut place = from;
     'each: for first in firsts {
@@ -71,7 +71,7 @@ fn push_function<A: Allocator>(
 }
 
 fn push_escaped<A: Allocator>(text: &mut String<A>, written: &str) -> Result<(), AllocError>
-    ensures { OnOk result (string_bytes text.new ≡ string_bytes text.old ++ flat_map escaped written.now) }
+    ensures { OnOk result (string_bytes text.new ≡ string_bytes text.old ++ flat_map listing_escape written.now) }
 {
     'each: for c in written.chars() {
         match c {

@@ -6,8 +6,8 @@ ghost use Rattle.bytecode.specs.Valid.{KeepsOpen};
 ghost use Rattle.bytecode.specs.Views.{code_of, function_of, instr_of};
 ghost use Rattle.bytecode.specs.Code.{Code as Plain, FunctionCode as FunctionPlain, Instr as PlainInstr};
 ghost use Rattle.bytecode.specs.declared.walk.Arrival.TheVariants.{Unseen};
-ghost use Rattle.bytecode.specs.inner.Walking.{way_of, visited, given, arrival_at, reopened, begun_by, begun};
-ghost use Rattle.bytecode.specs.inner.Walking.{cancelled, begin_round, cancelled_at, went_by};
+ghost use Rattle.bytecode.specs.inner.Walking.{way_of, visit_place, walk_answer, arrival_at, reopen_begin, begun_by, begin_target};
+ghost use Rattle.bytecode.specs.inner.Walking.{cancel_to, begin_round, cancelled_at, went_by};
 
 use crate::code::{FunctionCode, Parts};
 use crate::instr::Instr;
@@ -65,8 +65,8 @@ fn visit<A: Allocator>(
     to: usize,
     arrival: Arrival,
 ) -> Result<bool, AllocError>
-    ensures visited { IfOk result (λ b. visited first arrivals.old work.old.items to arrival
-        ≡ given b arrivals.new work.new.items) }
+    ensures visited { IfOk result (λ b. visit_place first arrivals.old work.old.items to arrival
+        ≡ walk_answer b arrivals.new work.new.items) }
     ensures len { length arrivals.new ≡ length arrivals.old }
 {
     if to < first {
@@ -109,8 +109,8 @@ fn reopen<A: Allocator>(
     under: usize,
 ) -> Result<bool, AllocError>
     ensures reopened { IfOk result
-        (λ b. reopened first arrivals.old work.old.items to (arrival_at first arrivals.old under)
-        ≡ given b arrivals.new work.new.items) }
+        (λ b. reopen_begin first arrivals.old work.old.items to (arrival_at first arrivals.old under)
+        ≡ walk_answer b arrivals.new work.new.items) }
     ensures len { length arrivals.new ≡ length arrivals.old }
 {
     match arrival_of(arrivals, first, under) {
@@ -130,7 +130,7 @@ fn cancel_in(instr: &Instr) -> Option<u32>
 }
 
 fn cancel_at(instrs: &[Instr], at: usize) -> Option<u32>
-    ensures { (arguments : List ℕ) → result ≡ begun (slice_get (map (instr_of arguments) instrs.now) at) }
+    ensures { (arguments : List ℕ) → result ≡ begin_target (slice_get (map (instr_of arguments) instrs.now) at) }
 {
     match instrs.get(at) {
         Some(instr) => cancel_in(instr),
@@ -147,8 +147,8 @@ fn cancel<A: Allocator>(
     begin: usize,
 ) -> Result<bool, AllocError>
     ensures cancelled { (arguments : List ℕ)
-        → IfOk result (λ b. cancelled first arrivals.old work.old.items (arrival_at first arrivals.old begin)
-        (begun (slice_get (map (instr_of arguments) instrs.now) begin)) ≡ given b arrivals.new work.new.items) }
+        → IfOk result (λ b. cancel_to first arrivals.old work.old.items (arrival_at first arrivals.old begin)
+        (begin_target (slice_get (map (instr_of arguments) instrs.now) begin)) ≡ walk_answer b arrivals.new work.new.items) }
     ensures len { length arrivals.new ≡ length arrivals.old }
 {
     match cancel_at(instrs, begin) {
@@ -185,7 +185,7 @@ fn cancel_outer<A: Allocator>(
 ) -> Result<bool, AllocError>
     ensures cancelled { (arguments : List ℕ)
         → IfOk result (λ b. cancelled_at (map (instr_of arguments) instrs.now) first arrivals.old work.old.items
-        (begin_round first arrivals.old (levels - 1) begin) ≡ given b arrivals.new work.new.items) }
+        (begin_round first arrivals.old (levels - 1) begin) ≡ walk_answer b arrivals.new work.new.items) }
     ensures len { length arrivals.new ≡ length arrivals.old }
 {
     match begin_round(arrivals, first, levels.saturating_sub(1), begin) {
@@ -208,7 +208,7 @@ fn go_by<A: Allocator>(
     ensures went { (arguments : List ℕ)
         → IfOk result
         (λ b. went_by (map (instr_of arguments) instrs.now) first arrivals.old work.old.items at arrival way
-        ≡ given b arrivals.new work.new.items) }
+        ≡ walk_answer b arrivals.new work.new.items) }
     ensures len { length arrivals.new ≡ length arrivals.old }
 {
     match way {
@@ -253,7 +253,7 @@ fn go_on<A: Allocator>(
     requires { at < length instrs.now }
     ensures went { (arguments : List ℕ) → (i : PlainInstr) → slice_get (map (instr_of arguments) instrs.now) at ≡ Some i
         → IfOk result (λ b. went_by (map (instr_of arguments) instrs.now) first arrivals.old work.old.items at arrival
-        (way_of i) ≡ given b arrivals.new work.new.items) }
+        (way_of i) ≡ walk_answer b arrivals.new work.new.items) }
     ensures len { length arrivals.new ≡ length arrivals.old }
 {
     let way = way_on(&instrs[at]);

@@ -10,7 +10,7 @@ use Rattle.picked.specs.declared.held.Held.{Held}
 use Rattle.picked.specs.declared.held.Target.TheVariants as target
 use Rattle.picked.specs.Lists.{Lists}
 use Rattle.picked.specs.Expressions.{Emitted, emitted_type, emitted}
-use Rattle.picked.specs.Simples.{Aimed, aimed, above_target, home_or, stored, then_stored, placed, changed, assigned, adjusted, first_written}
+use Rattle.picked.specs.Simples.{Aimed, aimed, above_target, home_or, target_store, then_stored, placed, changed, assigned, adjusted, first_written}
 use Rattle.picked.proofs.Growing.{emitted_more}
 use Rattle.picked.proofs.GrowingStmts.{stored_same, expr_fitting_more, changed_more}
 use Rattle.expression_code.specs.declared.aim.Aim.{Aim}
@@ -48,11 +48,11 @@ module _ (p : Program) (scope : LocalScope) (lhs : Tree.Expr) (from free : ℕ) 
       pub value_behind : {c2 : List Instr} {l2 : Lists} {r : Result Held Failure} → Adds (of_value (placed p scope a.target e a.to home later l1)) c1 c2 l2 r → Adds (behind (of_aim Place) (of_value Value)) old c2 l2 r
       value_behind v = in_turn k (ap of_value value_is) v
 
-      pub assigned_there : {c2 c3 : List Instr} {l2 : Lists} {h : Held} {r : Result ℕ Failure} → Adds (of_value (placed p scope a.target e a.to home later l1)) c1 c2 l2 (Ok h) → Adds (of_written (stored a.target h.register h.to l2)) c2 c3 l2 r →
+      pub assigned_there : {c2 c3 : List Instr} {l2 : Lists} {h : Held} {r : Result ℕ Failure} → Adds (of_value (placed p scope a.target e a.to home later l1)) c1 c2 l2 (Ok h) → Adds (of_written (target_store a.target h.register h.to l2)) c2 c3 l2 r →
           Adds (of_written (assigned p scope lhs e from free l)) old c3 l2 r
       assigned_there v s =
           in_turn k (λ j. of_written (then_stored (k.end j).target (value_is j)))
-          (in_turn v (λ j. of_written (stored a.target (v.end j).register (v.end j).to (v.lists j))) s)
+          (in_turn v (λ j. of_written (target_store a.target (v.end j).register (v.end j).to (v.lists j))) s)
 
   -- `lhs op= by`, or by 1
   module _ (op : BinaryOp) (by : Option Tree.Expr) where
@@ -75,11 +75,11 @@ module _ (p : Program) (scope : LocalScope) (lhs : Tree.Expr) (from free : ℕ) 
       pub result_there : {c2 : List Instr} {l2 : Lists} {r : Result Held Failure} → Adds (of_value (changed p scope op by a.target a.to later l1)) c1 c2 l2 r → Adds (of_value M) c1 c2 l2 r
       result_there x = same (λ j. of_value (changed p scope op by (k.end j).target (k.end j).to ((el ∙ ap (λ (a : Aim). above_target a.target free) k.end) j) (k.lists j))) x
 
-      pub adjusted_there : {c2 c3 : List Instr} {l2 : Lists} {m : Held} {r : Result ℕ Failure} → Adds (of_value (changed p scope op by a.target a.to later l1)) c1 c2 l2 (Ok m) → Adds (of_written (stored a.target m.register m.to l2)) c2 c3 l2 r →
+      pub adjusted_there : {c2 c3 : List Instr} {l2 : Lists} {m : Held} {r : Result ℕ Failure} → Adds (of_value (changed p scope op by a.target a.to later l1)) c1 c2 l2 (Ok m) → Adds (of_written (target_store a.target m.register m.to l2)) c2 c3 l2 r →
           Adds (of_written (adjusted p scope op lhs by from free l)) old c3 l2 r
       adjusted_there x s =
           let made = result_there x in
-          in_turn k (λ j. of_written (then_stored (k.end j).target M)) (in_turn made (λ j. of_written (stored a.target (made.end j).register (made.end j).to (made.lists j))) s)
+          in_turn k (λ j. of_written (then_stored (k.end j).target M)) (in_turn made (λ j. of_written (target_store a.target (made.end j).register (made.end j).to (made.lists j))) s)
 
 -- the first value of a local
 module _ (p : Program) (s : LocalScope) (i : ℕ) (t : Scalar) (e : Tree.Expr) (from k : ℕ) (l : Lists) (ek : k ≡ suc i) where
@@ -92,5 +92,5 @@ module _ (p : Program) (s : LocalScope) (i : ℕ) (t : Scalar) (e : Tree.Expr) (
   pub first_within : First.lists.registers ≤ (first_written p s i t (Some e) from l).lists.registers
   first_within = let x = stored_same (target.Local i t) First.held.register First.held.to First.lists in omega (arith, x)
 
-  pub first_there : {old c1 c2 : List Instr} {l1 : Lists} {h : Held} {r : Result ℕ Failure} → Adds (of_value First) old c1 l1 (Ok h) → Adds (of_written (stored (target.Local i t) h.register h.to l1)) c1 c2 l1 r → Adds (of_written (first_written p s i t (Some e) from l)) old c2 l1 r
-  first_there v s = in_turn v (λ j. of_written (stored (target.Local i t) (v.end j).register (v.end j).to (v.lists j))) s
+  pub first_there : {old c1 c2 : List Instr} {l1 : Lists} {h : Held} {r : Result ℕ Failure} → Adds (of_value First) old c1 l1 (Ok h) → Adds (of_written (target_store (target.Local i t) h.register h.to l1)) c1 c2 l1 r → Adds (of_written (first_written p s i t (Some e) from l)) old c2 l1 r
+  first_there v s = in_turn v (λ j. of_written (target_store (target.Local i t) (v.end j).register (v.end j).to (v.lists j))) s

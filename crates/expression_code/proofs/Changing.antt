@@ -11,7 +11,7 @@ use Rattle.picked.specs.declared.held.Held.{Held}
 use Rattle.picked.specs.declared.held.Target.{Target}
 use Rattle.picked.specs.Lists.{Lists}
 use Rattle.picked.specs.Expressions.{Emitted, above, converting, converted_by, constant_of, emitted_type, both, emitted}
-use Rattle.picked.specs.Simples.{fetched, home_or, type_at, taking, fitting, placed, value_or_one, type_or_int, changed}
+use Rattle.picked.specs.Simples.{target_value, home_or, type_at, taking, fitting, placed, value_or_one, type_or_int, changed}
 use Rattle.picked.proofs.Growing.{used_more, converted_more}
 use Rattle.picked.proofs.GrowingStmts.{one_more}
 use Rattle.picked.proofs.stands.Kinds.{emitted_is}
@@ -55,7 +55,7 @@ module _ (p : Program) (scope : LocalScope) (op : BinaryOp) (by : Option Tree.Ex
   V = operand_type op T S
 
   abbrev F : Emitted
-  F = fetched t from free l
+  F = target_value t from free l
 
   abbrev O : Emitted
   O = converted_by (converting S U) U F free

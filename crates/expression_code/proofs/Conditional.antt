@@ -12,14 +12,14 @@ use Rattle.picked.specs.declared.held.Held.{Held}
 use Rattle.picked.specs.declared.held.Tested.{Tested}
 use Rattle.picked.specs.Lists.{Lists}
 use Rattle.picked.specs.Conditions.{Condition}
-use Rattle.picked.specs.Expressions.{Emitted, settled, then_one, chosen, emitted_type, due, condition, conditional}
+use Rattle.picked.specs.Expressions.{Emitted, value_into, then_one, conditional_value, emitted_type, due, condition, conditional}
 use Rattle.picked.proofs.Growing.{due_more, settled_more}
 use Rattle.expression_code.specs.Stretches.{Adds, of_value, of_test}
 use Rattle.expression_code.specs.inner.Stretches.{in_place, standing, test_in_place}
 use Rattle.expression_code.proofs.Adding.{behind, gathered, value_alone}
 
 -- a value that is settled behind its instructions is settled with them
-pub settled_behind : (r : ℕ) (e : Emitted) → behind (of_value e) (of_value (settled r (in_place e.held e.lists))) ≡ of_value (settled r e)
+pub settled_behind : (r : ℕ) (e : Emitted) → behind (of_value e) (of_value (value_into r (in_place e.held e.lists))) ≡ of_value (value_into r e)
 settled_behind r e = by (e.held.register == r)
   where
     by : (b : Bool) →
@@ -36,10 +36,10 @@ module _ (p : Program) (s : LocalScope) (c a b : Tree.Expr) (from into free : �
   Both = common (emitted_type p s a) (emitted_type p s b)
 
   abbrev One : Emitted
-  One = settled into (due p s Both a (C.to + 1) into free C.lists)
+  One = value_into into (due p s Both a (C.to + 1) into free C.lists)
 
   abbrev Two : Emitted
-  Two = settled into (due p s Both b (One.held.to + 1) into free One.lists)
+  Two = value_into into (due p s Both b (One.held.to + 1) into free One.lists)
 
   -- no part needs more registers than the whole
   pub second_within : One.lists.registers ≤ (conditional p s c a b from into free l).lists.registers
@@ -57,13 +57,13 @@ module _ (p : Program) (s : LocalScope) (c a b : Tree.Expr) (from into free : �
       omega (arith, x, y, z)
 
   module _ {before drafts : List Draft} {lc : Lists} {t : Tested} {next : ℕ} (kc : Adds (of_test (condition p s c from free l)) before drafts lc (Ok t)) (en : next ≡ t.to + 1) {of : Scalar} (eof : of ≡ Both) where
-    pub one_is : settled into (due p s of a next into free lc) ≡ One
-    one_is = λ j. settled into (due p s (eof j) a ((en ∙ ap (λ (k : Tested). k.to + 1) kc.end) j) into free (kc.lists j))
+    pub one_is : value_into into (due p s of a next into free lc) ≡ One
+    one_is = λ j. value_into into (due p s (eof j) a ((en ∙ ap (λ (k : Tested). k.to + 1) kc.end) j) into free (kc.lists j))
 
     module _ {none first : List Instr} {la : Lists} {h : Held} {other : ℕ} (ka : Adds (of_value One) none first la (Ok h)) (eo : other ≡ h.to + 1) where
-      pub two_is : settled into (due p s of b other into free la) ≡ Two
-      two_is = λ j. settled into (due p s (eof j) b ((eo ∙ ap (λ (k : Held). k.to + 1) ka.end) j) into free (ka.lists j))
+      pub two_is : value_into into (due p s of b other into free la) ≡ Two
+      two_is = λ j. value_into into (due p s (eof j) b ((eo ∙ ap (λ (k : Held). k.to + 1) ka.end) j) into free (ka.lists j))
 
       pub chosen_there : {none' second : List Instr} {shown : List Draft} {lb : Lists} {k : Held} → Adds (of_value Two) none' second lb (Ok k) → before ≡ [] → none ≡ [] → none' ≡ [] → shown ≡ drafts → k.register ≡ into →
-          chosen of (test_in_place shown t lb) (standing first h lb) (standing second k lb) k.register ≡ conditional p s c a b from into free l
-      chosen_there kb e0 e1 e2 es er = λ j. chosen (eof j) (gathered kc e0 es j) (value_alone ka e1 j) (value_alone kb e2 j) (er j)
+          conditional_value of (test_in_place shown t lb) (standing first h lb) (standing second k lb) k.register ≡ conditional p s c a b from into free l
+      chosen_there kb e0 e1 e2 es er = λ j. conditional_value (eof j) (gathered kc e0 es j) (value_alone ka e1 j) (value_alone kb e2 j) (er j)

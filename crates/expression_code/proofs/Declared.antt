@@ -9,7 +9,7 @@ use Rattle.bytecode.specs.declared.instr.Instr.{Instr}
 use Rattle.bytecode.specs.declared.instr.Instr.TheVariants as own
 use Rattle.lowered.specs.Expressions.{LocalScope}
 use Rattle.lowered.specs.Statements.{with_local, with_declared}
-use Rattle.picked.specs.Lists.{Lists, used}
+use Rattle.picked.specs.Lists.{Lists, with_register}
 use Rattle.picked.specs.Simples.{Written, and_then, first_written, declarator_written, declared_written}
 use Rattle.picked.proofs.GrowingStmts.{first_more, declared_more}
 use Rattle.expression_code.specs.declared.fault.Failure.{Failure}
@@ -18,15 +18,15 @@ use Rattle.expression_code.proofs.Adding.{written_behind, in_turn}
 
 -- a local that is 0, and its first value behind that
 module _ (p : Program) (t : Scalar) (d : Declarator) (scope : LocalScope) (from : ℕ) (l : Lists) where
-  pub declarator_there : {scope' : LocalScope} {i next : ℕ} {old c1 new : List Instr} {l1 l2 : Lists} {r : Result ℕ Failure} → i ≡ length scope → scope' ≡ with_local scope d.name.text t → c1 ≡ old ++ own.Constant i 0 ∷ [] → l1 ≡ used (length scope) l → next ≡ from + 1 →
+  pub declarator_there : {scope' : LocalScope} {i next : ℕ} {old c1 new : List Instr} {l1 l2 : Lists} {r : Result ℕ Failure} → i ≡ length scope → scope' ≡ with_local scope d.name.text t → c1 ≡ old ++ own.Constant i 0 ∷ [] → l1 ≡ with_register (length scope) l → next ≡ from + 1 →
       Adds (of_written (first_written p scope' i t d.first next l1)) c1 new l2 r → Adds (of_written (declarator_written p t d scope from l)) old new l2 r
   declarator_there {next = next} {old = old} {c1 = c1} {l1 = l1} ei es ec el en m =
-      let zero : Stretch Instr ℕ = record { code = own.Constant (length scope) 0 ∷ []; lists = used (length scope) l; end = from + 1 } in
+      let zero : Stretch Instr ℕ = record { code = own.Constant (length scope) 0 ∷ []; lists = with_register (length scope) l; end = from + 1 } in
       let k : Adds zero old c1 l1 (Ok next) = record { code = ec ∙ ap (λ i. old ++ own.Constant i 0 ∷ []) ei; lists = el; end = en; fails = tt } in
       in_turn k (λ j. of_written (first_written p (es j) (ei j) t d.first (en j) (el j))) m
 
-  pub zero_within : (used (length scope) l).registers ≤ (declarator_written p t d scope from l).lists.registers
-  zero_within = let x = first_more p (with_local scope d.name.text t) (length scope) t d.first (from + 1) (used (length scope) l) in omega (arith, x)
+  pub zero_within : (with_register (length scope) l).registers ≤ (declarator_written p t d scope from l).lists.registers
+  zero_within = let x = first_more p (with_local scope d.name.text t) (length scope) t d.first (from + 1) (with_register (length scope) l) in omega (arith, x)
 
 module _ (t : Scalar) {A : Type 0} (ys : List (OwnDeclarator A)) (i : ℕ) (scope : LocalScope) where
   pub next_scope : (y : OwnDeclarator A) (whole scope' : LocalScope) → i < length ys → y ≡ get_or ys i y → scope' ≡ with_local scope y.name.text t → with_declared t (map declarator_of (drop i ys)) scope ≡ whole → with_declared t (map declarator_of (drop (i + 1) ys)) scope' ≡ whole

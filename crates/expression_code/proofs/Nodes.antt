@@ -27,7 +27,7 @@ use Rattle.picked.specs.declared.held.Held.{Held}
 use Rattle.picked.specs.declared.held.Tested.{Tested}
 use Rattle.picked.specs.Lists.{Lists}
 use Rattle.picked.specs.Conditions.{Condition}
-use Rattle.picked.specs.Expressions.{Emitted, constant, converting, converted_by, constant_of, where_same, emitted_type, emitted, due, own_condition, condition, tested}
+use Rattle.picked.specs.Expressions.{Emitted, constant, converting, converted_by, constant_of, where_same, emitted_type, emitted, due, own_condition, condition, condition_of}
 use Rattle.picked.proofs.Growing.{converted_more}
 use Rattle.picked.proofs.stands.Kinds.{emitted_is}
 use Rattle.expression_code.specs.declared.fault.Failure.{Failure}
@@ -80,9 +80,9 @@ module _ (p : Program) (scope : LocalScope) {e x : Tree.Expr} (from : ℕ) where
   pub test_there : (free : ℕ) (l : Lists) {old new : List Draft} {m : Lists} {r : Result Tested Failure} → e ≡ x → Adds (of_test (condition p scope x from free l)) old new m r → Adds (of_test (condition p scope e from free l)) old new m r
   test_there free l {old = old} {new = new} {m = m} {r = r} is k = subst (λ (y : Tree.Expr). Adds (of_test (condition p scope y from free l)) old new m r) (sym is) k
 
-  pub value_test_there : (free : ℕ) (l : Lists) {old new : List Draft} {m : Lists} {r : Result Tested Failure} → e ≡ x → own_condition p scope x from free l ≡ None → Adds (of_test (tested None (emitted p scope e from free free l))) old new m r → Adds (of_test (condition p scope e from free l)) old new m r
+  pub value_test_there : (free : ℕ) (l : Lists) {old new : List Draft} {m : Lists} {r : Result Tested Failure} → e ≡ x → own_condition p scope x from free l ≡ None → Adds (of_test (condition_of None (emitted p scope e from free free l))) old new m r → Adds (of_test (condition p scope e from free l)) old new m r
   value_test_there free l {old = old} {new = new} {m = m} {r = r} is none k =
-      subst (λ o. Adds (of_test (tested o (emitted p scope e from free free l))) old new m r) (sym (ap (λ y. own_condition p scope y from free l) is ∙ none)) k
+      subst (λ o. Adds (of_test (condition_of o (emitted p scope e from free free l))) old new m r) (sym (ap (λ y. own_condition p scope y from free l) is ∙ none)) k
 
 -- what is due, of a constant and of another expression
 pub due_constant : (p : Program) (scope : LocalScope) (u : Scalar) (e : Tree.Expr) (n : ℕ) (t : Scalar) (from into free : ℕ) (l : Lists) → constant_of e ≡ Some (n, t) → due p scope u e from into free l ≡ constant (constant_in u t n) u from into l
@@ -131,11 +131,11 @@ due_within p scope u e from into free l none =
 -- a cast that is no instruction is tested as its operand is
 cast_tested : (p : Program) (scope : LocalScope) (u : Scalar) (a : Tree.Expr) (at : Span) (from free : ℕ) (l : Lists) → is_some (converting (emitted_type p scope a) u) ≡ false → condition p scope a from free l ≡ condition p scope (Tree.Cast u a at) from free l
 cast_tested p scope u (Tree.Constant n t at') at from free l none =
-    ap (λ w. tested None (constant w t from free l)) (sym (unconverted t u (word_of t (pos n)) (word_below t (pos n)) (no_instruction t u none)))
-    ∙ ap (λ o. tested o (constant (constant_in u t n) u from free l)) (sym (where_none (converting t u)))
+    ap (λ w. condition_of None (constant w t from free l)) (sym (unconverted t u (word_of t (pos n)) (word_below t (pos n)) (no_instruction t u none)))
+    ∙ ap (λ o. condition_of o (constant (constant_in u t n) u from free l)) (sym (where_none (converting t u)))
 cast_tested p scope u a at from free l none = by (converting (emitted_type p scope a) u) none (own_condition p scope a from free l)
   where
-    by : (i : Option (ℕ → ℕ → Instr)) → is_some i ≡ false → (o : Option Condition) → tested o (emitted p scope a from free free l) ≡ tested (where_same i o) (converted_by i u (emitted p scope a from free free l) free)
+    by : (i : Option (ℕ → ℕ → Instr)) → is_some i ≡ false → (o : Option Condition) → condition_of o (emitted p scope a from free free l) ≡ condition_of (where_same i o) (converted_by i u (emitted p scope a from free free l) free)
     by None none (Some c) = refl
     by None none None = refl
     by (Some i) none o = absurd (cc)

@@ -10,7 +10,7 @@ use Rattle.bytecode.specs.declared.instr.Instr.{Instr}
 use Rattle.lowered.specs.Expressions.{LocalScope, types_left}
 use Rattle.picked.specs.declared.held.Held.{Held}
 use Rattle.picked.specs.Lists.{Lists}
-use Rattle.picked.specs.Expressions.{Emitted, AllEmitted, above, followed, handed, types_of, all_emitted}
+use Rattle.picked.specs.Expressions.{Emitted, AllEmitted, above, with_argument, handed, types_of, all_emitted}
 use Rattle.picked.proofs.Growing.{all_more}
 use Rattle.expression_code.specs.Stretches.{Adds, of_value}
 
@@ -48,12 +48,12 @@ module _ (p : Program) (scope : LocalScope) {A : Type 0} (ts : List Scalar) (es 
     abbrev First : Emitted
     First = handed p scope (drop i ts) (expr_of e) to later l
 
-    here : row i to later l ≡ followed First (row (i + 1) First.held.to (above later First.held.register) First.lists)
+    here : row i to later l ≡ with_argument First (row (i + 1) First.held.to (above later First.held.register) First.lists)
     unfolding row
     here =
         at_drop_more (λ xs. all_emitted p scope (drop i ts) (exprs_of xs) to later l) es i e h
         ∙ ap (λ x. all_emitted p scope (drop i ts) (exprs_of (x ∷ drop (i + 1) es)) to later l) (sym is)
-        ∙ ap (λ us. followed First (all_emitted p scope us (exprs_of (drop (i + 1) es)) First.held.to (above later First.held.register) First.lists)) (types_further ts i)
+        ∙ ap (λ us. with_argument First (all_emitted p scope us (exprs_of (drop (i + 1) es)) First.held.to (above later First.held.register) First.lists)) (types_further ts i)
 
     pub next_value : (code' : List Instr) (rs' : List ℕ) (l' : Lists) (a : Held) (later' : ℕ) → Adds (of_value First) code code' l' (Ok a) → rs' ≡ rs ++ a.register ∷ [] → later' ≡ above later a.register →
         values_behind code' rs' (all_emitted p scope (drop (i + 1) ts) (exprs_of (drop (i + 1) es)) a.to later' l') ≡ whole

@@ -2,26 +2,26 @@
 use Rattle.std.proofs.Common.{ℕ, ◌+◌, ◌≤◌, ◌++◌, length, Some, arith}
 use Rattle.syntax.specs.Tree as Tree
 use Rattle.syntax.specs.Tree.{Program}
-use Rattle.lowered.specs.Expressions.{LocalScope, arranged}
-use Rattle.picked.specs.Lists.{Lists, used, holding}
+use Rattle.lowered.specs.Expressions.{LocalScope, argument_order}
+use Rattle.picked.specs.Lists.{Lists, with_register, holding}
 use Rattle.picked.specs.Names.{Callee}
-use Rattle.picked.specs.Expressions.{AllEmitted, called, condition}
+use Rattle.picked.specs.Expressions.{AllEmitted, call_code, condition}
 use Rattle.picked.proofs.Growing.{used_more, holding_more, condition_more}
 
 module _ (p : Program) (scope : LocalScope) (a b : Tree.Expr) (from into free : ℕ) (l : Lists) where
   -- the first condition of `&&` and `||`
   pub logical_within :
       let first = condition p scope a from free l in
-      first.lists.registers ≤ (used into (condition p scope b (first.to + 1) free first.lists).lists).registers
+      first.lists.registers ≤ (with_register into (condition p scope b (first.to + 1) free first.lists).lists).registers
   logical_within =
       let first = condition p scope a from free l in
       let x = condition_more p scope b (first.to + 1) free first.lists in
       let y = used_more into (condition p scope b (first.to + 1) free first.lists).lists in
       omega (arith, x, y)
 
-pub arguments_within : (f : Callee) (args : AllEmitted) (from into : ℕ) (l : Lists) → args.lists.registers ≤ (called (Some f) args from into l).lists.registers
+pub arguments_within : (f : Callee) (args : AllEmitted) (from into : ℕ) (l : Lists) → args.lists.registers ≤ (call_code (Some f) args from into l).lists.registers
 arguments_within f args from into l =
-    let handed = arranged f.parameters args.registers in
+    let handed = argument_order f.parameters args.registers in
     let made = record args.lists { arguments = args.lists.arguments ++ handed } in
     let x = holding_more (length handed) made in
     let y = used_more into (holding (length handed) made) in

@@ -35,7 +35,7 @@ pub(crate) fn jump_if_not(at_zero: bool, register: u16, to: u32) -> Instr
 }
 
 fn completed(one: Draft, met: u32, unmet: u32) -> Instr
-    ensures { result ≡ conditions.completed met unmet one }
+    ensures { result ≡ conditions.instruction_of_draft met unmet one }
 {
     match one {
         Draft::Whole(i) => i,
@@ -45,7 +45,7 @@ fn completed(one: Draft, met: u32, unmet: u32) -> Instr
 }
 
 fn turned(one: Draft) -> Draft
-    ensures { result ≡ conditions.turned one }
+    ensures { result ≡ conditions.opposite_draft one }
 {
     match one {
         Draft::Whole(i) => Draft::Whole(i),
@@ -108,7 +108,7 @@ pub(crate) fn turn<A: Allocator>(
     drafts: &mut Vec<Draft, A>,
     first: &[Draft],
 ) -> Result<(), AllocError>
-    ensures { OnOk result (drafts.new.items ≡ drafts.old.items ++ map conditions.turned first.now) }
+    ensures { OnOk result (drafts.new.items ≡ drafts.old.items ++ map conditions.opposite_draft first.now) }
 {
     'each: for one in first {
         push(drafts, turned(*one))?;
@@ -136,7 +136,7 @@ fn complete<A: Allocator>(
     met: u32,
     unmet: u32,
 ) -> Result<(), AllocError>
-    ensures { OnOk result (code.new.items ≡ code.old.items ++ map (conditions.completed met unmet) drafts.now) }
+    ensures { OnOk result (code.new.items ≡ code.old.items ++ map (conditions.instruction_of_draft met unmet) drafts.now) }
 {
     'each: for one in drafts {
         put(code, completed(*one, met, unmet))?;

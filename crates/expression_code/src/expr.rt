@@ -6,11 +6,11 @@ ghost use Rattle.syntax.specs.Names as Source;
 ghost use Rattle.syntax.specs.Numbers.{word_of};
 ghost use Rattle.syntax.specs.Views.{expr_of, exprs_of, global_of, parameter_of};
 ghost use Rattle.bytecode.specs.declared.instr.Instr.TheVariants as instr;
-ghost use Rattle.lowered.specs.Expressions.{arranged, named_ones, nameless_ones};
+ghost use Rattle.lowered.specs.Expressions.{argument_order, named_ones, nameless_ones};
 ghost use Rattle.picked.specs.Lists.{Lists as Plain, holding};
 ghost use Rattle.picked.specs.Conditions as conditions;
-ghost use Rattle.picked.specs.Expressions.{one, constant, variable, element, settled, answered, called};
-ghost use Rattle.picked.specs.Expressions.{in_own_transaction, tested, taken_types, emitted, due, handed, operand};
+ghost use Rattle.picked.specs.Expressions.{one, constant, variable, element, value_into, condition_value, call_code};
+ghost use Rattle.picked.specs.Expressions.{in_own_transaction, condition_of, taken_types, emitted, due, handed, operand};
 ghost use Rattle.picked.specs.Expressions.{condition, both_conditions, conditional, types_of, all_emitted};
 ghost use Rattle.expression_code.specs.Limits.{NeedsMore};
 ghost use Rattle.expression_code.specs.Lists.{lists_of};
@@ -192,9 +192,9 @@ fn push_arranged<A: Allocator>(
     parameters: &[Parameter<A>],
     registers: &[u16],
 ) -> Result<usize, AllocError>
-    ensures items { OnOk result (all.new.items ≡ all.old.items ++ arranged (map parameter_of parameters.now)
+    ensures items { OnOk result (all.new.items ≡ all.old.items ++ argument_order (map parameter_of parameters.now)
         registers.now) }
-    ensures count { IfOk result (λ n. n ≡ length (arranged (map parameter_of parameters.now) registers.now)) }
+    ensures count { IfOk result (λ n. n ≡ length (argument_order (map parameter_of parameters.now) registers.now)) }
 {
     let first = all.len();
     push_named(all, parameters, registers)?;
@@ -223,13 +223,13 @@ fn hand_over<A: Allocator>(
     parameters: &[Parameter<A>],
     registers: &[u16],
 ) -> Result<(u32, u16), Failure>
-    ensures lists { let handed = arranged (map parameter_of parameters.now) registers.now in
+    ensures lists { let handed = argument_order (map parameter_of parameters.now) registers.now in
         let arguments = lists.old.arguments.items ++ handed in
         OnOk result (lists_of lists.new
         ≡ holding (length handed) (record (lists_of lists.old) { arguments = arguments })) }
     ensures first { IfOk result (λ r. r.0 ≡ length lists.old.arguments.items) }
-    ensures count { IfOk result (λ r. r.1 ≡ length (arranged (map parameter_of parameters.now) registers.now)) }
-    ensures fails { let n = length (arranged (map parameter_of parameters.now) registers.now) in
+    ensures count { IfOk result (λ r. r.1 ≡ length (argument_order (map parameter_of parameters.now) registers.now)) }
+    ensures fails { let n = length (argument_order (map parameter_of parameters.now) registers.now) in
         IfErr result (λ why. NeedsMore why (holding n (lists_of lists.old)).registers) }
 {
     let first = lists.arguments.len();
@@ -250,7 +250,7 @@ fn put_call<A: Allocator + Copy>(
     from: u32,
     into: usize,
 ) -> Result<Held, Failure>
-    ensures { AddsValue (called (Some (callee_in f.entry)) (all_in_place registers.now from (lists_of lists.old)) from
+    ensures { AddsValue (call_code (Some (callee_in f.entry)) (all_in_place registers.now from (lists_of lists.old)) from
         into (lists_of lists.old)) code.old code.new lists.new result }
 {
     if f.number > 4_294_967_295 {
@@ -465,7 +465,7 @@ fn lower_call<A: Allocator + Copy>(
     free: usize,
 ) -> Result<Held, Failure>
     requires { registers.old.items ≡ [] }
-    ensures { AddsValue (called (Some (callee_in f.entry))
+    ensures { AddsValue (call_code (Some (callee_in f.entry))
         (all_emitted (program_in names.now) (scope_in scope.now) (taken_types (Some (callee_in f.entry)))
         (exprs_of all.now) from free (lists_of lists.old))
         from into (lists_of lists.old)) code.old code.new lists.new result }
@@ -504,7 +504,7 @@ fn lower_logical<A: Allocator + Copy>(
 ) -> Result<Held, Failure>
     requires test { test.old.items ≡ [] }
     requires parts { e.now ≡ tree.Logical op left.now right.now at }
-    ensures { AddsValue (answered
+    ensures { AddsValue (condition_value
         (both_conditions (program_in names.now) (scope_in scope.now) op (expr_of left.now) (expr_of right.now)
         from free (lists_of lists.old))
         into) code.old code.new lists.new result }
@@ -569,7 +569,7 @@ fn lower_settled<A: Allocator + Copy>(
     into: usize,
     free: usize,
 ) -> Result<Held, Failure>
-    ensures code { AddsValue (settled into
+    ensures code { AddsValue (value_into into
         (due (program_in names.now) (scope_in scope.now) of (expr_of e.now) from into free (lists_of lists.old)))
         code.old code.new lists.new result }
     ensures register { IfOk result (λ held. held.register ≡ into) }
@@ -612,7 +612,7 @@ fn lower_value<A: Allocator + Copy>(
     from: u32,
     free: usize,
 ) -> Result<Tested, Failure>
-    ensures { AddsTest (tested None
+    ensures { AddsTest (condition_of None
         (emitted (program_in names.now) (scope_in scope.now) (expr_of e.now) from free free (lists_of lists.old)))
         drafts.old drafts.new lists.new result }
 {

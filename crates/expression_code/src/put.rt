@@ -1,7 +1,7 @@
 //! Single instructions: which one an operator is, and how one is put behind the others.
 
 ghost use Rattle.std.specs.Prelude.{◌≡◌, [], ◌∷◌, ◌++◌, ◌<◌, ◌≤◌, ◌+◌, OnOk, IfOk, IfErr};
-ghost use Rattle.picked.specs.Lists.{Lists as Plain, used};
+ghost use Rattle.picked.specs.Lists.{Lists as Plain, with_register};
 ghost use Rattle.picked.specs.Expressions as expressions;
 ghost use Rattle.expression_code.specs.Limits.{NeedsMore};
 ghost use Rattle.expression_code.specs.Lists.{lists_of};
@@ -58,9 +58,9 @@ pub fn after(place: u32, count: u32) -> Result<u32, AllocError>
 
 /// A register that is used.
 pub(crate) fn take<A: Allocator>(lists: &mut Lists<A>, r: usize) -> Result<u16, Failure>
-    ensures lists { OnOk result (lists_of lists.new ≡ used r (lists_of lists.old)) }
+    ensures lists { OnOk result (lists_of lists.new ≡ with_register r (lists_of lists.old)) }
     ensures register { IfOk result (λ n. n ≡ r) }
-    ensures fails { IfErr result (λ why. NeedsMore why (used r (lists_of lists.old)).registers) }
+    ensures fails { IfErr result (λ why. NeedsMore why (with_register r (lists_of lists.old)).registers) }
 {
     if r >= MOST_REGISTERS {
         return Err(Failure::Registers);
@@ -104,7 +104,7 @@ pub(crate) fn settle<A: Allocator>(
     held: Held,
     r: usize,
 ) -> Result<Held, Failure>
-    ensures code { AddsValue (expressions.settled r (in_place held (lists_of lists.old)))
+    ensures code { AddsValue (expressions.value_into r (in_place held (lists_of lists.old)))
         code.old code.new lists.new result }
     ensures register { IfOk result (λ now. now.register ≡ r) }
 {
@@ -249,7 +249,7 @@ pub(crate) fn put_negated<A: Allocator>(
     a: Held,
     into: usize,
 ) -> Result<Held, Failure>
-    ensures { AddsValue (expressions.negated (in_place a (lists_of lists.old)) into)
+    ensures { AddsValue (expressions.negation (in_place a (lists_of lists.old)) into)
         code.old code.new lists.new result }
 {
     let register = take(lists, into)?;
@@ -269,7 +269,7 @@ pub(crate) fn put_complemented<A: Allocator>(
     a: Held,
     into: usize,
 ) -> Result<Held, Failure>
-    ensures { AddsValue (expressions.complemented (in_place a (lists_of lists.old)) into)
+    ensures { AddsValue (expressions.complement (in_place a (lists_of lists.old)) into)
         code.old code.new lists.new result }
 {
     let register = take(lists, into)?;
@@ -290,7 +290,7 @@ pub(crate) fn put_compared<A: Allocator>(
     into: usize,
     free: usize,
 ) -> Result<Held, Failure>
-    ensures { AddsValue (expressions.compared (in_place a (lists_of lists.old)) into free)
+    ensures { AddsValue (expressions.logical_negation (in_place a (lists_of lists.old)) into free)
         code.old code.new lists.new result }
 {
     let zero_in = take(lists, above(free, a.register))?;
@@ -313,7 +313,7 @@ pub(crate) fn put_answers<A: Allocator>(
     t: Tested,
     into: usize,
 ) -> Result<Held, Failure>
-    ensures { AddsValue (expressions.answered (test_in_place test.now t (lists_of lists.old)) into)
+    ensures { AddsValue (expressions.condition_value (test_in_place test.now t (lists_of lists.old)) into)
         code.old code.new lists.new result }
 {
     let unmet = after(t.to, 3)?;
@@ -341,7 +341,7 @@ pub(crate) fn put_chosen<A: Allocator>(
     second: &mut Vec<Instr, A>,
     b: Held,
 ) -> Result<Held, Failure>
-    ensures { (l : Plain) → Adds (of_value (expressions.chosen of (test_in_place test.now t l)
+    ensures { (l : Plain) → Adds (of_value (expressions.conditional_value of (test_in_place test.now t l)
         (standing first.old.items a l) (standing second.old.items b l) b.register)) code.old.items code.new.items l
         result }
 {

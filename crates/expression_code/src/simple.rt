@@ -8,8 +8,8 @@ ghost use Rattle.bytecode.specs.declared.instr.Instr.{Instr};
 ghost use Rattle.lowered.specs.Statements.{with_local, with_declared, locals_of_start};
 ghost use Rattle.picked.specs.Lists.{Lists as Plain};
 ghost use Rattle.picked.specs.Simples as simples;
-ghost use Rattle.picked.specs.Simples.{emitted_one, value_or_one, aimed, variable_target, element_target, fetched};
-ghost use Rattle.picked.specs.Simples.{stored, assigned, changed, adjusted, simple_written, first_written};
+ghost use Rattle.picked.specs.Simples.{emitted_one, value_or_one, aimed, variable_target, element_target, target_value};
+ghost use Rattle.picked.specs.Simples.{target_store, assigned, changed, adjusted, simple_written, first_written};
 ghost use Rattle.picked.specs.Simples.{declarator_written, declared_written, start_written};
 ghost use Rattle.expression_code.specs.Lists.{lists_of};
 ghost use Rattle.expression_code.specs.Stretches.{Adds, AddsValue, Writes, of_written};
@@ -142,7 +142,7 @@ fn fetch<A: Allocator>(
     from: u32,
     free: usize,
 ) -> Result<Held, Failure>
-    ensures { AddsValue (fetched target from free (lists_of lists.old)) code.old code.new lists.new result }
+    ensures { AddsValue (target_value target from free (lists_of lists.old)) code.old code.new lists.new result }
 {
     match target {
         Target::Local(i, of) => {
@@ -176,7 +176,7 @@ fn store<A: Allocator>(
     a: u16,
     from: u32,
 ) -> Result<u32, Failure>
-    ensures { (l : Plain) → Adds (of_written (stored target a from l)) code.old.items code.new.items l result }
+    ensures { (l : Plain) → Adds (of_written (target_store target a from l)) code.old.items code.new.items l result }
 {
     let instr = match target {
         Target::Local(i, _) => {

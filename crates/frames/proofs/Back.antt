@@ -7,7 +7,7 @@ use Rattle.bytecode.specs.Effects.{Effect, after_cancel}
 use Rattle.bytecode.specs.Code.{Code, FunctionCode, Configuration, Frame, Instr, onward, going, effect, effect_of}
 use Rattle.bytecode.specs.Valid.{cancelled_in, end_of, IsReached, IsWritten, AsksOpen, IsValid}
 use Rattle.local_steps.specs.Local.{standing}
-use Rattle.frames.specs.Open.{saved_in, restored, IsSavedAt, AreSaved, IsFrame, AreCallers, MayStand, AreRestored, CanRestore}
+use Rattle.frames.specs.Open.{saved_in, begin_configuration, IsSavedAt, AreSaved, IsFrame, AreCallers, MayStand, AreRestored, CanRestore}
 use Rattle.frames.proofs.Reached.{AreReached, IsBeginAt, are_reached, reached_behind, to_inside, to_outside, to_cancelled}
 use Rattle.frames.proofs.ByWay.{kind_of, begins_only, commits_only, cancels_only, cancels_outer_only, ends_only}
 use Rattle.frames.proofs.Levels.{AreUpTo, callers_up_to, frames_under, restored_under}
@@ -62,8 +62,8 @@ can_restore code (g ∷ fs) p rs inner s outer callers top below = elim (in_fram
 
 -- back at the innermost begin
 record IsBack (code : Code) (c : Configuration) (s : Saved) (outer : List Saved) : Type 0 where
-  stands : MayStand code (restored c s) outer
-  same : AreRestored c (restored c s) outer
+  stands : MayStand code (begin_configuration c s) outer
+  same : AreRestored c (begin_configuration c s) outer
   begins : IsBeginAt code s.place
 
 -- in the frame of f on top, at a place with the other begins open
@@ -102,10 +102,10 @@ back_on_top code fs p rs s ss callers top b bs e below few =
 back_under : (code : Code) (p : ℕ) (rs : List ℕ) (g : Frame) (fs : List Frame) (s : Saved) (ss : List Saved) → AreUpTo (suc (length fs)) (s ∷ ss) → IsBack code (standing g.place g.registers fs) s ss → IsBack code (standing p rs (g ∷ fs)) s ss
 back_under code p rs g fs s ss up h =
     let e : drop (suc (suc (length fs)) - s.frames) (g ∷ fs) ≡ drop (suc (length fs) - s.frames) fs = frames_under (suc (length fs)) g fs s up.0 in
-    let at : restored (standing p rs (g ∷ fs)) s ≡ restored (standing g.place g.registers fs) s = ap (standing s.place s.registers) e in
+    let at : begin_configuration (standing p rs (g ∷ fs)) s ≡ begin_configuration (standing g.place g.registers fs) s = ap (standing s.place s.registers) e in
     record {
       stands = subst (λ c. MayStand code c ss) (sym at) h.stands;
-      same = ap (λ c. map (restored c) ss) at ∙ h.same ∙ sym (restored_under p g.place rs g.registers g fs ss up.1);
+      same = ap (λ c. map (begin_configuration c) ss) at ∙ h.same ∙ sym (restored_under p g.place rs g.registers g fs ss up.1);
       begins = h.begins;
     }
 
@@ -133,28 +133,28 @@ back_to : (code : Code) (c : Configuration) (inner : List Saved) (s : Saved) (ou
 back_to code c [] s outer m = back code c s outer m
 back_to code c (x ∷ inner) s outer m =
     let one = back code c x (inner ++ s ∷ outer) m in
-    let rest = back_to code (restored c x) inner s outer one.stands in
-    let same = parted (restored (restored c x)) (restored c) inner s outer one.same in
+    let rest = back_to code (begin_configuration c x) inner s outer one.stands in
+    let same = parted (begin_configuration (begin_configuration c x)) (begin_configuration c) inner s outer one.same in
     record {
       stands = subst (λ d. MayStand code d outer) same.0 rest.stands;
-      same = subst (λ d. map (restored d) outer ≡ map (restored c) outer) same.0 (rest.same ∙ same.1);
+      same = subst (λ d. map (begin_configuration d) outer ≡ map (begin_configuration c) outer) same.0 (rest.same ∙ same.1);
       begins = rest.begins;
     }
 
-pub goes_back : (code : Code) (c : Configuration) (inner : List Saved) (s : Saved) (outer : List Saved) → MayStand code c (inner ++ s ∷ outer) → MayStand code (restored c s) outer × AreRestored c (restored c s) outer × CanRestore c s × ((d : Configuration) × (e : Configuration) × (effect code (restored c s) ≡ Effect.Begin d e))
+pub goes_back : (code : Code) (c : Configuration) (inner : List Saved) (s : Saved) (outer : List Saved) → MayStand code c (inner ++ s ∷ outer) → MayStand code (begin_configuration c s) outer × AreRestored c (begin_configuration c s) outer × CanRestore c s × ((d : Configuration) × (e : Configuration) × (effect code (begin_configuration c s) ≡ Effect.Begin d e))
 goes_back code c inner s outer m =
     let b = back_to code c inner s outer m in (
       b.stands,
       b.same,
       can_restore code c.frames c.place c.registers inner s outer m.callers m.top m.below,
-      (onward (restored c s), going (restored c s) b.begins.0, ap (effect_of code (restored c s)) b.begins.1),
+      (onward (begin_configuration c s), going (begin_configuration c s) b.begins.0, ap (effect_of code (begin_configuration c s)) b.begins.1),
     )
 
 -- ---- an instruction that opens a begin or closes some
 
 -- so many are closed, and the thread goes on where the outermost of these says
 abbrev pub IsCancelled : Code → Configuration → List Saved → ℕ → Type 0
-IsCancelled code c ss n = (inner : List Saved) × (s : Saved) × (rest : List Saved) × (n ≡ suc (length inner)) × (ss ≡ inner ++ s ∷ rest) × MayStand code (after_cancel (effect code (restored c s)) (restored c s)) rest × AreRestored c (after_cancel (effect code (restored c s)) (restored c s)) rest
+IsCancelled code c ss n = (inner : List Saved) × (s : Saved) × (rest : List Saved) × (n ≡ suc (length inner)) × (ss ≡ inner ++ s ∷ rest) × MayStand code (after_cancel (effect code (begin_configuration c s)) (begin_configuration c s)) rest × AreRestored c (after_cancel (effect code (begin_configuration c s)) (begin_configuration c s)) rest
 
 -- the begin behind so many, and what it saved
 record IsParted (f : FunctionCode) (number n : ℕ) (begins : List ℕ) (ss callers : List Saved) : Type 0 where
@@ -207,7 +207,7 @@ none_inside : (inner : List Saved) → 1 ≡ suc (length inner) → inner ≡ []
 none_inside [] e = refl
 none_inside (s ∷ inner) e = absurd (omega (arith, e))
 
-one_level : (code : Code) (c : Configuration) (ss : List Saved) → IsCancelled code c ss 1 → (s : Saved) × (rest : List Saved) × (ss ≡ s ∷ rest) × MayStand code (after_cancel (effect code (restored c s)) (restored c s)) rest × AreRestored c (after_cancel (effect code (restored c s)) (restored c s)) rest
+one_level : (code : Code) (c : Configuration) (ss : List Saved) → IsCancelled code c ss 1 → (s : Saved) × (rest : List Saved) × (ss ≡ s ∷ rest) × MayStand code (after_cancel (effect code (begin_configuration c s)) (begin_configuration c s)) rest × AreRestored c (after_cancel (effect code (begin_configuration c s)) (begin_configuration c s)) rest
 one_level code c ss h = (h.1, h.2, h.4 ∙ ap (λ (xs : List Saved). xs ++ h.1 ∷ h.2) (none_inside h.0 h.3), h.5, h.6)
 
 abbrev levels_on : Way → ℕ
@@ -235,12 +235,12 @@ module _ (code : Code) (v : IsValid code) (c : Configuration) (ss : List Saved) 
     asked_by : (w : Way) → way_of i ≡ w → asks_by w m.top.begins
     asked_by w e = subst (λ x. asks_by x m.top.begins) e (asks_of m.top.begins i (asked_of (Some i) at))
 
-    pub opens_by : (d e : Configuration) → effect code c ≡ Effect.Begin d e → MayStand code d (saved_in c ∷ ss) × (restored d (saved_in c) ≡ c) × AreRestored c d ss
+    pub opens_by : (d e : Configuration) → effect code c ≡ Effect.Begin d e → MayStand code d (saved_in c ∷ ss) × (begin_configuration d (saved_in c) ≡ c) × AreRestored c d ss
     opens_by d e x =
         let k = begins_only c d e (way_of i) (effect_of code c (Some i)) (kind_of code c i) (sym does ∙ x) in
         let same : d ≡ onward c = cc (x, does, k.1.1) in
         let flat = same_level (length c.frames) (suc (length c.frames)) refl in
-        subst (λ y. MayStand code y (saved_in c ∷ ss) × (restored y (saved_in c) ≡ c) × AreRestored c y ss) (sym same) (
+        subst (λ y. MayStand code y (saved_in c ∷ ss) × (begin_configuration y (saved_in c) ≡ c) × AreRestored c y ss) (sym same) (
           record {
             callers = m.callers;
             top = record {
@@ -300,7 +300,7 @@ module _ (code : Code) (v : IsValid code) (c : Configuration) (ss : List Saved) 
         let reached : AreReached code m.top.function (p.place ∷ p.others) = subst (AreReached code m.top.function) p.drops (reached_behind code m.top.function (n - 1) m.top.begins (are_reached code m.top.function c.place m.top.begins m.top.reached)) in
         let to = reached.1.0 in
         let stands_at : slice_get code.instructions p.saved.place ≡ Some (Instr.Begin to) = ap (slice_get code.instructions) p.is_saved.at ∙ reached.1.1 in
-        let after : after_cancel (effect code (restored c p.saved)) (restored c p.saved) ≡ standing to p.saved.registers (drop (suc (length c.frames) - p.saved.frames) c.frames) = ap (λ o. after_cancel (effect_of code (restored c p.saved) o) (restored c p.saved)) stands_at in
+        let after : after_cancel (effect code (begin_configuration c p.saved)) (begin_configuration c p.saved) ≡ standing to p.saved.registers (drop (suc (length c.frames) - p.saved.frames) c.frames) = ap (λ o. after_cancel (effect_of code (begin_configuration c p.saved) o) (begin_configuration c p.saved)) stands_at in
         let r : IsReached code m.top.function to p.others = to_cancelled code m.top.function c.place m.top.begins p.place to p.others i w m.top.reached at e (l ∙ ap (cancelled_in code) p.drops) reached.1.1 in (
           p.inner,
           p.saved,
@@ -311,7 +311,7 @@ module _ (code : Code) (v : IsValid code) (c : Configuration) (ss : List Saved) 
           subst (λ y. AreRestored c y p.rest) (sym after) (same_on_top c.place to c.registers p.saved.registers c.frames p.saved p.rest p.is_saved.frame),
         )
 
-    pub cancels_by : effect code c ≡ Effect.Cancel → (s : Saved) × (rest : List Saved) × (ss ≡ s ∷ rest) × MayStand code (after_cancel (effect code (restored c s)) (restored c s)) rest × AreRestored c (after_cancel (effect code (restored c s)) (restored c s)) rest
+    pub cancels_by : effect code c ≡ Effect.Cancel → (s : Saved) × (rest : List Saved) × (ss ≡ s ∷ rest) × MayStand code (after_cancel (effect code (begin_configuration c s)) (begin_configuration c s)) rest × AreRestored c (after_cancel (effect code (begin_configuration c s)) (begin_configuration c s)) rest
     cancels_by x =
         let k = cancels_only c (way_of i) (effect_of code c (Some i)) (kind_of code c i) (sym does ∙ x) in
         one_level code c ss (cancels_at 1 Way.Cancels (omega arith) (some_open m.top.begins (asked_by Way.Cancels k)) k refl)

@@ -4,7 +4,7 @@ use Rattle.std.specs.Prelude.{slice_get, if◌then◌else◌, nat_lt, length}
 use Rattle.syntax.specs.declared.numbers.Trap.{Trap}
 use Rattle.syntax.specs.declared.numbers.Trap.TheVariants.{Index}
 use Rattle.bytecode.specs.Effects.{Effect}
-use Rattle.bytecode.specs.Code.{Code, FunctionCode, Configuration, Frame, Instr, onward, going, register, effect_of, or_traps, called, returned, printed}
+use Rattle.bytecode.specs.Code.{Code, FunctionCode, Configuration, Frame, Instr, onward, going, register, effect_of, or_traps, call_effect, return_effect, print_effect}
 use Rattle.frames.proofs.Leading.{Way, way_of}
 
 -- an effect that opens no begin, closes none and does not end
@@ -37,15 +37,15 @@ plain_tested : (b : Bool) (x : Effect Configuration) (k : Trap) → is_plain x �
 plain_tested true x k h = h
 plain_tested false x k h = refl
 
-plain_called : (c : Configuration) (d : ℕ) (args : List ℕ) (o : Option FunctionCode) → is_plain (called c d args o) ≡ true
+plain_called : (c : Configuration) (d : ℕ) (args : List ℕ) (o : Option FunctionCode) → is_plain (call_effect c d args o) ≡ true
 plain_called c d args None = refl
 plain_called c d args (Some g) = plain_tested (nat_lt (length c.frames) 63) (Effect.Pure _) _ refl
 
-plain_printed : (c : Configuration) (o : Option (List ℕ)) → is_plain (printed c o) ≡ true
+plain_printed : (c : Configuration) (o : Option (List ℕ)) → is_plain (print_effect c o) ≡ true
 plain_printed c None = refl
 plain_printed c (Some t) = refl
 
-return_kind : (fs : List Frame) (w : ℕ) → is_return (returned fs w) ≡ true
+return_kind : (fs : List Frame) (w : ℕ) → is_return (return_effect fs w) ≡ true
 return_kind [] w = refl
 return_kind (f ∷ fs) w = refl
 

@@ -6,10 +6,10 @@ use Rattle.std.proofs.lemmas.List.{length-set, length-map, length-replicate}
 use Rattle.syntax.specs.declared.numbers.Trap.{Trap}
 use Rattle.syntax.specs.declared.numbers.Trap.TheVariants.{Index}
 use Rattle.lex.specs.declared.token.Scalar.TheVariants.{Int, Unsigned, LongLong}
-use Rattle.syntax.specs.Numbers.{number, word_of, residue, complemented}
+use Rattle.syntax.specs.Numbers.{number, word_of, residue, bitwise_complement}
 use Rattle.nesting.specs.Begins.{Saved}
 use Rattle.bytecode.specs.Effects.{Effect}
-use Rattle.bytecode.specs.Code.{Code, FunctionCode, Configuration, Frame, Instr, setting, stored, effect, effect_of, or_traps, called, entering, returned, value_in, printed}
+use Rattle.bytecode.specs.Code.{Code, FunctionCode, Configuration, Frame, Instr, setting, word_for_cell, effect, effect_of, or_traps, call_effect, entering, return_effect, value_in, print_effect}
 use Rattle.bytecode.specs.Valid.{Has, IsReached, at_first, IsWritten, IsValid, end_of}
 use Rattle.bytecode.proofs.Tables.{some_same}
 use Rattle.local_steps.specs.Local.{standing, AreWords}
@@ -28,7 +28,7 @@ abbrev pub GoesWell : Code → Configuration → List Saved → Effect Configura
 GoesWell code c ss x = (d : Configuration) → IsSuccessor x d → Stays code c ss d
 
 -- back in a caller's frame
-returns_well : (code : Code) (p : ℕ) (rs : List ℕ) (fs : List Frame) (ss : List Saved) (w : ℕ) (m : MayStand code (standing p rs fs) ss) → m.top.begins ≡ [] → w < 2 ^ 64 → GoesWell code (standing p rs fs) ss (returned fs w)
+returns_well : (code : Code) (p : ℕ) (rs : List ℕ) (fs : List Frame) (ss : List Saved) (w : ℕ) (m : MayStand code (standing p rs fs) ss) → m.top.begins ≡ [] → w < 2 ^ 64 → GoesWell code (standing p rs fs) ss (return_effect fs w)
 returns_well code p rs [] ss w m none h d g = absurd g
 returns_well code p rs (f ∷ fs) ss w m none h d g =
     let same : ss ≡ m.callers = subst (λ bs. AreSaved m.top.function (suc (suc (length fs))) bs ss m.callers) none m.top.saved in
@@ -144,13 +144,13 @@ module _ (code : Code) (v : IsValid code) (p : ℕ) (rs : List ℕ) (fs : List F
     well_called_by true d args number callee k l e has takes there = well_pure (entering (standing p rs fs) d args callee) (call_stays d args number callee e has takes there (ltb-true (length fs) 63 l))
     well_called_by false d args number callee k l e has takes there = λ x g. absurd g
 
-    well_called : (d : ℕ) (args : List ℕ) (number : ℕ) (o : Option FunctionCode) → slice_get code.functions number ≡ o → way_of i ≡ Way.On → ((callee : FunctionCode) × Has code number callee × (length args ≡ callee.parameters)) → d < length rs → GoesWell code (standing p rs fs) ss (called (standing p rs fs) d args o)
+    well_called : (d : ℕ) (args : List ℕ) (number : ℕ) (o : Option FunctionCode) → slice_get code.functions number ≡ o → way_of i ≡ Way.On → ((callee : FunctionCode) × Has code number callee × (length args ≡ callee.parameters)) → d < length rs → GoesWell code (standing p rs fs) ss (call_effect (standing p rs fs) d args o)
     well_called d args number None h e takes there = well_pure (standing p rs fs) (m, refl)
     well_called d args number (Some callee) h e takes there =
         let same : takes.0 ≡ callee = some_same takes.0 callee (sym takes.1 ∙ h) in
         well_called_by (nat_lt (length fs) 63) d args number callee _ refl e h (takes.2 ∙ ap (λ (f : FunctionCode). f.parameters) same) there
 
-    well_printed : (o : Option (List ℕ)) → way_of i ≡ Way.On → GoesWell code (standing p rs fs) ss (printed (standing p rs fs) o)
+    well_printed : (o : Option (List ℕ)) → way_of i ≡ Way.On → GoesWell code (standing p rs fs) ss (print_effect (standing p rs fs) o)
     well_printed None e = well_pure (standing p rs fs) (m, refl)
     well_printed (Some t) e = well_next e
 
@@ -166,7 +166,7 @@ module _ (code : Code) (v : IsValid code) (p : ℕ) (rs : List ℕ) (fs : List F
   goes_by (Instr.Move d a) at w = well_pure (standing (suc p) (slice_set rs d (slice_index rs a)) fs) (next_set _ at d _ refl (m.top.words a))
   goes_by (Instr.Compute op t d a b) at w = well_or_traps _ at _ d refl (computed_fits op t _ _ (m.top.words a) (m.top.words b))
   goes_by (Instr.Negate t d a) at w = well_or_traps _ at _ d refl (fitted_fits t _)
-  goes_by (Instr.Complement u d a) at w = well_pure (standing (suc p) (slice_set rs d (complemented u (slice_index rs a))) fs) (next_set _ at d _ refl (complemented_fits u (slice_index rs a)))
+  goes_by (Instr.Complement u d a) at w = well_pure (standing (suc p) (slice_set rs d (bitwise_complement u (slice_index rs a))) fs) (next_set _ at d _ refl (complemented_fits u (slice_index rs a)))
   goes_by (Instr.Extend d a) at w = well_pure (standing (suc p) (slice_set rs d (word_of LongLong (number Int (slice_index rs a)))) fs) (next_set _ at d _ refl (word_fits LongLong (number Int (slice_index rs a))))
   goes_by (Instr.Low d a) at w = well_pure (standing (suc p) (slice_set rs d (residue Unsigned (slice_index rs a))) fs) (next_set _ at d _ refl (omega arith))
   goes_by (Instr.Jump to) at w = well_pure (standing to rs fs) (here to rs (to_place code m.top.function p m.top.begins (Instr.Jump to) m.top.reached at to refl) refl m.top.words)
@@ -176,7 +176,7 @@ module _ (code : Code) (v : IsValid code) (p : ℕ) (rs : List ℕ) (fs : List F
   goes_by (Instr.Read d a) at w = well_read _ at a d refl
   goes_by (Instr.ReadAt d a n j) at w = well_tested (nat_lt (slice_index rs j) n) (Effect.Read (a + slice_index rs j) (setting (standing p rs fs) d)) Index (well_read _ at (a + slice_index rs j) d refl)
   goes_by (Instr.Write a r) at w = well_next _ at refl
-  goes_by (Instr.WriteAt a n j r) at w = well_tested (nat_lt (slice_index rs j) n) (Effect.Write (a + slice_index rs j) (stored code (a + slice_index rs j) (slice_index rs r)) (standing (suc p) rs fs)) Index (well_next _ at refl)
+  goes_by (Instr.WriteAt a n j r) at w = well_tested (nat_lt (slice_index rs j) n) (Effect.Write (a + slice_index rs j) (word_for_cell code (a + slice_index rs j) (slice_index rs r)) (standing (suc p) rs fs)) Index (well_next _ at refl)
   goes_by (Instr.Begin to) at w = λ d g. absurd g
   goes_by Instr.Commit at w = λ d g. absurd g
   goes_by Instr.Cancel at w = λ d g. absurd g

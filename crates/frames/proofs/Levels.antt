@@ -4,7 +4,7 @@ use Rattle.std.proofs.Common.{◌≡◌, ℕ, suc, ◌-◌, ◌≤◌, List, [],
 use Rattle.nesting.specs.Begins.{Saved}
 use Rattle.bytecode.specs.Code.{Code, FunctionCode, Frame}
 use Rattle.local_steps.specs.Local.{standing}
-use Rattle.frames.specs.Open.{restored, AreSaved, AreCallers, MayStand}
+use Rattle.frames.specs.Open.{begin_configuration, AreSaved, AreCallers, MayStand}
 
 abbrev pub AreUpTo : ℕ → List Saved → Type 0
 AreUpTo n [] = Unit {0}
@@ -33,6 +33,6 @@ fewer n k h = omega arith
 pub frames_under : (n : ℕ) (f : Frame) (fs : List Frame) (s : Saved) → s.frames ≤ n → drop (suc n - s.frames) (f ∷ fs) ≡ drop (n - s.frames) fs
 frames_under n f fs s h = rw (fewer n s.frames h) refl
 
-pub restored_under : (p q : ℕ) (rs ts : List ℕ) (f : Frame) (fs : List Frame) (ss : List Saved) → AreUpTo (suc (length fs)) ss → map (restored (standing p rs (f ∷ fs))) ss ≡ map (restored (standing q ts fs)) ss
+pub restored_under : (p q : ℕ) (rs ts : List ℕ) (f : Frame) (fs : List Frame) (ss : List Saved) → AreUpTo (suc (length fs)) ss → map (begin_configuration (standing p rs (f ∷ fs))) ss ≡ map (begin_configuration (standing q ts fs)) ss
 restored_under p q rs ts f fs [] h = refl
 restored_under p q rs ts f fs (s ∷ ss) h = ap₂ (λ x xs. x ∷ xs) (ap (standing s.place s.registers) (frames_under (suc (length fs)) f fs s h.0)) (restored_under p q rs ts f fs ss h.1)

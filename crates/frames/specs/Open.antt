@@ -13,8 +13,8 @@ abbrev pub saved_in : Configuration → Saved
 saved_in c = record { registers = c.registers; frames = suc (length c.frames); place = c.place }
 
 -- the configuration that a begin had, by what it saved and the callers now
-abbrev pub restored : Configuration → Saved → Configuration
-restored c s = record {
+abbrev pub begin_configuration : Configuration → Saved → Configuration
+begin_configuration c s = record {
   place = s.place;
   registers = s.registers;
   frames = drop (suc (length c.frames) - s.frames) c.frames;
@@ -74,7 +74,7 @@ IsConfigurationOf code c = (all : List Saved) × MayStand code c all
 
 -- the configurations that these begins had are the same, seen from c and from d
 abbrev pub AreRestored : Configuration → Configuration → List Saved → Type 0
-AreRestored c d ss = map (restored d) ss ≡ map (restored c) ss
+AreRestored c d ss = map (begin_configuration d) ss ≡ map (begin_configuration c) ss
 
 -- where an instruction goes on that opens no begin and closes none
 abbrev pub IsSuccessor : Effect Configuration → Configuration → Type 0
@@ -94,24 +94,24 @@ pub record BeginsStayOpen (code : Code) : Type 0 where
       MayStand code d ss × AreRestored c d ss
   -- a begin opens one more, and is gone back to
   pub opens : (c d e : Configuration) (ss : List Saved) → MayStand code c ss → effect code c ≡ Effect.Begin d e →
-      MayStand code d (saved_in c ∷ ss) × (restored d (saved_in c) ≡ c) × AreRestored c d ss
+      MayStand code d (saved_in c ∷ ss) × (begin_configuration d (saved_in c) ≡ c) × AreRestored c d ss
   -- a commit closes the innermost one
   pub closes : (c d : Configuration) (ss : List Saved) → MayStand code c ss → effect code c ≡ Effect.Commit d →
       (s : Saved) × (rest : List Saved) × (ss ≡ s ∷ rest) × MayStand code d rest × AreRestored c d rest
   -- a cancel closes it too, and goes on where the begin says
   pub cancels : (c : Configuration) (ss : List Saved) → MayStand code c ss → effect code c ≡ Effect.Cancel →
       (s : Saved) × (rest : List Saved) × (ss ≡ s ∷ rest)
-      × MayStand code (after_cancel (effect code (restored c s)) (restored c s)) rest
-      × AreRestored c (after_cancel (effect code (restored c s)) (restored c s)) rest
+      × MayStand code (after_cancel (effect code (begin_configuration c s)) (begin_configuration c s)) rest
+      × AreRestored c (after_cancel (effect code (begin_configuration c s)) (begin_configuration c s)) rest
   -- an outer cancel closes so many, and goes on where the outermost of these says
   pub cancels_outer : (n : ℕ) (c : Configuration) (ss : List Saved) → MayStand code c ss →
       effect code c ≡ Effect.CancelOuter n →
       (inner : List Saved) × (s : Saved) × (rest : List Saved) × (n ≡ suc (length inner)) × (ss ≡ inner ++ s ∷ rest)
-      × MayStand code (after_cancel (effect code (restored c s)) (restored c s)) rest
-      × AreRestored c (after_cancel (effect code (restored c s)) (restored c s)) rest
+      × MayStand code (after_cancel (effect code (begin_configuration c s)) (begin_configuration c s)) rest
+      × AreRestored c (after_cancel (effect code (begin_configuration c s)) (begin_configuration c s)) rest
   -- back at any of them, those outside it are open
   pub goes_back : (c : Configuration) (inner : List Saved) (s : Saved) (outer : List Saved) →
-      MayStand code c (inner ++ s ∷ outer) → MayStand code (restored c s) outer × AreRestored c (restored c s) outer
-      × CanRestore c s × ((d : Configuration) × (e : Configuration) × (effect code (restored c s) ≡ Effect.Begin d e))
+      MayStand code c (inner ++ s ∷ outer) → MayStand code (begin_configuration c s) outer × AreRestored c (begin_configuration c s) outer
+      × CanRestore c s × ((d : Configuration) × (e : Configuration) × (effect code (begin_configuration c s) ≡ Effect.Begin d e))
   -- a thread ends where none is open
   pub ends : (c : Configuration) (ss : List Saved) → MayStand code c ss → effect code c ≡ Effect.End → ss ≡ []

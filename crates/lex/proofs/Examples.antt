@@ -4,7 +4,7 @@ use Rattle.lex.specs.declared.token.Fixed.TheVariants.{Punctuator}
 use Rattle.lex.specs.declared.token.Punctuator.TheVariants as punct
 use Rattle.lex.specs.declared.token.Scalar.TheVariants.{Unsigned, LongLong}
 use Rattle.lex.specs.declared.constant.Suffix.TheVariants as suffix
-use Rattle.lex.specs.Tokens.{unescaped}
+use Rattle.lex.specs.Tokens.{string_value}
 use Rattle.lex.specs.Spelling.{spelling}
 use Rattle.lex.specs.Faults.{character_len}
 use Rattle.lex.specs.Pieces.{value_from, type_of}
@@ -42,7 +42,7 @@ largest : type_of false suffix.LongLong 9223372036854775807 ≡ Some LongLong
 largest = refl
 
 -- a line feed and a quote, as they are written
-escapes : unescaped (codes "a\\n\\\"") ≡ 97 ∷ 10 ∷ 34 ∷ []
+escapes : string_value (codes "a\\n\\\"") ≡ 97 ∷ 10 ∷ 34 ∷ []
 escapes = refl
 
 -- a character of three bytes: U+FEFF, which some editors write first

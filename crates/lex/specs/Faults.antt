@@ -8,7 +8,7 @@ use Rattle.lex.specs.declared.fault.LexFault.{LexFault}
 use Rattle.lex.specs.declared.fault.LexFault.TheVariants as fault
 use Rattle.lex.specs.Bytes.{is_glue, is_continuation, starts}
 use Rattle.lex.specs.Tokens.{Tok}
-use Rattle.lex.specs.Pieces.{IsOpen, IsDirective, IsInclude, Constant, typed, Longest, Strange, FirstOnLine, Cut}
+use Rattle.lex.specs.Pieces.{IsOpen, IsDirective, IsInclude, Constant, constant_type, Longest, Strange, FirstOnLine, Cut}
 
 -- how many bytes the character at the front has
 abbrev pub character_len : List ℕ → ℕ
@@ -22,9 +22,9 @@ pub data FaultAt (text : List ℕ) (at : ℕ) : LexFault → Type 0 where
   misplaced : (len : ℕ) → Longest (drop at text) len → IsDirective (take len (drop at text)) →
       ¬ (FirstOnLine (take at text)) → FaultAt text at (fault.BadCharacter (record { start = at; «end» = at + 1 }))
   glued : (len : ℕ) (t : Scalar) → Longest (drop at text) len → (c : Constant (take len (drop at text))) →
-      typed c ≡ Some t → starts is_glue (drop len (drop at text)) ≡ true →
+      constant_type c ≡ Some t → starts is_glue (drop len (drop at text)) ≡ true →
       FaultAt text at (fault.BadCharacter (record { start = at + len; «end» = at + len + 1 }))
-  large : (len : ℕ) → Longest (drop at text) len → (c : Constant (take len (drop at text))) → typed c ≡ None →
+  large : (len : ℕ) → Longest (drop at text) len → (c : Constant (take len (drop at text))) → constant_type c ≡ None →
       FaultAt text at (fault.ConstantTooLarge (record { start = at; «end» = at + len }))
   unclosed : (len : ℕ) → Longest (drop at text) len → IsOpen (take len (drop at text)) →
       FaultAt text at (fault.OpenComment (record { start = at; «end» = at + len }))

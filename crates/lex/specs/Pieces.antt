@@ -151,8 +151,8 @@ abbrev pub type_of : (is_decimal : Bool) → Suffix → ℕ → Option Scalar
 type_of is_decimal s n = first_holding n (candidates is_decimal s)
 
 -- the constant's type, where it has one
-abbrev pub typed : {w : List ℕ} → Constant w → Option Scalar
-typed c = type_of (is_decimal c.base) (suffix_of c.suffix) (value c)
+abbrev pub constant_type : {w : List ℕ} → Constant w → Option Scalar
+constant_type c = type_of (is_decimal c.base) (suffix_of c.suffix) (value c)
 
 -- ---- the longest piece, and what it says
 
@@ -198,7 +198,7 @@ pub data Says (w : List ℕ) : Terminal → Type 0 where
   name : IsWord w → ((m : Fixed) → w ≢ spelling m) → ¬ (Reserved w) → Says w (tokens.name w)
   reserved : Reserved w → Says w tokens.reserved
   fixed : (m : Fixed) → w ≡ spelling m → Says w (tokens.fixed m)
-  constant : (c : Constant w) (t : Scalar) → typed c ≡ Some t → Says w (tokens.constant (value c) t)
+  constant : (c : Constant w) (t : Scalar) → constant_type c ≡ Some t → Says w (tokens.constant (value c) t)
   string : (inner : List ℕ) → IsString w inner → Says w (tokens.string_literal inner)
 
 -- what may stand directly behind a token

@@ -40,7 +40,7 @@ abbrev pub stands_for : ℕ → ℕ
 stands_for b = if b == 110 then 10 else (if b == 116 then 9 else b)
 
 -- the bytes that a string stands for, of those that it is written with: a backslash and the byte behind it are one
-abbrev pub unescaped : List ℕ → List ℕ
-unescaped [] = []
-unescaped (a ∷ []) = a ∷ []
-unescaped (a ∷ b ∷ rest) = if a == 92 then stands_for b ∷ unescaped rest else a ∷ unescaped (b ∷ rest)
+abbrev pub string_value : List ℕ → List ℕ
+string_value [] = []
+string_value (a ∷ []) = a ∷ []
+string_value (a ∷ b ∷ rest) = if a == 92 then stands_for b ∷ string_value rest else a ∷ string_value (b ∷ rest)

@@ -19,7 +19,7 @@ fn stands_for(c: char) -> char
 /// The text that a string stands for, of what is written between its quotes: each escape is one character. Takes
 /// memory for its bytes.
 pub fn unescape<A: Allocator + Copy>(alloc: A, written: &str) -> Result<String<A>, AllocError>
-    ensures { IfOk result (λ s. string_bytes s ≡ spec.unescaped written.now) }
+    ensures { IfOk result (λ s. string_bytes s ≡ spec.string_value written.now) }
 {
     let mut text = String::new(alloc);
     let mut is_escaped = false;

@@ -14,7 +14,7 @@ ghost use Rattle.picked.specs.Conditions as conditions;
 ghost use Rattle.picked.specs.Statements as statements;
 ghost use Rattle.picked.specs.Simples.{simple_written};
 ghost use Rattle.picked.specs.Statements.{print_written, tested_back, for_test, for_step};
-ghost use Rattle.picked.specs.Statements.{return_written, transacted, written, all_written};
+ghost use Rattle.picked.specs.Statements.{return_written, transaction_code, written, all_written};
 ghost use Rattle.expression_code.specs.Lists.{lists_of};
 ghost use Rattle.expression_code.specs.Stretches.{Adds, AddsTest, Writes, of_written};
 ghost use Rattle.expression_code.specs.Views.{program_in, scope_in};
@@ -613,7 +613,7 @@ fn lower_transaction<'p, A: Allocator + Copy>(
 ) -> Result<u32, Failure>
     requires { inner.old.items ≡ [] }
     ensures scope { OnOk result (scope_in scope.new ≡ scope_in scope.old) }
-    ensures code { Writes (transacted
+    ensures code { Writes (transaction_code
         (all_written (program_in names.now) (stmts_of body.now) (statements.in_transaction kind exits)
         (scope_in scope.old) (from + 1) (lists_of lists.old)))
         code.old code.new lists.new result }

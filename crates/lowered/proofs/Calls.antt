@@ -10,22 +10,22 @@ use Rattle.lex.specs.declared.token.Scalar.TheVariants.{Int, Unsigned, LongLong}
 use Rattle.syntax.specs.declared.numbers.Trap.TheVariants.{Frames}
 use Rattle.syntax.specs.declared.numbers.Value.{Value}
 use Rattle.syntax.specs.Tree.{Name, Parameter, Function, Stmts, Program}
-use Rattle.syntax.specs.Numbers.{modulus, number_of, converted, flag}
+use Rattle.syntax.specs.Numbers.{modulus, number_of, value_in_type, flag}
 use Rattle.syntax.specs.Names.{Local, word_at, definition_of, GlobalCells, global_of, bounds, bounds_of as cell_bounds}
 use Rattle.syntax.specs.Laws.{shape}
 use Rattle.syntax.specs.declared.numbers.Status.TheVariants.{Running}
 use Rattle.syntax.specs.Behaviours.{Memory, IsMemory, Outcome, Ended, Means}
 use Rattle.syntax.specs.Actions.{Outside, Answer, Gives, Action, go_on, ◌>>=◌, ◌>>◌, tick, or_astray, locals, put_locals}
-use Rattle.syntax.specs.Meaning.{End, Next, Breaks, Continues, Returns, Cancels, CancelsOuter, stmts, entered, result_of, calls}
+use Rattle.syntax.specs.Meaning.{End, Next, Breaks, Continues, Returns, Cancels, CancelsOuter, stmts, call_locals, result_of, calls}
 use Rattle.syntax.specs.Threads.{outcome_of, first_state, thread}
 use Rattle.syntax.specs.Typing.{IsTypedProgram}
 use Rattle.syntax.proofs.Words.{word_below}
 use Rattle.syntax.proofs.Memories.{typed_cells}
 use Rattle.bytecode.specs.Effects.{Effect}
 use Rattle.bytecode.specs.Sequential.{start, meaning, sequential_step, outside}
-use Rattle.bytecode.specs.Code.{Code, FunctionCode, Configuration, Frame, Instr, bounds_of, effect, effect_of, called}
+use Rattle.bytecode.specs.Code.{Code, FunctionCode, Configuration, Frame, Instr, bounds_of, effect, effect_of, call_effect}
 use Rattle.bytecode.specs.Beginning.{worker_among, beginning_in, beginning}
-use Rattle.lowered.specs.Expressions.{LocalScope, InstructionAt, Layout, named_ones, nameless_ones, arranged}
+use Rattle.lowered.specs.Expressions.{LocalScope, InstructionAt, Layout, named_ones, nameless_ones, argument_order}
 use Rattle.lowered.specs.Statements.{locals_at_end}
 use Rattle.lowered.specs.Programs.{parameter_locals, no_exits, ConstantsCode, FunctionIsLowered, IsLowered}
 use Rattle.lowered.specs.Means.{MeansItsProgram}
@@ -57,10 +57,10 @@ abbrev EnteredSo : List Parameter → List Value → Option (List Local) → Typ
 EnteredSo qs vs None = Unit {0}
 EnteredSo qs vs (Some ls) = Entered qs vs ls
 
-first_entered : (q : Parameter) (n : Option Name) (qs : List Parameter) (v : Value) (vs : List Value) (o : Option (List Local)) → q.name ≡ n → EnteredSo qs vs o → EnteredSo (q ∷ qs) (v ∷ vs) (option_map (λ ls. unwrap_or (option_map (λ (x : Name). record { name = x.text; of = q.of; word = (converted q.of v).word } ∷ []) n) [] ++ ls) o)
+first_entered : (q : Parameter) (n : Option Name) (qs : List Parameter) (v : Value) (vs : List Value) (o : Option (List Local)) → q.name ≡ n → EnteredSo qs vs o → EnteredSo (q ∷ qs) (v ∷ vs) (option_map (λ ls. unwrap_or (option_map (λ (x : Name). record { name = x.text; of = q.of; word = (value_in_type q.of v).word } ∷ []) n) [] ++ ls) o)
 first_entered q n qs v vs None e h = tt
 first_entered q None qs v vs (Some ls) e h =
-    let w : ℕ = (converted q.of v).word in
+    let w : ℕ = (value_in_type q.of v).word in
     let ws : List ℕ = words_for qs vs in
     record {
       count = ap suc h.count;
@@ -69,7 +69,7 @@ first_entered q None qs v vs (Some ls) e h =
       own = h.own;
     }
 first_entered q (Some x) qs v vs (Some ls) e h =
-    let w : ℕ = (converted q.of v).word in
+    let w : ℕ = (value_in_type q.of v).word in
     let ws : List ℕ = words_for qs vs in
     record {
       count = ap suc h.count;
@@ -78,11 +78,11 @@ first_entered q (Some x) qs v vs (Some ls) e h =
       own = (word_below q.of (number_of v), h.own);
     }
 
-all_entered : (qs : List Parameter) (vs : List Value) → EnteredSo qs vs (entered qs vs)
+all_entered : (qs : List Parameter) (vs : List Value) → EnteredSo qs vs (call_locals qs vs)
 all_entered [] [] = record { count = refl; shapes = refl; words = refl; own = tt }
 all_entered [] (v ∷ vs) = tt
 all_entered (q ∷ qs) [] = tt
-all_entered (q ∷ qs) (v ∷ vs) = first_entered q q.name qs v vs (entered qs vs) refl (all_entered qs vs)
+all_entered (q ∷ qs) (v ∷ vs) = first_entered q q.name qs v vs (call_locals qs vs) refl (all_entered qs vs)
 
 -- what is arranged: each once, whatever it is taken to
 mapped_or : (b : Bool) (f : ℕ → ℕ) (r : ℕ) (xs : List ℕ) → map f (if b then r ∷ xs else xs) ≡ (if b then f r ∷ map f xs else map f xs)
@@ -103,7 +103,7 @@ nameless_mapped f [] rs = refl
 nameless_mapped f (q ∷ qs) [] = refl
 nameless_mapped f (q ∷ qs) (r ∷ rs) = mapped_else (is_some q.name) f r (nameless_ones qs rs) ∙ ap (λ xs. if is_some q.name then xs else f r ∷ xs) (nameless_mapped f qs rs)
 
-arranged_mapped : (f : ℕ → ℕ) (qs : List Parameter) (rs : List ℕ) → map f (arranged qs rs) ≡ arranged qs (map f rs)
+arranged_mapped : (f : ℕ → ℕ) (qs : List Parameter) (rs : List ℕ) → map f (argument_order qs rs) ≡ argument_order qs (map f rs)
 arranged_mapped f qs rs = map-append f (named_ones qs rs) (nameless_ones qs rs) ∙ ap (λ xs. xs ++ map f (nameless_ones qs rs)) (named_mapped f qs rs) ∙ ap (λ xs. named_ones qs (map f rs) ++ xs) (nameless_mapped f qs rs)
 
 length_one : (b : Bool) (r k m : ℕ) (xs ys : List ℕ) → length xs + length ys ≡ k → length (if b then r ∷ xs else xs) + length (if b then ys else r ∷ ys) ≡ suc k
@@ -116,24 +116,24 @@ length_parts [] (r ∷ rs) e = absurd (omega (arith, e))
 length_parts (q ∷ qs) [] e = absurd (omega (arith, e))
 length_parts (q ∷ qs) (r ∷ rs) e = length_one (is_some q.name) r (length qs) 0 (named_ones qs rs) (nameless_ones qs rs) (length_parts qs rs (omega (arith, e)))
 
-length_arranged : (qs : List Parameter) (rs : List ℕ) → length rs ≡ length qs → length (arranged qs rs) ≡ length qs
+length_arranged : (qs : List Parameter) (rs : List ℕ) → length rs ≡ length qs → length (argument_order qs rs) ≡ length qs
 length_arranged qs rs e = length-append (named_ones qs rs) (nameless_ones qs rs) ∙ length_parts qs rs e
 
 one_of : (b : Bool) (w : ℕ) → (if b then w ∷ [] else []) ++ (if b then [] else w ∷ []) ≡ w ∷ []
 one_of true w = refl
 one_of false w = refl
 
-one_arranged : (qs : List Parameter) (w : ℕ) → 1 ≡ length qs → arranged qs (w ∷ []) ≡ w ∷ []
+one_arranged : (qs : List Parameter) (w : ℕ) → 1 ≡ length qs → argument_order qs (w ∷ []) ≡ w ∷ []
 one_arranged [] w e = absurd (omega (arith, e))
 one_arranged (q ∷ []) w e = one_of (is_some q.name) w
 one_arranged (q ∷ r ∷ qs) w e = absurd (omega (arith, e))
 
 -- a thread's number, in whatever type
-one_handed : (qs : List Parameter) (t : ℕ) → t < 2 ^ 32 → 1 ≡ length qs → arranged qs (words_for qs (record { of = Unsigned; word = t } ∷ [])) ≡ t ∷ []
+one_handed : (qs : List Parameter) (t : ℕ) → t < 2 ^ 32 → 1 ≡ length qs → argument_order qs (words_for qs (record { of = Unsigned; word = t } ∷ [])) ≡ t ∷ []
 one_handed [] t below e = absurd (omega (arith, e))
-one_handed (q ∷ qs) t below e = ap (λ w. arranged (q ∷ qs) (w ∷ [])) (own q.of) ∙ one_arranged (q ∷ qs) t e
+one_handed (q ∷ qs) t below e = ap (λ w. argument_order (q ∷ qs) (w ∷ [])) (own q.of) ∙ one_arranged (q ∷ qs) t e
   where
-    own : (u : Scalar) → (converted u (record { of = Unsigned; word = t })).word ≡ t
+    own : (u : Scalar) → (value_in_type u (record { of = Unsigned; word = t })).word ≡ t
     own Int = conversions Unsigned Int t below
     own Unsigned = conversions Unsigned Unsigned t below
     own LongLong = conversions Unsigned LongLong t below
@@ -173,17 +173,17 @@ is_set r (x ∷ ws) rs (suc k) w i at e h =
     let len : length (slice_set rs r x) ≡ length rs = length-set rs r x in
     is_set (suc r) ws (slice_set rs r x) k w i (omega (arith, at)) e (omega (arith, h, len))
 
-entered_holds : (g : FunctionCode) (layout : Layout) (qs : List Parameter) (vs : List Value) (ls : List Local) → Entered qs vs ls → g.parameters ≡ length qs → length qs ≤ layout.writable → g.registers ≡ registers_in layout → Holds (parameter_locals qs) ls layout (length (parameter_locals qs)) (set_from layout.writable layout.constants (first_registers g (arranged qs (words_for qs vs))))
+entered_holds : (g : FunctionCode) (layout : Layout) (qs : List Parameter) (vs : List Value) (ls : List Local) → Entered qs vs ls → g.parameters ≡ length qs → length qs ≤ layout.writable → g.registers ≡ registers_in layout → Holds (parameter_locals qs) ls layout (length (parameter_locals qs)) (set_from layout.writable layout.constants (first_registers g (argument_order qs (words_for qs vs))))
 entered_holds g layout qs vs ls h n fits all =
     let ws : List ℕ = words_for qs vs in
     let zeros : List ℕ = replicate (g.registers - g.parameters) 0 in
-    let old : List ℕ = first_registers g (arranged qs ws) in
+    let old : List ℕ = first_registers g (argument_order qs ws) in
     let len : length ls ≡ length (parameter_locals qs) = length_like (parameter_locals qs) ls h.shapes in
     let len2 : length ws ≡ length qs = length_handed (map (λ (q : Parameter). q.of) qs) vs ∙ h.count in
     let len3 : length ls ≡ length (named_ones qs ws) = sym (length-map ls (λ (l : Local). l.word)) ∙ ap length h.words in
     let parts : length (named_ones qs ws) + length (nameless_ones qs ws) ≡ length qs = length_parts qs ws len2 in
-    let whole : length (arranged qs ws) ≡ length qs = length_arranged qs ws len2 in
-    let len4 : length old ≡ length (arranged qs ws) + length zeros = length-append (arranged qs ws) zeros in
+    let whole : length (argument_order qs ws) ≡ length qs = length_arranged qs ws len2 in
+    let len4 : length old ≡ length (argument_order qs ws) + length zeros = length-append (argument_order qs ws) zeros in
     let len5 : length zeros ≡ g.registers - g.parameters = length-replicate (g.registers - g.parameters) 0 in
     let size_is : length old ≡ registers_in layout = omega (arith, len4, len5, whole, n, fits, all) in
     record {
@@ -191,7 +191,7 @@ entered_holds g layout qs vs ls h n fits all =
       room = omega (arith, len);
       fits = omega (arith, len3, parts, fits);
       size_is = length_set_from layout.writable layout.constants old ∙ size_is;
-      each = λ i l. below_set layout.writable layout.constants old i (omega (arith, l, len3, parts, fits)) ∙ front_index (arranged qs ws) zeros i (omega (arith, l, len3, parts, whole)) ∙ front_index (named_ones qs ws) (nameless_ones qs ws) i (omega (arith, l, len3)) ∙ ap (λ us. slice_index us i) (sym h.words) ∙ sym (word_listed ls i);
+      each = λ i l. below_set layout.writable layout.constants old i (omega (arith, l, len3, parts, fits)) ∙ front_index (argument_order qs ws) zeros i (omega (arith, l, len3, parts, whole)) ∙ front_index (named_ones qs ws) (nameless_ones qs ws) i (omega (arith, l, len3)) ∙ ap (λ us. slice_index us i) (sym h.words) ∙ sym (word_listed ls i);
       words = h.own;
       ready = λ k w e. is_set layout.writable layout.constants old k w (layout.writable + k) refl e (omega (arith, size_is));
     }
@@ -229,11 +229,11 @@ module _ (p : Program) (code : Code) (are : HasCellsOf code p) where
       (end : End) (sh : Shared) (text : List ℕ) (ls1 : List Local) (rs : List ℕ) (q : ℕ) → IsGood code a sh → ArrivedAt p code layout (no_exits u) (HereAt p code layout later) (MoreAt p code layout scope) last end q ls1 rs →
       Agrees (effect code) N K (holding a sh text (configuration code q rs frames)) (λ n. after (go_on (Gives end (state n ls1 (context_of a sh) text)) (leaving ls u)))
   body_ends N K layout a ls frames u after scope later last i s go Next sh text ls1 rs q good arrived =
-      go (converted (unwrap_or u Int) (flag false)) sh text rs q None (subst (λ y. InstructionAt code y (Instr.Return None)) (sym arrived.0) i) (sym (ap (λ (v : Value). v.word) (truth_converted Int (unwrap_or u Int) false))) refl (word_below (unwrap_or u Int) (number_of (flag false))) good
+      go (value_in_type (unwrap_or u Int) (flag false)) sh text rs q None (subst (λ y. InstructionAt code y (Instr.Return None)) (sym arrived.0) i) (sym (ap (λ (v : Value). v.word) (truth_converted Int (unwrap_or u Int) false))) refl (word_below (unwrap_or u Int) (number_of (flag false))) good
   body_ends N K layout a ls frames u after scope later last i s go Breaks sh text ls1 rs q good arrived = astray (effect code) 0 (s.astray _)
   body_ends N K layout a ls frames u after scope later last i s go Continues sh text ls1 rs q good arrived = astray (effect code) 0 (s.astray _)
   body_ends N K layout a ls frames u after scope later last i s go (Returns v) sh text ls1 rs q good arrived =
-      go (converted (unwrap_or u Int) v) sh text rs q arrived.0 arrived.1 arrived.2 refl (word_below (unwrap_or u Int) (number_of v)) good
+      go (value_in_type (unwrap_or u Int) v) sh text rs q arrived.0 arrived.1 arrived.2 refl (word_below (unwrap_or u Int) (number_of v)) good
   body_ends N K layout a ls frames u after scope later last i s go Cancels sh text ls1 rs q good arrived = astray (effect code) 0 (s.astray _)
   body_ends N K layout a ls frames u after scope later last i s go CancelsOuter sh text ls1 rs q good arrived = absurd arrived
 
@@ -247,7 +247,7 @@ module _ (p : Program) (code : Code) (are : HasCellsOf code p) where
   body_goes : (k : ℕ) (frames : List Frame) (layout : Layout) (cf : CallsFollow p (calls p k) code layout frames) (N K : ℕ) (a : Around) (ls : List Local) (u : Option Scalar) (after : Answer Value → Outcome) (scope later : LocalScope) (last : ℕ) → InstructionAt code last (Instr.Return None) → IsSeen a after → GoesReturn N K a after ls frames u → GoesEnd p (calls p k) code layout frames cf are N K a (λ q. after (go_on q (leaving ls u))) (no_exits u) (HereAt p code layout later) (MoreAt p code layout scope) last
   body_goes k frames layout cf N K a ls u after scope later last i s go = record { ends = body_ends N K layout a ls frames u after scope later last i s go; outer = tt }
 
-  body_follows : (k : ℕ) (frames : List Frame) (g : FunctionCode) (f : Function) (body : Stmts) → (c : FunctionIsLowered p code g f body) → CallsFollow p (calls p k) code c.layout frames → (N K : ℕ) (vs : List Value) (rs : List ℕ) (o : Option (List Local)) → EnteredSo f.parameters vs o → (length vs ≡ length f.parameters → rs ≡ first_registers g (arranged f.parameters (words_for f.parameters vs))) → (a : Around) (sh : Shared) (text : List ℕ) (ls : List Local) (after : Answer Value → Outcome) → IsGood code a sh → IsSeen a after → GoesReturn N K a after ls frames f.result → Agrees (effect code) N K (holding a sh text (configuration code g.first rs frames)) (λ n. after (go_on (or_astray o (state n ls (context_of a sh) text)) (λ mine. locals >>= λ outer. put_locals mine >> (stmts p (calls p k) body >>= leaving outer f.result))))
+  body_follows : (k : ℕ) (frames : List Frame) (g : FunctionCode) (f : Function) (body : Stmts) → (c : FunctionIsLowered p code g f body) → CallsFollow p (calls p k) code c.layout frames → (N K : ℕ) (vs : List Value) (rs : List ℕ) (o : Option (List Local)) → EnteredSo f.parameters vs o → (length vs ≡ length f.parameters → rs ≡ first_registers g (argument_order f.parameters (words_for f.parameters vs))) → (a : Around) (sh : Shared) (text : List ℕ) (ls : List Local) (after : Answer Value → Outcome) → IsGood code a sh → IsSeen a after → GoesReturn N K a after ls frames f.result → Agrees (effect code) N K (holding a sh text (configuration code g.first rs frames)) (λ n. after (go_on (or_astray o (state n ls (context_of a sh) text)) (λ mine. locals >>= λ outer. put_locals mine >> (stmts p (calls p k) body >>= leaving outer f.result))))
   body_follows k frames g f body c cf N K vs rs None h e a sh text ls after good s go = astray (effect code) 0 (s.astray _)
   body_follows k frames g f body c cf N K vs rs (Some mine) h e a sh text ls after good s go =
       constants_run c.layout.constants c.layout.writable g.first c.begins a sh text rs frames c.sets
@@ -256,7 +256,7 @@ module _ (p : Program) (code : Code) (are : HasCellsOf code p) where
       (body_goes k frames c.layout cf N K a ls f.result after (parameter_locals f.parameters) (locals_at_end body (parameter_locals f.parameters)) c.last c.returns s go))
 
   -- calls, with so many further frames to come
-  enters_frame : (frames : List Frame) (q d : ℕ) (rs : List ℕ) (args : List ℕ) (g : FunctionCode) (i : Instr) → length frames < 63 → effect_of code (configuration code q rs frames) (Some i) ≡ called (configuration code q rs frames) d args (Some g) → InstructionAt code q i → effect code (configuration code q rs frames) ≡ Effect.Pure (configuration code g.first (first_registers g (map (slice_index rs) args)) (record { place = suc q; result = d; registers = rs } ∷ frames))
+  enters_frame : (frames : List Frame) (q d : ℕ) (rs : List ℕ) (args : List ℕ) (g : FunctionCode) (i : Instr) → length frames < 63 → effect_of code (configuration code q rs frames) (Some i) ≡ call_effect (configuration code q rs frames) d args (Some g) → InstructionAt code q i → effect code (configuration code q rs frames) ≡ Effect.Pure (configuration code g.first (first_registers g (map (slice_index rs) args)) (record { place = suc q; result = d; registers = rs } ∷ frames))
   enters_frame frames q d rs args g i b e at =
       effect_at code q i rs frames at ∙ e
       ∙ ap (λ x. if x then Effect.Pure (configuration code g.first (first_registers g (map (slice_index rs) args)) (record { place = suc q; result = d; registers = rs } ∷ frames)) else Effect.Traps Frames) (lt-ltb (length frames) 63 b)
@@ -270,17 +270,17 @@ module _ (p : Program) (code : Code) (are : HasCellsOf code p) where
     calls_follow zero frames layout deep N K x vs number q d args g f body a sh text ls rs after at known named defined words good s go =
         let full : length frames ≡ 63 = omega (arith, deep) in
         traps code a after sh ls text (configuration code q rs frames) Frames s
-        (effect_at code q (Instr.Call number d (arranged f.parameters args)) rs frames at ∙ ap (called (configuration code q rs frames) d (arranged f.parameters args)) known
-        ∙ ap (λ n. if nat_lt n 63 then Effect.Pure (configuration code g.first (first_registers g (map (slice_index rs) (arranged f.parameters args))) (record { place = suc q; result = d; registers = rs } ∷ frames)) else Effect.Traps Frames) full)
+        (effect_at code q (Instr.Call number d (argument_order f.parameters args)) rs frames at ∙ ap (call_effect (configuration code q rs frames) d (argument_order f.parameters args)) known
+        ∙ ap (λ n. if nat_lt n 63 then Effect.Pure (configuration code g.first (first_registers g (map (slice_index rs) (argument_order f.parameters args))) (record { place = suc q; result = d; registers = rs } ∷ frames)) else Effect.Traps Frames) full)
     calls_follow (suc k) frames layout deep N K x vs number q d args g f body a sh text ls rs after at known named defined words good s go =
         let inner : List Frame = record { place = suc q; result = d; registers = rs } ∷ frames in
         let here : definition_of p g.name ≡ Some (f, body) = ap (definition_of p) named ∙ defined in
         let c : FunctionIsLowered p code g f body = lowered.each number g f body known here in
-        goes_by code a sh text (configuration code q rs frames) (configuration code g.first (first_registers g (map (slice_index rs) (arranged f.parameters args))) inner)
-        (enters_frame frames q d rs (arranged f.parameters args) g (Instr.Call number d (arranged f.parameters args)) (omega (arith, deep)) (ap (called (configuration code q rs frames) d (arranged f.parameters args)) known) at)
-        (same (effect code) (λ n. after (go_on (or_astray (entered f.parameters vs) (state n ls (context_of a sh) text)) (λ mine. locals >>= λ outer. put_locals mine >> (stmts p (calls p k) body >>= leaving outer f.result))))
-        (λ n. ap (λ o. after (go_on (or_astray o (state n ls (context_of a sh) text)) (λ f. or_astray (entered f.0.parameters vs) >>= λ mine. locals >>= λ outer. put_locals mine >> (stmts p (calls p k) f.1 >>= λ end. put_locals outer >> result_of f.0.result end)))) defined)
-        (body_follows k inner g f body c (calls_follow k inner c.layout (omega (arith, deep))) N K vs (first_registers g (map (slice_index rs) (arranged f.parameters args))) (entered f.parameters vs) (all_entered f.parameters vs) (λ count. ap (first_registers g) (arranged_mapped (slice_index rs) f.parameters args ∙ ap (arranged f.parameters) words)) a sh text ls after good s
+        goes_by code a sh text (configuration code q rs frames) (configuration code g.first (first_registers g (map (slice_index rs) (argument_order f.parameters args))) inner)
+        (enters_frame frames q d rs (argument_order f.parameters args) g (Instr.Call number d (argument_order f.parameters args)) (omega (arith, deep)) (ap (call_effect (configuration code q rs frames) d (argument_order f.parameters args)) known) at)
+        (same (effect code) (λ n. after (go_on (or_astray (call_locals f.parameters vs) (state n ls (context_of a sh) text)) (λ mine. locals >>= λ outer. put_locals mine >> (stmts p (calls p k) body >>= leaving outer f.result))))
+        (λ n. ap (λ o. after (go_on (or_astray o (state n ls (context_of a sh) text)) (λ f. or_astray (call_locals f.0.parameters vs) >>= λ mine. locals >>= λ outer. put_locals mine >> (stmts p (calls p k) f.1 >>= λ end. put_locals outer >> result_of f.0.result end)))) defined)
+        (body_follows k inner g f body c (calls_follow k inner c.layout (omega (arith, deep))) N K vs (first_registers g (map (slice_index rs) (argument_order f.parameters args))) (call_locals f.parameters vs) (all_entered f.parameters vs) (λ count. ap (first_registers g) (arranged_mapped (slice_index rs) f.parameters args ∙ ap (argument_order f.parameters) words)) a sh text ls after good s
         (λ v sh1 text1 rs1 q1 r at1 word of_v below_v good1.
         goes_by code a sh1 text1 (configuration code q1 rs1 inner) (configuration code (suc q) (slice_set rs d v.word) frames)
         (effect_at code q1 (Instr.Return r) rs1 inner at1 ∙ returns_word q d rs frames r rs1 q1 v.word word)
@@ -296,7 +296,7 @@ module _ (p : Program) (code : Code) (are : HasCellsOf code p) where
     returns_end : (r : Option ℕ) (rs : List ℕ) (q : ℕ) → effect_of code (configuration code q rs []) (Some (Instr.Return r)) ≡ Effect.End
     returns_end r rs q = refl
 
-    worker_started : (N K t : ℕ) (founds : List Memory) (o : Option (Function × Stmts)) → definition_of p (codes "worker") ≡ o → t < 2 ^ 32 → AreMemories code founds → Agrees (effect code) N K (start (beginning_in (Some lowered.worker) t) founds) (λ n. outcome_of (go_on (go_on (or_astray o (first_state founds n)) (λ f. or_astray (entered f.0.parameters (record { of = Unsigned; word = t } ∷ [])) >>= λ mine. locals >>= λ outer. put_locals mine >> (stmts p (calls p 63) f.1 >>= λ end. put_locals outer >> result_of f.0.result end))) (λ v. tick)))
+    worker_started : (N K t : ℕ) (founds : List Memory) (o : Option (Function × Stmts)) → definition_of p (codes "worker") ≡ o → t < 2 ^ 32 → AreMemories code founds → Agrees (effect code) N K (start (beginning_in (Some lowered.worker) t) founds) (λ n. outcome_of (go_on (go_on (or_astray o (first_state founds n)) (λ f. or_astray (call_locals f.0.parameters (record { of = Unsigned; word = t } ∷ [])) >>= λ mine. locals >>= λ outer. put_locals mine >> (stmts p (calls p 63) f.1 >>= λ end. put_locals outer >> result_of f.0.result end))) (λ v. tick)))
     worker_started N K t founds None e below good = astray (effect code) 0 refl
     worker_started N K t founds (Some d) e below good =
         let g : FunctionCode = lowered.worker in
@@ -306,7 +306,7 @@ module _ (p : Program) (code : Code) (are : HasCellsOf code p) where
         let sh : Shared = record { founds = founds; lefts = []; memory = []; kept = false } in
         let here : definition_of p g.name ≡ Some (d.0, d.1) = ap (definition_of p) w.2 ∙ e in
         let c : FunctionIsLowered p code g d.0 d.1 = lowered.each w.0 g d.0 d.1 w.1 here in
-        body_follows 63 [] g d.0 d.1 c (calls_follow 63 [] c.layout (omega arith)) N K vs (first_registers g (t ∷ [])) (entered d.0.parameters vs) (all_entered d.0.parameters vs)
+        body_follows 63 [] g d.0 d.1 c (calls_follow 63 [] c.layout (omega arith)) N K vs (first_registers g (t ∷ [])) (call_locals d.0.parameters vs) (all_entered d.0.parameters vs)
         (λ count. ap (first_registers g) (sym (one_handed d.0.parameters t below count))) Bare sh [] [] after good
         (record { spent = λ t. refl; wants = λ t. refl; trapped = λ k t. refl; astray = λ t. refl })
         (λ v sh1 text1 rs1 q r at word of_v below_v good1. ends (configuration code q rs1 []) sh1.founds sh1.lefts text1 [] sh1.memory sh1.kept (effect_at code q (Instr.Return r) rs1 [] at ∙ returns_end r rs1 q))

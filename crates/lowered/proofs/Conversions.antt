@@ -7,7 +7,7 @@ use Rattle.std.proofs.lemmas.Bool.Decides.{nat_tests}
 use Rattle.syntax.specs.declared.tree.BinaryOp.{BinaryOp}
 use Rattle.syntax.specs.declared.tree.BinaryOp.TheVariants.{ShiftLeft, ShiftRight}
 use Rattle.syntax.specs.Tree.{Scalar, Int, Unsigned, LongLong}
-use Rattle.syntax.specs.Numbers.{modulus, residue, number, word_of, converted, truth, common, fitted, computed, operand_type, result_type}
+use Rattle.syntax.specs.Numbers.{modulus, residue, number, word_of, value_in_type, truth, common, fit_result, operation_result, operand_type, result_type}
 use Rattle.syntax.proofs.Words.{narrows, widens_unsigned, fitted_below, shift_below, computed_below}
 use Rattle.lowered.specs.Expressions.{converting, widening}
 
@@ -76,7 +76,7 @@ truth_under Unsigned false = omega arith
 truth_under LongLong true = omega arith
 truth_under LongLong false = omega arith
 
-pub truth_converted : (t u : Scalar) (b : Bool) → converted u (record { of = t; word = truth b }) ≡ record { of = u; word = truth b }
+pub truth_converted : (t u : Scalar) (b : Bool) → value_in_type u (record { of = t; word = truth b }) ≡ record { of = u; word = truth b }
 truth_converted Int Int false = refl
 truth_converted Int Int true = refl
 truth_converted Int Unsigned false = refl
@@ -157,7 +157,7 @@ common_turned LongLong Int = refl
 common_turned LongLong Unsigned = refl
 common_turned LongLong LongLong = refl
 
-pub operated_below : (op : BinaryOp) (s t : Scalar) (a b : ℕ) → a < modulus (operand_type op s t) → b < modulus (operand_type op t s) → IfOk (computed op (operand_type op s t) a b) (λ w. w < modulus (result_type op (operand_type op s t)))
-operated_below ShiftLeft s t a b g h = shift_below s (λ k. fitted s (number s a *ℤ pos (2 ^ k))) b (λ k. fitted_below s (number s a *ℤ pos (2 ^ k)))
-operated_below ShiftRight s t a b g h = shift_below s (λ k. fitted s (int_div_euclid (number s a) (pos (2 ^ k)))) b (λ k. fitted_below s (int_div_euclid (number s a) (pos (2 ^ k))))
+pub operated_below : (op : BinaryOp) (s t : Scalar) (a b : ℕ) → a < modulus (operand_type op s t) → b < modulus (operand_type op t s) → IfOk (operation_result op (operand_type op s t) a b) (λ w. w < modulus (result_type op (operand_type op s t)))
+operated_below ShiftLeft s t a b g h = shift_below s (λ k. fit_result s (number s a *ℤ pos (2 ^ k))) b (λ k. fitted_below s (number s a *ℤ pos (2 ^ k)))
+operated_below ShiftRight s t a b g h = shift_below s (λ k. fit_result s (int_div_euclid (number s a) (pos (2 ^ k)))) b (λ k. fitted_below s (int_div_euclid (number s a) (pos (2 ^ k))))
 operated_below op s t a b g h = computed_below op (common s t) a b g (subst (λ u. b < modulus u) (common_turned t s) h)

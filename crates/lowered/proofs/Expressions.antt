@@ -19,7 +19,7 @@ use Rattle.syntax.specs.declared.numbers.Halt.TheVariants.{Wants, Astray}
 use Rattle.syntax.specs.declared.numbers.Trap.{Trap}
 use Rattle.syntax.specs.declared.numbers.Trap.TheVariants.{Index}
 use Rattle.syntax.specs.declared.numbers.Value.{Value}
-use Rattle.syntax.specs.Numbers.{modulus, residue, number, word_of, number_of, common, complemented, computed, typed, operand_type, result_type, binary, unary, converted, is_zero, flag, truth}
+use Rattle.syntax.specs.Numbers.{modulus, residue, number, word_of, number_of, common, bitwise_complement, operation_result, typed_result, operand_type, result_type, binary, unary, value_in_type, is_zero, flag, truth}
 use Rattle.syntax.specs.Names.{Local, newest, newest_from, word_at, global_of, cells, GlobalCells}
 use Rattle.syntax.specs.Types.{type_of, running_scope}
 use Rattle.syntax.specs.Laws.{shape}
@@ -28,28 +28,28 @@ use Rattle.syntax.specs.Actions.{Outside, Inside, State, Answer, Gives, Stops, A
 use Rattle.syntax.specs.Meaning.{Spot, InLocal, InCell, End, Returns, fetch, close_inner, close, transaction, value_at, value_transaction, Caller, spot_from, expr, exprs}
 use Rattle.std.specs.Option.{option_or}
 use Rattle.std.specs.Prelude.{bytes_eq, neg_ℤ}
-use Rattle.syntax.specs.Numbers.{fitted}
+use Rattle.syntax.specs.Numbers.{fit_result}
 use Rattle.syntax.proofs.Words.{fitted_below, narrows, truth_below, word_below}
 use Rattle.bytecode.specs.Effects.{Effect}
 use Rattle.bytecode.specs.Code.{Code, Configuration, Frame, Instr, effect, effect_of, or_traps, setting}
-use Rattle.lowered.specs.Expressions.{ValueTransactionCode, LocalScope, IsLike, InstructionAt, LeadsTo, Branching, MayTake, constant_in, computing, complementing, arranged, Layout, GivenBy, Converts, DueCode, TypedCode, HandedCode, WordCode, OperandCode, VariableCode, ElementAt, Branches, BothHold, EitherHolds, ComparedWithZero, TruthCode, BranchCode, ConditionalCode, types_left, ExprCode, OwnTests, ArgsCode, CondCode}
+use Rattle.lowered.specs.Expressions.{ValueTransactionCode, LocalScope, IsLike, InstructionAt, LeadsTo, Branching, MayTake, constant_in, computing, complementing, argument_order, Layout, GivenBy, Converts, DueCode, TypedCode, HandedCode, WordCode, OperandCode, VariableCode, ElementAt, Branches, BothHold, EitherHolds, ComparedWithZero, TruthCode, BranchCode, ConditionalCode, types_left, ExprCode, OwnTests, ArgsCode, CondCode}
 use Rattle.lowered.proofs.Locals.{word_typed, type_like, KnownLocal, newest_known}
 use Rattle.lowered.proofs.Conversions.{unconverted, truth_under, truth_converted, zero_in, zero_kept, operated_below}
 use Rattle.lowered.proofs.Agreement.{Agrees, astray, same, fewer}
 use Rattle.lowered.proofs.Runs.{Enters, enters, Held, inner_held, outermost_held, begins_inner, begins_outermost, wants_one, commits_inner, leaves_outermost, next_commit, IsBounded, AreBounded, KnownCells, HasCellsOf, AreMemories, Around, Bare, Within, Shared, context_of, holding, state, IsSeen, on_seen, IsGood, registers_in, Holds, Keeps, keeps_all, keeps_more, keeps_set, keeps_on, kept_at, holds_on, configuration, effect_at, goes, goes_by, reads_by, word_read, tick_goes, traps}
 
-complement_below : (t : Scalar) (w : ℕ) → complemented t w < modulus t
+complement_below : (t : Scalar) (w : ℕ) → bitwise_complement t w < modulus t
 complement_below Int w = omega arith
 complement_below Unsigned w = omega arith
 complement_below LongLong w = omega arith
 
 -- the instruction of an operator computes it
-pub computing_does : (code : Code) (op : BinaryOp) (t : Scalar) (c : Configuration) (d a b : ℕ) → effect_of code c (Some (computing op t d a b)) ≡ or_traps (computed op t (slice_index c.registers a) (slice_index c.registers b)) (setting c d)
+pub computing_does : (code : Code) (op : BinaryOp) (t : Scalar) (c : Configuration) (d a b : ℕ) → effect_of code c (Some (computing op t d a b)) ≡ or_traps (operation_result op t (slice_index c.registers a) (slice_index c.registers b)) (setting c d)
 computing_does code Or t c d a b = refl
 computing_does code op t c d a b = refl
 
 -- and that of a complement makes it
-complementing_does : (code : Code) (t : Scalar) (c : Configuration) (d a : ℕ) → effect_of code c (Some (complementing t d a)) ≡ Effect.Pure (setting c d (complemented t (slice_index c.registers a)))
+complementing_does : (code : Code) (t : Scalar) (c : Configuration) (d a : ℕ) → effect_of code c (Some (complementing t d a)) ≡ Effect.Pure (setting c d (bitwise_complement t (slice_index c.registers a)))
 complementing_does code Int c d a = refl
 complementing_does code Unsigned c d a = refl
 complementing_does code LongLong c d a = refl
@@ -70,7 +70,7 @@ newest_like x scope ls e = newest_shaped ls 0 x ∙ ap (λ ss. newest_shape 0 ss
 -- the words of values that are due in these types
 abbrev pub first_word : List Scalar → Value → ℕ
 first_word [] v = v.word
-first_word (t ∷ ts) v = (converted t v).word
+first_word (t ∷ ts) v = (value_in_type t v).word
 
 abbrev pub handed : List Scalar → List Value → List ℕ
 handed ts [] = []
@@ -114,7 +114,7 @@ module _ (p : Program) (call : Caller) (code : Code) (layout : Layout) (frames :
       (go_at a after ls to (suc q) home free r t u old c.to_is c.type_is go (record { of = u; word = w }) sh text (slice_set rs r w) (arrives a sh home free r w u old rs c.takes c.register len h k g))
 
   -- an operator's result, or its trap
-  pub results : {N K : ℕ} (i : Instr) (u : Scalar) (a : Around) (sh : Shared) (text : List ℕ) (ls : List Local) (after : Answer Value → Outcome) (q to : ℕ) (home : Option ℕ) (free r : ℕ) (t : Scalar) (old rs : List ℕ) (res : Result ℕ Trap) → GivenBy code layout home i u q to free r t → effect_of code (configuration code q rs frames) (Some i) ≡ or_traps res (setting (configuration code q rs frames) r) → IfOk res (λ w. w < modulus u) → length rs ≡ registers_in layout → Keeps layout home free old rs → IsGood code a sh → IsSeen a after → GoesOn N K a after ls to home free r t old → Does N K a sh text ls q rs (λ s. after (or_trap (typed u res) s))
+  pub results : {N K : ℕ} (i : Instr) (u : Scalar) (a : Around) (sh : Shared) (text : List ℕ) (ls : List Local) (after : Answer Value → Outcome) (q to : ℕ) (home : Option ℕ) (free r : ℕ) (t : Scalar) (old rs : List ℕ) (res : Result ℕ Trap) → GivenBy code layout home i u q to free r t → effect_of code (configuration code q rs frames) (Some i) ≡ or_traps res (setting (configuration code q rs frames) r) → IfOk res (λ w. w < modulus u) → length rs ≡ registers_in layout → Keeps layout home free old rs → IsGood code a sh → IsSeen a after → GoesOn N K a after ls to home free r t old → Does N K a sh text ls q rs (λ s. after (or_trap (typed_result u res) s))
   results i u a sh text ls after q to home free r t old rs (Ok w) c e h len k g s go = sets i u a sh text ls after q to home free r w t old rs c e len h k g go
   results i u a sh text ls after q to home free r t old rs (Err x) c e h len k g s go = traps code a after sh ls text (configuration code q rs frames) x s (effect_at code q i rs frames c.instr ∙ e)
 
@@ -134,13 +134,13 @@ module _ (p : Program) (call : Caller) (code : Code) (layout : Layout) (frames :
       (go (slice_set rs r w) (get_or-set_same rs r w 0 (let b = c.register in omega (arith, b, len))) (keeps_set layout home free old rs r w c.takes c.register k)))
 
   -- a value that lies in a register in the other type too
-  remains : {N K : ℕ} (s u : Scalar) (v : Value) (a : Around) (sh : Shared) (text : List ℕ) (does : ℕ → Outcome) (q to : ℕ) (home : Option ℕ) (free ra r : ℕ) (old rs : List ℕ) → to ≡ q → r ≡ ra → word_of u (number s v.word) ≡ v.word → Computed a s ra home free old v sh rs → ((new : List ℕ) → slice_index new r ≡ (converted u v).word → Keeps layout home free old new → Agrees (effect code) N K (holding a sh text (configuration code to new frames)) does) → Agrees (effect code) N K (holding a sh text (configuration code q rs frames)) does
+  remains : {N K : ℕ} (s u : Scalar) (v : Value) (a : Around) (sh : Shared) (text : List ℕ) (does : ℕ → Outcome) (q to : ℕ) (home : Option ℕ) (free ra r : ℕ) (old rs : List ℕ) → to ≡ q → r ≡ ra → word_of u (number s v.word) ≡ v.word → Computed a s ra home free old v sh rs → ((new : List ℕ) → slice_index new r ≡ (value_in_type u v).word → Keeps layout home free old new → Agrees (effect code) N K (holding a sh text (configuration code to new frames)) does) → Agrees (effect code) N K (holding a sh text (configuration code q rs frames)) does
   remains {N = N} {K = K} s u v a sh text does q to home free ra r old rs at there kept d go =
       subst (λ x. Agrees (effect code) N K (holding a sh text (configuration code x rs frames)) does) at
       (go rs (ap (slice_index rs) there ∙ d.here ∙ sym kept ∙ ap (λ o. word_of u (number o v.word)) (sym d.typed_so)) d.keeps)
 
   -- a conversion of a value that lies in a register
-  pub comes : {N K : ℕ} (s u : Scalar) (v : Value) (a : Around) (sh : Shared) (text : List ℕ) (does : ℕ → Outcome) (q to : ℕ) (home : Option ℕ) (free ra r : ℕ) (old rs : List ℕ) → Converts code layout home s u ra q to free r → Computed a s ra home free old v sh rs → length rs ≡ registers_in layout → ((new : List ℕ) → slice_index new r ≡ (converted u v).word → Keeps layout home free old new → Agrees (effect code) N K (holding a sh text (configuration code to new frames)) does) → Agrees (effect code) N K (holding a sh text (configuration code q rs frames)) does
+  pub comes : {N K : ℕ} (s u : Scalar) (v : Value) (a : Around) (sh : Shared) (text : List ℕ) (does : ℕ → Outcome) (q to : ℕ) (home : Option ℕ) (free ra r : ℕ) (old rs : List ℕ) → Converts code layout home s u ra q to free r → Computed a s ra home free old v sh rs → length rs ≡ registers_in layout → ((new : List ℕ) → slice_index new r ≡ (value_in_type u v).word → Keeps layout home free old new → Agrees (effect code) N K (holding a sh text (configuration code to new frames)) does) → Agrees (effect code) N K (holding a sh text (configuration code q rs frames)) does
   comes Int LongLong v a sh text does q to home free ra r old rs c d len go =
       set_on (Instr.Extend r ra) (word_of LongLong (number Int (slice_index rs ra))) LongLong a sh text does q to home free r old rs c refl len d.keeps
       (λ new here keeps. go new (here ∙ ap (λ w. word_of LongLong (number Int w)) d.here ∙ ap (λ o. word_of LongLong (number o v.word)) (sym d.typed_so)) keeps)
@@ -154,18 +154,18 @@ module _ (p : Program) (call : Caller) (code : Code) (layout : Layout) (frames :
       remains s u v a sh text does q to home free ra r old rs c.0 c.1 (unconverted s u v.word (subst (λ o. v.word < modulus o) d.typed_so d.word) tt) d go
 
   -- an operator on two values that lie in registers, each in the type in which it is due
-  pub operates : {N K : ℕ} (op : BinaryOp) (v w : Value) (ta tb : Scalar) (ra rb : ℕ) (a : Around) (sh : Shared) (text : List ℕ) (ls : List Local) (after : Answer Value → Outcome) (q to : ℕ) (home : Option ℕ) (free r : ℕ) (t : Scalar) (old rs : List ℕ) → v.of ≡ ta → w.of ≡ tb → slice_index rs ra ≡ (converted (operand_type op ta tb) v).word → slice_index rs rb ≡ (converted (operand_type op tb ta) w).word → GivenBy code layout home (computing op (operand_type op ta tb) r ra rb) (result_type op (operand_type op ta tb)) q to free r t → length rs ≡ registers_in layout → Keeps layout home free old rs → IsGood code a sh → IsSeen a after → GoesOn N K a after ls to home free r t old → Does N K a sh text ls q rs (λ s. after (or_trap (binary op v w) s))
+  pub operates : {N K : ℕ} (op : BinaryOp) (v w : Value) (ta tb : Scalar) (ra rb : ℕ) (a : Around) (sh : Shared) (text : List ℕ) (ls : List Local) (after : Answer Value → Outcome) (q to : ℕ) (home : Option ℕ) (free r : ℕ) (t : Scalar) (old rs : List ℕ) → v.of ≡ ta → w.of ≡ tb → slice_index rs ra ≡ (value_in_type (operand_type op ta tb) v).word → slice_index rs rb ≡ (value_in_type (operand_type op tb ta) w).word → GivenBy code layout home (computing op (operand_type op ta tb) r ra rb) (result_type op (operand_type op ta tb)) q to free r t → length rs ≡ registers_in layout → Keeps layout home free old rs → IsGood code a sh → IsSeen a after → GoesOn N K a after ls to home free r t old → Does N K a sh text ls q rs (λ s. after (or_trap (binary op v w) s))
   operates op v w ta tb ra rb a sh text ls after q to home free r t old rs of_v of_w left right c len keeps good s go =
       let o : Scalar = operand_type op ta tb in
       let other : Scalar = operand_type op tb ta in
-      let found : binary op v w ≡ typed (result_type op o) (computed op o (converted o v).word (converted other w).word) =
-      (λ j. typed (result_type op (operand_type op (of_v j) (of_w j))) (computed op (operand_type op (of_v j) (of_w j)) (converted (operand_type op (of_v j) (of_w j)) v).word (converted (operand_type op (of_w j) (of_v j)) w).word)) in
-      let there : computed op o (converted o v).word (converted other w).word ≡ computed op o (slice_index rs ra) (slice_index rs rb) = (λ j. computed op o (sym left j) (sym right j)) in
+      let found : binary op v w ≡ typed_result (result_type op o) (operation_result op o (value_in_type o v).word (value_in_type other w).word) =
+      (λ j. typed_result (result_type op (operand_type op (of_v j) (of_w j))) (operation_result op (operand_type op (of_v j) (of_w j)) (value_in_type (operand_type op (of_v j) (of_w j)) v).word (value_in_type (operand_type op (of_w j) (of_v j)) w).word)) in
+      let there : operation_result op o (value_in_type o v).word (value_in_type other w).word ≡ operation_result op o (slice_index rs ra) (slice_index rs rb) = (λ j. operation_result op o (sym left j) (sym right j)) in
       let below_a : slice_index rs ra < modulus o = subst (λ z. z < modulus o) (sym left) (word_below o (number_of v)) in
       let below_b : slice_index rs rb < modulus other = subst (λ z. z < modulus other) (sym right) (word_below other (number_of w)) in
-      let res : Result ℕ Trap = computed op o (slice_index rs ra) (slice_index rs rb) in
-      same (effect code) (λ n. after (or_trap (typed (result_type op o) res) (state n ls (context_of a sh) text)))
-      (λ n. ap (λ z. after (or_trap z (state n ls (context_of a sh) text))) (found ∙ ap (typed (result_type op o)) there))
+      let res : Result ℕ Trap = operation_result op o (slice_index rs ra) (slice_index rs rb) in
+      same (effect code) (λ n. after (or_trap (typed_result (result_type op o) res) (state n ls (context_of a sh) text)))
+      (λ n. ap (λ z. after (or_trap z (state n ls (context_of a sh) text))) (found ∙ ap (typed_result (result_type op o)) there))
       (results (computing op o r ra rb) (result_type op o) a sh text ls after q to home free r t old rs res c (computing_does code op o (configuration code q rs frames) r ra rb) (operated_below op ta tb _ _ below_a below_b) len keeps good s go)
 
   -- where a variable stands
@@ -399,7 +399,7 @@ module _ (p : Program) (call : Caller) (code : Code) (layout : Layout) (frames :
 
   -- `?:` once the chosen operand is there
   abbrev choosing : Expr → Value → Action Value
-  choosing whole w = locals >>= λ mine. or_astray (type_of (running_scope p mine) whole) >>= λ t. pure (converted t w)
+  choosing whole w = locals >>= λ mine. or_astray (type_of (running_scope p mine) whole) >>= λ t. pure (value_in_type t w)
 
   moved : {N K : ℕ} (x : Value) (a : Around) (sh : Shared) (text : List ℕ) (ls : List Local) (after : Answer Value → Outcome) (q to : ℕ) (home : Option ℕ) (free r rc : ℕ) (t : Scalar) (old rs : List ℕ) → GivenBy code layout home (Instr.Move r rc) t q to free r t → Computed a t rc None free old x sh rs → length rs ≡ registers_in layout → GoesOn N K a after ls to home free r t old → Does N K a sh text ls q rs (λ s. after (Gives x s))
   moved x a sh text ls after q to home free r rc t old rs c d len go =
@@ -418,7 +418,7 @@ module _ (p : Program) (call : Caller) (code : Code) (layout : Layout) (frames :
   -- a value of type t that is due in u: the register has its word in that type
   pub record Taken (a : Around) (u t : Scalar) (r : ℕ) (home : Option ℕ) (free : ℕ) (old : List ℕ) (v : Value) (sh : Shared) (new : List ℕ) : Type 0 where
     pub typed_so : v.of ≡ t
-    pub here : slice_index new r ≡ (converted u v).word
+    pub here : slice_index new r ≡ (value_in_type u v).word
     pub keeps : Keeps layout home free old new
     pub good : IsGood code a sh
 
@@ -446,9 +446,9 @@ module _ (p : Program) (call : Caller) (code : Code) (layout : Layout) (frames :
   straight_follows home whole scope e ih N K from to free r t a sh text ls old after c is h good s go =
       due_follows home scope e ih t N K from to free r c.0 a sh text ls old (λ q. after (go_on q (choosing whole))) c.1 h good (on_seen a after (choosing whole) s)
       (λ w sh1 text1 rs1 d.
-      same (effect code) (λ n. after (Gives (converted t w) (state n ls (context_of a sh1) text1)))
-      (λ n. ap (λ o. after (go_on (or_astray o (state n ls (context_of a sh1) text1)) (λ t. pure (converted t w)))) is)
-      (go (converted t w) sh1 text1 rs1 (record { typed_so = refl; word = word_below t (number_of w); here = d.here; keeps = d.keeps; good = d.good })))
+      same (effect code) (λ n. after (Gives (value_in_type t w) (state n ls (context_of a sh1) text1)))
+      (λ n. ap (λ o. after (go_on (or_astray o (state n ls (context_of a sh1) text1)) (λ t. pure (value_in_type t w)))) is)
+      (go (value_in_type t w) sh1 text1 rs1 (record { typed_so = refl; word = word_below t (number_of w); here = d.here; keeps = d.keeps; good = d.good })))
 
   -- and where it is moved
   branch_follows : (home : Option ℕ) (whole : Expr) (scope : LocalScope) (e : Expr) → ((h : Option ℕ) → AlwaysFollows h scope e) → (N K from to free r : ℕ) (t : Scalar) (a : Around) (sh : Shared) (text : List ℕ) (ls : List Local) (old : List ℕ) (after : Answer Value → Outcome) → BranchCode code layout home e (λ h. ExprCode code layout p h scope e) from to free r t → type_of (running_scope p ls) whole ≡ Some t → Holds scope ls layout free old → IsGood code a sh → IsSeen a after → GoesOn N K a after ls to home free r t old → Does N K a sh text ls from old (λ s. after (go_on (expr p call e s) (choosing whole)))
@@ -537,7 +537,7 @@ module _ (p : Program) (call : Caller) (code : Code) (layout : Layout) (frames :
   CallsFollow =
       (N K : ℕ) (x : List ℕ) (vs : List Value) (number q d : ℕ) (args : List ℕ) (g : FunctionCode) (f : Function) (body : Stmts)
       (a : Around) (sh : Shared) (text : List ℕ) (ls : List Local) (rs : List ℕ) (after : Answer Value → Outcome) →
-      InstructionAt code q (Instr.Call number d (arranged f.parameters args)) → slice_get code.functions number ≡ Some g → g.name ≡ x → definition_of p x ≡ Some (f, body) →
+      InstructionAt code q (Instr.Call number d (argument_order f.parameters args)) → slice_get code.functions number ≡ Some g → g.name ≡ x → definition_of p x ≡ Some (f, body) →
       map (slice_index rs) args ≡ handed (map (λ q. q.of) f.parameters) vs → IsGood code a sh → IsSeen a after →
       ((v : Value) (sh1 : Shared) (text1 : List ℕ) → v.of ≡ unwrap_or f.result Int → v.word < modulus v.of → IsGood code a sh1 →
       Agrees (effect code) N K (holding a sh1 text1 (configuration code (suc q) (slice_set rs d v.word) frames)) (λ n. after (Gives v (state n ls (context_of a sh1) text1)))) →
@@ -592,18 +592,18 @@ module _ (p : Program) (call : Caller) (code : Code) (layout : Layout) (frames :
           (record { typed_so = of_v; word = below_v; here = get_or-set_same rs1 r v.word 0 (let b = c.calls.register in let len = keeps.size ∙ h.size_is in omega (arith, b, len)); keeps = keeps_set layout home free old rs1 r v.word c.calls.takes c.calls.register (keeps_more layout home free old rs1 keeps); good = good2 }))))
       expr_follows home scope (Parenthesized e at) N K from to free r t a sh text ls old after c h good s go = expr_follows home scope e N K from to free r t a sh text ls old after c h good s go
       expr_follows home scope (Cast u e at) N K from to free r t a sh text ls old after c h good s go =
-          let rest : Value → Action Value = λ v. pure (converted u v) in
+          let rest : Value → Action Value = λ v. pure (value_in_type u v) in
           due_follows home scope e (expr_follows home scope e) u N K from to free r c.1.0 a sh text ls old (λ q. after (go_on q rest)) c.1.1 h good (on_seen a after rest s)
           (λ v sh1 text1 rs1 d.
-          go_at a after ls to to home free r t u old refl c.0 go (converted u v) sh1 text1 rs1
+          go_at a after ls to to home free r t u old refl c.0 go (value_in_type u v) sh1 text1 rs1
           (record { typed_so = refl; word = word_below u (number_of v); here = d.here; keeps = d.keeps; good = d.good }))
       expr_follows home scope (Unary Negate e at) N K from to free r t a sh text ls old after c h good s go =
           let rest : Value → Action Value = λ v. or_trap (unary Negate v) in
-          let negated : Scalar → ℕ → Result ℕ Trap = λ o w. fitted o (neg_ℤ (number o w)) in
+          let negated : Scalar → ℕ → Result ℕ Trap = λ o w. fit_result o (neg_ℤ (number o w)) in
           expr_follows None scope e N K from c.mid free c.ra c.ta a sh text ls old (λ q. after (go_on q rest)) c.computes h good (on_seen a after rest s)
           (λ v sh1 text1 rs1 d.
-          same (effect code) (λ n. after (or_trap (typed c.ta (negated c.ta (slice_index rs1 c.ra))) (state n ls (context_of a sh1) text1)))
-          (λ n. ap (λ x. after (or_trap x (state n ls (context_of a sh1) text1))) (ap (λ o. typed o (negated o v.word)) d.typed_so ∙ ap (λ w. typed c.ta (negated c.ta w)) (sym d.here)))
+          same (effect code) (λ n. after (or_trap (typed_result c.ta (negated c.ta (slice_index rs1 c.ra))) (state n ls (context_of a sh1) text1)))
+          (λ n. ap (λ x. after (or_trap x (state n ls (context_of a sh1) text1))) (ap (λ o. typed_result o (negated o v.word)) d.typed_so ∙ ap (λ w. typed_result c.ta (negated c.ta w)) (sym d.here)))
           (results (Instr.Negate c.ta r c.ra) c.ta a sh1 text1 ls after c.mid to home free r t old rs1 (negated c.ta (slice_index rs1 c.ra)) c.operates refl (fitted_below c.ta _) (d.keeps.size ∙ h.size_is) (keeps_more layout home free old rs1 d.keeps) d.good s go))
       expr_follows home scope (Unary Keep e at) N K from to free r t a sh text ls old after c h good s go =
           let rest : Value → Action Value = λ v. or_trap (unary Keep v) in
@@ -617,16 +617,16 @@ module _ (p : Program) (call : Caller) (code : Code) (layout : Layout) (frames :
           let zero_there : slice_index rs2 c.rz ≡ 0 = get_or-set_same rs1 c.rz 0 0 (let b = c.zeroes.register in omega (arith, b, len)) in
           let value_there : slice_index rs2 c.ra ≡ v.word = get_or-set_other rs1 c.rz c.ra 0 0 (λ e. let x = c.apart in absurd (omega (arith, x, e))) ∙ d.here in
           goes_by code a sh1 text1 (configuration code c.mid rs1 frames) (configuration code (suc c.mid) rs2 frames) (effect_at code c.mid (Instr.Constant c.rz 0) rs1 frames c.zeroes.instr)
-          (same (effect code) (λ n. after (or_trap (typed Int (computed Equal Int (slice_index rs2 c.ra) (slice_index rs2 c.rz))) (state n ls (context_of a sh1) text1)))
-          (λ n. ap (λ x. after (or_trap (typed Int (Ok x)) (state n ls (context_of a sh1) text1))) (ap (λ x. truth (x == 0)) (sym value_there) ∙ ap (λ y. truth (slice_index rs2 c.ra == y)) (sym zero_there)))
-          (results (Instr.Compute Equal Unsigned r c.ra c.rz) Int a sh1 text1 ls after (suc c.mid) to home free r t old rs2 (computed Equal Int (slice_index rs2 c.ra) (slice_index rs2 c.rz)) c.compares refl (truth_below _) (length-set rs1 c.rz 0 ∙ len) (keeps_more layout home free old rs2 (keeps_set layout None free old rs1 c.rz 0 c.zeroes.takes c.zeroes.register d.keeps)) d.good s go)))
+          (same (effect code) (λ n. after (or_trap (typed_result Int (operation_result Equal Int (slice_index rs2 c.ra) (slice_index rs2 c.rz))) (state n ls (context_of a sh1) text1)))
+          (λ n. ap (λ x. after (or_trap (typed_result Int (Ok x)) (state n ls (context_of a sh1) text1))) (ap (λ x. truth (x == 0)) (sym value_there) ∙ ap (λ y. truth (slice_index rs2 c.ra == y)) (sym zero_there)))
+          (results (Instr.Compute Equal Unsigned r c.ra c.rz) Int a sh1 text1 ls after (suc c.mid) to home free r t old rs2 (operation_result Equal Int (slice_index rs2 c.ra) (slice_index rs2 c.rz)) c.compares refl (truth_below _) (length-set rs1 c.rz 0 ∙ len) (keeps_more layout home free old rs2 (keeps_set layout None free old rs1 c.rz 0 c.zeroes.takes c.zeroes.register d.keeps)) d.good s go)))
       expr_follows home scope (Unary Complement e at) N K from to free r t a sh text ls old after c h good s go =
           let rest : Value → Action Value = λ v. or_trap (unary Complement v) in
           expr_follows None scope e N K from c.mid free c.ra c.ta a sh text ls old (λ q. after (go_on q rest)) c.computes h good (on_seen a after rest s)
           (λ v sh1 text1 rs1 d.
-          same (effect code) (λ n. after (Gives (record { of = c.ta; word = complemented c.ta (slice_index rs1 c.ra) }) (state n ls (context_of a sh1) text1)))
-          (λ n. ap (λ x. after (Gives x (state n ls (context_of a sh1) text1))) (ap (λ o. record { of = o; word = complemented o v.word }) d.typed_so ∙ ap (λ w. record { of = c.ta; word = complemented c.ta w }) (sym d.here)))
-          (sets (complementing c.ta r c.ra) c.ta a sh1 text1 ls after c.mid to home free r (complemented c.ta (slice_index rs1 c.ra)) t old rs1 c.operates (complementing_does code c.ta (configuration code c.mid rs1 frames) r c.ra) (d.keeps.size ∙ h.size_is) (complement_below c.ta (slice_index rs1 c.ra)) (keeps_more layout home free old rs1 d.keeps) d.good go))
+          same (effect code) (λ n. after (Gives (record { of = c.ta; word = bitwise_complement c.ta (slice_index rs1 c.ra) }) (state n ls (context_of a sh1) text1)))
+          (λ n. ap (λ x. after (Gives x (state n ls (context_of a sh1) text1))) (ap (λ o. record { of = o; word = bitwise_complement o v.word }) d.typed_so ∙ ap (λ w. record { of = c.ta; word = bitwise_complement c.ta w }) (sym d.here)))
+          (sets (complementing c.ta r c.ra) c.ta a sh1 text1 ls after c.mid to home free r (bitwise_complement c.ta (slice_index rs1 c.ra)) t old rs1 c.operates (complementing_does code c.ta (configuration code c.mid rs1 frames) r c.ra) (d.keeps.size ∙ h.size_is) (complement_below c.ta (slice_index rs1 c.ra)) (keeps_more layout home free old rs1 d.keeps) d.good go))
       expr_follows home scope (Binary op x y at) N K from to free r t a sh text ls old after c h good s go =
           let rest : Value → Action Value = λ v. expr p call y >>= λ w. or_trap (binary op v w) in
           operand_follows scope x (expr_follows None scope x) (operand_type op c.ta c.tb) N K from c.mid free c.ra c.ta a sh text ls old (λ q. after (go_on q rest)) c.left h good (on_seen a after rest s)
@@ -658,7 +658,7 @@ module _ (p : Program) (call : Caller) (code : Code) (layout : Layout) (frames :
       own_follows scope (Parenthesized e at) N K from met unmet free a sh text ls old after c h good s go =
           own_follows scope e N K from met unmet free a sh text ls old after c h good s go
       own_follows scope (Cast u e at) N K from met unmet free a sh text ls old after c h good s go =
-          let rest : Value → Action Value = λ v. pure (converted u v) in
+          let rest : Value → Action Value = λ v. pure (value_in_type u v) in
           own_follows scope e N K from met unmet free a sh text ls old (λ q. after (go_on q rest)) c h good (on_seen a after rest s)
           (λ t b sh1 text1 new k g.
           same (effect code) (λ n. after (Gives (record { of = u; word = truth (not b) }) (state n ls (context_of a sh1) text1)))

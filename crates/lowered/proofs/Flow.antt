@@ -13,14 +13,14 @@ use Rattle.syntax.specs.declared.tree.Kind.TheVariants.{Plain, Outer}
 use Rattle.syntax.specs.Tree.{Expr, Simple, Declarator, Start, Nothing, Declares, Does, Stmt, Stmts, Empty, Declare, Do, Block, Print, If, IfElse, While, DoWhile, For, Break, Continue, Return, Transaction, Cancel, CancelOuter, Program}
 use Rattle.syntax.specs.declared.numbers.Value.{Value}
 use Rattle.syntax.specs.declared.numbers.Halt.TheVariants.{Wants, Astray}
-use Rattle.syntax.specs.Numbers.{converted, is_zero, flag}
+use Rattle.syntax.specs.Numbers.{value_in_type, is_zero, flag}
 use Rattle.syntax.specs.Names.{Local, word_at}
 use Rattle.syntax.specs.Behaviours.{Memory, Outcome}
 use Rattle.bytecode.specs.Sequential.{cancel_step}
 use Rattle.lowered.proofs.Agreement.{quiet, Agrees, astray, same, fewer, none_left}
 use Rattle.lowered.proofs.OuterCancels.{opened, OuterGoes, outer_as, outer_fewer, through_plain, through_bare, leaves_by, outer_follows}
 use Rattle.syntax.specs.Actions.{Outside, Inside, Answer, Gives, Stops, Action, pure, stop, go_on, ◌>>=◌, ◌>>◌, tick, locals, put_locals, may_print}
-use Rattle.syntax.specs.Meaning.{InLocal, End, Next, Breaks, Continues, Returns, Cancels, CancelsOuter, mode_of, on_next, scoped, after_turn, loop, after_body, close_inner, close, leave, transaction, Caller, expr, simple, first_value, declare, holds, stepped, start_with, stmt, stmts}
+use Rattle.syntax.specs.Meaning.{InLocal, End, Next, Breaks, Continues, Returns, Cancels, CancelsOuter, mode_of, on_next, in_scope, after_turn, loop, after_body, close_inner, close, leave, transaction, Caller, expr, simple, first_value, declare, holds, stepped, start_with, stmt, stmts}
 use Rattle.bytecode.specs.Code.{Code, Configuration, Frame, Instr, effect}
 use Rattle.lowered.specs.Expressions.{LocalScope, IsLike, InstructionAt, LeadsTo, Layout}
 use Rattle.lowered.specs.Statements.{LocalAt, Exits, with_level, in_transaction, looping, with_local, with_declared, locals_of_start, locals_after, locals_at_end, Testing, Leaves, FirstValueCode, DeclareCode, IfCode, IfElseCode, WhileCode, DoWhileCode, HoldsCode, SteppedCode, StartCode, ForCode, TransactionCode, StmtCode, StmtsCode}
@@ -101,7 +101,7 @@ module _ (p : Program) (code : Code) (layout : Layout) where
   ArrivedAt x after others to Next q ls rs = (q ≡ to) × after ls rs
   ArrivedAt x after others to Breaks q ls rs = Leaves code layout p q x.in_loop (Instr.Jump x.break_to) × others ls rs
   ArrivedAt x after others to Continues q ls rs = Leaves code layout p q x.in_loop (Instr.Jump x.continue_to) × others ls rs
-  ArrivedAt x after others to (Returns v) q ls rs = (r : Option ℕ) × Leaves code layout p q x.in_function (Instr.Return r) × (word_in r rs ≡ (converted x.gives v).word)
+  ArrivedAt x after others to (Returns v) q ls rs = (r : Option ℕ) × Leaves code layout p q x.in_function (Instr.Return r) × (word_in r rs ≡ (value_in_type x.gives v).word)
   ArrivedAt x after others to Cancels q ls rs = (x.innermost ≡ Some Atomic) × InstructionAt code q Instr.Cancel
   ArrivedAt x after others to CancelsOuter q ls rs = ⊥
 
@@ -164,7 +164,7 @@ module _ (p : Program) (call : Caller) (code : Code) (layout : Layout) (frames :
     outer = outer_as code _ _ a after (λ q. after (go_on q (closing ls))) (take (length ls)) (λ k ms m mode text. refl) x.in_outer go.outer;
   }
 
-  scoped_follows : (ss : Stmts) → StmtsFollow ss → (N K : ℕ) (x : Exits) (scope : LocalScope) (from to : ℕ) (a : Around) (sh : Shared) (text : List ℕ) (ls : List Local) (old : List ℕ) (after : Answer End → Outcome) → StmtsCode code layout p x scope ss from to → Here scope ls old → IsGood code a sh → IsSeen a after → GoesEnd N K a after x (Here scope) (Here scope) to → Goes p call code layout frames cf are N K a sh text ls from old (λ s. after (scoped (stmts p call ss) s))
+  scoped_follows : (ss : Stmts) → StmtsFollow ss → (N K : ℕ) (x : Exits) (scope : LocalScope) (from to : ℕ) (a : Around) (sh : Shared) (text : List ℕ) (ls : List Local) (old : List ℕ) (after : Answer End → Outcome) → StmtsCode code layout p x scope ss from to → Here scope ls old → IsGood code a sh → IsSeen a after → GoesEnd N K a after x (Here scope) (Here scope) to → Goes p call code layout frames cf are N K a sh text ls from old (λ s. after (in_scope (stmts p call ss) s))
   unfolding closing
   scoped_follows ss ih N K x scope from to a sh text ls old after c h good s go =
       ih N K x scope from to a sh text ls old (λ q. after (go_on q (closing ls))) c h good (on_seen a after (closing ls) s)
@@ -188,7 +188,7 @@ module _ (p : Program) (call : Caller) (code : Code) (layout : Layout) (frames :
     outer = outer_as code _ _ a after (λ q. after (go_on q (closing ls))) (take (length ls)) (λ k ms m mode text. refl) x.in_outer go.outer;
   }
 
-  part_follows : (st : Stmt) → StmtFollows st → (N K : ℕ) (x : Exits) (scope : LocalScope) (from to : ℕ) (a : Around) (sh : Shared) (text : List ℕ) (ls : List Local) (old : List ℕ) (after : Answer End → Outcome) → StmtCode code layout p x scope st from to → Here scope ls old → IsGood code a sh → IsSeen a after → GoesEnd N K a after x (Here scope) (Here scope) to → Goes p call code layout frames cf are N K a sh text ls from old (λ s. after (scoped (stmt p call st) s))
+  part_follows : (st : Stmt) → StmtFollows st → (N K : ℕ) (x : Exits) (scope : LocalScope) (from to : ℕ) (a : Around) (sh : Shared) (text : List ℕ) (ls : List Local) (old : List ℕ) (after : Answer End → Outcome) → StmtCode code layout p x scope st from to → Here scope ls old → IsGood code a sh → IsSeen a after → GoesEnd N K a after x (Here scope) (Here scope) to → Goes p call code layout frames cf are N K a sh text ls from old (λ s. after (in_scope (stmt p call st) s))
   unfolding closing
   part_follows st ih N K x scope from to a sh text ls old after c h good s go =
       ih N K x scope from to a sh text ls old (λ q. after (go_on q (closing ls))) c h good (on_seen a after (closing ls) s)
@@ -367,7 +367,7 @@ module _ (p : Program) (call : Caller) (code : Code) (layout : Layout) (frames :
       turn = while_turn p call e st
 
       branches : Value → Action (Option End)
-      branches v = if is_zero v then pure (Some Next) else (scoped (stmt p call st) >>= after_body (pure None))
+      branches v = if is_zero v then pure (Some Next) else (in_scope (stmt p call st) >>= after_body (pure None))
 
       after1 : Answer (Option End) → Outcome
       after1 q = after (go_on q (after_turn (loop (while_turn p call e st))))
@@ -378,11 +378,11 @@ module _ (p : Program) (call : Caller) (code : Code) (layout : Layout) (frames :
       places : GoesTest p call code layout frames cf are N M a (λ q. after1 (go_on q branches)) scope ls c.body_at c.out
       places v true sh1 text1 rs1 z h1 good1 =
           same (effect code) (λ n. after (Gives Next (state n ls (context_of a sh1) text1)))
-          (λ n. ap (λ b. after1 ((if b then pure (Some Next) else (scoped (stmt p call st) >>= after_body (pure None))) (state n ls (context_of a sh1) text1))) z)
+          (λ n. ap (λ b. after1 ((if b then pure (Some Next) else (in_scope (stmt p call st) >>= after_body (pure None))) (state n ls (context_of a sh1) text1))) z)
           (leads p call code layout frames a sh1 text1 c.out to rs1 c.ends (fewer (effect code) (omega arith) less (go.ends Next sh1 text1 ls rs1 to good1 (refl, h1))))
       places v false sh1 text1 rs1 z h1 good1 =
-          same (effect code) (λ n. after1 ((scoped (stmt p call st) >>= after_body (pure None)) (state n ls (context_of a sh1) text1)))
-          (λ n. ap (λ b. after1 ((if b then pure (Some Next) else (scoped (stmt p call st) >>= after_body (pure None))) (state n ls (context_of a sh1) text1))) z)
+          same (effect code) (λ n. after1 ((in_scope (stmt p call st) >>= after_body (pure None)) (state n ls (context_of a sh1) text1)))
+          (λ n. ap (λ b. after1 ((if b then pure (Some Next) else (in_scope (stmt p call st) >>= after_body (pure None))) (state n ls (context_of a sh1) text1))) z)
           (part_follows st ih N M (looping x c.break_to c.continue_to) scope c.body_at c.last a sh1 text1 ls rs1 (λ q. after1 (go_on q (after_body (pure None)))) c.body h1 good1 (on_seen a after1 (after_body (pure None)) seen1)
           (body_ends x scope (while_turn p call e st) (pure None) c.break_to c.continue_to c.test_at to c.last a after c.breaks c.continues c.again
           (λ sh2 text2 ls2 rs2 good2 h2. again sh2 text2 ls2 rs2 good2 h2)
@@ -447,7 +447,7 @@ module _ (p : Program) (call : Caller) (code : Code) (layout : Layout) (frames :
   for_follows : (x : Exits) (scope : LocalScope) (starts : ℕ → ℕ → Type 0) (o : Option Expr) (step : Option Simple) (st : Stmt) → StmtFollows st → (from to : ℕ) (c : ForCode code layout p x scope starts o step (λ y. StmtCode code layout p y scope st) from to) (a : Around) (after : Answer End → Outcome) → IsSeen a after → TurnFollows a after x scope c.test_at to (for_turn p call o step st)
   for_follows x scope starts o step st ih from to c a after s N K M less enough sh text ls rs again h good go =
       let turn : Action (Option End) = for_turn p call o step st in
-      let rest : Bool → Action (Option End) = λ more. if more then (scoped (stmt p call st) >>= after_body (stepped p call step)) else pure (Some Next) in
+      let rest : Bool → Action (Option End) = λ more. if more then (in_scope (stmt p call st) >>= after_body (stepped p call step)) else pure (Some Next) in
       let after1 : Answer (Option End) → Outcome = λ q. after (go_on q (after_turn (loop turn))) in
       let seen1 : IsSeen a after1 = on_seen a after (after_turn (loop turn)) s in
       fewer (effect code) (omega arith) enough
@@ -489,7 +489,7 @@ module _ (p : Program) (call : Caller) (code : Code) (layout : Layout) (frames :
     outer = outer_as code _ _ a after (λ q. after (go_on q (closing ls))) (take (length ls)) (λ k ms m mode text. refl) x.in_outer go.outer;
   }
 
-  whole_for : (x : Exits) (scope : LocalScope) (start : Start) (o : Option Expr) (step : Option Simple) (st : Stmt) → StmtFollows st → Falls (for_turn p call o step st) → (N K from to : ℕ) (c : ForCode code layout p x (locals_of_start start scope) (StartCode code layout p scope start) o step (λ y. StmtCode code layout p y (locals_of_start start scope) st) from to) (a : Around) (sh : Shared) (text : List ℕ) (ls : List Local) (old : List ℕ) (after : Answer End → Outcome) → Here scope ls old → IsGood code a sh → IsSeen a after → GoesEnd N K a after x (Here scope) (Here scope) to → Goes p call code layout frames cf are N K a sh text ls from old (λ s. after (scoped (start_with p call start >> loop (for_turn p call o step st)) s))
+  whole_for : (x : Exits) (scope : LocalScope) (start : Start) (o : Option Expr) (step : Option Simple) (st : Stmt) → StmtFollows st → Falls (for_turn p call o step st) → (N K from to : ℕ) (c : ForCode code layout p x (locals_of_start start scope) (StartCode code layout p scope start) o step (λ y. StmtCode code layout p y (locals_of_start start scope) st) from to) (a : Around) (sh : Shared) (text : List ℕ) (ls : List Local) (old : List ℕ) (after : Answer End → Outcome) → Here scope ls old → IsGood code a sh → IsSeen a after → GoesEnd N K a after x (Here scope) (Here scope) to → Goes p call code layout frames cf are N K a sh text ls from old (λ s. after (in_scope (start_with p call start >> loop (for_turn p call o step st)) s))
   unfolding closing
   whole_for x scope start o step st ih f N K from to c a sh text ls old after h good s go =
       let inner : LocalScope = locals_of_start start scope in
@@ -554,9 +554,9 @@ module _ (p : Program) (call : Caller) (code : Code) (layout : Layout) (frames :
     outer = bare_outer kind x scope ss from to c found founds lefts ls old after h s g go;
   }
 
-  bare_transaction : (kind : Kind) (ss : Stmts) → StmtsFollow ss → (N K : ℕ) (x : Exits) (scope : LocalScope) (from to : ℕ) (founds lefts : List Memory) (memory : Memory) (kept : Bool) (text : List ℕ) (ls : List Local) (old : List ℕ) (after : Answer End → Outcome) → TransactionCode code layout p kind x (BodyCode scope ss) from to → Here scope ls old → AreMemories code founds → IsSeen Bare after → GoesEnd N K Bare after x (Here scope) (Here scope) to → Goes p call code layout frames cf are N K Bare (record { founds = founds; lefts = lefts; memory = memory; kept = kept }) text ls from old (λ s. after (go_on (tick s) (λ u. transaction kind (scoped (stmts p call ss)))))
+  bare_transaction : (kind : Kind) (ss : Stmts) → StmtsFollow ss → (N K : ℕ) (x : Exits) (scope : LocalScope) (from to : ℕ) (founds lefts : List Memory) (memory : Memory) (kept : Bool) (text : List ℕ) (ls : List Local) (old : List ℕ) (after : Answer End → Outcome) → TransactionCode code layout p kind x (BodyCode scope ss) from to → Here scope ls old → AreMemories code founds → IsSeen Bare after → GoesEnd N K Bare after x (Here scope) (Here scope) to → Goes p call code layout frames cf are N K Bare (record { founds = founds; lefts = lefts; memory = memory; kept = kept }) text ls from old (λ s. after (go_on (tick s) (λ u. transaction kind (in_scope (stmts p call ss)))))
   bare_transaction kind ss ih N K x scope from to [] lefts memory kept text ls old after c h g s go =
-      same (effect code) (λ n. after (go_on (tick (state n ls (Outside [] lefts) text)) (λ u. stop Wants))) (wanted kind (scoped (stmts p call ss)) lefts text ls after)
+      same (effect code) (λ n. after (go_on (tick (state n ls (Outside [] lefts) text)) (λ u. stop Wants))) (wanted kind (in_scope (stmts p call ss)) lefts text ls after)
       (wants_one code after lefts memory kept text ls (configuration code from old frames) (configuration code (suc from) old frames) (configuration code to old frames) s (effect_at code from (Instr.Begin to) old frames c.begins))
     where
       wanted : (kind : Kind) (run : Action End) (lefts : List Memory) (text : List ℕ) (ls : List Local) (after : Answer End → Outcome) (n : ℕ) → after (go_on (tick (state n ls (Outside [] lefts) text)) (λ u. transaction kind run)) ≡ after (go_on (tick (state n ls (Outside [] lefts) text)) (λ u. stop Wants))
@@ -566,7 +566,7 @@ module _ (p : Program) (call : Caller) (code : Code) (layout : Layout) (frames :
       let held : Held = outermost_held code (mode_of kind) (configuration code to old frames) found founds lefts in
       let after1 : Answer End → Outcome = λ q. after (close kind founds lefts ls found q) in
       let seen1 : IsSeen (Within held) after1 = record { spent = λ t. s.spent _; wants = λ t. s.wants _; trapped = λ k t. s.trapped k _; astray = λ t. s.astray _ } in
-      tick_goes code Bare after (transaction kind (scoped (stmts p call ss))) (record { founds = found ∷ founds; lefts = lefts; memory = memory; kept = kept }) ls text (configuration code from old frames) s
+      tick_goes code Bare after (transaction kind (in_scope (stmts p call ss))) (record { founds = found ∷ founds; lefts = lefts; memory = memory; kept = kept }) ls text (configuration code from old frames) s
       (begins_outermost code found founds lefts memory kept text (mode_of kind) (configuration code from old frames) (configuration code (suc from) old frames) (configuration code to old frames) (effect_at code from (Instr.Begin to) old frames c.begins)
       (scoped_follows ss ih N K (in_transaction kind x) scope (suc from) c.last (Within held) (record { founds = founds; lefts = lefts; memory = found; kept = false }) text ls old after1 c.runs h (g.0, (λ e. (refl, e)), (λ e. e)) seen1
       (bare_ends kind x scope ss from to c found founds lefts ls old after h s g.1 go)))
@@ -608,9 +608,9 @@ module _ (p : Program) (call : Caller) (code : Code) (layout : Layout) (frames :
   inner_ends k kind x scope ss from to c sh ls old after h g go =
       record { ends = inner_each k kind x scope ss from to c sh ls old after h g go; outer = inner_outer k kind x scope ss from to c sh ls old after h g go }
 
-  inner_transaction : (kind : Kind) (ss : Stmts) → StmtsFollow ss → (N K : ℕ) (x : Exits) (scope : LocalScope) (from to : ℕ) (k : Held) (sh : Shared) (text : List ℕ) (ls : List Local) (old : List ℕ) (after : Answer End → Outcome) → Enters k.mode kind → TransactionCode code layout p kind x (BodyCode scope ss) from to → Here scope ls old → IsGood code (Within k) sh → IsSeen (Within k) after → GoesEnd N K (Within k) after x (Here scope) (Here scope) to → Goes p call code layout frames cf are N K (Within k) sh text ls from old (λ s. after (transaction kind (scoped (stmts p call ss)) s))
+  inner_transaction : (kind : Kind) (ss : Stmts) → StmtsFollow ss → (N K : ℕ) (x : Exits) (scope : LocalScope) (from to : ℕ) (k : Held) (sh : Shared) (text : List ℕ) (ls : List Local) (old : List ℕ) (after : Answer End → Outcome) → Enters k.mode kind → TransactionCode code layout p kind x (BodyCode scope ss) from to → Here scope ls old → IsGood code (Within k) sh → IsSeen (Within k) after → GoesEnd N K (Within k) after x (Here scope) (Here scope) to → Goes p call code layout frames cf are N K (Within k) sh text ls from old (λ s. after (transaction kind (in_scope (stmts p call ss)) s))
   inner_transaction kind ss ih N K x scope from to k sh text ls old after (inl e) c h g s go =
-      let run : Action End = scoped (stmts p call ss) in
+      let run : Action End = in_scope (stmts p call ss) in
       let held : Held = inner_held code k (mode_of kind) sh.memory (configuration code to old frames) in
       let after1 : Answer End → Outcome = λ q. after (close_inner k.mode kind ls sh.memory q) in
       let seen1 : IsSeen (Within held) after1 = record { spent = s.spent; wants = s.wants; trapped = s.trapped; astray = s.astray } in
@@ -619,52 +619,52 @@ module _ (p : Program) (call : Caller) (code : Code) (layout : Layout) (frames :
       (scoped_follows ss ih N K (in_transaction kind x) scope (suc from) c.last (Within held) sh text ls old after1 c.runs h (g.0, (λ d. ((g.1 d).0, e.1 (g.1 d).1)), g.2) seen1
       (inner_ends k kind x scope ss from to c sh ls old after h g go)))
   inner_transaction kind ss ih N K x scope from to k sh text ls old after (inr e) c h g s go =
-      let run : Action End = scoped (stmts p call ss) in
+      let run : Action End = in_scope (stmts p call ss) in
       same (effect code) (λ n. after (Stops Astray (state n ls (Inside k.mode sh.memory) text))) (λ n. ap after (e sh.memory run (state n ls (Inside k.mode sh.memory) text)))
       (astray (effect code) 0 (s.astray _))
 
-  transaction_follows : (kind : Kind) (ss : Stmts) → StmtsFollow ss → (N K : ℕ) (x : Exits) (scope : LocalScope) (from to : ℕ) (a : Around) (sh : Shared) (text : List ℕ) (ls : List Local) (old : List ℕ) (after : Answer End → Outcome) → TransactionCode code layout p kind x (BodyCode scope ss) from to → Here scope ls old → IsGood code a sh → IsSeen a after → GoesEnd N K a after x (Here scope) (Here scope) to → Goes p call code layout frames cf are N K a sh text ls from old (λ s. after (go_on (tick s) (λ u. transaction kind (scoped (stmts p call ss)))))
+  transaction_follows : (kind : Kind) (ss : Stmts) → StmtsFollow ss → (N K : ℕ) (x : Exits) (scope : LocalScope) (from to : ℕ) (a : Around) (sh : Shared) (text : List ℕ) (ls : List Local) (old : List ℕ) (after : Answer End → Outcome) → TransactionCode code layout p kind x (BodyCode scope ss) from to → Here scope ls old → IsGood code a sh → IsSeen a after → GoesEnd N K a after x (Here scope) (Here scope) to → Goes p call code layout frames cf are N K a sh text ls from old (λ s. after (go_on (tick s) (λ u. transaction kind (in_scope (stmts p call ss)))))
   transaction_follows kind ss ih N K x scope from to Bare sh text ls old after c h g s go =
       bare_transaction kind ss ih N K x scope from to sh.founds sh.lefts sh.memory sh.kept text ls old after c h g s go
   transaction_follows kind ss ih N K x scope from to (Within k) sh text ls old after c h g s go =
-      tick_goes code (Within k) after (transaction kind (scoped (stmts p call ss))) sh ls text (configuration code from old frames) s
+      tick_goes code (Within k) after (transaction kind (in_scope (stmts p call ss))) sh ls text (configuration code from old frames) s
       (inner_transaction kind ss ih N K x scope from to k sh text ls old after (enters k.mode kind) c h g s go)
 
   -- `if` and `else`
-  if_follows : {N K : ℕ} (x : Exits) (scope : LocalScope) (e : Expr) (st : Stmt) → StmtFollows st → (from to : ℕ) (c : IfCode code layout p scope (Testing code layout p scope e) (StmtCode code layout p x scope st) from to) (a : Around) (sh : Shared) (text : List ℕ) (ls : List Local) (old : List ℕ) (after : Answer End → Outcome) → Here scope ls old → IsGood code a sh → IsSeen a after → GoesEnd N K a after x (Here scope) (Here scope) to → Goes p call code layout frames cf are N K a sh text ls from old (λ s. after ((expr p call e >>= λ v. if is_zero v then pure Next else scoped (stmt p call st)) s))
+  if_follows : {N K : ℕ} (x : Exits) (scope : LocalScope) (e : Expr) (st : Stmt) → StmtFollows st → (from to : ℕ) (c : IfCode code layout p scope (Testing code layout p scope e) (StmtCode code layout p x scope st) from to) (a : Around) (sh : Shared) (text : List ℕ) (ls : List Local) (old : List ℕ) (after : Answer End → Outcome) → Here scope ls old → IsGood code a sh → IsSeen a after → GoesEnd N K a after x (Here scope) (Here scope) to → Goes p call code layout frames cf are N K a sh text ls from old (λ s. after ((expr p call e >>= λ v. if is_zero v then pure Next else in_scope (stmt p call st)) s))
   if_follows {N = N} {K = K} x scope e st ih from to c a sh text ls old after h good s go =
       fewer (effect code) (omega arith) (omega arith)
       (test_follows p call code layout frames cf are scope e from c.met c.unmet c.tests a sh text ls old (λ q. after (go_on q rest)) h good (on_seen a after rest s) places)
     where
       rest : Value → Action End
-      rest v = if is_zero v then pure Next else scoped (stmt p call st)
+      rest v = if is_zero v then pure Next else in_scope (stmt p call st)
 
       places : GoesTest p call code layout frames cf are N K a (λ q. after (go_on q rest)) scope ls c.met c.unmet
       places v true sh1 text1 rs1 z h1 good1 =
           same (effect code) (λ n. after (Gives Next (state n ls (context_of a sh1) text1)))
-          (λ n. ap (λ b. after ((if b then pure Next else scoped (stmt p call st)) (state n ls (context_of a sh1) text1))) z)
+          (λ n. ap (λ b. after ((if b then pure Next else in_scope (stmt p call st)) (state n ls (context_of a sh1) text1))) z)
           (leads p call code layout frames a sh1 text1 c.unmet to rs1 c.else_leads (go.ends Next sh1 text1 ls rs1 to good1 (refl, h1)))
       places v false sh1 text1 rs1 z h1 good1 =
-          same (effect code) (λ n. after (scoped (stmt p call st) (state n ls (context_of a sh1) text1)))
-          (λ n. ap (λ b. after ((if b then pure Next else scoped (stmt p call st)) (state n ls (context_of a sh1) text1))) z)
+          same (effect code) (λ n. after (in_scope (stmt p call st) (state n ls (context_of a sh1) text1)))
+          (λ n. ap (λ b. after ((if b then pure Next else in_scope (stmt p call st)) (state n ls (context_of a sh1) text1))) z)
           (part_follows st ih N K x scope c.met c.last a sh1 text1 ls rs1 after c.then_code h1 good1 s (leads_end a after x scope c.last to c.then_leads go))
 
-  else_follows : {N K : ℕ} (x : Exits) (scope : LocalScope) (e : Expr) (st su : Stmt) → StmtFollows st → StmtFollows su → (from to : ℕ) (c : IfElseCode code layout p scope (Testing code layout p scope e) (StmtCode code layout p x scope st) (StmtCode code layout p x scope su) from to) (a : Around) (sh : Shared) (text : List ℕ) (ls : List Local) (old : List ℕ) (after : Answer End → Outcome) → Here scope ls old → IsGood code a sh → IsSeen a after → GoesEnd N K a after x (Here scope) (Here scope) to → Goes p call code layout frames cf are N K a sh text ls from old (λ s. after ((expr p call e >>= λ v. if is_zero v then scoped (stmt p call su) else scoped (stmt p call st)) s))
+  else_follows : {N K : ℕ} (x : Exits) (scope : LocalScope) (e : Expr) (st su : Stmt) → StmtFollows st → StmtFollows su → (from to : ℕ) (c : IfElseCode code layout p scope (Testing code layout p scope e) (StmtCode code layout p x scope st) (StmtCode code layout p x scope su) from to) (a : Around) (sh : Shared) (text : List ℕ) (ls : List Local) (old : List ℕ) (after : Answer End → Outcome) → Here scope ls old → IsGood code a sh → IsSeen a after → GoesEnd N K a after x (Here scope) (Here scope) to → Goes p call code layout frames cf are N K a sh text ls from old (λ s. after ((expr p call e >>= λ v. if is_zero v then in_scope (stmt p call su) else in_scope (stmt p call st)) s))
   else_follows {N = N} {K = K} x scope e st su iht ihu from to c a sh text ls old after h good s go =
       fewer (effect code) (omega arith) (omega arith)
       (test_follows p call code layout frames cf are scope e from c.met c.unmet c.tests a sh text ls old (λ q. after (go_on q rest)) h good (on_seen a after rest s) places)
     where
       rest : Value → Action End
-      rest v = if is_zero v then scoped (stmt p call su) else scoped (stmt p call st)
+      rest v = if is_zero v then in_scope (stmt p call su) else in_scope (stmt p call st)
 
       places : GoesTest p call code layout frames cf are N K a (λ q. after (go_on q rest)) scope ls c.met c.unmet
       places v true sh1 text1 rs1 z h1 good1 =
-          same (effect code) (λ n. after (scoped (stmt p call su) (state n ls (context_of a sh1) text1)))
-          (λ n. ap (λ b. after ((if b then scoped (stmt p call su) else scoped (stmt p call st)) (state n ls (context_of a sh1) text1))) z)
+          same (effect code) (λ n. after (in_scope (stmt p call su) (state n ls (context_of a sh1) text1)))
+          (λ n. ap (λ b. after ((if b then in_scope (stmt p call su) else in_scope (stmt p call st)) (state n ls (context_of a sh1) text1))) z)
           (part_follows su ihu N K x scope c.unmet c.end a sh1 text1 ls rs1 after c.else_code h1 good1 s (leads_end a after x scope c.end to c.else_leads go))
       places v false sh1 text1 rs1 z h1 good1 =
-          same (effect code) (λ n. after (scoped (stmt p call st) (state n ls (context_of a sh1) text1)))
-          (λ n. ap (λ b. after ((if b then scoped (stmt p call su) else scoped (stmt p call st)) (state n ls (context_of a sh1) text1))) z)
+          same (effect code) (λ n. after (in_scope (stmt p call st) (state n ls (context_of a sh1) text1)))
+          (λ n. ap (λ b. after ((if b then in_scope (stmt p call su) else in_scope (stmt p call st)) (state n ls (context_of a sh1) text1))) z)
           (part_follows st iht N K x scope c.met c.last a sh1 text1 ls rs1 after c.then_code h1 good1 s (leads_end a after x scope c.last to c.then_leads go))
 
   -- turns gain no ticks
@@ -688,16 +688,16 @@ module _ (p : Program) (call : Caller) (code : Code) (layout : Layout) (frames :
           timed (simple p call st) N K from a sh text ls old after s
           (simple_follows p call code layout frames cf are scope st from to c a sh text ls old after h good s (λ sh1 text1 ls1 rs1 good1 h1. go.ends Next sh1 text1 ls1 rs1 to good1 (refl, h1)))
       stmt_follows (Block ss) N K x scope from to a sh text ls old after c h good s go =
-          timed (scoped (stmts p call ss)) N K from a sh text ls old after s
+          timed (in_scope (stmts p call ss)) N K from a sh text ls old after s
           (scoped_follows ss (stmts_follow ss) N K x scope from to a sh text ls old after c h good s go)
       stmt_follows (Print at f g es) N K x scope from to a sh text ls old after c h good s go =
           timed (may_print >> print_rest p call code layout frames cf are f es) N K from a sh text ls old after s
           (print_follows p call code layout frames cf are scope f es from to c a sh text ls old after h good s (λ sh1 text1 ls1 rs1 good1 h1. go.ends Next sh1 text1 ls1 rs1 to good1 (refl, h1)))
       stmt_follows (If e st) N K x scope from to a sh text ls old after c h good s go =
-          timed (expr p call e >>= λ v. if is_zero v then pure Next else scoped (stmt p call st)) N K from a sh text ls old after s
+          timed (expr p call e >>= λ v. if is_zero v then pure Next else in_scope (stmt p call st)) N K from a sh text ls old after s
           (if_follows x scope e st (stmt_follows st) from to c a sh text ls old after h good s go)
       stmt_follows (IfElse e st su) N K x scope from to a sh text ls old after c h good s go =
-          timed (expr p call e >>= λ v. if is_zero v then scoped (stmt p call su) else scoped (stmt p call st)) N K from a sh text ls old after s
+          timed (expr p call e >>= λ v. if is_zero v then in_scope (stmt p call su) else in_scope (stmt p call st)) N K from a sh text ls old after s
           (else_follows x scope e st su (stmt_follows st) (stmt_follows su) from to c a sh text ls old after h good s go)
       stmt_follows (While e st) N K x scope from to a sh text ls old after c h good s go =
           timed (loop (while_turn p call e st)) N K from a sh text ls old after s
@@ -708,7 +708,7 @@ module _ (p : Program) (call : Caller) (code : Code) (layout : Layout) (frames :
           (leads p call code layout frames a sh text from c.body_at old c.enters
           (loop_follows (N + K) N K (omega arith) x scope (do_turn p call st e) c.body_at to a sh text ls old after (fall.do_falls st e) (do_follows x scope e st (stmt_follows st) from to c a after s) h good s go))
       stmt_follows (For b e d st) N K x scope from to a sh text ls old after c h good s go =
-          timed (scoped (start_with p call b >> loop (for_turn p call e d st))) N K from a sh text ls old after s
+          timed (in_scope (start_with p call b >> loop (for_turn p call e d st))) N K from a sh text ls old after s
           (whole_for x scope b e d st (stmt_follows st) (fall.for_falls e d st) N K from to c a sh text ls old after h good s go)
       stmt_follows (Break at) N K x scope from to a sh text ls old after c h good s go =
           timed (pure Breaks) N K from a sh text ls old after s (go.ends Breaks sh text ls old from good (c, h))

@@ -12,7 +12,7 @@ use Rattle.syntax.specs.Behaviours.{Memory, Outcome}
 use Rattle.syntax.specs.Actions.{Inside, State, Answer, Gives, Stops, Action, pure, go_on, ◌>>=◌, ◌>>◌, may_print, may_print_at}
 use Rattle.syntax.specs.Meaning.{End, Next, Caller, print_pieces, exprs}
 use Rattle.bytecode.specs.Effects.{Effect}
-use Rattle.bytecode.specs.Code.{Code, Frame, Instr, effect, printed}
+use Rattle.bytecode.specs.Code.{Code, Frame, Instr, effect, print_effect}
 use Rattle.lowered.specs.Expressions.{LocalScope, Layout}
 use Rattle.lowered.specs.Statements.{PiecesCode, PrintCode}
 use Rattle.lowered.proofs.Agreement.{astray, same}
@@ -39,7 +39,7 @@ module _ (p : Program) (call : Caller) (code : Code) (layout : Layout) (frames :
       subst (λ q. Goes p call code layout frames cf are N K a sh text ls q registers (λ s. after (Gives tt s))) c (go text)
   pieces_follow (Literal piece ∷ ps) rs vs from to c a sh text ls registers after words may s go =
       prints_piece code a after (print_pieces ps vs) sh ls text piece (configuration code from registers frames) (configuration code (suc from) registers frames) s (may_of a sh may)
-      (effect_at code from (Instr.PrintText c.0.number) registers frames c.0.prints ∙ ap (printed (configuration code from registers frames)) c.0.known)
+      (effect_at code from (Instr.PrintText c.0.number) registers frames c.0.prints ∙ ap (print_effect (configuration code from registers frames)) c.0.known)
       (pieces_follow ps rs vs (suc from) to c.1 a sh (text ++ piece) ls registers after words may s go)
     where
       may_of : (a : Around) (sh : Shared) → MayPrint a sh → PrintsIn code a sh

@@ -10,7 +10,7 @@ use Rattle.syntax.specs.declared.tree.BinaryOp.{BinaryOp}
 use Rattle.syntax.specs.Tree.{Expr, Variable, Constant, Element, Simple, Evaluate, Assign, Adjust, Program}
 use Rattle.syntax.specs.declared.numbers.Trap.TheVariants.{Index}
 use Rattle.syntax.specs.declared.numbers.Value.{Value}
-use Rattle.syntax.specs.Numbers.{modulus, residue, number_of, word_of, converted, operand_type, binary, is_zero}
+use Rattle.syntax.specs.Numbers.{modulus, residue, number_of, word_of, value_in_type, operand_type, binary, is_zero}
 use Rattle.syntax.specs.Names.{Local, newest, word_at, with_word, global_of, cells, GlobalCells}
 use Rattle.syntax.specs.Behaviours.{Outcome}
 use Rattle.syntax.specs.Actions.{Inside, State, Answer, Gives, Action, pure, go_on, ◌>>=◌, ◌>>◌, trap, or_trap}
@@ -18,7 +18,7 @@ use Rattle.syntax.specs.Meaning.{Spot, InLocal, InCell, fetch, assign, End, Next
 use Rattle.syntax.proofs.Words.{residue_below, word_below}
 use Rattle.syntax.proofs.Memories.{written_memory}
 use Rattle.bytecode.specs.Effects.{Effect}
-use Rattle.bytecode.specs.Code.{Code, Frame, Instr, effect, effect_of, setting, bounds_of, stored}
+use Rattle.bytecode.specs.Code.{Code, Frame, Instr, effect, effect_of, setting, bounds_of, word_for_cell}
 use Rattle.lowered.specs.Expressions.{LocalScope, IsLike, InstructionAt, Layout, Due, widening, constant_in, ConvertedBy}
 use Rattle.lowered.specs.Statements.{Target, LocalAt, CellAt, ElementOf, assigning, home_of, target_type, Spares, Coding, Testing, ValueCode, ResultCode, TestCode, VariableTarget, CheckedAt, UncheckedAt, TargetCode, ReadTarget, FetchCode, StoreCode, StoredCode, ExprStored, AssignCode, ChangeCode, Operating, OneCode, SimpleCode}
 use Rattle.lowered.proofs.Conversions.{residue_same, cell_residue, truth_converted}
@@ -95,21 +95,21 @@ module _ (p : Program) (call : Caller) (code : Code) (layout : Layout) (frames :
   -- what lies in a register on its way to a target: the word of the value in the target's type, or for a cell one of which
   -- that is the residue
   abbrev pub Lies : Target → (w : ℕ) → Value → Type 0
-  Lies (LocalAt l) w v = w ≡ (converted l.1 v).word
-  Lies (CellAt g) w v = residue g.global.of w ≡ (converted g.global.of v).word
-  Lies (ElementOf g ri) w v = residue g.global.of w ≡ (converted g.global.of v).word
+  Lies (LocalAt l) w v = w ≡ (value_in_type l.1 v).word
+  Lies (CellAt g) w v = residue g.global.of w ≡ (value_in_type g.global.of v).word
+  Lies (ElementOf g ri) w v = residue g.global.of w ≡ (value_in_type g.global.of v).word
 
-  stored_is : (cell : ℕ) (t : Scalar) (v : Value) (w : ℕ) → IsBounded code cell t → residue t w ≡ (converted t v).word → (converted t v).word ≡ stored code cell w
+  stored_is : (cell : ℕ) (t : Scalar) (v : Value) (w : ℕ) → IsBounded code cell t → residue t w ≡ (value_in_type t v).word → (value_in_type t v).word ≡ word_for_cell code cell w
   stored_is cell t v w bounded e = sym e ∙ ap (λ n. w % n) (sym bounded)
 
-  stored_below : (cell : ℕ) (t : Scalar) (w : ℕ) → IsBounded code cell t → stored code cell w < slice_index (bounds_of code) cell
+  stored_below : (cell : ℕ) (t : Scalar) (w : ℕ) → IsBounded code cell t → word_for_cell code cell w < slice_index (bounds_of code) cell
   stored_below cell t w bounded = subst (λ n. w % n < n) (sym bounded) (residue_below t w)
 
   -- a cell is written
-  cell_written : {N K : ℕ} (scope : LocalScope) (a : Around) (sh : Shared) (text : List ℕ) (ls : List Local) (after : Answer End → Outcome) (i : Instr) (q ra cell : ℕ) (t : Scalar) (rs : List ℕ) (v : Value) → InstructionAt code q i → effect_of code (configuration code q rs frames) (Some i) ≡ Effect.Write cell (stored code cell (slice_index rs ra)) (configuration code (suc q) rs frames) → IsBounded code cell t → residue t (slice_index rs ra) ≡ (converted t v).word → Holds scope ls layout (length scope) rs → IsGood code a sh → IsSeen a after → GoesNext N K a after scope (suc q) → Goes N K a sh text ls q rs (λ s. after (go_on (assign (InCell cell t) v s) (λ u. pure Next)))
+  cell_written : {N K : ℕ} (scope : LocalScope) (a : Around) (sh : Shared) (text : List ℕ) (ls : List Local) (after : Answer End → Outcome) (i : Instr) (q ra cell : ℕ) (t : Scalar) (rs : List ℕ) (v : Value) → InstructionAt code q i → effect_of code (configuration code q rs frames) (Some i) ≡ Effect.Write cell (word_for_cell code cell (slice_index rs ra)) (configuration code (suc q) rs frames) → IsBounded code cell t → residue t (slice_index rs ra) ≡ (value_in_type t v).word → Holds scope ls layout (length scope) rs → IsGood code a sh → IsSeen a after → GoesNext N K a after scope (suc q) → Goes N K a sh text ls q rs (λ s. after (go_on (assign (InCell cell t) v s) (λ u. pure Next)))
   cell_written scope Bare sh text ls after i q ra cell t rs v at e bounded here h g s go = astray (effect code) 0 (s.astray _)
   cell_written scope (Within k) sh text ls after i q ra cell t rs v at e bounded here h g s go =
-      let w : ℕ = stored code cell (slice_index rs ra) in
+      let w : ℕ = word_for_cell code cell (slice_index rs ra) in
       writes_by code k sh text (configuration code q rs frames) (configuration code (suc q) rs frames) cell w (effect_at code q i rs frames at ∙ e)
       (same (effect code) (λ n. after (Gives Next (state n ls (Inside k.mode (slice_set sh.memory cell w)) text)))
       (λ n. ap (λ x. after (Gives Next (state n ls (Inside k.mode (slice_set sh.memory cell x)) text))) (stored_is cell t v (slice_index rs ra) bounded here))
@@ -137,7 +137,7 @@ module _ (p : Program) (call : Caller) (code : Code) (layout : Layout) (frames :
       same (effect code) (λ n. after (go_on (assign (InCell (c.cell + slice_index rs ri) c.global.of) v (state n ls (context_of a sh) text)) (λ u. pure Next)))
       (λ n. ap (λ x. after (go_on (assign x v (state n ls (context_of a sh) text)) (λ u. pure Next))) is_at.0)
       (cell_written scope a sh text ls after (Instr.WriteAt c.cell (cells c.global) ri ra) q ra (c.cell + slice_index rs ri) c.global.of rs v i
-      (ap (λ b. if b then Effect.Write (c.cell + slice_index rs ri) (stored code (c.cell + slice_index rs ri) (slice_index rs ra)) (configuration code (suc q) rs frames) else Effect.Traps Index) is_at.1)
+      (ap (λ b. if b then Effect.Write (c.cell + slice_index rs ri) (word_for_cell code (c.cell + slice_index rs ri) (slice_index rs ra)) (configuration code (suc q) rs frames) else Effect.Traps Index) is_at.1)
       (is_at.2.1 (slice_index rs ri) is_at.1) here (lowered scope ls layout later old rs room h k) g s go)
 
   -- a value goes to its target, or lies there already
@@ -155,10 +155,10 @@ module _ (p : Program) (call : Caller) (code : Code) (layout : Layout) (frames :
   stored_at (ElementOf g0 ri) at scope later a sh text ls after q to ra old rs v room is_at sp (inr c) k here h g s go = absurd (missing ra c.1)
 
   -- a conversion of a value that goes to a cell
-  widens : {N K : ℕ} (x t : Scalar) (v : Value) (a : Around) (sh : Shared) (text : List ℕ) (does : ℕ → Outcome) (q to : ℕ) (free ra r : ℕ) (old rs : List ℕ) → ConvertedBy code layout (widening x t) None t ra q to free r → Computed p call code layout frames a x ra None free old v sh rs → length rs ≡ registers_in layout → ((new : List ℕ) → residue t (slice_index new r) ≡ (converted t v).word → Keeps layout None free old new → Agrees (effect code) N K (holding a sh text (configuration code to new frames)) does) → Agrees (effect code) N K (holding a sh text (configuration code q rs frames)) does
+  widens : {N K : ℕ} (x t : Scalar) (v : Value) (a : Around) (sh : Shared) (text : List ℕ) (does : ℕ → Outcome) (q to : ℕ) (free ra r : ℕ) (old rs : List ℕ) → ConvertedBy code layout (widening x t) None t ra q to free r → Computed p call code layout frames a x ra None free old v sh rs → length rs ≡ registers_in layout → ((new : List ℕ) → residue t (slice_index new r) ≡ (value_in_type t v).word → Keeps layout None free old new → Agrees (effect code) N K (holding a sh text (configuration code to new frames)) does) → Agrees (effect code) N K (holding a sh text (configuration code q rs frames)) does
   widens Int LongLong v a sh text does q to free ra r old rs c d len go =
       comes p call code layout frames Int LongLong v a sh text does q to None free ra r old rs c d len
-      (λ new here keeps. go new (ap (residue LongLong) here ∙ residue_same LongLong (converted LongLong v).word (word_below LongLong (number_of v))) keeps)
+      (λ new here keeps. go new (ap (residue LongLong) here ∙ residue_same LongLong (value_in_type LongLong v).word (word_below LongLong (number_of v))) keeps)
   widens {N = N} {K = K} x t v a sh text does q to free ra r old rs c d len go =
       let below : v.word < modulus x = subst (λ o. v.word < modulus o) d.typed_so d.word in
       let there : slice_index rs r ≡ v.word = ap (slice_index rs) c.1 ∙ d.here in
@@ -339,7 +339,7 @@ module _ (p : Program) (call : Caller) (code : Code) (layout : Layout) (frames :
   -- likewise in the type that is due
   abbrev pub GoesResult : ℕ → ℕ → (a : Around) → (Answer Value → Outcome) → LocalScope → List Local → (to r : ℕ) → Scalar → Type 0
   GoesResult N K a after scope ls to r u =
-      (v : Value) (sh : Shared) (text : List ℕ) (rs : List ℕ) → slice_index rs r ≡ (converted u v).word → Holds scope ls layout (length scope) rs → IsGood code a sh → Goes N K a sh text ls to rs (λ s. after (Gives v s))
+      (v : Value) (sh : Shared) (text : List ℕ) (rs : List ℕ) → slice_index rs r ≡ (value_in_type u v).word → Holds scope ls layout (length scope) rs → IsGood code a sh → Goes N K a sh text ls to rs (λ s. after (Gives v s))
 
   pub result_follows : {N K : ℕ} (scope : LocalScope) (u : Scalar) (e : Expr) (from to r : ℕ) → ResultCode code layout p scope u e from to r → (a : Around) (sh : Shared) (text : List ℕ) (ls : List Local) (old : List ℕ) (after : Answer Value → Outcome) → Holds scope ls layout (length scope) old → IsGood code a sh → IsSeen a after → GoesResult N K a after scope ls to r u → Goes N K a sh text ls from old (λ s. after (expr p call e s))
   result_follows {N = N} {K = K} scope u e from to r c a sh text ls old after h good s go =

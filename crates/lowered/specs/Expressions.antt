@@ -98,8 +98,8 @@ abbrev pub nameless_ones : List Parameter → List ℕ → List ℕ
 nameless_ones (q ∷ qs) (r ∷ rs) = if is_some q.name then nameless_ones qs rs else r ∷ nameless_ones qs rs
 nameless_ones qs rs = []
 
-abbrev pub arranged : List Parameter → List ℕ → List ℕ
-arranged qs rs = named_ones qs rs ++ nameless_ones qs rs
+abbrev pub argument_order : List Parameter → List ℕ → List ℕ
+argument_order qs rs = named_ones qs rs ++ nameless_ones qs rs
 
 -- how a function uses its registers: those below `writable` are its locals' and its values', and those from there on
 -- hold these words from its beginning to its end
@@ -318,7 +318,7 @@ module _ (code : Code) (layout : Layout) where
     pub body : Stmts
     pub registers_of : List ℕ
     pub gives_args : args (map (λ q. q.of) f.parameters) from mid free registers_of
-    pub calls : GivenBy home (Instr.Call number r (arranged f.parameters registers_of)) (unwrap_or f.result Int)
+    pub calls : GivenBy home (Instr.Call number r (argument_order f.parameters registers_of)) (unwrap_or f.result Int)
         mid to free r t
     pub known : slice_get code.functions number ≡ Some function
     pub named : function.name ≡ x

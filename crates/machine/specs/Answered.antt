@@ -11,7 +11,7 @@ use Rattle.norec_core.specs.declared.step.Answer.{Answer}
 use Rattle.norec_core.specs.declared.step.Answer.TheVariants.{Done, Value, Won, Lost}
 use Rattle.norec_core.specs.Accesses.{IsAnswerTo, stops}
 use Rattle.norec_core.specs.Attempts.{Attempt}
-use Rattle.machine.specs.Threads.{Thread, access, told}
+use Rattle.machine.specs.Threads.{Thread, access, step_with}
 use Rattle.machine.specs.Worlds.{Record, Part, World, answer, step, part_after, new_world}
 use Rattle.machine.specs.Merges.{Entry, IsMerge, run_of, count_takers}
 use Rattle.machine.specs.Explained.{HasLock, stored_of}
@@ -45,22 +45,22 @@ pub data Answered {C : Type 0} (code : C → Effect C) (init : ℕ → C) (m0 : 
 
 -- a local step: it depends on the part alone
 abbrev pub local_step : {C : Type 0} → (C → Effect C) → Part C → Part C
-local_step code p = part_after p.base p (told code p.thread Done)
+local_step code p = part_after p.base p (step_with code p.thread Done)
 
 -- so many local steps of a part, if they are local
-abbrev pub paused : {C : Type 0} → (C → Effect C) → ℕ → Part C → Option (Part C)
-paused code zero p = Some p
-paused code (suc k) p = if is_local (access code p.thread) then paused code k (local_step code p) else None
+abbrev pub after_local_steps : {C : Type 0} → (C → Effect C) → ℕ → Part C → Option (Part C)
+after_local_steps code zero p = Some p
+after_local_steps code (suc k) p = if is_local (access code p.thread) then after_local_steps code k (local_step code p) else None
 
 -- So many steps bring the thread to this one, where its accesses get these answers in order,
 -- all of them, and no step stops.
 pub data StepsHearing {C : Type 0} (code : C → Effect C) (th : Thread C) : ℕ → List Heard → Thread C → Type 0 where
   none : StepsHearing code th zero [] th
   local_more : (n : ℕ) (hs : List Heard) (u : Thread C) → StepsHearing code th n hs u → is_local (access code u) ≡ true →
-      StepsHearing code th (suc n) hs (told code u Done).thread
+      StepsHearing code th (suc n) hs (step_with code u Done).thread
   heard_more : (n : ℕ) (hs : List Heard) (u : Thread C) (a : Answer) → StepsHearing code th n hs u →
       is_local (access code u) ≡ false → stops (access code u) ≡ false
-      → StepsHearing code th (suc n) (hs ++ record { access = access code u; answer = a } ∷ []) (told code u a).thread
+      → StepsHearing code th (suc n) (hs ++ record { access = access code u; answer = a } ∷ []) (step_with code u a).thread
 
 -- in some world that steps which do not stop lead to, the thread with this number has this part and was answered this
 pub record IsPartOf {C : Type 0} (code : C → Effect C) (init : ℕ → C) (m0 : List ℕ) (threads number : ℕ) (p : Part C)

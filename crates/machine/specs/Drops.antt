@@ -4,22 +4,22 @@ use Rattle.std.specs.List.{slice_get}
 use Rattle.syntax.specs.Behaviours.{Memory}
 use Rattle.bytecode.specs.Effects.{Effect}
 use Rattle.norec_core.specs.Attempts.{Attempt, Completed}
-use Rattle.machine.specs.Threads.{access, told}
+use Rattle.machine.specs.Threads.{access, step_with}
 use Rattle.machine.specs.Merges.{Entry, IsMerge}
 use Rattle.machine.specs.Worlds.{Part, World, answer, new_world, step}
 use Rattle.machine.specs.Serializable.{HasChanged, world_after}
 
 -- an attempt is dropped: it is no longer there, and nothing took effect
-abbrev pub gone : {C : Type 0} → Option (Attempt C) → Option (Attempt C) → Option Completed → ℕ
-gone (Some a) None None = 1
-gone _ _ _ = 0
+abbrev pub drop_count : {C : Type 0} → Option (Attempt C) → Option (Attempt C) → Option Completed → ℕ
+drop_count (Some a) None None = 1
+drop_count _ _ _ = 0
 
 -- whether the part's next step drops its attempt
 abbrev pub dropped_in : {C : Type 0} → (C → Effect C) → World C → Option (Part C) → ℕ
 dropped_in code w None = 0
 dropped_in code w (Some p) =
-    let n = told code p.thread (answer w.lock w.words (access code p.thread)) in
-    gone p.thread.attempt n.thread.attempt n.completed
+    let n = step_with code p.thread (answer w.lock w.words (access code p.thread)) in
+    drop_count p.thread.attempt n.thread.attempt n.completed
 
 -- how often a thread is dropped in these steps
 abbrev pub drops : {C : Type 0} → (C → Effect C) → ℕ → List ℕ → World C → ℕ
@@ -45,12 +45,12 @@ DropsAreBounded {C} code init m0 threads ts =
 abbrev pub DropsComeAfterTakings : {C : Type 0} → (C → Effect C) → World C → Type 0
 DropsComeAfterTakings {C} code w = (t : ℕ) (p : Part C) (a : Attempt C) → slice_get w.parts t ≡ Some p →
     p.thread.attempt ≡ Some a →
-    (told code p.thread (answer w.lock w.words (access code p.thread))).thread.attempt ≡ None →
-    (told code p.thread (answer w.lock w.words (access code p.thread))).completed ≡ None → a.snapshot < w.lock
+    (step_with code p.thread (answer w.lock w.words (access code p.thread))).thread.attempt ≡ None →
+    (step_with code p.thread (answer w.lock w.words (access code p.thread))).completed ≡ None → a.snapshot < w.lock
 
 -- where a step drops an attempt, validation has loaded the word of an entry of its read log, and it is another one
 abbrev pub DropsComeOfChanges : {C : Type 0} → (C → Effect C) → World C → Type 0
 DropsComeOfChanges {C} code w = (t : ℕ) (p : Part C) (a : Attempt C) → slice_get w.parts t ≡ Some p →
     p.thread.attempt ≡ Some a →
-    (told code p.thread (answer w.lock w.words (access code p.thread))).thread.attempt ≡ None →
-    (told code p.thread (answer w.lock w.words (access code p.thread))).completed ≡ None → HasChanged a w.words
+    (step_with code p.thread (answer w.lock w.words (access code p.thread))).thread.attempt ≡ None →
+    (step_with code p.thread (answer w.lock w.words (access code p.thread))).completed ≡ None → HasChanged a w.words

@@ -7,7 +7,7 @@ use Rattle.bytecode.specs.Effects.{Effect}
 use Rattle.bytecode.specs.Effects.Effect.{Commit, Cancel, CancelOuter}
 use Rattle.norec_core.specs.Attempts.{Attempt}
 use Rattle.machine.specs.declared.event.Event.TheVariants as event
-use Rattle.machine.specs.Threads.{Thread, Next, access, told}
+use Rattle.machine.specs.Threads.{Thread, Next, access, step_with}
 use Rattle.machine.specs.Worlds.{Part, World, answer}
 
 -- the instruction cancels a transaction, or several: inner ones, or the outermost one without the lock kept
@@ -31,4 +31,4 @@ pub record EventTells {C : Type 0} (x : Effect C) (th : Thread C) (n : Next C) :
 abbrev pub EventsTell : {C : Type 0} → (C → Effect C) → World C → Type 0
 EventsTell {C} code w = (t : ℕ) (p : Part C) → slice_get w.parts t ≡ Some p →
     EventTells (code p.thread.configuration) p.thread
-    (told code p.thread (answer w.lock w.words (access code p.thread)))
+    (step_with code p.thread (answer w.lock w.words (access code p.thread)))

@@ -8,7 +8,7 @@ use Rattle.norec_core.specs.Attempts.{Attempt, Completed}
 use Rattle.machine.specs.Computes.{ComputesOn}
 use Rattle.machine.specs.Merges.{Entry, IsMerge, insert, insert_made, run_of}
 use Rattle.machine.specs.Serializable.{StandsAfter, attempt_of, merge_after, seen_after, world_after}
-use Rattle.machine.specs.Threads.{access, told}
+use Rattle.machine.specs.Threads.{access, step_with}
 use Rattle.machine.specs.Worlds.{Part, Record, World, answer, new_world, record_of, step}
 
 -- an attempt that does not take effect, as a transaction: it leaves what it found, the memory at its last snapshot
@@ -16,26 +16,26 @@ abbrev pub idle_record : {C : Type 0} → Memory → Attempt C → Record
 idle_record base a = record { snapshot = a.snapshot; took_lock = false; found = base; left = base }
 
 -- the record of the attempt that ends in a step, if one does: its transaction takes effect, or it is dropped
-abbrev pub ended : {C : Type 0} → Memory → Option Completed → (before after : Option (Attempt C)) → Option Record
-ended base (Some x) o o' = Some (record_of base x)
-ended base None (Some a) None = Some (idle_record base a)
-ended base None (Some a) (Some b) = None
-ended base None None o' = None
+abbrev pub end_record : {C : Type 0} → Memory → Option Completed → (before after : Option (Attempt C)) → Option Record
+end_record base (Some x) o o' = Some (record_of base x)
+end_record base None (Some a) None = Some (idle_record base a)
+end_record base None (Some a) (Some b) = None
+end_record base None None o' = None
 
 abbrev pub ended_in : {C : Type 0} → (C → Effect C) → World C → Option (Part C) → Option Record
 ended_in code w None = None
 ended_in code w (Some p) =
-    let n = told code p.thread (answer w.lock w.words (access code p.thread)) in
-    ended p.base n.completed p.thread.attempt n.thread.attempt
+    let n = step_with code p.thread (answer w.lock w.words (access code p.thread)) in
+    end_record p.base n.completed p.thread.attempt n.thread.attempt
 
 -- the merge with the dropped attempts too, which keeps equals in the order in which they ended
-abbrev pub attempted : {C : Type 0} → (C → Effect C) → List ℕ → World C → List Entry → List Entry
-attempted code [] w es = es
-attempted code (t ∷ ts) w es =
-    attempted code ts (step code w t) (insert_made t (ended_in code w (slice_get w.parts t)) es)
+abbrev pub attempts_merge : {C : Type 0} → (C → Effect C) → List ℕ → World C → List Entry → List Entry
+attempts_merge code [] w es = es
+attempts_merge code (t ∷ ts) w es =
+    attempts_merge code ts (step code w t) (insert_made t (ended_in code w (slice_get w.parts t)) es)
 
 abbrev pub attempts_after : {C : Type 0} → (C → Effect C) → (ℕ → C) → Memory → ℕ → List ℕ → List Entry
-attempts_after code init m0 threads ts = attempted code ts (new_world init m0 threads) []
+attempts_after code init m0 threads ts = attempts_merge code ts (new_world init m0 threads) []
 
 -- all that had ended when thread t loaded the first snapshot of its attempt
 abbrev pub ended_by : {C : Type 0} → (C → Effect C) → ℕ → List ℕ → World C → List Entry → List Entry → List Entry

@@ -6,7 +6,7 @@ use Rattle.syntax.specs.declared.numbers.Status.{Status}
 use Rattle.syntax.specs.declared.numbers.Status.TheVariants.{Running, Ended as HasEnded, Trapped as HasTrapped}
 use Rattle.nesting.specs.Begins.{Saved}
 use Rattle.bytecode.specs.Code.{Code, Configuration}
-use Rattle.frames.specs.Open.{MayStand, restored}
+use Rattle.frames.specs.Open.{MayStand, begin_configuration}
 use Rattle.norec_core.specs.declared.step.Phase.{Phase}
 use Rattle.norec_core.specs.declared.step.Phase.TheVariants.{ReadsLock, Stores}
 use Rattle.norec_core.specs.Attempts.{Attempt, Checkpoint}
@@ -42,7 +42,7 @@ GivesWordsIf (Some a) = GivesRegisterWords a
 pub record Runs (code : Code) (th : Thread Configuration) : Type 0 where
   pub saved : List Saved
   pub stands : MayStand code th.configuration saved
-  pub begins : begins_of th.attempt ≡ map (restored th.configuration) saved
+  pub begins : begins_of th.attempt ≡ map (begin_configuration th.configuration) saved
   pub words : GivesWordsIf th.attempt
 
 -- one that is over has no attempt

@@ -23,7 +23,7 @@ use Rattle.norec_core.specs.Attempts.{Attempt}
 use Rattle.norec_core.specs.Accesses.{stops}
 use Rattle.norec_core.specs.Cores.{CommitsAtOnce, ComparesWith, IsComparing, IsStoring, IsWaiting}
 use Rattle.machine.specs.Explained.{has_lock}
-use Rattle.machine.specs.Threads.{Next, Thread, op_of, access, told}
+use Rattle.machine.specs.Threads.{Next, Thread, op_of, access, step_with}
 
 -- what was made ready for a step: the operation that the core was asked for, what a begin then saves, and the
 -- room for a read's entry, for a call and for a print
@@ -98,7 +98,7 @@ pub record SwapsNext (code : Code) (s : ThreadState) (from : ℕ) : Type 0 where
 
 -- the thread after both steps of a read
 abbrev pub told_twice : Code → Thread Configuration → (word lock : ℕ) → Next Configuration
-told_twice code th word lock = told (effect code) (told (effect code) th (Value word)).thread (Value lock)
+told_twice code th word lock = step_with (effect code) (step_with (effect code) th (Value word)).thread (Value lock)
 
 -- a loaded cell's word is a word of the cell's type
 abbrev pub IsWordOf : Code → Access → Answer → Type 0

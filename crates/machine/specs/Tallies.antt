@@ -49,23 +49,23 @@ with_cancel t [] = t
 with_cancel t (cells ∷ outer) = record t { written = cells; inner = outer }
 
 -- the tally after an instruction inside the transaction
-abbrev pub tallied : {C : Type 0} → Tally → Effect C → Tally
-tallied t (Pure c) = t
-tallied t (Print piece c) = t
-tallied t (Begin c d) = record t { inner = t.written ∷ t.inner }
-tallied t (Read a k) = with_read t (is_among a t.written) t.kept
-tallied t (Write a v c) = record t { written = with_cell a t.written }
-tallied t (Commit c) = with_commit t t.inner
-tallied t Cancel = with_cancel t t.inner
-tallied t (CancelOuter n) = with_cancel t (drop (n - 1) t.inner)
-tallied t (Irrevocable c) = record t { kept = true }
-tallied t (Traps cause) = t
-tallied t End = t
+abbrev pub tally_step : {C : Type 0} → Tally → Effect C → Tally
+tally_step t (Pure c) = t
+tally_step t (Print piece c) = t
+tally_step t (Begin c d) = record t { inner = t.written ∷ t.inner }
+tally_step t (Read a k) = with_read t (is_among a t.written) t.kept
+tally_step t (Write a v c) = record t { written = with_cell a t.written }
+tally_step t (Commit c) = with_commit t t.inner
+tally_step t Cancel = with_cancel t t.inner
+tally_step t (CancelOuter n) = with_cancel t (drop (n - 1) t.inner)
+tally_step t (Irrevocable c) = record t { kept = true }
+tally_step t (Traps cause) = t
+tally_step t End = t
 
 -- the code's thread after n instructions, and its tally
 abbrev pub tally_after : {C : Type 0} → (C → Effect C) → ℕ → Sequential C → Tally → Sequential C × Tally
 tally_after code zero s t = (s, t)
-tally_after code (suc n) s t = tally_after code n (next code s) (tallied t (code s.configuration))
+tally_after code (suc n) s t = tally_after code n (next code s) (tally_step t (code s.configuration))
 
 -- one access for the begin, two for each read, and where an irrevocable was carried out its
 -- swap and one for each read since

@@ -12,7 +12,7 @@ ghost use Rattle.bytecode.specs.Effects.{Effect, FitsCells};
 ghost use Rattle.local_steps.specs.Local.{after_local};
 ghost use Rattle.bytecode.specs.Sequential.{meaning};
 ghost use Rattle.norec_core.specs.Attempts.{Attempt};
-ghost use Rattle.machine.specs.Threads.{Thread, access, told};
+ghost use Rattle.machine.specs.Threads.{Thread, access, step_with};
 ghost use Rattle.machine.specs.Worlds.{Part, World, Reached, answer, new_world};
 ghost use Rattle.machine.specs.Merges.{Entry};
 ghost use Rattle.machine.specs.Serializable.{world_after, IsOpaque, HasChanged, HoldersGoOn};
@@ -96,8 +96,8 @@ pub fn attempts_stand_in_one_order<C>()
 pub fn aborts<C>()
     ensures changed { (code : C → Effect C) (th : Thread C) (a : Attempt C) (lock : ℕ) (words : List ℕ) →
         th.attempt ≡ Some a →
-        (told code th (answer lock words (access code th))).thread.attempt ≡ None →
-        (told code th (answer lock words (access code th))).completed ≡ None → HasChanged a words }
+        (step_with code th (answer lock words (access code th))).thread.attempt ≡ None →
+        (step_with code th (answer lock words (access code th))).completed ≡ None → HasChanged a words }
     ensures holders { (code : C → Effect C) (init : ℕ → C) (bounds : List ℕ) (m0 : Memory) (threads : ℕ)
         (steps : List ℕ) → FitsCells code bounds → IsMemory bounds m0 →
         HoldersGoOn code (world_after code init m0 threads steps) }

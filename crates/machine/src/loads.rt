@@ -5,7 +5,7 @@ ghost use Rattle.bytecode.specs.Code.{Code as Plain, Configuration, effect};
 ghost use Rattle.machine.specs.Threads.{Thread as PlainThread};
 ghost use Rattle.machine.specs.Answered.{StepsHearing};
 ghost use Rattle.machine.specs.Standing.{IsThreadOf};
-ghost use Rattle.machine.specs.Loads.{Counted, IsLoad, LoadsNext, MayLoad, loaded};
+ghost use Rattle.machine.specs.Loads.{Counted, IsLoad, LoadsNext, MayLoad, after_load};
 
 /// Makes the two accesses of a read at which nothing disturbs a thread.
 pub trait Loads {
@@ -24,8 +24,8 @@ pub trait Loads {
             → IsLoad leads can_step code s from n m self.old at cell → at.accesses + 2 < 2 ^ 64 }
         ensures leads { (code : Plain) → (s : Self) → (from : Counted) → (n : ℕ) → (at : Counted)
             → leads code s from n self.old at → LoadsNext code at.thread cell
-            → IsThreadOf code (loaded code at result.0 result.1).thread
-            → leads code s from (n + 2) self.new (loaded code at result.0 result.1) };
+            → IsThreadOf code (after_load code at result.0 result.1).thread
+            → leads code s from (n + 2) self.new (after_load code at result.0 result.1) };
 
     /// The prover learns here that no step leads nowhere; it does nothing.
     fn stays(&self)

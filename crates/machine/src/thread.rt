@@ -9,9 +9,9 @@ ghost use Rattle.norec_core.specs.Accesses.{IsAnswerTo, cost, stops};
 ghost use Rattle.norec_core.specs.declared.step.Answer.{Answer as Reply};
 ghost use Rattle.norec_core.specs.declared.step.Answer.TheVariants.{Value};
 ghost use Rattle.norec_core.specs.Phases.{entry_access};
-ghost use Rattle.machine.specs.Threads.{access, told as told_spec};
+ghost use Rattle.machine.specs.Threads.{access, step_with as told_spec};
 ghost use Rattle.machine.specs.Standing.{IsThreadOf};
-ghost use Rattle.machine.specs.Loads.{counted};
+ghost use Rattle.machine.specs.Loads.{counted_thread};
 ghost use Rattle.machine.specs.States.{BeginsNext, ComparesEntry, ComparesNext, IsLeft, IsPrepared, IsWordOf, StandsAt};
 ghost use Rattle.machine.specs.States.{StandsStill, StoresNext, SwapsNext, WaitsNext, first_thread, thread_has_lock};
 ghost use Rattle.machine.specs.inner.Kept.{cost_if};
@@ -30,7 +30,7 @@ use syntax::numbers::Status;
 /// One thread of the machine. It keeps no code: each call is given the code of `new`.
 ///
 /// A step is made in two calls, with its one access to the lock or the words between them: `prepare` names the access
-/// and makes all room that the step needs, `told` takes the answer, and neither fails nor takes memory.
+/// and makes all room that the step needs, `step_with` takes the answer, and neither fails nor takes memory.
 #[derive(Drop)]
 pub struct Thread<A: Allocator = Global> {
     held: KeptThread<A>,
@@ -44,10 +44,10 @@ impl<A: Allocator> Model for Thread<A> {
     ghost Value = { ThreadState };
 
     ghost use Rattle.machine.specs.Standing.{begins_of};
-    ghost use Rattle.machine.specs.inner.Kept.{AreWithin, kept, ready, shown};
+    ghost use Rattle.machine.specs.inner.Kept.{AreWithin, kept, ready, machine_thread};
 
     ghost view = { λ t. record {
-      thread = shown (kept t.held);
+      thread = machine_thread (kept t.held);
       prepared = t.prepared;
       accesses = t.accesses;
       ready = ready t.held;
@@ -129,8 +129,8 @@ impl<A: Allocator + Copy> Thread<A> {
         most: u64,
     ) -> (u64, Option<Doing>)
         requires of { IsThreadOf code.now self.old.thread }
-        requires can { L.can_step code.now loads.old (counted self.old) most }
-        ensures leads { L.leads code.now loads.old (counted self.old) result.0 loads.new (counted self.new) }
+        requires can { L.can_step code.now loads.old (counted_thread self.old) most }
+        ensures leads { L.leads code.now loads.old (counted_thread self.old) result.0 loads.new (counted_thread self.new) }
         ensures count { result.0 ≤ most }
         ensures all { IfNone result.1 (result.0 ≡ most) }
         ensures stands { IfSome result.1 (λ doing. (result.0 < most) × StandsAt code.now self.new doing) }

@@ -6,9 +6,9 @@ ghost use Rattle.bytecode.specs.Code.{effect};
 ghost use Rattle.bytecode.specs.Valid.{IsValid};
 ghost use Rattle.norec_core.specs.declared.step.Answer.TheVariants.{Value};
 ghost use Rattle.norec_core.specs.Cores.{ComparesWith, IsComparing, IsWaiting};
-ghost use Rattle.machine.specs.Threads.{told as told_spec};
+ghost use Rattle.machine.specs.Threads.{step_with as told_spec};
 ghost use Rattle.machine.specs.States.{IsValidated, MayValidate, asks};
-ghost use Rattle.machine.specs.inner.Kept.{kept, shown, RunsKept, Makes};
+ghost use Rattle.machine.specs.inner.Kept.{kept, machine_thread, RunsInContext, Makes};
 
 use crate::event::Event;
 use crate::kept::{KeptThread, go_back};
@@ -35,10 +35,10 @@ impl<A: Allocator + Copy> KeptThread<A> {
     pub(crate) fn waited<B: Allocator>(&mut self, code: &Code<B>, lock: u64)
         requires valid { IsValid code.now }
         requires running { self.old.status ≡ Running }
-        requires runs { RunsKept code.now (kept self.old) }
-        requires operation { IsSomeAnd (asks (effect code.now) (shown (kept self.old))) IsValidated }
+        requires runs { RunsInContext code.now (kept self.old) }
+        requires operation { IsSomeAnd (asks (effect code.now) (machine_thread (kept self.old))) IsValidated }
         requires waits { IsSomeAnd self.old.core.attempt (λ a. IsWaiting a) }
-        ensures makes { Makes code.now (told_spec (effect code.now) (shown (kept self.old)) (Value lock))
+        ensures makes { Makes code.now (told_spec (effect code.now) (machine_thread (kept self.old)) (Value lock))
             (kept self.new) Event.Quiet }
         ensures still { self.new.frames.configuration ≡ self.old.frames.configuration }
     {
@@ -59,14 +59,14 @@ impl<A: Allocator + Copy> KeptThread<A> {
     )
         requires valid { IsValid code.now }
         requires running { self.old.status ≡ Running }
-        requires runs { RunsKept code.now (kept self.old) }
-        requires operation { IsSomeAnd (asks (effect code.now) (shown (kept self.old))) IsValidated }
+        requires runs { RunsInContext code.now (kept self.old) }
+        requires operation { IsSomeAnd (asks (effect code.now) (machine_thread (kept self.old))) IsValidated }
         requires entry { IsSomeAnd self.old.core.attempt (λ a. ComparesWith time place (Some entry) a) }
         requires next { place + 1 < 2 ^ 64 }
         requires word { entry.1 < 2 ^ 64 }
-        ensures makes { Makes code.now (told_spec (effect code.now) (shown (kept self.old)) (Value entry.1))
+        ensures makes { Makes code.now (told_spec (effect code.now) (machine_thread (kept self.old)) (Value entry.1))
             (kept self.new) Event.Quiet }
-        ensures operation { IsSomeAnd (asks (effect code.now) (shown (kept self.new))) IsValidated }
+        ensures operation { IsSomeAnd (asks (effect code.now) (machine_thread (kept self.new))) IsValidated }
         ensures next { IsSomeAnd self.new.core.attempt (λ a. IsComparing time (place + 1) a) }
         ensures running { self.new.status ≡ Running }
         ensures still { self.new.frames.configuration ≡ self.old.frames.configuration }
@@ -89,12 +89,12 @@ impl<A: Allocator + Copy> KeptThread<A> {
     )
         requires valid { IsValid code.now }
         requires running { self.old.status ≡ Running }
-        requires runs { RunsKept code.now (kept self.old) }
-        requires operation { IsSomeAnd (asks (effect code.now) (shown (kept self.old))) IsValidated }
+        requires runs { RunsInContext code.now (kept self.old) }
+        requires operation { IsSomeAnd (asks (effect code.now) (machine_thread (kept self.old))) IsValidated }
         requires entry { IsSomeAnd self.old.core.attempt (λ a. ComparesWith time place (Some entry) a) }
         requires differs { word ≢ entry.1 }
         requires word { word < 2 ^ 64 }
-        ensures { Makes code.now (told_spec (effect code.now) (shown (kept self.old)) (Value word))
+        ensures { Makes code.now (told_spec (effect code.now) (machine_thread (kept self.old)) (Value word))
             (kept self.new) Event.Abort }
     {
         // The prover names by it the code.
@@ -115,10 +115,10 @@ impl<A: Allocator + Copy> KeptThread<A> {
     )
         requires valid { IsValid code.now }
         requires running { self.old.status ≡ Running }
-        requires runs { RunsKept code.now (kept self.old) }
-        requires operation { IsSomeAnd (asks (effect code.now) (shown (kept self.old))) IsValidated }
+        requires runs { RunsInContext code.now (kept self.old) }
+        requires operation { IsSomeAnd (asks (effect code.now) (machine_thread (kept self.old))) IsValidated }
         requires entry { IsSomeAnd self.old.core.attempt (λ a. ComparesWith time place None a) }
-        ensures makes { Makes code.now (told_spec (effect code.now) (shown (kept self.old)) (Value lock))
+        ensures makes { Makes code.now (told_spec (effect code.now) (machine_thread (kept self.old)) (Value lock))
             (kept self.new) Event.Quiet }
         ensures still { self.new.frames.configuration ≡ self.old.frames.configuration }
     {

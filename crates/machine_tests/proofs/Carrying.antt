@@ -2,7 +2,7 @@
 use Rattle.std.proofs.Common.{◌≡◌, ℕ, ◌<◌, ◌^◌, List, [], ◌∷◌, Some, Result, Ok, Err, sym, refl, ◌∙◌, subst}
 use Rattle.std.specs.Prelude.{IfOk}
 use Rattle.bytecode.specs.Effects.{Effect}
-use Rattle.bytecode.specs.Code.{Code, Configuration, effect, onward, setting, returned}
+use Rattle.bytecode.specs.Code.{Code, Configuration, effect, onward, setting, return_effect}
 use Rattle.bytecode.specs.Beginning.{beginning}
 use Rattle.bytecode.specs.Valid.{IsValid}
 use Rattle.local_steps.specs.Local.{after_local}
@@ -44,5 +44,5 @@ module _ (code : Code) (v : IsValid code) where
   pub after_commit : (c d : Configuration) → IsConfigurationOf code c → effect code c ≡ Effect.Commit (onward c) → d ≡ onward c → IsConfigurationOf code d
   after_commit c d of x s = let r = (begins_stay_open code v).closes c (onward c) of.0 of.1 x in subst (IsConfigurationOf code) (sym s) (r.1, r.3)
 
-  pub after_return : (c d : Configuration) (w : ℕ) → IsConfigurationOf code c → effect code c ≡ returned c.frames w → returned c.frames w ≡ Effect.Pure d → IsConfigurationOf code d
+  pub after_return : (c d : Configuration) (w : ℕ) → IsConfigurationOf code c → effect code c ≡ return_effect c.frames w → return_effect c.frames w ≡ Effect.Pure d → IsConfigurationOf code d
   after_return c d w of e s = after_pure c d of (e ∙ s)

@@ -5,7 +5,7 @@ use Rattle.syntax.specs.declared.numbers.Halt.{Halt}
 use Rattle.syntax.specs.Behaviours.{Memory, Ended, Stopped}
 use Rattle.syntax.specs.Names.{Local, definition_of}
 use Rattle.syntax.specs.Actions.{Context, Outside, State, Answer, Gives, Stops, Action, go_on, spend, tick, lefts_in, locals, put_locals, pure, or_astray, ◌>>=◌, ◌>>◌}
-use Rattle.syntax.specs.Meaning.{End, Next, calls, entered, invoke, result_of, stmts}
+use Rattle.syntax.specs.Meaning.{End, Next, calls, call_locals, invoke, result_of, stmts}
 use Rattle.syntax.specs.Tree.{Function, Program, Scalar, Stmts, Unsigned}
 use Rattle.syntax.specs.declared.numbers.Value.{Value}
 use Rattle.std.specs.Prelude.{codes}
@@ -25,8 +25,8 @@ use Rattle.meaning.specs.declared.standing.Stop.{Stop}
 use Rattle.meaning.specs.declared.program.Source.{Source}
 use Rattle.meaning.specs.declared.machine.Local.{Local as OwnLocal}
 use Rattle.meaning.specs.inner.Machine.{end_of, items_in, local_in, program_in}
-use Rattle.meaning.specs.Frames.{StateExtension, context_framed, framed}
-use Rattle.meaning.specs.inner.Calls.{Begins, begun}
+use Rattle.meaning.specs.Frames.{StateExtension, context_framed, extended_state}
+use Rattle.meaning.specs.inner.Calls.{Begins, begin_call}
 use Rattle.meaning.specs.inner.Going.{Follow, IsStep, call_left, follows, gone_on}
 use Rattle.meaning.specs.inner.Left.{does_task, follow_of, left_gone_on, resumed}
 use Rattle.meaning.specs.inner.Standing.{IsStop, bare, end_by, frame_of, rest, seen_of, state_at}
@@ -38,7 +38,7 @@ state n ls founds lefts text = record { ticks = n; locals = ls; context = Outsid
 module _ {A : Type 0} (source : Source A) where
   -- what was shown on the way stands round the new point
   reached : (founds : List Memory) (shown more all : Shown A) (at : Point A) → all.lefts.items ≡ shown.lefts.items ++ more.lefts.items → all.text.items ≡ shown.text.items ++ more.text.items →
-      framed (frame_of founds shown) (state_at at more) ≡ framed (frame_of founds all) (bare at)
+      extended_state (frame_of founds shown) (state_at at more) ≡ extended_state (frame_of founds all) (bare at)
   reached founds shown more all at lefts text =
       let many = sym (map-append (λ v. v.items) shown.lefts.items more.lefts.items) ∙ sym (ap memories_in lefts) ∙ sym (append-nil (memories_in all.lefts.items)) in
       let long = sym text ∙ sym (append-nil all.text.items) in
@@ -78,14 +78,14 @@ module _ {A : Type 0} (source : Source A) where
   advanced thread new l ls run next at more last step h put there lefts text founds =
       let f = frame_of founds thread.shown in
       ap (λ r. go_on r (λ _. tick))
-      (ap (λ p. left_gone_on source new.left.items (end_of new.end) (framed (frame_of founds new.shown) (bare p))) there
+      (ap (λ p. left_gone_on source new.left.items (end_of new.end) (extended_state (frame_of founds new.shown) (bare p))) there
       ∙ ap (left_gone_on source new.left.items (end_of new.end)) (sym (reached founds thread.shown more new.shown at lefts text))
-      ∙ put (framed f (state_at at more))
+      ∙ put (extended_state f (state_at at more))
       ∙ sym (went_is (resumed source l) (map (resumed source) ls) (end_of thread.end) run step f (bare thread.at) (state_at at more) (follow_of source next) h)
-      ∙ sym (at_last thread.left.items ls l (end_of thread.end) (framed f (bare thread.at)) last))
+      ∙ sym (at_last thread.left.items ls l (end_of thread.end) (extended_state f (bare thread.at)) last))
 
   shown_by : (why : Halt) (f : StateExtension) (s : State) (founds lefts : List Memory) (text : List ℕ) → s.context ≡ Outside founds lefts → s.text ≡ text →
-      outcome_of (Stops why (framed f s)) ≡ record { lefts = f.lefts ++ lefts; text = f.text ++ text; end = Stopped why }
+      outcome_of (Stops why (extended_state f s)) ≡ record { lefts = f.lefts ++ lefts; text = f.text ++ text; end = Stopped why }
   shown_by why f s founds lefts text there printed = λ i. record { lefts = lefts_in (context_framed f (there i)); text = f.text ++ printed i; end = Stopped why }
 
   -- a thread that stops at a step
@@ -94,12 +94,12 @@ module _ {A : Type 0} (source : Source A) where
       s.context ≡ Outside founds (memories_in more.lefts.items) → s.text ≡ more.text.items → (stop : Stop A) → stop.why ≡ Some why → stop.shown ≡ more → IsStop source thread stop
   stops_at thread l ls run why more s founds last step h there printed stop is what =
       let f = frame_of [] thread.shown in
-      ap (λ r. outcome_of (go_on r (λ _. tick))) (at_last thread.left.items ls l (end_of thread.end) (framed f (bare thread.at)) last ∙ stopped_is (resumed source l) (map (resumed source) ls) (end_of thread.end) run step f (bare thread.at) s why refl h)
+      ap (λ r. outcome_of (go_on r (λ _. tick))) (at_last thread.left.items ls l (end_of thread.end) (extended_state f (bare thread.at)) last ∙ stopped_is (resumed source l) (map (resumed source) ls) (end_of thread.end) run step f (bare thread.at) s why refl h)
       ∙ shown_by why f s founds (memories_in more.lefts.items) more.text.items there printed
       ∙ (λ i. record { lefts = f.lefts ++ memories_in (sym what i).lefts.items; text = f.text ++ (sym what i).text.items; end = end_by (sym is i) })
 
-  pub ends : (at : Point A) (shown : Shown A) (n : ℕ) → at.ticks ≡ suc n → outcome_of (tick (framed (frame_of [] shown) (bare at))) ≡ record { lefts = memories_in shown.lefts.items ++ []; text = shown.text.items ++ []; end = Ended }
-  ends at shown n more = ap (λ n. outcome_of (spend n (framed (frame_of [] shown) (bare at)))) more
+  pub ends : (at : Point A) (shown : Shown A) (n : ℕ) → at.ticks ≡ suc n → outcome_of (tick (extended_state (frame_of [] shown) (bare at))) ≡ record { lefts = memories_in shown.lefts.items ++ []; text = shown.text.items ++ []; end = Ended }
+  ends at shown n more = ap (λ n. outcome_of (spend n (extended_state (frame_of [] shown) (bare at)))) more
 
   -- a thread that finds a memory finds it before what it finds further
   pub finds : (thread new : Thread A) (m : Memory) → new.left ≡ thread.left → new.end ≡ thread.end → new.shown ≡ thread.shown → new.at.ticks ≡ thread.at.ticks → new.at.locals ≡ thread.at.locals →
@@ -130,10 +130,10 @@ by_entered : (o : Option (List Local)) (of : Option Scalar) (body : Stmts) (b : 
 by_entered None of body b s s1 h after s2 = absurd (subst is_given (sym h) tt)
 by_entered (Some mine) of body b s s1 h after s2 = ap (λ x. after x s2) (ap (given_by b) h)
 
-by_found : (o : Option (Function × Stmts)) (vs : List Value) (b : Begins) (s s1 : State) → go_on (or_astray o s) (λ f. or_astray (entered f.0.parameters vs) >>= (λ mine. pure (begun_of f.0.result f.1 mine))) ≡ Gives b s1 →
-    (after : Begins → Action Value) (s2 : State) → go_on (or_astray o s2) (λ f. or_astray (entered f.0.parameters vs) >>= (λ mine. after (begun_of f.0.result f.1 mine))) ≡ after b s2
+by_found : (o : Option (Function × Stmts)) (vs : List Value) (b : Begins) (s s1 : State) → go_on (or_astray o s) (λ f. or_astray (call_locals f.0.parameters vs) >>= (λ mine. pure (begun_of f.0.result f.1 mine))) ≡ Gives b s1 →
+    (after : Begins → Action Value) (s2 : State) → go_on (or_astray o s2) (λ f. or_astray (call_locals f.0.parameters vs) >>= (λ mine. after (begun_of f.0.result f.1 mine))) ≡ after b s2
 by_found None vs b s s1 h after s2 = absurd (subst is_given (sym h) tt)
-by_found (Some f) vs b s s1 h after s2 = by_entered (entered f.0.parameters vs) f.0.result f.1 b s s1 h after s2
+by_found (Some f) vs b s s1 h after s2 = by_entered (call_locals f.0.parameters vs) f.0.result f.1 b s s1 h after s2
 
 abbrev invoked : Program → ℕ → Begins → Action Value
 invoked p k b = do
@@ -143,7 +143,7 @@ invoked p k b = do
   put_locals outer
   result_of b.of end
 
-invoke_is : (p : Program) (k : ℕ) (x : List ℕ) (vs : List Value) (b : Begins) (s s1 : State) → begun p x vs s ≡ Gives b s1 → (s2 : State) → invoke p (calls p k) x vs s2 ≡ invoked p k b s2
+invoke_is : (p : Program) (k : ℕ) (x : List ℕ) (vs : List Value) (b : Begins) (s s1 : State) → begin_call p x vs s ≡ Gives b s1 → (s2 : State) → invoke p (calls p k) x vs s2 ≡ invoked p k b s2
 invoke_is p k x vs b s s1 h s2 = by_found (definition_of p x) vs b s s1 h (invoked p k) s2
 
 -- a value that counts no more
@@ -164,14 +164,14 @@ module _ {A : Type 0} (source : Source A) where
       ∙ ap (λ ls. go_on (does_task source t now) (call_left of ls)) (ap (map local_in) outside)
 
   -- a thread before its first tick
-  pub begins_so : (thread : Thread A) (ticks t : ℕ) (b : Begins) (s s1 : State) → begun (program_in source) (codes "worker") (record { of = Unsigned; word = t } ∷ []) s ≡ Gives b s1 →
+  pub begins_so : (thread : Thread A) (ticks t : ℕ) (b : Begins) (s s1 : State) → begin_call (program_in source) (codes "worker") (record { of = Unsigned; word = t } ∷ []) s ≡ Gives b s1 →
       ((now : State) → left_gone_on source thread.left.items (end_of thread.end) now ≡ go_on (stmts (program_in source) (calls (program_in source) 63) b.body now) (call_left b.of [])) →
       thread.at.ticks ≡ ticks → items_in thread.at.locals ≡ b.mine → memories_in thread.at.due.items ≡ [] → memories_in thread.shown.lefts.items ≡ [] → thread.shown.text.items ≡ [] →
       (founds : List Memory) → rest source thread founds ≡ worker_run (program_in source) t (first_state founds ticks)
   begins_so thread ticks t b s s1 h left same mine due lefts text founds =
       let p = program_in source in
-      let there : framed (frame_of founds thread.shown) (bare thread.at) ≡ state ticks b.mine founds [] [] =
-      λ i. framed (record { founds = founds; lefts = lefts i; text = text i }) (state (same i) (mine i) (due i) [] []) in
+      let there : extended_state (frame_of founds thread.shown) (bare thread.at) ≡ state ticks b.mine founds [] [] =
+      λ i. extended_state (record { founds = founds; lefts = lefts i; text = text i }) (state (same i) (mine i) (due i) [] []) in
       ap (λ r. go_on r (λ _. tick)) (ap (left_gone_on source thread.left.items (end_of thread.end)) there ∙ left (state ticks b.mine founds [] []))
       ∙ ends_call b.of (stmts p (calls p 63) b.body (state ticks b.mine founds [] []))
       ∙ ap (λ r. go_on r (λ _. tick)) (sym (invoke_is p 63 (codes "worker") (record { of = Unsigned; word = t } ∷ []) b s s1 h (first_state founds ticks)))

@@ -2,7 +2,7 @@
 use Rattle.std.proofs.Common.{◌≡◌, ℕ, ◌+◌, ◌*◌, ◌≤◌, suc, max, List, [], ◌∷◌, Option, Some, None, Bool, true, false, ap, arith}
 use Rattle.std.specs.Prelude.{bytes_eq, if◌then◌else◌}
 use Rattle.syntax.specs.Tree.{Program, Function, Stmts, Defines, Shares}
-use Rattle.syntax.specs.Names.{definition_of, defined}
+use Rattle.syntax.specs.Names.{definition_of, definition_or}
 use Rattle.syntax.specs.Depth.{block_depth, body_depth, program_depth}
 use Rattle.meaning.specs.inner.Does.{weight}
 
@@ -12,7 +12,7 @@ tested true g body rest f n k e = let same : (g, body) ≡ f = cc in let h = ap 
 tested false g body rest f n k e = let h = k e in omega (arith, h)
 
 defined_deep : (g : Function) (x : List ℕ) (b : Option Stmts) (rest : Option (Function × Stmts)) (f : Function × Stmts) (n : ℕ) →
-    (rest ≡ Some f → block_depth f.1 ≤ n) → defined g x b rest ≡ Some f → block_depth f.1 ≤ max (body_depth b) n
+    (rest ≡ Some f → block_depth f.1 ≤ n) → definition_or g x b rest ≡ Some f → block_depth f.1 ≤ max (body_depth b) n
 defined_deep g x None rest f n k e = let h = k e in omega (arith, h)
 defined_deep g x (Some body) rest f n k e = tested (bytes_eq g.name.text x) g body rest f n k e
 

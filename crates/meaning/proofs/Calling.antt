@@ -9,7 +9,7 @@ use Rattle.syntax.specs.declared.numbers.Trap.TheVariants.{Frames}
 use Rattle.syntax.specs.Names.{Local}
 use Rattle.syntax.specs.Actions.{State, Answer, Gives, Stops, Action, pure, stop, go_on, tick, put_locals, ◌>>=◌, ◌>>◌}
 use Rattle.syntax.specs.Meaning.{End, Next, calls, exprs, result_of, stmts}
-use Rattle.meaning.specs.inner.Calls.{Begins, begun}
+use Rattle.meaning.specs.inner.Calls.{Begins, begin_call}
 use Rattle.meaning.specs.inner.Going.{Follow, Nests, call_alone, call_begun, call_left, call_of, follows, frame_at, frame_begun}
 use Rattle.meaning.proofs.Going.{on_both}
 use Rattle.meaning.proofs.Sequences.{after, halts, twice}
@@ -32,7 +32,7 @@ module _ (p : Program) where
   frame_is zero x vs s = on_pair (tick s) (λ _. stop (Trapped Frames)) no_value (λ _. stop (Trapped Frames)) follows (λ u now. refl)
   frame_is (suc k) x vs s =
       ap (λ r. go_on r no_value) (invoke_begun p (calls p k) x vs s)
-      ∙ on_pair (begun p x vs s) (call_rest p (calls p k)) no_value (frame_at p k) follows
+      ∙ on_pair (begin_call p x vs s) (call_rest p (calls p k)) no_value (frame_at p k) follows
       (λ b now. leaves_call b.of now.locals (stmts p (calls p k) b.body (record now { locals = b.mine })))
 
   pub call_is : (k : ℕ) (x : List ℕ) (es : Exprs) (s : State) → call_alone p (calls p k) x es s ≡ go_on (call_begun p k x es s) follows
@@ -42,10 +42,10 @@ module _ (p : Program) where
       (λ vs then_. on_pair (tick then_) (λ _. calls p k x vs) no_value (λ _. frame_begun p k x vs) follows (λ v last. frame_is k x vs last)))
 
   -- a function that is entered
-  pub enters : (n k : ℕ) (x : List ℕ) (vs : List Value) (s0 s1 : State) (b : Begins) (mine outer : List Local) → n ≡ suc k → begun p x vs s0 ≡ Gives b s1 → mine ≡ b.mine → outer ≡ s1.locals →
+  pub enters : (n k : ℕ) (x : List ℕ) (vs : List Value) (s0 s1 : State) (b : Begins) (mine outer : List Local) → n ≡ suc k → begin_call p x vs s0 ≡ Gives b s1 → mine ≡ b.mine → outer ≡ s1.locals →
       frame_begun p n x vs s0 ≡ Gives (Nests (call_left b.of outer) (stmts p (calls p k) b.body)) (record s1 { locals = mine })
   enters n k x vs s0 s1 b mine outer more h bound kept =
-      ap (λ i. frame_begun p i x vs s0) more ∙ after (begun p x vs s0) (frame_at p k) b s1 h
+      ap (λ i. frame_begun p i x vs s0) more ∙ after (begin_call p x vs s0) (frame_at p k) b s1 h
       ∙ (λ i. Gives (Nests (call_left b.of (sym kept i)) (stmts p (calls p k) b.body)) (record s1 { locals = sym bound i }))
 
 -- the first step of a call, up to its function

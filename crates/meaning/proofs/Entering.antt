@@ -7,8 +7,8 @@ use Rattle.syntax.specs.Views.{parameter_of, name_of}
 use Rattle.syntax.specs.Tree.{Parameter}
 use Rattle.syntax.specs.Names.{Local}
 use Rattle.syntax.specs.declared.numbers.Value.{Value}
-use Rattle.syntax.specs.Numbers.{converted}
-use Rattle.syntax.specs.Meaning.{bound, entered}
+use Rattle.syntax.specs.Numbers.{value_in_type}
+use Rattle.syntax.specs.Meaning.{parameter_local, call_locals}
 use Rattle.meaning.specs.declared.machine.Local as L
 use Rattle.meaning.specs.inner.Machine.{local_in}
 
@@ -16,37 +16,37 @@ pushed_local : (ls ks : List L.Local) (l : L.Local) → ks ≡ ls ++ l ∷ [] �
 pushed_local ls ks l e = ap (map local_in) e ∙ map-append local_in ls (l ∷ [])
 
 -- as many arguments as parameters
-pub unfit : (qs : List Parameter) (vs : List Value) → (length qs ≡ length vs → ⊥) → entered qs vs ≡ None
+pub unfit : (qs : List Parameter) (vs : List Value) → (length qs ≡ length vs → ⊥) → call_locals qs vs ≡ None
 unfit [] [] h = absurd (h refl)
 unfit [] (v ∷ vs) h = refl
 unfit (q ∷ qs) [] h = refl
-unfit (q ∷ qs) (v ∷ vs) h = ap (option_map (λ ls. bound q v ++ ls)) (unfit qs vs (λ e. h (ap suc e)))
+unfit (q ∷ qs) (v ∷ vs) h = ap (option_map (λ ls. parameter_local q v ++ ls)) (unfit qs vs (λ e. h (ap suc e)))
 
 joined : (xs ys : List Local) (o : Option (List Local)) → option_map (λ ls. xs ++ ls) (option_map (λ ls. ys ++ ls) o) ≡ option_map (λ ls. (xs ++ ys) ++ ls) o
 joined xs ys None = refl
 joined xs ys (Some ls) = ap Some (sym (append_assoc xs ys ls))
 
 module _ {A : Type 0} (ps : List (OwnParameter A)) (vs : List Value) (i : ℕ) (q : OwnParameter A) (d : Value) (mine : List L.Local) (whole : Option (List Local)) (h : i < length ps) (k : i < length vs) (is : q ≡ get_or ps i q)
-    (so_far : option_map (λ ls. map local_in mine ++ ls) (entered (map parameter_of (drop i ps)) (drop i vs)) ≡ whole) where
-  entered_more : (ms : List Local) → ms ≡ map local_in mine ++ bound (parameter_of q) (get_or vs i d) → option_map (λ ls. ms ++ ls) (entered (map parameter_of (drop (i + 1) ps)) (drop (i + 1) vs)) ≡ whole
+    (so_far : option_map (λ ls. map local_in mine ++ ls) (call_locals (map parameter_of (drop i ps)) (drop i vs)) ≡ whole) where
+  entered_more : (ms : List Local) → ms ≡ map local_in mine ++ parameter_local (parameter_of q) (get_or vs i d) → option_map (λ ls. ms ++ ls) (call_locals (map parameter_of (drop (i + 1) ps)) (drop (i + 1) vs)) ≡ whole
   entered_more ms e =
-      ap (λ xs. option_map (λ ls. xs ++ ls) (entered (map parameter_of (drop (i + 1) ps)) (drop (i + 1) vs))) e
-      ∙ sym (joined (map local_in mine) (bound (parameter_of q) (get_or vs i d)) (entered (map parameter_of (drop (i + 1) ps)) (drop (i + 1) vs)))
-      ∙ ap (λ x. option_map (λ ls. map local_in mine ++ ls) (entered (parameter_of x ∷ map parameter_of (drop (i + 1) ps)) (get_or vs i d ∷ drop (i + 1) vs))) is
-      ∙ sym (ap (λ xs. option_map (λ ls. map local_in mine ++ ls) (entered (map parameter_of xs) (get_or vs i d ∷ drop (i + 1) vs))) (drop_more ps i q h))
-      ∙ sym (ap (λ us. option_map (λ ls. map local_in mine ++ ls) (entered (map parameter_of (drop i ps)) us)) (drop_more vs i d k)) ∙ so_far
+      ap (λ xs. option_map (λ ls. xs ++ ls) (call_locals (map parameter_of (drop (i + 1) ps)) (drop (i + 1) vs))) e
+      ∙ sym (joined (map local_in mine) (parameter_local (parameter_of q) (get_or vs i d)) (call_locals (map parameter_of (drop (i + 1) ps)) (drop (i + 1) vs)))
+      ∙ ap (λ x. option_map (λ ls. map local_in mine ++ ls) (call_locals (parameter_of x ∷ map parameter_of (drop (i + 1) ps)) (get_or vs i d ∷ drop (i + 1) vs))) is
+      ∙ sym (ap (λ xs. option_map (λ ls. map local_in mine ++ ls) (call_locals (map parameter_of xs) (get_or vs i d ∷ drop (i + 1) vs))) (drop_more ps i q h))
+      ∙ sym (ap (λ us. option_map (λ ls. map local_in mine ++ ls) (call_locals (map parameter_of (drop i ps)) us)) (drop_more vs i d k)) ∙ so_far
 
-  pub unnamed : q.name ≡ None → option_map (λ ls. map local_in mine ++ ls) (entered (map parameter_of (drop (i + 1) ps)) (drop (i + 1) vs)) ≡ whole
+  pub unnamed : q.name ≡ None → option_map (λ ls. map local_in mine ++ ls) (call_locals (map parameter_of (drop (i + 1) ps)) (drop (i + 1) vs)) ≡ whole
   unnamed none =
       entered_more (map local_in mine)
-      (sym (append-nil (map local_in mine)) ∙ sym (ap (λ o. map local_in mine ++ unwrap_or (option_map (λ x. record { name = x.text; of = q.of; word = (converted q.of (get_or vs i d)).word } ∷ []) (option_map name_of o)) []) none))
+      (sym (append-nil (map local_in mine)) ∙ sym (ap (λ o. map local_in mine ++ unwrap_or (option_map (λ x. record { name = x.text; of = q.of; word = (value_in_type q.of (get_or vs i d)).word } ∷ []) (option_map name_of o)) []) none))
 
-  pub named : (x : OwnName A) (l : L.Local) (now : List L.Local) → q.name ≡ Some x → now ≡ mine ++ l ∷ [] → l.name.now ≡ x.text → l.of ≡ q.of → l.word ≡ (converted q.of (get_or vs i d)).word →
-      option_map (λ ls. map local_in now ++ ls) (entered (map parameter_of (drop (i + 1) ps)) (drop (i + 1) vs)) ≡ whole
+  pub named : (x : OwnName A) (l : L.Local) (now : List L.Local) → q.name ≡ Some x → now ≡ mine ++ l ∷ [] → l.name.now ≡ x.text → l.of ≡ q.of → l.word ≡ (value_in_type q.of (get_or vs i d)).word →
+      option_map (λ ls. map local_in now ++ ls) (call_locals (map parameter_of (drop (i + 1) ps)) (drop (i + 1) vs)) ≡ whole
   named x l now some grown one two three =
       entered_more (map local_in now)
       (pushed_local mine now l grown
       ∙ ap (λ t. map local_in mine ++ record { name = t; of = l.of; word = l.word } ∷ []) one
       ∙ ap (λ t. map local_in mine ++ record { name = x.text; of = t; word = l.word } ∷ []) two
       ∙ ap (λ t. map local_in mine ++ record { name = x.text; of = q.of; word = t } ∷ []) three
-      ∙ sym (ap (λ o. map local_in mine ++ unwrap_or (option_map (λ y. record { name = y.text; of = q.of; word = (converted q.of (get_or vs i d)).word } ∷ []) (option_map name_of o)) []) some))
+      ∙ sym (ap (λ o. map local_in mine ++ unwrap_or (option_map (λ y. record { name = y.text; of = q.of; word = (value_in_type q.of (get_or vs i d)).word } ∷ []) (option_map name_of o)) []) some))

@@ -7,10 +7,10 @@ use Rattle.syntax.specs.declared.numbers.Trap.TheVariants.{Frames}
 use Rattle.syntax.specs.Tree.{Program, Stmt, Expr, Exprs, Simple, Start, Declarator}
 use Rattle.syntax.specs.Names.{Local, definition_of}
 use Rattle.syntax.specs.Actions.{Action, pure, locals, put_locals, tick, or_astray, ◌>>=◌, ◌>>◌}
-use Rattle.syntax.specs.Meaning.{End, Next, Breaks, Continues, Returns, Cancels, CancelsOuter, InLocal, entered, expr, exprs, stmt, after_body, holds, stepped, simple, first_value, declare, start_with, result_of, calls}
+use Rattle.syntax.specs.Meaning.{End, Next, Breaks, Continues, Returns, Cancels, CancelsOuter, InLocal, call_locals, expr, exprs, stmt, after_body, holds, stepped, simple, first_value, declare, start_with, result_of, calls}
 use Rattle.syntax.proofs.Kept.{each_expr_holds, each_simple_holds, each_stmt_holds}
-use Rattle.meaning.specs.inner.Going.{Follow, Ends, ticks_left, cut, call_left, when_next, scope_begun, loop_begun, test_of, behind_of, turns_begun, either_begun, for_begun, frame_begun, call_begun}
-use Rattle.meaning.specs.inner.Calls.{begun}
+use Rattle.meaning.specs.inner.Going.{Follow, Ends, ticks_left, drop_names, call_left, when_next, scope_begun, loop_begun, test_of, behind_of, turns_begun, either_begun, for_begun, frame_begun, call_begun}
+use Rattle.meaning.specs.inner.Calls.{begin_call}
 use Rattle.meaning.specs.Frames.{IsFramed}
 use Rattle.meaning.proofs.Framed.{on_framed, framed_kept}
 
@@ -56,7 +56,7 @@ result_framed of Continues = framed_kept.astray_holds
 result_framed of Cancels = framed_kept.astray_holds
 result_framed of CancelsOuter = framed_kept.astray_holds
 
-pub cut_framed : (n : ℕ) (end : End) → IsFramed (cut n end)
+pub cut_framed : (n : ℕ) (end : End) → IsFramed (drop_names n end)
 cut_framed n end = on_framed locals_framed (λ all. then_framed (put_framed _) (pure_framed end))
 
 pub call_left_framed : (of : Option Scalar) (ls : List Local) (end : End) → IsFramed (call_left of ls end)
@@ -130,8 +130,8 @@ module _ (p : Program) (k : ℕ) where
 
 -- a call
 module _ (p : Program) where
-  enters_framed : (x : List ℕ) (vs : List Value) → IsFramed (begun p x vs)
-  enters_framed x vs = on_framed (or_astray_framed (definition_of p x)) (λ f. on_framed (or_astray_framed (entered f.0.parameters vs)) (λ mine. pure_framed _))
+  enters_framed : (x : List ℕ) (vs : List Value) → IsFramed (begin_call p x vs)
+  enters_framed x vs = on_framed (or_astray_framed (definition_of p x)) (λ f. on_framed (or_astray_framed (call_locals f.0.parameters vs)) (λ mine. pure_framed _))
 
   frame_framed : (k : ℕ) (x : List ℕ) (vs : List Value) → IsFramed (frame_begun p k x vs)
   frame_framed zero x vs = framed_kept.trap_holds Frames

@@ -6,9 +6,9 @@ use Rattle.syntax.specs.Tree.{Program, Stmt, Stmts, Expr, Start}
 use Rattle.syntax.specs.Numbers.{is_zero}
 use Rattle.syntax.specs.declared.numbers.Value.{Value}
 use Rattle.syntax.specs.Actions.{State, Answer, Gives, Stops, Action, pure, go_on, tick, ◌>>=◌, ◌>>◌}
-use Rattle.syntax.specs.Meaning.{Caller, End, Next, expr, stmt, stmts, scoped, after_body, after_turn, turns, loop, holds, stepped, start_with}
-use Rattle.meaning.specs.inner.Does.{if_of, tested}
-use Rattle.meaning.specs.inner.Going.{Ends, Goes, Nests, follows, cut, apart_begun, otherwise, either_begun, for_begun, turn_of, turn_begun, turns_begun, body_left, turned}
+use Rattle.syntax.specs.Meaning.{Caller, End, Next, expr, stmt, stmts, in_scope, after_body, after_turn, turns, loop, holds, stepped, start_with}
+use Rattle.meaning.specs.inner.Does.{if_of, loop_condition}
+use Rattle.meaning.specs.inner.Going.{Ends, Goes, Nests, follows, drop_names, apart_begun, otherwise, either_begun, for_begun, turn_of, turn_begun, turns_begun, body_left, follow_turn}
 use Rattle.meaning.proofs.Sequences.{twice}
 
 -- runs that do the same behind an answer
@@ -28,7 +28,7 @@ pub same_end : (r : Answer End) → r ≡ go_on (go_on r (λ end. pure (Ends end
 same_end (Gives end s) = refl
 same_end (Stops why s) = refl
 
-pub turned_is : (rest : Action End) (o : Option End) (s : State) → after_turn rest o s ≡ follows (turned rest o) s
+pub turned_is : (rest : Action End) (o : Option End) (s : State) → after_turn rest o s ≡ follows (follow_turn rest o) s
 turned_is rest None s = refl
 turned_is rest (Some end) s = refl
 
@@ -58,37 +58,37 @@ module _ (p : Program) (call : Caller) where
   apart_is (Stmts.◌∷◌ st ss) s = refl
 
   one_is : (a : Stmt) (b : Option Stmt) (other : Action End) (z : Bool) (s : State) → other s ≡ follows (otherwise p call b) s →
-      (if z then other else scoped (stmt p call a)) s ≡ follows (if z then otherwise p call b else Goes (scoped (stmt p call a))) s
+      (if z then other else in_scope (stmt p call a)) s ≡ follows (if z then otherwise p call b else Goes (in_scope (stmt p call a))) s
   one_is a b other true s h = h
   one_is a b other false s h = refl
 
   pub either_is : (c : Expr) (a : Stmt) (b : Option Stmt) (s : State) → stmt p call (if_of c a b) s ≡ go_on (go_on (tick s) (λ _. either_begun p call c a b)) follows
   either_is c a None s =
-      on_both (tick s) (λ _. expr p call c >>= (λ v. if is_zero v then pure Next else scoped (stmt p call a))) (λ _. either_begun p call c a None) follows
-      (λ u now. on_both (expr p call c now) (λ v. if is_zero v then pure Next else scoped (stmt p call a)) (λ v. pure (if is_zero v then otherwise p call None else Goes (scoped (stmt p call a)))) follows
+      on_both (tick s) (λ _. expr p call c >>= (λ v. if is_zero v then pure Next else in_scope (stmt p call a))) (λ _. either_begun p call c a None) follows
+      (λ u now. on_both (expr p call c now) (λ v. if is_zero v then pure Next else in_scope (stmt p call a)) (λ v. pure (if is_zero v then otherwise p call None else Goes (in_scope (stmt p call a)))) follows
       (λ v then_. one_is a None (pure Next) (is_zero v) then_ refl))
   either_is c a (Some b) s =
-      on_both (tick s) (λ _. expr p call c >>= (λ v. if is_zero v then scoped (stmt p call b) else scoped (stmt p call a))) (λ _. either_begun p call c a (Some b)) follows
-      (λ u now. on_both (expr p call c now) (λ v. if is_zero v then scoped (stmt p call b) else scoped (stmt p call a)) (λ v. pure (if is_zero v then otherwise p call (Some b) else Goes (scoped (stmt p call a)))) follows
-      (λ v then_. one_is a (Some b) (scoped (stmt p call b)) (is_zero v) then_ refl))
+      on_both (tick s) (λ _. expr p call c >>= (λ v. if is_zero v then in_scope (stmt p call b) else in_scope (stmt p call a))) (λ _. either_begun p call c a (Some b)) follows
+      (λ u now. on_both (expr p call c now) (λ v. if is_zero v then in_scope (stmt p call b) else in_scope (stmt p call a)) (λ v. pure (if is_zero v then otherwise p call (Some b) else Goes (in_scope (stmt p call a)))) follows
+      (λ v then_. one_is a (Some b) (in_scope (stmt p call b)) (is_zero v) then_ refl))
 
   for_opened : (n : ℕ) (turn : Action (Option End)) (r : Answer End) →
-      go_on (go_on r (λ _. loop turn)) (cut n) ≡ go_on (go_on r (λ _ now. Gives (Nests (cut n) (turns now.ticks turn)) now)) follows
+      go_on (go_on r (λ _. loop turn)) (drop_names n) ≡ go_on (go_on r (λ _ now. Gives (Nests (drop_names n) (turns now.ticks turn)) now)) follows
   for_opened n turn (Gives e s) = refl
   for_opened n turn (Stops why s) = refl
 
   pub for_is : (start : Start) (turn : Action (Option End)) (s : State) →
-      go_on (tick s) (λ _. scoped (start_with p call start >> loop turn)) ≡ go_on (go_on (tick s) (λ _. for_begun p call start turn)) follows
+      go_on (tick s) (λ _. in_scope (start_with p call start >> loop turn)) ≡ go_on (go_on (tick s) (λ _. for_begun p call start turn)) follows
   for_is start turn s =
-      on_both (tick s) (λ _. scoped (start_with p call start >> loop turn)) (λ _. for_begun p call start turn) follows
+      on_both (tick s) (λ _. in_scope (start_with p call start >> loop turn)) (λ _. for_begun p call start turn) follows
       (λ u now. for_opened (length now.locals) turn (start_with p call start now))
 
   turn_is : (st : Stmt) (n : ℕ) (s : State) → go_on (turn_of p call st s) (after_turn (turns n (turn_of p call st))) ≡ go_on (turn_begun p call st n s) follows
   turn_is (tree.While c a) n s =
       let rest = turns n (turn_of p call (tree.While c a)) in
-      ap (λ r. go_on r (after_turn rest)) (while_is (scoped (stmt p call a)) (expr p call c s)) ∙ tested_turn (scoped (stmt p call a)) (pure None) rest (holds p call (Some c) s)
-  turn_is (tree.DoWhile a c) n s = tested_turn (scoped (stmt p call a)) (tested p call c) (turns n (turn_of p call (tree.DoWhile a c))) (Gives true s)
-  turn_is (tree.For start c step a) n s = tested_turn (scoped (stmt p call a)) (stepped p call step) (turns n (turn_of p call (tree.For start c step a))) (holds p call c s)
+      ap (λ r. go_on r (after_turn rest)) (while_is (in_scope (stmt p call a)) (expr p call c s)) ∙ tested_turn (in_scope (stmt p call a)) (pure None) rest (holds p call (Some c) s)
+  turn_is (tree.DoWhile a c) n s = tested_turn (in_scope (stmt p call a)) (loop_condition p call c) (turns n (turn_of p call (tree.DoWhile a c))) (Gives true s)
+  turn_is (tree.For start c step a) n s = tested_turn (in_scope (stmt p call a)) (stepped p call step) (turns n (turn_of p call (tree.For start c step a))) (holds p call c s)
   turn_is st n s = refl
 
   pub turns_is : (st : Stmt) (n : ℕ) (s : State) → turns n (turn_of p call st) s ≡ go_on (turns_begun p call st n s) follows

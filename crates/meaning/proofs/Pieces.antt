@@ -5,7 +5,7 @@ use Rattle.syntax.specs.declared.tree.Stmt.{Stmt as OwnStmt}
 use Rattle.syntax.specs.Tree.{Exprs, Program, Stmt}
 use Rattle.syntax.specs.Views.{expr_of, start_of, stmt_of, stmts_of}
 use Rattle.syntax.specs.Actions.{State, pure, go_on, tick}
-use Rattle.syntax.specs.Meaning.{Caller, End, Next, stmt, stmts, scoped, on_next, after_body, after_turn, loop}
+use Rattle.syntax.specs.Meaning.{Caller, End, Next, stmt, stmts, in_scope, on_next, after_body, after_turn, loop}
 use Rattle.meaning.specs.declared.left.Way.{Way}
 use Rattle.meaning.specs.declared.left.Way.TheVariants as way
 use Rattle.meaning.specs.declared.left.Task.{Task}
@@ -20,7 +20,7 @@ use Rattle.meaning.specs.declared.program.Source.{Source}
 use Rattle.meaning.specs.inner.Machine.{program_in, items_in}
 use Rattle.meaning.specs.inner.Does.{called, does_stmts}
 use Rattle.meaning.specs.Frames.{IsFramed}
-use Rattle.meaning.specs.inner.Going.{Ends, Nests, apart_begun, follows, cut, call_alone, call_begun, call_left, scope_begun, loop_begun, turn_of, behind_of, turned, IsStep}
+use Rattle.meaning.specs.inner.Going.{Ends, Nests, apart_begun, follows, drop_names, call_alone, call_begun, call_left, scope_begun, loop_begun, turn_of, behind_of, follow_turn, IsStep}
 use Rattle.meaning.specs.inner.Left.{begun, begun_by, does_by, does_task, loop_in, opened, parted, resumed, stmt_in, step_of, turns_in}
 use Rattle.meaning.proofs.Calling.{call_is}
 use Rattle.meaning.proofs.Framed.{on_framed}
@@ -52,7 +52,7 @@ module _ {A : Type 0} (source : Source A) where
 
   step_framed : (l : Left A) (e : End) → IsFramed (step_of source l e)
   step_framed (left.Next t) e = when_next_framed (begun_framed t) e
-  step_framed (left.Body frames s n) e = on_framed (after_body_framed (behind_framed (program_in source) frames (stmt_of s.now)) e) (λ o. pure_framed (turned (turns_in source frames (stmt_of s.now) n) o))
+  step_framed (left.Body frames s n) e = on_framed (after_body_framed (behind_framed (program_in source) frames (stmt_of s.now)) e) (λ o. pure_framed (follow_turn (turns_in source frames (stmt_of s.now) n) o))
   step_framed (left.Scope n) e = whole_framed (cut_framed n e)
   step_framed (left.Call of outer) e = whole_framed (call_left_framed of (items_in outer) e)
 
@@ -70,8 +70,8 @@ module _ {A : Type 0} (source : Source A) where
   resumed_is (left.Next t) e s = refl
   resumed_is (left.Body frames st n) e s =
       let rest = turns_in source frames (stmt_of st.now) n in
-      on_both (after_body (behind_of (program_in source) (called source frames) (stmt_of st.now)) e s) (after_turn rest) (λ o. pure (turned rest o)) follows (λ o now. turned_is rest o now)
-  resumed_is (left.Scope n) e s = same_end (cut n e s)
+      on_both (after_body (behind_of (program_in source) (called source frames) (stmt_of st.now)) e s) (after_turn rest) (λ o. pure (follow_turn rest o)) follows (λ o now. turned_is rest o now)
+  resumed_is (left.Scope n) e s = same_end (drop_names n e s)
   resumed_is (left.Call of outer) e s = same_end (call_left of (items_in outer) e s)
 
   pub own_step : (l : Left A) (e : End) → IsStep (resumed source l) e (step_of source l e)
@@ -97,7 +97,7 @@ module _ {A : Type 0} (source : Source A) where
     looped_is (kind.For head a) s = for_is (program_in source) (called source frames) (start_of head.now.start) (turn_of (program_in source) (called source frames) (loop_in (kind.For head a))) s
 
     parted_is : (q : Parts A) (s : State) → stmt (program_in source) (called source frames) (stmt_in q) s ≡ go_on (opened source frames (stmt_in q) q s) follows
-    parted_is (parts.Block ss) s = on_both (tick s) (λ _. scoped (does_stmts source frames ss.now)) (λ _. scope_begun (does_stmts source frames ss.now)) follows (λ u now. refl)
+    parted_is (parts.Block ss) s = on_both (tick s) (λ _. in_scope (does_stmts source frames ss.now)) (λ _. scope_begun (does_stmts source frames ss.now)) follows (λ u now. refl)
     parted_is (parts.Either c a b) s = either_is (program_in source) (called source frames) (expr_of c.now) (stmt_of a.now) (option_map stmt_of b.now) s
     parted_is (parts.Repeats w) s = looped_is w s
 

@@ -6,7 +6,7 @@ use Rattle.syntax.specs.declared.tree.Item.TheVariants as own
 use Rattle.syntax.specs.declared.tree.Function.{Function as OwnFunction}
 use Rattle.syntax.specs.Tree.{Item, Defines, Shares, Function, Stmts}
 use Rattle.syntax.specs.Views.{item_of, function_of, stmts_of}
-use Rattle.syntax.specs.Names.{defined, definition_of}
+use Rattle.syntax.specs.Names.{definition_or, definition_of}
 use Rattle.name_tables.specs.Named.{first, declared}
 use Rattle.name_tables.proofs.Firsts.{first_declared}
 use Rattle.meaning.specs.inner.Tables.{number_from}
@@ -35,7 +35,7 @@ none_step : (b : Bool) (f : Function) (s : Stmts) (n : ℕ) (r : Option ℕ) (d 
 none_step true f s n r d h e = absurd cc
 none_step false f s n r d h e = e h
 
-none_defined : (f : Function) (x : List ℕ) (o : Option Stmts) (n : ℕ) (r : Option ℕ) (d : Option (Function × Stmts)) → (if is_some o && bytes_eq f.name.text x then Some n else r) ≡ None → (r ≡ None → d ≡ None) → defined f x o d ≡ None
+none_defined : (f : Function) (x : List ℕ) (o : Option Stmts) (n : ℕ) (r : Option ℕ) (d : Option (Function × Stmts)) → (if is_some o && bytes_eq f.name.text x then Some n else r) ≡ None → (r ≡ None → d ≡ None) → definition_or f x o d ≡ None
 none_defined f x None n r d h e = e h
 none_defined f x (Some s) n r d h e = none_step (bytes_eq f.name.text x) f s n r d h e
 
@@ -63,15 +63,15 @@ module _ {A : Type 0} where
   here_step : (b : Bool) (f : OwnFunction A) (s : Stmts) (items : List (OwnItem A)) (x : List ℕ) (n i : ℕ) → bytes_eq f.name.text x ≡ b → option_map stmts_of f.body ≡ Some s → (if b then Some n else number_from (n + 1) (map item_of items) x) ≡ Some i →
       (number_from (n + 1) (map item_of items) x ≡ Some i → IsNumbered (n + 1) i items x) → IsNumbered n i (own.Function f ∷ items) x
   here_step true f s items x n i b o h e =
-      let first = (λ (rest : Option (Function × Stmts)). ap (λ p. defined (function_of f) x p rest) o ∙ ap (λ (q : Bool). if q then Some (function_of f, s) else rest) b) in
+      let first = (λ (rest : Option (Function × Stmts)). ap (λ p. definition_or (function_of f) x p rest) o ∙ ap (λ (q : Bool). if q then Some (function_of f, s) else rest) b) in
       let is : Some n ≡ Some i = h in
       record { place = 0; is = (let k : n ≡ i = cc in omega (arith, k)); less = omega arith; same = λ d. first (definition_of (map item_of items) x) ∙ sym (first None) }
   here_step false f s items x n i b o h e =
-      later n i (own.Function f) items x (ap (λ p. defined (function_of f) x p (definition_of (map item_of items) x)) o ∙ ap (λ (q : Bool). if q then Some (function_of f, s) else definition_of (map item_of items) x) b) (e h)
+      later n i (own.Function f) items x (ap (λ p. definition_or (function_of f) x p (definition_of (map item_of items) x)) o ∙ ap (λ (q : Bool). if q then Some (function_of f, s) else definition_of (map item_of items) x) b) (e h)
 
   function_step : (f : OwnFunction A) (o : Option Stmts) (items : List (OwnItem A)) (x : List ℕ) (n i : ℕ) → option_map stmts_of f.body ≡ o → (if is_some o && bytes_eq f.name.text x then Some n else number_from (n + 1) (map item_of items) x) ≡ Some i →
       (number_from (n + 1) (map item_of items) x ≡ Some i → IsNumbered (n + 1) i items x) → IsNumbered n i (own.Function f ∷ items) x
-  function_step f None items x n i o h e = later n i (own.Function f) items x (ap (λ p. defined (function_of f) x p (definition_of (map item_of items) x)) o) (e h)
+  function_step f None items x n i o h e = later n i (own.Function f) items x (ap (λ p. definition_or (function_of f) x p (definition_of (map item_of items) x)) o) (e h)
   function_step f (Some s) items x n i o h e = here_step (bytes_eq f.name.text x) f s items x n i refl o h e
 
   pub numbered : (n i : ℕ) (items : List (OwnItem A)) (x : List ℕ) → number_from n (map item_of items) x ≡ Some i → IsNumbered n i items x

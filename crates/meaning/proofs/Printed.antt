@@ -7,7 +7,7 @@ use Rattle.syntax.specs.declared.numbers.Halt.{Halt}
 use Rattle.syntax.specs.Actions.{State, Answer, Gives, Stops, go_on, tick, write, ◌>>◌}
 use Rattle.syntax.specs.Formats.{Piece, Literal, Figure, literal, pieces}
 use Rattle.syntax.specs.Meaning.{print_pieces}
-use Rattle.meaning.specs.inner.Printing.{pushed, figure, continued}
+use Rattle.meaning.specs.inner.Printing.{push_byte, figure, print_from}
 
 -- what was written joins what is written behind it
 wrote : (s : State) (c : ℕ) (cs : List ℕ) → record s { text = s.text ++ c ∷ cs } ≡ record s { text = (s.text ++ c ∷ []) ++ cs }
@@ -19,13 +19,13 @@ ticked ps vs c cs (Gives u s) = ap (print_pieces ps vs) (wrote s c cs)
 ticked ps vs c cs (Stops why s) = refl
 
 -- one byte of a literal piece
-pub pushed_continued : (begun : Bool) (c : ℕ) (ps : List Piece) (vs : List Value) (s : State) → continued begun (literal c ps) vs s ≡ go_on (pushed begun c s) (λ u. continued true ps vs)
+pub pushed_continued : (begun : Bool) (c : ℕ) (ps : List Piece) (vs : List Value) (s : State) → print_from begun (literal c ps) vs s ≡ go_on (push_byte begun c s) (λ u. print_from true ps vs)
 pushed_continued true c (Literal cs ∷ ps) vs s = ap (print_pieces ps vs) (wrote s c cs)
 pushed_continued false c (Literal cs ∷ ps) vs s = ticked ps vs c cs (tick s)
 pushed_continued begun c ps vs s = refl
 
 -- a figure, with the first of the values
-figure_continued : (begun : Bool) (t : Scalar) (ps : List Piece) (vs : List Value) (s : State) → continued begun (Figure t ∷ ps) vs s ≡ go_on (figure t vs s) (λ u. print_pieces ps (drop 1 vs))
+figure_continued : (begun : Bool) (t : Scalar) (ps : List Piece) (vs : List Value) (s : State) → print_from begun (Figure t ∷ ps) vs s ≡ go_on (figure t vs s) (λ u. print_pieces ps (drop 1 vs))
 figure_continued true t ps [] s = refl
 figure_continued true t ps (v ∷ vs) s = refl
 figure_continued false t ps [] s = refl
@@ -33,20 +33,20 @@ figure_continued false t ps (v ∷ vs) s = refl
 
 -- from one unit of a format on
 module _ (format : List ℕ) (values : List Value) (begun : Bool) (i k : ℕ) (s : State) (whole : Answer (Unit {0})) where
-  pub byte_goes : (c next : ℕ) (now : State) → continued begun (pieces (drop i format)) (drop k values) s ≡ whole → pieces (drop i format) ≡ literal c (pieces (drop next format)) → pushed begun c s ≡ Gives tt now →
-      continued true (pieces (drop next format)) (drop k values) now ≡ whole
+  pub byte_goes : (c next : ℕ) (now : State) → print_from begun (pieces (drop i format)) (drop k values) s ≡ whole → pieces (drop i format) ≡ literal c (pieces (drop next format)) → push_byte begun c s ≡ Gives tt now →
+      print_from true (pieces (drop next format)) (drop k values) now ≡ whole
   byte_goes c next now inv is d =
-      sym (ap (λ r. go_on r (λ u. continued true (pieces (drop next format)) (drop k values))) d)
-      ∙ sym (pushed_continued begun c (pieces (drop next format)) (drop k values) s) ∙ ap (λ ps. continued begun ps (drop k values) s) (sym is) ∙ inv
+      sym (ap (λ r. go_on r (λ u. print_from true (pieces (drop next format)) (drop k values))) d)
+      ∙ sym (pushed_continued begun c (pieces (drop next format)) (drop k values) s) ∙ ap (λ ps. print_from begun ps (drop k values) s) (sym is) ∙ inv
 
-  pub byte_stops : (c next : ℕ) (now : State) (why : Halt) → continued begun (pieces (drop i format)) (drop k values) s ≡ whole → pieces (drop i format) ≡ literal c (pieces (drop next format)) → pushed begun c s ≡ Stops why now → whole ≡ Stops why now
+  pub byte_stops : (c next : ℕ) (now : State) (why : Halt) → print_from begun (pieces (drop i format)) (drop k values) s ≡ whole → pieces (drop i format) ≡ literal c (pieces (drop next format)) → push_byte begun c s ≡ Stops why now → whole ≡ Stops why now
   byte_stops c next now why inv is d =
-      sym inv ∙ ap (λ ps. continued begun ps (drop k values) s) is ∙ pushed_continued begun c (pieces (drop next format)) (drop k values) s
-      ∙ ap (λ r. go_on r (λ u. continued true (pieces (drop next format)) (drop k values))) d
+      sym inv ∙ ap (λ ps. print_from begun ps (drop k values) s) is ∙ pushed_continued begun c (pieces (drop next format)) (drop k values) s
+      ∙ ap (λ r. go_on r (λ u. print_from true (pieces (drop next format)) (drop k values))) d
 
-  pub figure_goes : (t : Scalar) (next : ℕ) (now : State) → continued begun (pieces (drop i format)) (drop k values) s ≡ whole → pieces (drop i format) ≡ Figure t ∷ pieces (drop next format) → figure t (drop k values) s ≡ Gives tt now →
-      continued false (pieces (drop next format)) (drop (k + 1) values) now ≡ whole
+  pub figure_goes : (t : Scalar) (next : ℕ) (now : State) → print_from begun (pieces (drop i format)) (drop k values) s ≡ whole → pieces (drop i format) ≡ Figure t ∷ pieces (drop next format) → figure t (drop k values) s ≡ Gives tt now →
+      print_from false (pieces (drop next format)) (drop (k + 1) values) now ≡ whole
   figure_goes t next now inv is d =
       ap (λ vs. print_pieces (pieces (drop next format)) vs now) (sym (drop-drop 1 k values))
       ∙ sym (ap (λ r. go_on r (λ u. print_pieces (pieces (drop next format)) (drop 1 (drop k values)))) d)
-      ∙ sym (figure_continued begun t (pieces (drop next format)) (drop k values) s) ∙ ap (λ ps. continued begun ps (drop k values) s) (sym is) ∙ inv
+      ∙ sym (figure_continued begun t (pieces (drop next format)) (drop k values) s) ∙ ap (λ ps. print_from begun ps (drop k values) s) (sym is) ∙ inv

@@ -12,11 +12,11 @@ use Rattle.syntax.specs.Tree.{Program, Scalar, Expr, Stmt}
 use Rattle.syntax.specs.Views.{expr_of, exprs_of, stmt_of, stmts_of, declarator_of}
 use Rattle.syntax.specs.Names.{Local}
 use Rattle.syntax.specs.Actions.{State, Answer, Gives, Stops, Action, pure, go_on, tick, ◌>>=◌}
-use Rattle.syntax.specs.Meaning.{Caller, End, Next, expr, exprs, stmt, stmts, declare, scoped, on_next, after_body, after_turn, turns}
+use Rattle.syntax.specs.Meaning.{Caller, End, Next, expr, exprs, stmt, stmts, declare, in_scope, on_next, after_body, after_turn, turns}
 use Rattle.meaning.specs.declared.machine.End.{End as OwnEnd}
 use Rattle.meaning.specs.declared.machine.End.TheVariants as end
 use Rattle.meaning.specs.inner.Machine.{end_of}
-use Rattle.meaning.specs.inner.Does.{declared_one, joined_to, left_or, tested, while_turn}
+use Rattle.meaning.specs.inner.Does.{declared_one, joined_to, left_or, loop_condition, while_turn}
 
 -- a part that gives something, and one that stops
 pub after : {X Y : Type 0} (r : Answer X) (rest : X → Action Y) (x : X) (s : State) → r ≡ Gives x s → go_on r rest ≡ rest x s
@@ -117,11 +117,11 @@ module _ {A : Type 0} (p : Program) (call : Caller) where
       sym inv ∙ declare_more t ds i x s h is ∙ halts _ (λ _. declare p call t (map declarator_of (drop (i + 1) ds))) why now d
 
 -- a stretch that gives something drops the names behind those of before
-pub scoped_gives : (run : Action End) (s now : State) (e : End) (ls : List Local) → run s ≡ Gives e now → take (length s.locals) now.locals ≡ ls → scoped run s ≡ Gives e (record now { locals = ls })
+pub scoped_gives : (run : Action End) (s now : State) (e : End) (ls : List Local) → run s ≡ Gives e now → take (length s.locals) now.locals ≡ ls → in_scope run s ≡ Gives e (record now { locals = ls })
 scoped_gives run s now e ls h k =
     ap (λ q. go_on q (λ end now. Gives end (record now { locals = take (length s.locals) now.locals }))) h ∙ ap (λ ks. Gives e (record now { locals = ks })) k
 
-pub scoped_stops : (run : Action End) (s now : State) (why : Halt) → run s ≡ Stops why now → scoped run s ≡ Stops why now
+pub scoped_stops : (run : Action End) (s now : State) (why : Halt) → run s ≡ Stops why now → in_scope run s ≡ Stops why now
 scoped_stops run s now why h = ap (λ q. go_on q (λ end now. Gives end (record now { locals = take (length s.locals) now.locals }))) h
 
 take_map : {X Y : Type 0} (f : X → Y) (n : ℕ) (xs : List X) → take n (map f xs) ≡ map f (take n xs)
@@ -169,15 +169,15 @@ left_behind (Some e) s = refl
 
 module _ (p : Program) (call : Caller) (c : Expr) (a : Stmt) (s now : State) where
   abbrev body_turn : Action (Option End)
-  body_turn = scoped (stmt p call a) >>= after_body (pure None)
+  body_turn = in_scope (stmt p call a) >>= after_body (pure None)
 
-  pub while_stops : (why : Halt) → tested p call c s ≡ Stops why now → while_turn p call c a s ≡ Stops why now
-  while_stops why d = tested_first body_turn (expr p call c s) ∙ halts (tested p call c s) (or_body body_turn) why now d
+  pub while_stops : (why : Halt) → loop_condition p call c s ≡ Stops why now → while_turn p call c a s ≡ Stops why now
+  while_stops why d = tested_first body_turn (expr p call c s) ∙ halts (loop_condition p call c s) (or_body body_turn) why now d
 
-  while_tested : (o : Option OwnEnd) → tested p call c s ≡ Gives (option_map end_of o) now → while_turn p call c a s ≡ or_body body_turn (option_map end_of o) now
-  while_tested o d = tested_first body_turn (expr p call c s) ∙ after (tested p call c s) (or_body body_turn) (option_map end_of o) now d
+  while_tested : (o : Option OwnEnd) → loop_condition p call c s ≡ Gives (option_map end_of o) now → while_turn p call c a s ≡ or_body body_turn (option_map end_of o) now
+  while_tested o d = tested_first body_turn (expr p call c s) ∙ after (loop_condition p call c s) (or_body body_turn) (option_map end_of o) now d
 
-  module _ (o : Option OwnEnd) (d : tested p call c s ≡ Gives (option_map end_of o) now) where
+  module _ (o : Option OwnEnd) (d : loop_condition p call c s ≡ Gives (option_map end_of o) now) where
     pub while_ends : (e : OwnEnd) → o ≡ Some e → while_turn p call c a s ≡ Gives (Some (end_of e)) now
     while_ends e some = while_tested o d ∙ ap (λ x. or_body body_turn (option_map end_of x) now) some
 
@@ -185,10 +185,10 @@ module _ (p : Program) (call : Caller) (c : Expr) (a : Stmt) (s now : State) whe
       while_runs : while_turn p call c a s ≡ body_turn now
       while_runs = while_tested o d ∙ ap (λ x. or_body body_turn (option_map end_of x) now) none
 
-      pub while_halts : (why : Halt) → scoped (stmt p call a) now ≡ Stops why then_ → while_turn p call c a s ≡ Stops why then_
-      while_halts why h = while_runs ∙ halts (scoped (stmt p call a) now) (after_body (pure None)) why then_ h
+      pub while_halts : (why : Halt) → in_scope (stmt p call a) now ≡ Stops why then_ → while_turn p call c a s ≡ Stops why then_
+      while_halts why h = while_runs ∙ halts (in_scope (stmt p call a) now) (after_body (pure None)) why then_ h
 
-      pub while_goes : (e : OwnEnd) (r : Option OwnEnd) → scoped (stmt p call a) now ≡ Gives (end_of e) then_ → after_body (pure None) (end_of e) then_ ≡ left_or (pure None) r then_ →
+      pub while_goes : (e : OwnEnd) (r : Option OwnEnd) → in_scope (stmt p call a) now ≡ Gives (end_of e) then_ → after_body (pure None) (end_of e) then_ ≡ left_or (pure None) r then_ →
           while_turn p call c a s ≡ Gives (option_map end_of r) then_
       while_goes e r h left =
-          while_runs ∙ after (scoped (stmt p call a) now) (after_body (pure None)) (end_of e) then_ h ∙ left ∙ left_behind r then_
+          while_runs ∙ after (in_scope (stmt p call a) now) (after_body (pure None)) (end_of e) then_ h ∙ left ∙ left_behind r then_

@@ -12,7 +12,7 @@ use Rattle.syntax.specs.declared.tree.Mode.TheVariants.{Atomic, Relaxed}
 use Rattle.syntax.specs.declared.tree.Kind.{Kind}
 use Rattle.syntax.specs.declared.tree.Kind.TheVariants.{Plain, Outer}
 use Rattle.std.specs.Prelude.{Bool, if◌then◌else◌}
-use Rattle.syntax.specs.Numbers.{converted, is_zero, binary}
+use Rattle.syntax.specs.Numbers.{value_in_type, is_zero, binary}
 use Rattle.syntax.specs.Types.{common_of, type_of, running_scope}
 use Rattle.syntax.specs.Tree as tree
 use Rattle.syntax.specs.Tree.{Program, Expr, Conditional, Stmt, Stmts, Exprs, Print, Function}
@@ -20,8 +20,8 @@ use Rattle.syntax.specs.Names.{Local, definition_of}
 use Rattle.syntax.specs.Behaviours.{Memory}
 use Rattle.syntax.specs.Formats.{pieces}
 use Rattle.syntax.specs.Actions.{Context, Outside, Inside, State, Answer, Gives, Stops, Action, pure, go_on, or_trap, or_astray, locals, put_locals, tick, may_print, ◌>>=◌, ◌>>◌}
-use Rattle.syntax.specs.Meaning.{Caller, Spot, fetch, assign, spot, changed, op_of, int_one, End, Next, Breaks, Continues, Returns, Cancels, CancelsOuter, mode_of, scoped, loop, simple, declare, return_value, expr, stmt, stmts, exprs, print_pieces, transaction, begin_value, value_at, value_transaction, enter, leave, left_by, leave_inner, close, close_inner, entered, invoke, calls, result_of}
-use Rattle.meaning.specs.inner.Calls.{Begins, begun}
+use Rattle.syntax.specs.Meaning.{Caller, Spot, fetch, assign, spot, changed, op_of, int_one, End, Next, Breaks, Continues, Returns, Cancels, CancelsOuter, mode_of, in_scope, loop, simple, declare, return_value, expr, stmt, stmts, exprs, print_pieces, transaction, begin_value, value_at, value_transaction, enter, leave, left_by, leave_inner, close, close_inner, call_locals, invoke, calls, result_of}
+use Rattle.meaning.specs.inner.Calls.{Begins, begin_call}
 use Rattle.meaning.specs.Outcomes.{memories_in}
 use Rattle.meaning.specs.inner.Does.{is_forbidden, while_turn, do_turn, for_all}
 use Rattle.meaning.proofs.Sequences.{after, halts}
@@ -36,19 +36,19 @@ pub spent_first : (p : Program) (call : Caller) (s : Stmt) (s0 s1 : State) (why 
 spent_first p call tree.Empty s0 s1 why t = halts (tick s0) (λ _. pure Next) why s1 t
 spent_first p call (tree.Declare d) s0 s1 why t = halts (tick s0) (λ _. declare p call d.of d.declarators) why s1 t
 spent_first p call (tree.Do i) s0 s1 why t = halts (tick s0) (λ _. simple p call i) why s1 t
-spent_first p call (tree.Block ss) s0 s1 why t = halts (tick s0) (λ _. scoped (stmts p call ss)) why s1 t
+spent_first p call (tree.Block ss) s0 s1 why t = halts (tick s0) (λ _. in_scope (stmts p call ss)) why s1 t
 spent_first p call (tree.Print at format format_at es) s0 s1 why t =
     halts (tick s0) (λ _. may_print >> (exprs p call es >>= (λ us. print_pieces (pieces format) us >> pure Next))) why s1 t
-spent_first p call (tree.If c a) s0 s1 why t = halts (tick s0) (λ _. expr p call c >>= (λ v. if is_zero v then pure Next else scoped (stmt p call a))) why s1 t
+spent_first p call (tree.If c a) s0 s1 why t = halts (tick s0) (λ _. expr p call c >>= (λ v. if is_zero v then pure Next else in_scope (stmt p call a))) why s1 t
 spent_first p call (tree.IfElse c a b) s0 s1 why t =
-    halts (tick s0) (λ _. expr p call c >>= (λ v. if is_zero v then scoped (stmt p call b) else scoped (stmt p call a))) why s1 t
+    halts (tick s0) (λ _. expr p call c >>= (λ v. if is_zero v then in_scope (stmt p call b) else in_scope (stmt p call a))) why s1 t
 spent_first p call (tree.While c a) s0 s1 why t = halts (tick s0) (λ _. loop (while_turn p call c a)) why s1 t
 spent_first p call (tree.DoWhile a c) s0 s1 why t = halts (tick s0) (λ _. loop (do_turn p call a c)) why s1 t
-spent_first p call (tree.For start c step a) s0 s1 why t = halts (tick s0) (λ _. scoped (for_all p call start c step a)) why s1 t
+spent_first p call (tree.For start c step a) s0 s1 why t = halts (tick s0) (λ _. in_scope (for_all p call start c step a)) why s1 t
 spent_first p call (tree.Break at) s0 s1 why t = halts (tick s0) (λ _. pure Breaks) why s1 t
 spent_first p call (tree.Continue at) s0 s1 why t = halts (tick s0) (λ _. pure Continues) why s1 t
 spent_first p call (tree.Return e at) s0 s1 why t = halts (tick s0) (λ _. return_value p call e >>= (λ v. pure (Returns v))) why s1 t
-spent_first p call (tree.Transaction kind ss at) s0 s1 why t = halts (tick s0) (λ _. transaction kind (scoped (stmts p call ss))) why s1 t
+spent_first p call (tree.Transaction kind ss at) s0 s1 why t = halts (tick s0) (λ _. transaction kind (in_scope (stmts p call ss))) why s1 t
 spent_first p call (tree.Cancel at) s0 s1 why t = halts (tick s0) (λ _. pure Cancels) why s1 t
 spent_first p call (tree.CancelOuter at) s0 s1 why t = halts (tick s0) (λ _. pure CancelsOuter) why s1 t
 
@@ -63,11 +63,11 @@ print_until p call at format_at format es s0 s1 s2 s3 vs t m d =
 -- a conditional, once one of its branches is computed
 pub conditional_gives : (p : Program) (call : Caller) (c a b : Expr) (at : Span) (s0 s1 s2 : State) (v w : Value) (r : Answer Value) →
     expr p call c s0 ≡ Gives v s1 → (if is_zero v then expr p call b else expr p call a) s1 ≡ Gives w s2 →
-    go_on (or_astray (common_of (type_of (running_scope p s2.locals) a) (type_of (running_scope p s2.locals) b)) s2) (λ t. pure (converted t w)) ≡ r →
+    go_on (or_astray (common_of (type_of (running_scope p s2.locals) a) (type_of (running_scope p s2.locals) b)) s2) (λ t. pure (value_in_type t w)) ≡ r →
     expr p call (Conditional c a b at) s0 ≡ r
 conditional_gives p call c a b at s0 s1 s2 v w r test branch last =
-    after (expr p call c s0) (λ x. (if is_zero x then expr p call b else expr p call a) >>= (λ y. locals >>= (λ mine. or_astray (common_of (type_of (running_scope p mine) a) (type_of (running_scope p mine) b)) >>= (λ t. pure (converted t y))))) v s1 test
-    ∙ after ((if is_zero v then expr p call b else expr p call a) s1) (λ y. locals >>= (λ mine. or_astray (common_of (type_of (running_scope p mine) a) (type_of (running_scope p mine) b)) >>= (λ t. pure (converted t y)))) w s2 branch
+    after (expr p call c s0) (λ x. (if is_zero x then expr p call b else expr p call a) >>= (λ y. locals >>= (λ mine. or_astray (common_of (type_of (running_scope p mine) a) (type_of (running_scope p mine) b)) >>= (λ t. pure (value_in_type t y))))) v s1 test
+    ∙ after ((if is_zero v then expr p call b else expr p call a) s1) (λ y. locals >>= (λ mine. or_astray (common_of (type_of (running_scope p mine) a) (type_of (running_scope p mine) b)) >>= (λ t. pure (value_in_type t y)))) w s2 branch
     ∙ last
 
 -- an old value that is changed, up to what an operator gives
@@ -112,18 +112,18 @@ bound_then p call f (Some mine) s = refl
 bound_then p call f None s = refl
 
 defined_then : (p : Program) (call : Caller) (o : Option (Function × Stmts)) (vs : List Value) (s : State) →
-    go_on (or_astray o s) (λ f. or_astray (entered f.0.parameters vs) >>= (λ mine. call_rest p call (record { of = f.0.result; body = f.1; mine = mine })))
-    ≡ go_on (go_on (or_astray o s) (λ f. or_astray (entered f.0.parameters vs) >>= (λ mine. pure (record { of = f.0.result; body = f.1; mine = mine })))) (call_rest p call)
-defined_then p call (Some f) vs s = bound_then p call f (entered f.0.parameters vs) s
+    go_on (or_astray o s) (λ f. or_astray (call_locals f.0.parameters vs) >>= (λ mine. call_rest p call (record { of = f.0.result; body = f.1; mine = mine })))
+    ≡ go_on (go_on (or_astray o s) (λ f. or_astray (call_locals f.0.parameters vs) >>= (λ mine. pure (record { of = f.0.result; body = f.1; mine = mine })))) (call_rest p call)
+defined_then p call (Some f) vs s = bound_then p call f (call_locals f.0.parameters vs) s
 defined_then p call None vs s = refl
 
-pub invoke_begun : (p : Program) (call : Caller) (x : List ℕ) (vs : List Value) (s : State) → invoke p call x vs s ≡ go_on (begun p x vs s) (call_rest p call)
+pub invoke_begun : (p : Program) (call : Caller) (x : List ℕ) (vs : List Value) (s : State) → invoke p call x vs s ≡ go_on (begin_call p x vs s) (call_rest p call)
 invoke_begun p call x vs s = defined_then p call (definition_of p x) vs s
 
-module _ (p : Program) (n k : ℕ) (x : List ℕ) (vs : List Value) (s0 s1 : State) (b : Begins) (mine outer : List Local) (more : n ≡ suc k) (d : begun p x vs s0 ≡ Gives b s1) (bound : mine ≡ b.mine) (kept : outer ≡ s1.locals) where
+module _ (p : Program) (n k : ℕ) (x : List ℕ) (vs : List Value) (s0 s1 : State) (b : Begins) (mine outer : List Local) (more : n ≡ suc k) (d : begin_call p x vs s0 ≡ Gives b s1) (bound : mine ≡ b.mine) (kept : outer ≡ s1.locals) where
   call_begun : calls p n x vs s0 ≡ go_on (stmts p (calls p k) b.body (record s1 { locals = mine })) (λ end. put_locals outer >> result_of b.of end)
   call_begun =
-      ap (λ i. calls p i x vs s0) more ∙ invoke_begun p (calls p k) x vs s0 ∙ after (begun p x vs s0) (call_rest p (calls p k)) b s1 d
+      ap (λ i. calls p i x vs s0) more ∙ invoke_begun p (calls p k) x vs s0 ∙ after (begin_call p x vs s0) (call_rest p (calls p k)) b s1 d
       ∙ ap (λ ls. go_on (stmts p (calls p k) b.body (record s1 { locals = ls })) (λ end. put_locals s1.locals >> result_of b.of end)) (sym bound)
       ∙ ap (λ ls. go_on (stmts p (calls p k) b.body (record s1 { locals = mine })) (λ end. put_locals ls >> result_of b.of end)) (sym kept)
 
@@ -194,10 +194,10 @@ module _ (mode : Mode) (run : Action Value) (s0 s1 : State) where
   value_unbegun why d = halts (begin_value s0) (λ _. value_of_body mode run) why s1 d
 
   pub value_gives : (s2 : State) (e : End) (r : Answer Value) → begin_value s0 ≡ Gives tt s1 → transaction (Plain mode) (do v ← run; pure (Returns v)) s1 ≡ Gives e s2 → value_at e s2 ≡ r → value_transaction mode run s0 ≡ r
-  value_gives s2 e r begun d last = after (begin_value s0) (λ _. value_of_body mode run) tt s1 begun ∙ after _ value_at e s2 d ∙ last
+  value_gives s2 e r begin_call d last = after (begin_value s0) (λ _. value_of_body mode run) tt s1 begin_call ∙ after _ value_at e s2 d ∙ last
 
   pub value_stops : (s2 : State) (why : Halt) → begin_value s0 ≡ Gives tt s1 → transaction (Plain mode) (do v ← run; pure (Returns v)) s1 ≡ Stops why s2 → value_transaction mode run s0 ≡ Stops why s2
-  value_stops s2 why begun d = after (begin_value s0) (λ _. value_of_body mode run) tt s1 begun ∙ halts _ value_at why s2 d
+  value_stops s2 why begin_call d = after (begin_value s0) (λ _. value_of_body mode run) tt s1 begin_call ∙ halts _ value_at why s2 d
 
 -- the memories to be found
 module _ {A : Type 0} where

@@ -13,7 +13,7 @@ use Rattle.meaning.specs.declared.orders.Standing.{Standing}
 use Rattle.meaning.specs.declared.standing.Thread.{Thread}
 use Rattle.meaning.specs.declared.standing.Stop.{Stop}
 use Rattle.meaning.specs.Outcomes.{memories_in, thread_end_in}
-use Rattle.meaning.specs.InOrder.{IsInOrder, report_in, told}
+use Rattle.meaning.specs.InOrder.{IsInOrder, report_in, text_and_end}
 use Rattle.meaning.specs.declared.program.Source.{Source}
 use Rattle.meaning.specs.inner.Machine.{program_in}
 use Rattle.meaning.specs.inner.Standing.{IsStop, end_by, rest}
@@ -196,10 +196,10 @@ in_order_by source threads ticks order m xs known gone =
 
 pub in_this_order : {A : Type 0} (source : Source A) (threads ticks : ℕ) (order : List ℕ) (m : Memory) (xs : List (Standing A)) (o : SourceOutcome A) → AreKnown source ticks 0 xs →
     entries (does_in (program_in source)) ticks order (record { memory = initial_memory (program_in source); founds = replicate threads [] }) ≡ record { memory = m; founds = founds_in xs } →
-    o.memory.items ≡ m → map report_in o.threads.items ≡ map (λ s. told (seen_in s)) xs → IsInOrder (program_in source) threads ticks order o
+    o.memory.items ≡ m → map report_in o.threads.items ≡ map (λ s. text_and_end (seen_in s)) xs → IsInOrder (program_in source) threads ticks order o
 in_this_order source threads ticks order m xs o known gone memory reports =
     let h = in_order_by source threads ticks order m xs known gone in
     record {
       memory = memory ∙ sym (ap (λ w. w.memory) h);
-      threads = reports ∙ sym (map-map told (λ s. seen_in s) xs) ∙ sym (ap (λ w. map told w.threads) h);
+      threads = reports ∙ sym (map-map text_and_end (λ s. seen_in s) xs) ∙ sym (ap (λ w. map text_and_end w.threads) h);
     }

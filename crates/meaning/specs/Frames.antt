@@ -13,8 +13,8 @@ abbrev pub context_framed : StateExtension → Context → Context
 context_framed f (Outside founds lefts) = Outside (founds ++ f.founds) (f.lefts ++ lefts)
 context_framed f (Inside mode memory) = Inside mode memory
 
-abbrev pub framed : StateExtension → State → State
-framed f s = record {
+abbrev pub extended_state : StateExtension → State → State
+extended_state f s = record {
   ticks = s.ticks;
   locals = s.locals;
   context = context_framed f s.context;
@@ -24,12 +24,12 @@ framed f s = record {
 -- What an answer says of the answer in a frame. Where it wants a memory, that one wants it too, if there is no further
 -- one.
 abbrev pub Alike : {A : Type 0} → StateExtension → Answer A → Answer A → Type 0
-Alike f (Gives a s) more = more ≡ Gives a (framed f s)
-Alike f (Stops (Trapped t) s) more = more ≡ Stops (Trapped t) (framed f s)
-Alike f (Stops Astray s) more = more ≡ Stops Astray (framed f s)
-Alike f (Stops Spent s) more = more ≡ Stops Spent (framed f s)
-Alike f (Stops Wants s) more = f.founds ≡ [] → more ≡ Stops Wants (framed f s)
+Alike f (Gives a s) more = more ≡ Gives a (extended_state f s)
+Alike f (Stops (Trapped t) s) more = more ≡ Stops (Trapped t) (extended_state f s)
+Alike f (Stops Astray s) more = more ≡ Stops Astray (extended_state f s)
+Alike f (Stops Spent s) more = more ≡ Stops Spent (extended_state f s)
+Alike f (Stops Wants s) more = f.founds ≡ [] → more ≡ Stops Wants (extended_state f s)
 
 -- a run does the same whatever stands round it
 pub record IsFramed {A : Type 0} (run : Action A) : Type 0 where
-  pub alike : (f : StateExtension) (s : State) → Alike f (run s) (run (framed f s))
+  pub alike : (f : StateExtension) (s : State) → Alike f (run s) (run (extended_state f s))

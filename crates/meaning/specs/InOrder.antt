@@ -12,8 +12,8 @@ use Rattle.meaning.specs.declared.outcome.MeaningFault.TheVariants as fault
 use Rattle.meaning.specs.Outcomes.{thread_end_in}
 
 -- what is told of a thread: its text and its end
-abbrev pub told : Outcome → List ℕ × ThreadEnd
-told o = (o.text, o.end)
+abbrev pub text_and_end : Outcome → List ℕ × ThreadEnd
+text_and_end o = (o.text, o.end)
 
 module _ {A : Type 0} where
   abbrev pub report_in : ThreadReport A → List ℕ × ThreadEnd
@@ -23,7 +23,7 @@ module _ {A : Type 0} where
   pub record IsInOrder (p : Program) (count ticks : ℕ) (order : List ℕ) (o : SourceOutcome A) : Type 0 where
     pub memory : o.memory.items ≡ (in_order (thread p) (initial_memory p) count ticks order).memory
     pub threads : map report_in o.threads.items
-        ≡ map told (in_order (thread p) (initial_memory p) count ticks order).threads
+        ≡ map text_and_end (in_order (thread p) (initial_memory p) count ticks order).threads
 
 abbrev pub IsThreadCount : ℕ → Type 0
 IsThreadCount threads = (1 ≤ threads) × (threads ≤ 64)

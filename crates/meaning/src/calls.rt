@@ -5,7 +5,7 @@ ghost use Rattle.lex.specs.declared.token.Span.{Span};
 ghost use Rattle.syntax.specs.Meaning as meaning;
 ghost use Rattle.syntax.specs.Views.{exprs_of, name_of, parameter_of, stmts_of};
 ghost use Rattle.syntax.specs.Depth.{block_depth, program_depth};
-ghost use Rattle.meaning.specs.inner.Calls.{begun, begun_in};
+ghost use Rattle.meaning.specs.inner.Calls.{begin_call, begun_in};
 ghost use Rattle.syntax.specs.Tree as tree;
 ghost use Rattle.syntax.specs.Tree.{Int};
 ghost use Rattle.meaning.specs.inner.Does.{called};
@@ -30,7 +30,7 @@ fn locals_of<'p, A: Allocator + Copy>(
     parameters: &'p [Parameter<A>],
     values: &[Value],
 ) -> Result<Option<Vec<Local<'p>, A>>, AllocError>
-    ensures { IfOk result (λ o. option_map items_in o ≡ meaning.entered (map parameter_of parameters.now) values.now) }
+    ensures { IfOk result (λ o. option_map items_in o ≡ meaning.call_locals (map parameter_of parameters.now) values.now) }
 {
     if parameters.len() != values.len() {
         return Ok(None);
@@ -94,7 +94,7 @@ pub(crate) fn begin<'p, A: Allocator + Copy>(
     values: &[Value],
     m: &mut Machine<'p, '_, A>,
 ) -> Result<Begun<'p, A>, Halted>
-    ensures value { MeansAs begun_in result (begun (program_in source.now) f.now values.now (state_in m.old)) m.new }
+    ensures value { MeansAs begun_in result (begin_call (program_in source.now) f.now values.now (state_in m.old)) m.new }
     ensures deep { IfOk result (λ b. block_depth (stmts_of b.body.now) ≤ program_depth (program_in source.now)) }
 {
     let Some(d) = definition(source, f) else {

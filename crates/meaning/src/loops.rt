@@ -7,7 +7,7 @@ ghost use Rattle.syntax.specs.Actions.{State};
 ghost use Rattle.syntax.specs.Meaning as meaning;
 ghost use Rattle.meaning.specs.inner.Machine.{Means, MeansEnd, MeansTurn, end_of, program_in, state_in};
 ghost use Rattle.meaning.specs.inner.Does.{called, does_turn, do_turn, for_all, for_turn, left_or};
-ghost use Rattle.meaning.specs.inner.Does.{tested as tested_due, while_turn};
+ghost use Rattle.meaning.specs.inner.Does.{loop_condition as tested_due, while_turn};
 
 use crate::expr::eval;
 use crate::machine::{End, Halted, Machine, tick};
@@ -212,7 +212,7 @@ pub(crate) fn for_scoped<'p, A: Allocator + Copy>(
     m: &mut Machine<'p, '_, A>,
 ) -> Result<End, Halted>
     ensures { MeansEnd result
-        (meaning.scoped (for_all (program_in source.now) (called source.now frames) (start_of head.now.start)
+        (meaning.in_scope (for_all (program_in source.now) (called source.now frames) (start_of head.now.start)
         (option_map expr_of head.now.condition) (option_map simple_of head.now.step) (stmt_of a.now)) (state_in m.old))
         m.new }
 {

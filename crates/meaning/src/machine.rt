@@ -4,7 +4,7 @@ ghost use Rattle.std.specs.Prelude.{◌≡◌, map};
 ghost use Rattle.syntax.specs.Names.{newest as newest_local, with_word};
 ghost use Rattle.syntax.specs.Actions.{tick as tick_due, trap as trap_due, or_trap as or_trap_due};
 ghost use Rattle.syntax.specs.Meaning as meaning;
-ghost use Rattle.syntax.specs.Numbers.{binary, unary, converted};
+ghost use Rattle.syntax.specs.Numbers.{binary, unary, value_in_type};
 ghost use Rattle.syntax.specs.declared.numbers.Value.{Value};
 ghost use Rattle.meaning.specs.inner.Word.{value_of};
 ghost use Rattle.meaning.specs.inner.Machine.{Means, MeansSpot, MeansWord, state_in, local_in, spot_of};
@@ -169,7 +169,7 @@ pub(crate) fn fetch<A: Allocator>(m: &mut Machine<A>, at: Spot) -> Result<Word, 
 /// The word of a value that is converted.
 #[inline(always)]
 fn word_as(of: Scalar, w: Word) -> u64
-    ensures { result ≡ (converted of (value_of w)).word }
+    ensures { result ≡ (value_in_type of (value_of w)).word }
 {
     convert(of, unpack(w)).word
 }

@@ -5,7 +5,7 @@ ghost use Rattle.syntax.specs.Actions as act;
 ghost use Rattle.syntax.specs.Meaning as meaning;
 ghost use Rattle.syntax.specs.Tree as tree;
 ghost use Rattle.syntax.specs.Types.{common_of, type_of as type_due, running_scope};
-ghost use Rattle.syntax.specs.Numbers.{converted};
+ghost use Rattle.syntax.specs.Numbers.{value_in_type};
 ghost use Rattle.syntax.specs.Views.{expr_of, name_of};
 ghost use Rattle.meaning.specs.inner.Machine.{MeansSpot, MeansWord, program_in, state_in};
 ghost use Rattle.meaning.specs.inner.Does.{called};
@@ -91,7 +91,7 @@ pub(crate) fn joined<'p, A: Allocator + Copy>(
         (act.or_astray
         (common_of (type_due (running_scope (program_in source.now) (state_in m.old).locals) (expr_of a.now))
         (type_due (running_scope (program_in source.now) (state_in m.old).locals) (expr_of b.now))) (state_in m.old))
-        (λ t. act.pure (converted t (value_of w))))
+        (λ t. act.pure (value_in_type t (value_of w))))
         m.new }
 {
     let of = type_of(source, m.locals.as_slice(), a);

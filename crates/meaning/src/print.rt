@@ -7,7 +7,7 @@ ghost use Rattle.syntax.specs.Formats.{pieces};
 ghost use Rattle.syntax.specs.Meaning as meaning;
 ghost use Rattle.syntax.specs.Numbers as numbers;
 ghost use Rattle.meaning.specs.inner.Machine.{Means, state_in};
-ghost use Rattle.meaning.specs.inner.Printing.{pushed, figure};
+ghost use Rattle.meaning.specs.inner.Printing.{push_byte, figure};
 
 use crate::machine::{Context, Halted, Machine, tick};
 use itoa::Buffer;
@@ -36,7 +36,7 @@ pub(crate) fn may_print<A: Allocator>(m: &mut Machine<A>) -> Result<(), Halted>
 
 /// One byte of a literal piece: the piece's tick goes before its first byte.
 fn put_byte<A: Allocator>(m: &mut Machine<A>, begun: bool, c: u8) -> Result<(), Halted>
-    ensures { Means result (pushed begun c (state_in m.old)) m.new }
+    ensures { Means result (push_byte begun c (state_in m.old)) m.new }
 {
     if !begun {
         tick(m)?;

@@ -89,7 +89,7 @@ pub(crate) fn block<'p, A: Allocator + Copy>(
     ss: &'p [Stmt<A>],
     m: &mut Machine<'p, '_, A>,
 ) -> Result<End, Halted>
-    ensures { MeansEnd result (meaning.scoped (does_stmts source.now frames ss.now) (state_in m.old)) m.new }
+    ensures { MeansEnd result (meaning.in_scope (does_stmts source.now frames ss.now) (state_in m.old)) m.new }
 {
     let outer = m.locals.len();
     let end = stmts(source, frames, ss, m)?;
@@ -105,7 +105,7 @@ pub(crate) fn scoped<'p, A: Allocator + Copy>(
     s: &'p Stmt<A>,
     m: &mut Machine<'p, '_, A>,
 ) -> Result<End, Halted>
-    ensures { MeansEnd result (meaning.scoped (does_stmt source.now frames s.now) (state_in m.old)) m.new }
+    ensures { MeansEnd result (meaning.in_scope (does_stmt source.now frames s.now) (state_in m.old)) m.new }
 {
     let outer = m.locals.len();
     let end = stmt(source, frames, s, m)?;

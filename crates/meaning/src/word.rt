@@ -1,7 +1,7 @@
 //! Values in two registers.
 
 ghost use Rattle.std.specs.Prelude.{◌≡◌, pos};
-ghost use Rattle.syntax.specs.Numbers.{converted, flag as flag_due, is_zero as is_zero_due, word_of};
+ghost use Rattle.syntax.specs.Numbers.{value_in_type, flag as flag_due, is_zero as is_zero_due, word_of};
 ghost use Rattle.meaning.specs.inner.Word.{value_of};
 
 use crate::arithmetic::convert;
@@ -93,7 +93,7 @@ pub(crate) fn flag(b: bool) -> Word
 /// A value of the type, with the number modulo how many numbers the type has.
 #[inline(always)]
 pub(crate) fn convert_word(t: Scalar, w: Word) -> Word
-    ensures { value_of result ≡ converted t (value_of w) }
+    ensures { value_of result ≡ value_in_type t (value_of w) }
 {
     packed(convert(t, unpack(w)))
 }

@@ -3,7 +3,7 @@
 ghost use Rattle.std.specs.Prelude.{◌≡◌, ◌⊎◌, ◌+◌, ◌-◌, ◌<◌, ◌≤◌, ◌^◌, suc, [], ◌∷◌, ◌++◌, true, false, if◌then◌else◌};
 ghost use Rattle.std.specs.Prelude.{OnOk, OnErr, OnSome, length, take, drop, vec_len};
 ghost use Rattle.std.specs.List.{slice_get};
-ghost use Rattle.write_log.specs.Overlay.{written, put};
+ghost use Rattle.write_log.specs.Overlay.{overlay_word, with_write};
 ghost use Rattle.nesting.specs.Nests.{GainsRoom, IsCancelled};
 
 use super::Saved;
@@ -314,7 +314,7 @@ impl<A: Allocator + Copy> Attempt<A> {
         requires { 0 < self.old.write_room }
         ensures begins { self.new.begins ≡ self.old.begins }
         ensures reads { self.new.reads ≡ self.old.reads }
-        ensures writes { self.new.writes ≡ put address word self.old.writes }
+        ensures writes { self.new.writes ≡ with_write address word self.old.writes }
         ensures kept { self.new.kept ≡ self.old.kept }
     {
         self.writes.put(address, word);
@@ -354,7 +354,7 @@ impl<A: Allocator + Copy> Attempt<A> {
     /// The word last written at an address, if any.
     #[inline(always)]
     pub fn written(&self, address: u32) -> Option<u64>
-        ensures { result ≡ written address self.now.writes }
+        ensures { result ≡ overlay_word address self.now.writes }
     {
         self.writes.get(address)
     }

@@ -1,7 +1,7 @@
 -- Each step of an attempt is one of a few kinds, and each kind keeps to each law.
 use Rattle.std.proofs.Common.{◌≡◌, ◌==◌, ◌%◌, ◌-◌, ℕ, suc, Bool, true, false, cond, List, [], ◌∷◌, ◌++◌, Option, None, Some, refl, ◌∙◌, ap, subst, drop, slice_get}
 use Rattle.std.proofs.lemmas.Bool.{eqb-true}
-use Rattle.write_log.specs.Overlay.{written, put}
+use Rattle.write_log.specs.Overlay.{overlay_word, with_write}
 use Rattle.norec_core.specs.declared.step.Op.{Op}
 use Rattle.norec_core.specs.declared.step.Op.TheVariants as op
 use Rattle.norec_core.specs.declared.step.Access.TheVariants.{Swap, StoreWord}
@@ -13,7 +13,7 @@ use Rattle.norec_core.specs.declared.step.Phase.{Phase}
 use Rattle.norec_core.specs.declared.step.Phase.TheVariants.{AtOperation, ReadsLock, ValidatesTime, ValidatesEntry, Stores}
 use Rattle.norec_core.specs.Attempts.{Checkpoint, Attempt}
 use Rattle.norec_core.specs.Phases.{CoreStep, on, store_access, commit_access, phase_access, core_access, core_word, core_read, core_store, core_swap, core_commit, core_cancel, core_operation, core_check, core_time, core_compare, core_phase, core_step}
-use Rattle.norec_core.specs.Laws.{stored}
+use Rattle.norec_core.specs.Laws.{stored_count}
 
 -- what a step of the attempt a, asked for o and answered y, may leave of it
 pub data Kind {S : Type 0} (a : Attempt S) (o : Op) (y : Answer) : Attempt S → Type 0 where
@@ -27,7 +27,7 @@ pub data Kind {S : Type 0} (a : Attempt S) (o : Op) (y : Answer) : Attempt S →
   compares : (time i : ℕ) (p : ℕ × ℕ) → a.phase ≡ ValidatesEntry time i → slice_get a.reads i ≡ Some p → y ≡ Value p.1 → Kind a o y (record a { phase = ValidatesEntry time (suc i) })
   renews : (time i : ℕ) → a.phase ≡ ValidatesEntry time i → slice_get a.reads i ≡ None → y ≡ Value time → Kind a o y (record a { snapshot = time; phase = AtOperation })
   swaps : core_access (Some a) o ≡ Swap a.snapshot → y ≡ Won → Kind a o y (record a { phase = Stores 0 })
-  stores : (p : ℕ × ℕ) → slice_get a.writes (stored a.phase) ≡ Some p → core_access (Some a) o ≡ StoreWord p.0 p.1 → Kind a o y (record a { phase = Stores (suc (stored a.phase)) })
+  stores : (p : ℕ × ℕ) → slice_get a.writes (stored_count a.phase) ≡ Some p → core_access (Some a) o ≡ StoreWord p.0 p.1 → Kind a o y (record a { phase = Stores (suc (stored_count a.phase)) })
 
 -- the kind of a step, phase by phase
 module _ {S : Type 0} (a : Attempt S) (o : Op) (y : Answer) where
@@ -58,7 +58,7 @@ module _ {S : Type 0} (a : Attempt S) (o : Op) (y : Answer) where
   read (Some v) z = goes a stays
   read None z = word a.kept z
 
-  store : (i : ℕ) → stored a.phase ≡ i → core_access (Some a) o ≡ store_access a.snapshot (slice_get a.writes i) → (r : Option (ℕ × ℕ)) → slice_get a.writes i ≡ r → Goes (core_store a i r)
+  store : (i : ℕ) → stored_count a.phase ≡ i → core_access (Some a) o ≡ store_access a.snapshot (slice_get a.writes i) → (r : Option (ℕ × ℕ)) → slice_get a.writes i ≡ r → Goes (core_store a i r)
   store i at e None g = ends
   store i at e (Some p) g = goes (record a { phase = Stores (suc i) })
       (subst (λ (j : ℕ). Kind a o y (record a { phase = Stores (suc j) })) at (stores p (ap (slice_get a.writes) at ∙ g) (e ∙ ap (store_access a.snapshot) g)))
@@ -73,7 +73,7 @@ module _ {S : Type 0} (a : Attempt S) (o : Op) (y : Answer) where
     commit : core_access (Some a) o ≡ commit_access a a.inner a.kept a.writes → (inner : List (Checkpoint S)) → a.inner ≡ inner → (kept : Bool) → a.kept ≡ kept → (ws : List (ℕ × ℕ)) → a.writes ≡ ws → Goes (core_commit a inner kept ws y)
     commit f [] g true h ws w =
         subst (λ (r : Option (ℕ × ℕ)). Goes (core_store a 0 r)) (ap (λ (x : List (ℕ × ℕ)). slice_get x 0) w)
-        (store 0 (ap stored e) (f ∙ ap (λ (x : List (Checkpoint S)). commit_access a x a.kept a.writes) g ∙ ap (λ (x : Bool). commit_access a [] x a.writes) h) (slice_get a.writes 0) refl)
+        (store 0 (ap stored_count e) (f ∙ ap (λ (x : List (Checkpoint S)). commit_access a x a.kept a.writes) g ∙ ap (λ (x : Bool). commit_access a [] x a.writes) h) (slice_get a.writes 0) refl)
     commit f [] g false h [] w = ends
     commit f [] g false h (p ∷ ps) w =
         swap (record a { phase = Stores 0 }) outcome.Going y
@@ -121,8 +121,8 @@ module _ {S : Type 0} (a : Attempt S) (o : Op) (y : Answer) where
 module _ {S : Type 0} (now : S) (a : Attempt S) (y : Answer) where
   operation : a.phase ≡ AtOperation → (o : Op) → Goes a o y (core_operation now a o y)
   operation e op.Begin = goes a _ y _ (works (record a { inner = record { saved = now; writes = a.writes } ∷ a.inner }) refl refl refl e)
-  operation e (op.Read ad) = read a _ y (written ad a.writes) y
-  operation e (op.Write ad v) = goes a _ y _ (works (record a { writes = put ad v a.writes }) refl refl refl e)
+  operation e (op.Read ad) = read a _ y (overlay_word ad a.writes) y
+  operation e (op.Write ad v) = goes a _ y _ (works (record a { writes = with_write ad v a.writes }) refl refl refl e)
   operation e op.Commit = commit a op.Commit y e (ap (λ (q : Phase). phase_access a q op.Commit) e) a.inner refl a.kept refl a.writes refl
   operation e op.Cancel = cancel a op.Cancel y e a.inner a.kept
   operation e (op.CancelOuter n) = cancel a (op.CancelOuter n) y e (drop (n - 1) a.inner) a.kept
@@ -134,7 +134,7 @@ module _ {S : Type 0} (now : S) (a : Attempt S) (y : Answer) where
   phase (ReadsLock v) e o = check a o y v e o refl y refl
   phase ValidatesTime e o = time a o y e y refl
   phase (ValidatesEntry t i) e o = compare a o y t i e (slice_get a.reads i) refl y refl
-  phase (Stores i) e op.Commit = store a op.Commit y i (ap stored e) (ap (λ (q : Phase). phase_access a q op.Commit) e) (slice_get a.writes i) refl
+  phase (Stores i) e op.Commit = store a op.Commit y i (ap stored_count e) (ap (λ (q : Phase). phase_access a q op.Commit) e) (slice_get a.writes i) refl
   phase (Stores i) e op.Begin = goes a _ y a stays
   phase (Stores i) e (op.Read ad) = goes a _ y a stays
   phase (Stores i) e (op.Write ad v) = goes a _ y a stays

@@ -11,9 +11,9 @@ use Rattle.norec_core.specs.declared.step.Outcome.TheVariants as outcome
 use Rattle.norec_core.specs.declared.step.Phase.{Phase}
 use Rattle.norec_core.specs.declared.step.Phase.TheVariants.{AtOperation, ReadsLock, ValidatesTime, ValidatesEntry, Stores}
 use Rattle.norec_core.specs.Attempts.{Checkpoint, Attempt, Completed}
-use Rattle.write_log.specs.Overlay.{written}
+use Rattle.write_log.specs.Overlay.{overlay_word}
 use Rattle.norec_core.specs.Phases.{CoreStep, on, on_snapshot, idle, store_access, read_access, entry_access, commit_access, phase_access, core_access, core_word, core_read, core_store, core_swap, core_commit, core_cancel, core_check, core_time, core_compare, core_operation, core_phase, core_begin}
-use Rattle.norec_core.specs.Laws.{BeginsAtAnEvenLock, SnapshotsAreValidated, EachEntryIsCompared, ReadsAreChecked, EachPairIsStored, TheReleaseComesLast, TakesEffectAtItsSnapshot, stored, left_by}
+use Rattle.norec_core.specs.Laws.{BeginsAtAnEvenLock, SnapshotsAreValidated, EachEntryIsCompared, ReadsAreChecked, EachPairIsStored, TheReleaseComesLast, TakesEffectAtItsSnapshot, stored_count, left_by}
 use Rattle.norec_core.proofs.KindsOfSteps.{Kind, kind}
 use Rattle.norec_core.proofs.KindsOfSteps.Kind.{stays, works, loads, logs, validates, times, compares, renews, swaps, stores}
 
@@ -60,7 +60,7 @@ module _ {S : Type 0} {a : Attempt S} {o : Op} {y : Answer} where
   pair_of : (b : Attempt S) (i : ℕ) → Kind a o y b → b.phase ≡ Stores i →
       (b ≡ a)
       ⊎ ((i ≡ 0) × (core_access (Some a) o ≡ Swap a.snapshot) × (y ≡ Won))
-      ⊎ ((p : ℕ × ℕ) × (i ≡ suc (stored a.phase)) × (slice_get a.writes (stored a.phase) ≡ Some p) × (core_access (Some a) o ≡ StoreWord p.0 p.1))
+      ⊎ ((p : ℕ × ℕ) × (i ≡ suc (stored_count a.phase)) × (slice_get a.writes (stored_count a.phase) ≡ Some p) × (core_access (Some a) o ≡ StoreWord p.0 p.1))
   pair_of b i stays q = inl refl
   pair_of b i (works c first snapshot reads e) q = absurd (cc)
   pair_of b i (loads v) q = absurd (cc)
@@ -70,18 +70,18 @@ module _ {S : Type 0} {a : Attempt S} {o : Op} {y : Answer} where
   pair_of b i (compares t j p e f g) q = absurd (cc)
   pair_of b i (renews t j e f g) q = absurd (cc)
   pair_of b i (swaps e f) q = let z : i ≡ 0 = cc in inr (inl (z, e, f))
-  pair_of b i (stores p e f) q = let z : i ≡ suc (stored a.phase) = cc in inr (inr (p, z, e, f))
+  pair_of b i (stores p e f) q = let z : i ≡ suc (stored_count a.phase) = cc in inr (inr (p, z, e, f))
 
 -- the release, and what takes effect, operation by operation
 module _ {S : Type 0} (a : Attempt S) where
   abbrev Last : Op → ℕ → Type 0
-  Last o value = (value ≡ a.snapshot + 2) × ((slice_get a.writes (stored a.phase) ≡ None) ⊎ ((o ≡ op.Release) × (a.kept ≡ true)))
+  Last o value = (value ≡ a.snapshot + 2) × ((slice_get a.writes (stored_count a.phase) ≡ None) ⊎ ((o ≡ op.Release) × (a.kept ≡ true)))
 
-  past : (o : Op) (value i : ℕ) → stored a.phase ≡ i → (r : Option (ℕ × ℕ)) → slice_get a.writes i ≡ r → store_access a.snapshot r ≡ StoreLock value → Last o value
+  past : (o : Op) (value i : ℕ) → stored_count a.phase ≡ i → (r : Option (ℕ × ℕ)) → slice_get a.writes i ≡ r → store_access a.snapshot r ≡ StoreLock value → Last o value
   past o value i e None f g = let z : value ≡ a.snapshot + 2 = cc in (z, inl (ap (slice_get a.writes) e ∙ f))
   past o value i e (Some p) f g = absurd (cc)
 
-  commits_last : (o : Op) (value : ℕ) → stored a.phase ≡ 0 → (inner : List (Checkpoint S)) (kept : Bool) (ws : List (ℕ × ℕ)) → a.writes ≡ ws → commit_access a inner kept ws ≡ StoreLock value → Last o value
+  commits_last : (o : Op) (value : ℕ) → stored_count a.phase ≡ 0 → (inner : List (Checkpoint S)) (kept : Bool) (ws : List (ℕ × ℕ)) → a.writes ≡ ws → commit_access a inner kept ws ≡ StoreLock value → Last o value
   commits_last o value e [] true ws w g = past o value 0 e (slice_get ws 0) (ap (λ (x : List (ℕ × ℕ)). slice_get x 0) w) g
   commits_last o value e [] false [] w g = absurd (cc)
   commits_last o value e [] false (p ∷ ps) w g = absurd (cc)
@@ -108,7 +108,7 @@ module _ {S : Type 0} (a : Attempt S) where
   releases value AtOperation e op.Begin g = absurd (cc)
   releases value AtOperation e (op.Read ad) g = absurd (no_read value ad _ g)
   releases value AtOperation e (op.Write ad v) g = absurd (cc)
-  releases value AtOperation e op.Commit g = commits_last op.Commit value (ap stored e) a.inner a.kept a.writes refl g
+  releases value AtOperation e op.Commit g = commits_last op.Commit value (ap stored_count e) a.inner a.kept a.writes refl g
   releases value AtOperation e op.Cancel g = absurd (cc)
   releases value AtOperation e (op.CancelOuter n) g = absurd (cc)
   releases value AtOperation e op.Irrevocable g = absurd (no_swap value a.kept g)
@@ -116,7 +116,7 @@ module _ {S : Type 0} (a : Attempt S) where
   releases value (ReadsLock v) e o g = absurd (cc)
   releases value ValidatesTime e o g = absurd (cc)
   releases value (ValidatesEntry t i) e o g = absurd (no_entry value _ g)
-  releases value (Stores i) e o g = past o value i (ap stored e) (slice_get a.writes i) refl g
+  releases value (Stores i) e o g = past o value i (ap stored_count e) (slice_get a.writes i) refl g
 
 -- what takes effect, operation by operation
 module _ {S : Type 0} (now : S) (a : Attempt S) (y : Answer) where
@@ -188,7 +188,7 @@ module _ {S : Type 0} (now : S) (a : Attempt S) (y : Answer) where
 
   at_operation : a.phase ≡ AtOperation → (o : Op) → Completes o (core_operation now a o y)
   at_operation e op.Begin = none _
-  at_operation e (op.Read ad) = no_value _ (written ad a.writes)
+  at_operation e (op.Read ad) = no_value _ (overlay_word ad a.writes)
   at_operation e (op.Write ad v) = none _
   at_operation e op.Commit = commits (ap (λ (q : Phase). phase_access a q op.Commit) e) a.inner refl a.kept refl a.writes refl
   at_operation e op.Cancel = cancels op.Cancel refl (ap (λ (q : Phase). phase_access a q op.Cancel) e) a.inner a.kept refl

@@ -1,6 +1,6 @@
 -- What comes of a step: the attempt goes on, its transaction takes effect, or it is dropped.
 use Rattle.std.proofs.Common.{◌≡◌, ◌==◌, ◌%◌, ◌-◌, ℕ, Bool, true, false, cond, List, [], ◌∷◌, Option, None, Some, refl, drop, slice_get}
-use Rattle.write_log.specs.Overlay.{written}
+use Rattle.write_log.specs.Overlay.{overlay_word}
 use Rattle.norec_core.specs.declared.step.Op.{Op}
 use Rattle.norec_core.specs.declared.step.Op.TheVariants as op
 use Rattle.norec_core.specs.declared.step.Answer.{Answer}
@@ -77,7 +77,7 @@ module _ {S : Type 0} (now : S) (a : Attempt S) where
 
   operation : (o : Op) (z : Answer) → Comes (core_operation now a o z)
   operation op.Begin z = done _
-  operation (op.Read ad) z = read (written ad a.writes) z
+  operation (op.Read ad) z = read (overlay_word ad a.writes) z
   operation (op.Write ad v) z = done _
   operation op.Commit z = commit a.inner a.kept a.writes z
   operation op.Cancel z = cancel a.inner a.kept

@@ -1,7 +1,7 @@
 -- A step of the core under a map of what a begin saves, by cases.
 use Rattle.std.proofs.Common.{◌≡◌, ◌==◌, ◌%◌, ◌-◌, ◌∙◌, ℕ, suc, Bool, true, false, cond, List, [], ◌∷◌, ◌++◌, Option, None, Some, refl, ap, drop, slice_get, map}
 use Rattle.std.proofs.lemmas.List.{drop-map}
-use Rattle.write_log.specs.Overlay.{written}
+use Rattle.write_log.specs.Overlay.{overlay_word}
 use Rattle.norec_core.specs.declared.step.Op.{Op}
 use Rattle.norec_core.specs.declared.step.Op.TheVariants as op
 use Rattle.norec_core.specs.declared.step.Answer.{Answer}
@@ -11,7 +11,7 @@ use Rattle.norec_core.specs.declared.step.Outcome.TheVariants as outcome
 use Rattle.norec_core.specs.declared.step.Phase.{Phase}
 use Rattle.norec_core.specs.declared.step.Phase.TheVariants.{AtOperation, ReadsLock, ValidatesTime, ValidatesEntry, Stores}
 use Rattle.norec_core.specs.Attempts.{Checkpoint, Attempt}
-use Rattle.norec_core.specs.Phases.{CoreStep, on, on_snapshot, dropped, validating, idle, core_word, core_read, core_store, core_swap, core_commit, core_cancel, core_operation, core_check, core_time, core_compare, core_phase, core_begin, core_step, commit_access, operation_access, phase_access, core_access}
+use Rattle.norec_core.specs.Phases.{CoreStep, on, on_snapshot, drop_step, validating, idle, core_word, core_read, core_store, core_swap, core_commit, core_cancel, core_operation, core_check, core_time, core_compare, core_phase, core_begin, core_step, commit_access, operation_access, phase_access, core_access}
 use Rattle.norec_core.specs.Saved.{if_some, checkpoint_as, attempt_as, core_step_as, Commutes}
 
 module _ {S T : Type 0} (f : S → T) where
@@ -98,7 +98,7 @@ module _ {S T : Type 0} (f : S → T) where
 
   operation : (now : S) (a : Attempt S) (o : Op) (x : Answer) → core_operation (f now) (seen a) o x ≡ to (core_operation now a o x)
   operation now a op.Begin x = refl
-  operation now a (op.Read ad) x = read a (written ad a.writes) x
+  operation now a (op.Read ad) x = read a (overlay_word ad a.writes) x
   operation now a (op.Write ad v) x = refl
   operation now a op.Commit x = commit a a.inner a.kept a.writes x
   operation now a op.Cancel x = cancel a a.inner a.kept
@@ -130,7 +130,7 @@ module _ {S T : Type 0} (f : S → T) where
   time a (Lost n) = refl
 
   compare : (a : Attempt S) (t i : ℕ) (o : Option (ℕ × ℕ)) (x : Answer) → core_compare (seen a) t i o x ≡ to (core_compare a t i o x)
-  compare a t i (Some p) (Value w) = choice (w == p.1) (on (record a { phase = ValidatesEntry t (suc i) }) outcome.Going) (dropped a)
+  compare a t i (Some p) (Value w) = choice (w == p.1) (on (record a { phase = ValidatesEntry t (suc i) }) outcome.Going) (drop_step a)
   compare a t i None (Value lock) = choice (lock == t) (on_snapshot (record a { snapshot = t; phase = AtOperation }) outcome.Going) (validating a)
   compare a t i None Done = refl
   compare a t i None Won = refl

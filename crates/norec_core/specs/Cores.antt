@@ -1,7 +1,7 @@
 -- A core as its contracts see it.
 use Rattle.std.specs.Prelude.{◌≡◌, ℕ, Bool, true, false, Option, None, Some, IsSomeAnd}
 use Rattle.std.specs.List.{slice_get}
-use Rattle.write_log.specs.Overlay.{written}
+use Rattle.write_log.specs.Overlay.{overlay_word}
 use Rattle.norec_core.specs.declared.step.Op.{Op}
 use Rattle.norec_core.specs.declared.step.Access.TheVariants.{Local}
 use Rattle.norec_core.specs.declared.step.Answer.{Answer}
@@ -31,12 +31,12 @@ abbrev pub stepped_by : CoreState → Option Op → Answer → CoreStep Saved
 stepped_by c None answer = idle
 stepped_by c (Some op) answer = core_step c.saved c.attempt op answer
 
-abbrev pub stepped : CoreState → Answer → CoreStep Saved
-stepped c answer = stepped_by c c.asked answer
+abbrev pub core_step_with : CoreState → Answer → CoreStep Saved
+core_step_with c answer = stepped_by c c.asked answer
 
 -- a read of this cell loads its word and then the lock
 abbrev pub LoadsBoth : {S : Type 0} → Attempt S → ℕ → Type 0
-LoadsBoth a cell = (a.phase ≡ AtOperation) × (a.kept ≡ false) × (written cell a.writes ≡ None)
+LoadsBoth a cell = (a.phase ≡ AtOperation) × (a.kept ≡ false) × (overlay_word cell a.writes ≡ None)
 
 -- it stands at an operation, and has not the lock
 abbrev pub IsUnlocked : {S : Type 0} → Attempt S → Type 0

@@ -5,7 +5,7 @@ ghost use Rattle.std.specs.Prelude.{IsSomeAnd, IfNone, IfOk, IfSome, OnOk, OnErr
 ghost use Rattle.norec_core.specs.Accesses.{stops};
 ghost use Rattle.norec_core.specs.Phases.{core_access, core_step};
 ghost use Rattle.norec_core.specs.Cores.{CommitsAtOnce, ComparesWith, IsAnswered, IsAskedAgain, IsComparing};
-ghost use Rattle.norec_core.specs.Cores.{IsDoneAtOnce, IsDropped, IsStoring, IsUnlocked, IsWaiting, LoadsBoth, stepped};
+ghost use Rattle.norec_core.specs.Cores.{IsDoneAtOnce, IsDropped, IsStoring, IsUnlocked, IsWaiting, LoadsBoth, core_step_with};
 ghost use Rattle.norec_core.specs.Cores.{stepped_twice, is_kept, has_lock};
 ghost use Rattle.norec_core.specs.declared.step.Answer.{Answer as Reply};
 ghost use Rattle.norec_core.specs.declared.step.Op.{Op as Operation};
@@ -100,9 +100,9 @@ impl<A: Allocator + Copy> Core<A> {
     /// Makes the step that was prepared, with the answer to its access. It takes no memory.
     pub fn told(&mut self, answer: Answer) -> Outcome
         requires { IsAnswered self.old answer }
-        ensures attempt { self.new.attempt ≡ (stepped self.old answer).attempt }
-        ensures outcome { result ≡ (stepped self.old answer).outcome }
-        ensures back { IfSome (stepped self.old answer).back (λ s. self.new.saved ≡ s) }
+        ensures attempt { self.new.attempt ≡ (core_step_with self.old answer).attempt }
+        ensures outcome { result ≡ (core_step_with self.old answer).outcome }
+        ensures back { IfSome (core_step_with self.old answer).back (λ s. self.new.saved ≡ s) }
         ensures asked { self.new.asked ≡ None }
     {
         if self.is_asked {
@@ -117,9 +117,9 @@ impl<A: Allocator + Copy> Core<A> {
     pub fn told_as(&mut self, op: Op, answer: Answer) -> Outcome
         requires asked { self.old.asked ≡ Some op }
         requires answered { IsAnswered self.old answer }
-        ensures attempt { self.new.attempt ≡ (stepped self.old answer).attempt }
-        ensures outcome { result ≡ (stepped self.old answer).outcome }
-        ensures back { IfSome (stepped self.old answer).back (λ s. self.new.saved ≡ s) }
+        ensures attempt { self.new.attempt ≡ (core_step_with self.old answer).attempt }
+        ensures outcome { result ≡ (core_step_with self.old answer).outcome }
+        ensures back { IfSome (core_step_with self.old answer).back (λ s. self.new.saved ≡ s) }
         ensures asked { self.new.asked ≡ None }
     {
         self.is_asked = false;

@@ -2,7 +2,7 @@
 
 ghost use Rattle.std.specs.Prelude.{◌≡◌, ◌≢◌, ◌+◌, ◌-◌, ◌^◌, ◌<◌, ◌≤◌, ℕ, true, false, None, IfNone, IfSome, OnOk};
 ghost use Rattle.std.specs.Prelude.{OnErr, OnSome, drop, length, slice_get};
-ghost use Rattle.write_log.specs.Overlay.{put, written};
+ghost use Rattle.write_log.specs.Overlay.{with_write, overlay_word};
 ghost use Rattle.norec_core.specs.Accesses.{stops};
 ghost use Rattle.norec_core.specs.Phases.{core_access, core_step, core_phase, core_operation, core_read, core_commit};
 ghost use Rattle.norec_core.specs.Phases.{core_cancel, core_store, core_swap, core_check, core_time, core_compare};
@@ -199,7 +199,7 @@ impl<A: Allocator + Copy> Steps<A> {
         requires { 0 < self.old.write_room }
         ensures begun { self.new.begun ≡ self.old.begun }
         ensures attempt { self.new.attempt
-            ≡ record self.old.attempt { writes = put cell word self.old.attempt.writes } }
+            ≡ record self.old.attempt { writes = with_write cell word self.old.attempt.writes } }
     {
         self.logs.write(cell, word);
     }
@@ -453,7 +453,7 @@ impl<A: Allocator + Copy> Steps<A> {
     fn told_read(&mut self, address: u32, answer: Answer) -> Outcome
         requires begun { self.old.begun ≡ true }
         requires phase { self.old.attempt.phase ≡ Phase.AtOperation }
-        ensures { IsStep (core_read self.old.attempt (written address self.old.attempt.writes) answer) result self.new }
+        ensures { IsStep (core_read self.old.attempt (overlay_word address self.old.attempt.writes) answer) result self.new }
     {
         if let Some(word) = self.logs.written(address) {
             return Outcome::Read(word);

@@ -7,8 +7,8 @@
 #![tactic(auto)]
 
 ghost use Rattle.std.specs.Prelude.{◌≡◌, ◌≢◌, ◌≤ℤ◌, ◌<◌, ◌≤◌, ◌^◌, ◌==◌, pos, neg_ℤ, Ok};
-ghost use Rattle.syntax.specs.Numbers.{number as number_in, word_of, bits, residue, fitted, computed, complemented};
-ghost use Rattle.operators.specs.inner.Checked.{checked};
+ghost use Rattle.syntax.specs.Numbers.{number as number_in, word_of, bits, residue, fit_result, operation_result, bitwise_complement};
+ghost use Rattle.operators.specs.inner.Checked.{word_or_trap};
 
 use lex::token::Scalar;
 use syntax::number::number;
@@ -18,7 +18,7 @@ use syntax::tree::BinaryOp;
 /// A result's word, or a trap where a signed one is out of range.
 #[inline(always)]
 fn fit(t: Scalar, z: i64) -> Result<u64, Trap>
-    ensures { result ≡ fitted t z }
+    ensures { result ≡ fit_result t z }
 {
     match t {
         Scalar::Int => {
@@ -36,7 +36,7 @@ fn fit(t: Scalar, z: i64) -> Result<u64, Trap>
 /// The word of a number of any size as a result of a type: a signed one traps outside its range, an unsigned one wraps.
 #[inline(always)]
 fn fit_wide(t: Scalar, z: i128) -> Result<u64, Trap>
-    ensures { result ≡ fitted t z }
+    ensures { result ≡ fit_result t z }
 {
     match t {
         Scalar::Int => {
@@ -60,7 +60,7 @@ fn fit_wide(t: Scalar, z: i128) -> Result<u64, Trap>
 /// The word of a `long long` that a checked operation gives, or a trap where it gives none.
 #[inline(always)]
 fn fit_checked(z: Option<i64>) -> Result<u64, Trap>
-    ensures { result ≡ checked z }
+    ensures { result ≡ word_or_trap z }
 {
     match z {
         Some(z) => Ok(z.cast_unsigned()),
@@ -71,7 +71,7 @@ fn fit_checked(z: Option<i64>) -> Result<u64, Trap>
 /// A sum.
 #[inline(always)]
 pub fn add(t: Scalar, a: u64, b: u64) -> Result<u64, Trap>
-    ensures { result ≡ computed BinaryOp.Add t a b }
+    ensures { result ≡ operation_result BinaryOp.Add t a b }
 {
     match t {
         Scalar::LongLong => fit_checked(number(t, a).checked_add(number(t, b))),
@@ -82,7 +82,7 @@ pub fn add(t: Scalar, a: u64, b: u64) -> Result<u64, Trap>
 /// A difference.
 #[inline(always)]
 pub fn subtract(t: Scalar, a: u64, b: u64) -> Result<u64, Trap>
-    ensures { result ≡ computed BinaryOp.Subtract t a b }
+    ensures { result ≡ operation_result BinaryOp.Subtract t a b }
 {
     match t {
         Scalar::LongLong => fit_checked(number(t, a).checked_sub(number(t, b))),
@@ -121,7 +121,7 @@ fn signed(w: u64) -> i32
 /// The word of an `int`.
 #[inline(always)]
 fn word(z: i32) -> u64
-    ensures { Ok result ≡ fitted Scalar.Int z }
+    ensures { Ok result ≡ fit_result Scalar.Int z }
 {
     u64::from(z.cast_unsigned())
 }
@@ -137,7 +137,7 @@ fn long(w: u64) -> i64
 /// The word of a `long long`.
 #[inline(always)]
 fn long_word(z: i64) -> u64
-    ensures { Ok result ≡ fitted Scalar.LongLong z }
+    ensures { Ok result ≡ fit_result Scalar.LongLong z }
 {
     z.cast_unsigned()
 }
@@ -145,7 +145,7 @@ fn long_word(z: i64) -> u64
 /// A product of two `int`s.
 #[inline(always)]
 fn multiply_signed(a: u64, b: u64) -> Result<u64, Trap>
-    ensures { result ≡ computed BinaryOp.Multiply Scalar.Int a b }
+    ensures { result ≡ operation_result BinaryOp.Multiply Scalar.Int a b }
 {
     match signed(a).checked_mul(signed(b)) {
         Some(z) => Ok(word(z)),
@@ -156,7 +156,7 @@ fn multiply_signed(a: u64, b: u64) -> Result<u64, Trap>
 /// A product of two `long long`s.
 #[inline(always)]
 fn multiply_long(a: u64, b: u64) -> Result<u64, Trap>
-    ensures { result ≡ computed BinaryOp.Multiply Scalar.LongLong a b }
+    ensures { result ≡ operation_result BinaryOp.Multiply Scalar.LongLong a b }
 {
     fit_checked(long(a).checked_mul(long(b)))
 }
@@ -164,7 +164,7 @@ fn multiply_long(a: u64, b: u64) -> Result<u64, Trap>
 /// A product.
 #[inline(always)]
 pub fn multiply(t: Scalar, a: u64, b: u64) -> Result<u64, Trap>
-    ensures { result ≡ computed BinaryOp.Multiply t a b }
+    ensures { result ≡ operation_result BinaryOp.Multiply t a b }
 {
     match t {
         Scalar::Int => multiply_signed(a, b),
@@ -177,7 +177,7 @@ pub fn multiply(t: Scalar, a: u64, b: u64) -> Result<u64, Trap>
 #[inline(always)]
 fn divide_signed(a: u64, b: u64) -> Result<u64, Trap>
     requires divisor { residue Scalar.Int b ≢ 0 }
-    ensures { result ≡ computed BinaryOp.Divide Scalar.Int a b }
+    ensures { result ≡ operation_result BinaryOp.Divide Scalar.Int a b }
 {
     match signed(a).checked_div(signed(b)) {
         Some(z) => Ok(word(z)),
@@ -189,7 +189,7 @@ fn divide_signed(a: u64, b: u64) -> Result<u64, Trap>
 #[inline(always)]
 fn remain_signed(a: u64, b: u64) -> Result<u64, Trap>
     requires divisor { residue Scalar.Int b ≢ 0 }
-    ensures { result ≡ computed BinaryOp.Remainder Scalar.Int a b }
+    ensures { result ≡ operation_result BinaryOp.Remainder Scalar.Int a b }
 {
     match signed(a).checked_rem(signed(b)) {
         Some(z) => Ok(word(z)),
@@ -201,7 +201,7 @@ fn remain_signed(a: u64, b: u64) -> Result<u64, Trap>
 #[inline(always)]
 fn divide_long(a: u64, b: u64) -> Result<u64, Trap>
     requires divisor { residue Scalar.LongLong b ≢ 0 }
-    ensures { result ≡ computed BinaryOp.Divide Scalar.LongLong a b }
+    ensures { result ≡ operation_result BinaryOp.Divide Scalar.LongLong a b }
 {
     fit_checked(long(a).checked_div(long(b)))
 }
@@ -210,7 +210,7 @@ fn divide_long(a: u64, b: u64) -> Result<u64, Trap>
 #[inline(always)]
 fn remain_long(a: u64, b: u64) -> Result<u64, Trap>
     requires divisor { residue Scalar.LongLong b ≢ 0 }
-    ensures { result ≡ computed BinaryOp.Remainder Scalar.LongLong a b }
+    ensures { result ≡ operation_result BinaryOp.Remainder Scalar.LongLong a b }
 {
     match long(a).checked_rem(long(b)) {
         Some(z) => Ok(long_word(z)),
@@ -232,7 +232,7 @@ fn is_zero(t: Scalar, b: u64) -> bool
 /// A quotient.
 #[inline(always)]
 pub fn divide(t: Scalar, a: u64, b: u64) -> Result<u64, Trap>
-    ensures { result ≡ computed BinaryOp.Divide t a b }
+    ensures { result ≡ operation_result BinaryOp.Divide t a b }
 {
     if is_zero(t, b) {
         return Err(Trap::ZeroDivisor);
@@ -247,7 +247,7 @@ pub fn divide(t: Scalar, a: u64, b: u64) -> Result<u64, Trap>
 /// What is left by a division; it traps where the quotient does.
 #[inline(always)]
 pub fn remain(t: Scalar, a: u64, b: u64) -> Result<u64, Trap>
-    ensures { result ≡ computed BinaryOp.Remainder t a b }
+    ensures { result ≡ operation_result BinaryOp.Remainder t a b }
 {
     if is_zero(t, b) {
         return Err(Trap::ZeroDivisor);
@@ -284,7 +284,7 @@ fn power(k: u64) -> i64
 /// A shift to the left.
 #[inline(always)]
 pub fn shift_left(t: Scalar, a: u64, b: u64) -> Result<u64, Trap>
-    ensures { result ≡ computed BinaryOp.ShiftLeft t a b }
+    ensures { result ≡ operation_result BinaryOp.ShiftLeft t a b }
 {
     if b >= bits(t) {
         return Err(Trap::ShiftCount);
@@ -297,7 +297,7 @@ pub fn shift_left(t: Scalar, a: u64, b: u64) -> Result<u64, Trap>
 /// A shift to the right.
 #[inline(always)]
 pub fn shift_right(t: Scalar, a: u64, b: u64) -> Result<u64, Trap>
-    ensures { result ≡ computed BinaryOp.ShiftRight t a b }
+    ensures { result ≡ operation_result BinaryOp.ShiftRight t a b }
 {
     if b >= bits(t) {
         return Err(Trap::ShiftCount);
@@ -312,7 +312,7 @@ pub fn shift_right(t: Scalar, a: u64, b: u64) -> Result<u64, Trap>
 /// Whether two words are equal.
 #[inline(always)]
 pub fn equal(a: u64, b: u64) -> u64
-    ensures { computed BinaryOp.Equal Scalar.Unsigned a b ≡ Ok result }
+    ensures { operation_result BinaryOp.Equal Scalar.Unsigned a b ≡ Ok result }
 {
     u64::from(a == b)
 }
@@ -320,7 +320,7 @@ pub fn equal(a: u64, b: u64) -> u64
 /// Whether two words differ.
 #[inline(always)]
 pub fn not_equal(a: u64, b: u64) -> u64
-    ensures { computed BinaryOp.NotEqual Scalar.Unsigned a b ≡ Ok result }
+    ensures { operation_result BinaryOp.NotEqual Scalar.Unsigned a b ≡ Ok result }
 {
     u64::from(a != b)
 }
@@ -328,7 +328,7 @@ pub fn not_equal(a: u64, b: u64) -> u64
 /// Whether a number is below another.
 #[inline(always)]
 pub fn less(t: Scalar, a: u64, b: u64) -> u64
-    ensures { computed BinaryOp.Less t a b ≡ Ok result }
+    ensures { operation_result BinaryOp.Less t a b ≡ Ok result }
 {
     match t {
         Scalar::Int => u64::from(signed(a) < signed(b)),
@@ -340,7 +340,7 @@ pub fn less(t: Scalar, a: u64, b: u64) -> u64
 /// Whether a number is at most another.
 #[inline(always)]
 pub fn less_equal(t: Scalar, a: u64, b: u64) -> u64
-    ensures { computed BinaryOp.LessEqual t a b ≡ Ok result }
+    ensures { operation_result BinaryOp.LessEqual t a b ≡ Ok result }
 {
     match t {
         Scalar::Int => u64::from(signed(a) <= signed(b)),
@@ -352,7 +352,7 @@ pub fn less_equal(t: Scalar, a: u64, b: u64) -> u64
 /// The number with the other sign.
 #[inline(always)]
 pub fn negate(t: Scalar, a: u64) -> Result<u64, Trap>
-    ensures { result ≡ fitted t (neg_ℤ (number_in t a)) }
+    ensures { result ≡ fit_result t (neg_ℤ (number_in t a)) }
 {
     match t {
         Scalar::Int | Scalar::Unsigned => fit(t, -number(t, a)),
@@ -363,7 +363,7 @@ pub fn negate(t: Scalar, a: u64) -> Result<u64, Trap>
 /// Each bit the other way.
 #[inline(always)]
 pub fn complement(t: Scalar, a: u64) -> u64
-    ensures { result ≡ complemented t a }
+    ensures { result ≡ bitwise_complement t a }
 {
     match t {
         Scalar::Int | Scalar::Unsigned => u64::from(4294967295 - low(a)),
@@ -391,7 +391,7 @@ pub fn lower(a: u64) -> u64
 /// of it, but a function with all of it for each operator would be too large to be put into another.
 #[inline]
 pub fn compute(op: BinaryOp, t: Scalar, a: u64, b: u64) -> Result<u64, Trap>
-    ensures { result ≡ computed op t a b }
+    ensures { result ≡ operation_result op t a b }
 {
     match op {
         BinaryOp::Or => Ok(a | b),

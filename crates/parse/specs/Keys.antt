@@ -5,13 +5,13 @@ use Rattle.std.specs.Hash.DefaultHasher as sip
 use Rattle.lex.specs.Tokens.{Tok, Terminal, name, constant, string_literal, fixed, reserved}
 
 -- what a token adds to the hash: a name its bytes and their end, and any other nothing
-abbrev pub hashed : Terminal → fed.HashWrites
-hashed (name text) = fed.str text
-hashed (constant _ _) = []
-hashed (string_literal _) = []
-hashed (fixed _) = []
-hashed reserved = []
+abbrev pub hash_writes_of : Terminal → fed.HashWrites
+hash_writes_of (name text) = fed.str text
+hash_writes_of (constant _ _) = []
+hash_writes_of (string_literal _) = []
+hash_writes_of (fixed _) = []
+hash_writes_of reserved = []
 
 -- the SipHash of all names among the tokens, in order
 abbrev pub key_of : List Tok → ℕ
-key_of ts = sip.finish (fold sip.write sip.initial (flat_map (λ t. hashed t.terminal) ts))
+key_of ts = sip.finish (fold sip.write sip.initial (flat_map (λ t. hash_writes_of t.terminal) ts))

@@ -8,7 +8,7 @@ ghost use Rattle.lex.specs.declared.token.Punctuator.TheVariants as punct;
 ghost use Rattle.syntax.specs.declared.tree.Attribute.{Attribute};
 ghost use Rattle.syntax.specs.Grammar.{the_attribute, attribute_named};
 ghost use Rattle.parse.specs.inner.Reading.{Gives, take, head, behind, before};
-ghost use Rattle.parse.specs.inner.Items.{words, bracketed, parenthesized, attribute_list, is_plain, attributes};
+ghost use Rattle.parse.specs.inner.Items.{words, bracket_attributes, gnu_attributes, attribute_list, is_plain, attributes};
 
 use crate::cursor::{closed, counted, expect, is_next};
 use crate::fault::Failure;
@@ -100,7 +100,7 @@ fn bracketed<'t, 'a, A: Allocator + Copy>(
     alloc: A,
     tokens: &'t [Token<'a>],
 ) -> Result<Found<'t, 'a, A>, Failure<'t, 'a>>
-    ensures { Gives (λ x. (x.0, toks x.1.now)) result (bracketed (toks tokens.now)) }
+    ensures { Gives (λ x. (x.0, toks x.1.now)) result (bracket_attributes (toks tokens.now)) }
 {
     enclosed(
         alloc,
@@ -115,7 +115,7 @@ fn parenthesized<'t, 'a, A: Allocator + Copy>(
     alloc: A,
     tokens: &'t [Token<'a>],
 ) -> Result<Found<'t, 'a, A>, Failure<'t, 'a>>
-    ensures { Gives (λ x. (x.0, toks x.1.now)) result (parenthesized (toks tokens.now)) }
+    ensures { Gives (λ x. (x.0, toks x.1.now)) result (gnu_attributes (toks tokens.now)) }
 {
     let rest = expect(tokens, Fixed::Keyword(Keyword::Attribute))?;
     enclosed(

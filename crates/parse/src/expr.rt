@@ -8,8 +8,8 @@ ghost use Rattle.lex.specs.declared.token.Punctuator.TheVariants as punct;
 ghost use Rattle.syntax.specs.Tree as E;
 ghost use Rattle.syntax.specs.Depth.{expr_depth, deepest};
 ghost use Rattle.syntax.specs.Views.{expr_of, exprs_of};
-ghost use Rattle.parse.specs.inner.Reading.{Fails, Gives, GivesOp, behind, head, is_other, many_until, mapped, next_op};
-ghost use Rattle.parse.specs.inner.Reading.{sunk, take};
+ghost use Rattle.parse.specs.inner.Reading.{Fails, Gives, GivesOp, behind, head, is_other, many_until, map_parser, next_op};
+ghost use Rattle.parse.specs.inner.Reading.{too_deep_at, take};
 ghost use Rattle.parse.specs.inner.Expressions.{arguments, conditional_at, expr_at, named, opened, operand, operators};
 ghost use Rattle.parse.specs.inner.Expressions.{outcomes, prefixed, starts_expr, the_constant, the_prefix, transaction};
 ghost use Rattle.parse.specs.inner.Expressions.{whole_at};
@@ -42,7 +42,7 @@ pub fn starts_expr(tokens: &[Token]) -> bool
 
 /// Why no expression is read where no depth is left.
 fn sunk<'t, 'a>(tokens: &'t [Token<'a>]) -> Failure<'t, 'a>
-    ensures { Fails result (sunk {A = E.Expr} starts_expr (toks tokens.now)) }
+    ensures { Fails result (too_deep_at {A = E.Expr} starts_expr (toks tokens.now)) }
 {
     if starts_expr(tokens) {
         Failure::Deep(tokens)
@@ -203,7 +203,7 @@ fn extend<'t, 'a, A: Allocator + Copy>(
     requires measured { deep ≡ deepest (exprs_of read) }
     requires shallow { deep ≤ depth }
     ensures value { Gives (λ x. (map expr_of x.0, toks x.2.now)) result
-        (mapped (λ es. map expr_of read ++ es)
+        (map_parser (λ es. map expr_of read ++ es)
         (many_until (is_other (token.Punctuator punct.Comma))
         (behind (token.Punctuator punct.Comma) (whole_at depth)))
         (toks tokens.now)) }

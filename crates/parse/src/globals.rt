@@ -9,7 +9,7 @@ ghost use Rattle.syntax.specs.Tree as Tree;
 ghost use Rattle.syntax.specs.Views.{name_of, global_of, item_of};
 ghost use Rattle.syntax.specs.Grammar.{the_length};
 ghost use Rattle.parse.specs.inner.Reading.{Gives, take, before, behind};
-ghost use Rattle.parse.specs.inner.Items.{the_placed_value, initialiser, first_value, first_values, sized, global};
+ghost use Rattle.parse.specs.inner.Items.{the_placed_value, initialiser, first_value, first_values, global_tail, global};
 ghost use Rattle.parse.specs.inner.Items.{value_list, several, globals_from};
 
 use crate::cursor::{closed, eat, expect, is_next, name, spot};
@@ -161,7 +161,7 @@ fn sized<'t, 'a, A: Allocator + Copy>(
     alloc: A,
     tokens: &'t [Token<'a>],
 ) -> Result<Sized<'t, 'a, A>, Failure<'t, 'a>>
-    ensures { Gives (λ x. ((x.0.0, x.0.1), toks x.1.now)) result (sized (toks tokens.now)) }
+    ensures { Gives (λ x. ((x.0.0, x.0.1), toks x.1.now)) result (global_tail (toks tokens.now)) }
 {
     if !is_next(tokens, Fixed::Punctuator(Punctuator::OpenBracket)) {
         let (first, rest) = first_value(alloc, tokens)?;

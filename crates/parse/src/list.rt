@@ -4,7 +4,7 @@ ghost use Rattle.std.specs.Prelude.{◌≡◌, [], ◌∷◌, ◌++◌, map, IfO
 ghost use Rattle.lex.specs.Tokens.{toks};
 ghost use Rattle.lex.specs.declared.token.Fixed.TheVariants as token;
 ghost use Rattle.lex.specs.declared.token.Punctuator.TheVariants as punct;
-ghost use Rattle.parse.specs.inner.Reading.{Gives, Parser, behind, is_other, listed, many_until, mapped};
+ghost use Rattle.parse.specs.inner.Reading.{Gives, Parser, behind, is_other, comma_list, many_until, map_parser};
 
 use crate::cursor::{counted, eat, is_next};
 use crate::fault::Failure;
@@ -46,7 +46,7 @@ pub fn further<'t, 'a, T: Drop, E: Element<T>, A: Allocator>(
 ) -> Result<(Items<T, A>, &'t [Token<'a>]), Failure<'t, 'a>>
     requires { E.can element.now }
     ensures { Gives (λ x. (map E.plain x.0, toks x.1.now)) result
-        (mapped (λ xs. map E.plain read ++ xs)
+        (map_parser (λ xs. map E.plain read ++ xs)
         (many_until (is_other (token.Punctuator punct.Comma))
         (behind (token.Punctuator punct.Comma) (E.reads element.now)))
         (toks tokens.now)) }
@@ -74,7 +74,7 @@ pub fn listed<'t, 'a, T: Drop, E: Element<T>, A: Allocator + Copy>(
     tokens: &'t [Token<'a>],
 ) -> Result<(Items<T, A>, &'t [Token<'a>]), Failure<'t, 'a>>
     requires { E.can element.now }
-    ensures { Gives (λ x. (map E.plain x.0, toks x.1.now)) result (listed (E.reads element.now) (toks tokens.now)) }
+    ensures { Gives (λ x. (map E.plain x.0, toks x.1.now)) result (comma_list (E.reads element.now) (toks tokens.now)) }
 {
     let (first, rest) = element.read(tokens)?;
     let all = one(alloc, first)?;

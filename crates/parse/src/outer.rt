@@ -4,7 +4,7 @@ ghost use Rattle.std.specs.Prelude.{◌≡◌, bytes_eq, codes};
 ghost use Rattle.lex.specs.Tokens.{toks};
 ghost use Rattle.syntax.specs.Grammar.{the_outer};
 ghost use Rattle.parse.specs.inner.Reading.{Gives, head, take};
-ghost use Rattle.parse.specs.inner.Statements.{enclosed_outer, is_marked, marked, outer_mark};
+ghost use Rattle.parse.specs.inner.Statements.{enclosed_outer, begins_outer_attribute, outer_attribute_if_any, outer_attribute};
 
 use crate::cursor::{expect, is_next};
 use crate::fault::Failure;
@@ -54,7 +54,7 @@ fn enclosed<'t, 'a>(
 
 /// `[[ outer ]]` or `__attribute__ (( outer ))`
 fn outer_mark<'t, 'a>(tokens: &'t [Token<'a>]) -> Result<&'t [Token<'a>], Failure<'t, 'a>>
-    ensures { Gives (λ x. (tt, toks x.now)) result (outer_mark (toks tokens.now)) }
+    ensures { Gives (λ x. (tt, toks x.now)) result (outer_attribute (toks tokens.now)) }
 {
     if is_next(tokens, Fixed::Punctuator(Punctuator::OpenBracket)) {
         return enclosed(
@@ -73,7 +73,7 @@ fn outer_mark<'t, 'a>(tokens: &'t [Token<'a>]) -> Result<&'t [Token<'a>], Failur
 
 /// Whether a mark begins here.
 fn is_marked(tokens: &[Token]) -> bool
-    ensures { result ≡ is_marked (head (toks tokens.now)) }
+    ensures { result ≡ begins_outer_attribute (head (toks tokens.now)) }
 {
     is_next(tokens, Fixed::Punctuator(Punctuator::OpenBracket))
         || is_next(tokens, Fixed::Keyword(Keyword::Attribute))
@@ -81,7 +81,7 @@ fn is_marked(tokens: &[Token]) -> bool
 
 /// `[outer_mark]`: whether it stands here.
 pub fn marked<'t, 'a>(tokens: &'t [Token<'a>]) -> Result<(bool, &'t [Token<'a>]), Failure<'t, 'a>>
-    ensures { Gives (λ x. (x.0, toks x.1.now)) result (marked (toks tokens.now)) }
+    ensures { Gives (λ x. (x.0, toks x.1.now)) result (outer_attribute_if_any (toks tokens.now)) }
 {
     if !is_marked(tokens) {
         return Ok((false, tokens));

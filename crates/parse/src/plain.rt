@@ -8,7 +8,7 @@ ghost use Rattle.lex.specs.Tokens.{toks};
 ghost use Rattle.syntax.specs.Tree.{Empty, Do, Break, Continue};
 ghost use Rattle.syntax.specs.Views.{expr_of, stmt_of};
 ghost use Rattle.syntax.specs.Grammar.{the_text};
-ghost use Rattle.parse.specs.inner.Reading.{Gives, take, mapped, before, expect, spot};
+ghost use Rattle.parse.specs.inner.Reading.{Gives, take, map_parser, before, expect, spot};
 ghost use Rattle.parse.specs.inner.Statements.{simple_at, printed, print_stmt, cancel_stmt, return_stmt};
 
 use crate::cursor::{closed, expect, spot};
@@ -27,7 +27,7 @@ pub fn empty_stmt<'t, 'a, A: Allocator + Copy>(
     tokens: &'t [Token<'a>],
 ) -> Result<(Stmt<A>, &'t [Token<'a>]), Failure<'t, 'a>>
     ensures { Gives (λ x. (stmt_of x.0, toks x.1.now)) result
-        (mapped (λ _. Empty) (expect (token.Punctuator punct.Semicolon)) (toks tokens.now)) }
+        (map_parser (λ _. Empty) (expect (token.Punctuator punct.Semicolon)) (toks tokens.now)) }
 {
     let rest = expect(tokens, Fixed::Punctuator(Punctuator::Semicolon))?;
     Ok((Stmt::Empty, rest))
@@ -41,7 +41,7 @@ pub fn simple_stmt<'t, 'a, A: Allocator + Copy>(
 ) -> Result<(Stmt<A>, &'t [Token<'a>]), Failure<'t, 'a>>
     requires { depth < 2 ^ 32 }
     ensures { Gives (λ x. (stmt_of x.0, toks x.1.now)) result
-        (mapped Do (before (token.Punctuator punct.Semicolon) (simple_at depth)) (toks tokens.now)) }
+        (map_parser Do (before (token.Punctuator punct.Semicolon) (simple_at depth)) (toks tokens.now)) }
 {
     let (simple, rest) = simple_before(
         alloc,
@@ -122,7 +122,7 @@ pub fn break_stmt<'t, 'a, A: Allocator + Copy>(
     tokens: &'t [Token<'a>],
 ) -> Result<(Stmt<A>, &'t [Token<'a>]), Failure<'t, 'a>>
     ensures { Gives (λ x. (stmt_of x.0, toks x.1.now)) result
-        (mapped Break (before (token.Punctuator punct.Semicolon) (spot (token.Keyword key.Break))) (toks tokens.now)) }
+        (map_parser Break (before (token.Punctuator punct.Semicolon) (spot (token.Keyword key.Break))) (toks tokens.now)) }
 {
     let (at, rest) = alone(tokens, Fixed::Keyword(Keyword::Break))?;
     Ok((Stmt::Break(at), rest))
@@ -133,7 +133,7 @@ pub fn continue_stmt<'t, 'a, A: Allocator + Copy>(
     tokens: &'t [Token<'a>],
 ) -> Result<(Stmt<A>, &'t [Token<'a>]), Failure<'t, 'a>>
     ensures { Gives (λ x. (stmt_of x.0, toks x.1.now)) result
-        (mapped Continue (before (token.Punctuator punct.Semicolon) (spot (token.Keyword key.Continue)))
+        (map_parser Continue (before (token.Punctuator punct.Semicolon) (spot (token.Keyword key.Continue)))
         (toks tokens.now)) }
 {
     let (at, rest) = alone(tokens, Fixed::Keyword(Keyword::Continue))?;

@@ -8,7 +8,7 @@ ghost use Rattle.lex.specs.Tokens.{toks};
 ghost use Rattle.syntax.specs.Tree as Tree;
 ghost use Rattle.syntax.specs.Views.{expr_of, simple_of, declarator_of, declaration_of, start_of};
 ghost use Rattle.syntax.specs.Grammar.{assigning_of, the_assigning, the_step};
-ghost use Rattle.parse.specs.inner.Reading.{Gives, head, behind, before, listed, perhaps, unless};
+ghost use Rattle.parse.specs.inner.Reading.{Gives, head, behind, before, comma_list, perhaps, unless};
 ghost use Rattle.parse.specs.inner.Expressions.{whole_at};
 ghost use Rattle.parse.specs.inner.Statements.{GivesToken, simple_from, simple, starts_simple, simple_at, declarator};
 ghost use Rattle.parse.specs.inner.Statements.{declaration, declaration_at, start};
@@ -224,7 +224,7 @@ fn declarators<'t, 'a, A: Allocator + Copy>(
 ) -> Result<(Items<Declarator<A>, A>, &'t [Token<'a>]), Failure<'t, 'a>>
     requires { depth < 2 ^ 32 }
     ensures { Gives (λ x. (map declarator_of x.0, toks x.1.now)) result
-        (before (token.Punctuator punct.Semicolon) (listed (declarator (whole_at depth))) (toks tokens.now)) }
+        (before (token.Punctuator punct.Semicolon) (comma_list (declarator (whole_at depth))) (toks tokens.now)) }
 {
     let each = EachDeclarator { alloc, depth };
     closed(

@@ -7,7 +7,7 @@ ghost use Rattle.lex.specs.declared.token.Keyword.TheVariants as key;
 ghost use Rattle.lex.specs.declared.token.Punctuator.TheVariants as punct;
 ghost use Rattle.lex.specs.Tokens.{toks};
 ghost use Rattle.syntax.specs.Views.{expr_of, simple_of, start_of, stmt_of};
-ghost use Rattle.parse.specs.inner.Reading.{Gives, GivesOn, expect, head, mapped, perhaps, behind};
+ghost use Rattle.parse.specs.inner.Reading.{Gives, GivesOn, expect, head, map_parser, perhaps, behind};
 ghost use Rattle.parse.specs.inner.Expressions.{whole_at};
 ghost use Rattle.parse.specs.inner.Headings.{branches_of};
 ghost use Rattle.parse.specs.inner.Statements.{in_parens, entry, branches, if_tree, if_stmt, while_stmt, do_stmt};
@@ -218,7 +218,7 @@ fn do_of<'t, 'a, A: Allocator + Copy>(
 ) -> Result<(Stmt<A>, &'t [Token<'a>]), Failure<'t, 'a>>
     requires { depth < 2 ^ 32 }
     ensures { Gives (λ x. (stmt_of x.0, toks x.1.now)) result
-        (mapped (DoWhile (stmt_of body)) (end_of_do depth) (toks tokens.now)) }
+        (map_parser (DoWhile (stmt_of body)) (end_of_do depth) (toks tokens.now)) }
 {
     match end_of_do(alloc, tokens, depth) {
         Ok((condition, rest)) => Ok((Stmt::DoWhile(body, condition), rest)),

@@ -7,7 +7,7 @@ use Rattle.bytecode.specs.declared.instr.Instr.{Instr}
 use Rattle.picked.specs.declared.held.Tested.{Tested}
 use Rattle.picked.specs.declared.draft.Draft.{Draft}
 use Rattle.picked.specs.declared.draft.Draft.TheVariants as draft
-use Rattle.picked.specs.Conditions.{Condition, test_in, jump_if, jump_if_not, completed, turned, led_on, short_jump, going_on, going_back, first_of}
+use Rattle.picked.specs.Conditions.{Condition, test_in, jump_if, jump_if_not, instruction_of_draft, opposite_draft, led_on, short_jump, going_on, going_back, first_of}
 
 pub opposite_if : (b : Bool) (r to : ℕ) → jump_if (not b) r to ≡ jump_if_not b r to
 opposite_if true r to = refl
@@ -17,60 +17,60 @@ pub opposite_if_not : (b : Bool) (r to : ℕ) → jump_if_not (not b) r to ≡ j
 opposite_if_not true r to = refl
 opposite_if_not false r to = refl
 
-pub whole_are : (m u : ℕ) (is : List Instr) → map (completed m u) (map draft.Whole is) ≡ is
+pub whole_are : (m u : ℕ) (is : List Instr) → map (instruction_of_draft m u) (map draft.Whole is) ≡ is
 whole_are m u [] = refl
 whole_are m u (i ∷ is) = ap (λ xs. i ∷ xs) (whole_are m u is)
 
-turned_one : (m u : ℕ) (d : Draft) → completed m u (turned d) ≡ completed u m d
+turned_one : (m u : ℕ) (d : Draft) → instruction_of_draft m u (opposite_draft d) ≡ instruction_of_draft u m d
 turned_one m u (draft.Whole i) = refl
 turned_one m u (draft.ToMet z r) = refl
 turned_one m u (draft.ToUnmet z r) = refl
 
-pub turned_are : (m u : ℕ) (ds : List Draft) → map (completed m u) (map turned ds) ≡ map (completed u m) ds
+pub turned_are : (m u : ℕ) (ds : List Draft) → map (instruction_of_draft m u) (map opposite_draft ds) ≡ map (instruction_of_draft u m) ds
 turned_are m u [] = refl
 turned_are m u (d ∷ ds) = λ j. turned_one m u d j ∷ turned_are m u ds j
 
-and_one : (next m u : ℕ) (d : Draft) → completed m u (led_on AndThen next d) ≡ completed next u d
+and_one : (next m u : ℕ) (d : Draft) → instruction_of_draft m u (led_on AndThen next d) ≡ instruction_of_draft next u d
 and_one next m u (draft.Whole i) = refl
 and_one next m u (draft.ToMet z r) = refl
 and_one next m u (draft.ToUnmet z r) = refl
 
-or_one : (next m u : ℕ) (d : Draft) → completed m u (led_on OrElse next d) ≡ completed m next d
+or_one : (next m u : ℕ) (d : Draft) → instruction_of_draft m u (led_on OrElse next d) ≡ instruction_of_draft m next d
 or_one next m u (draft.Whole i) = refl
 or_one next m u (draft.ToMet z r) = refl
 or_one next m u (draft.ToUnmet z r) = refl
 
-and_are : (next m u : ℕ) (ds : List Draft) → map (completed m u) (map (led_on AndThen next) ds) ≡ map (completed next u) ds
+and_are : (next m u : ℕ) (ds : List Draft) → map (instruction_of_draft m u) (map (led_on AndThen next) ds) ≡ map (instruction_of_draft next u) ds
 and_are next m u [] = refl
 and_are next m u (d ∷ ds) = λ j. and_one next m u d j ∷ and_are next m u ds j
 
-or_are : (next m u : ℕ) (ds : List Draft) → map (completed m u) (map (led_on OrElse next) ds) ≡ map (completed m next) ds
+or_are : (next m u : ℕ) (ds : List Draft) → map (instruction_of_draft m u) (map (led_on OrElse next) ds) ≡ map (instruction_of_draft m next) ds
 or_are next m u [] = refl
 or_are next m u (d ∷ ds) = λ j. or_one next m u d j ∷ or_are next m u ds j
 
 -- a first condition leads on to the second one, or past it
-pub first_and : (m u : ℕ) (a : Condition) → map (completed m u) (first_of AndThen a) ≡ going_on a.code (test_in a) u
+pub first_and : (m u : ℕ) (a : Condition) → map (instruction_of_draft m u) (first_of AndThen a) ≡ going_on a.code (test_in a) u
 first_and m u a =
-    map-append (completed m u) (map (led_on AndThen (a.to + 1)) a.code) (short_jump AndThen (test_in a) ∷ [])
+    map-append (instruction_of_draft m u) (map (led_on AndThen (a.to + 1)) a.code) (short_jump AndThen (test_in a) ∷ [])
     ∙ (λ j. and_are (a.to + 1) m u a.code j ++ opposite_if a.at_zero a.register u j ∷ [])
 
-pub first_or : (m u : ℕ) (a : Condition) → map (completed m u) (first_of OrElse a) ≡ going_back a.code (test_in a) m
+pub first_or : (m u : ℕ) (a : Condition) → map (instruction_of_draft m u) (first_of OrElse a) ≡ going_back a.code (test_in a) m
 first_or m u a =
-    map-append (completed m u) (map (led_on OrElse (a.to + 1)) a.code) (short_jump OrElse (test_in a) ∷ [])
+    map-append (instruction_of_draft m u) (map (led_on OrElse (a.to + 1)) a.code) (short_jump OrElse (test_in a) ∷ [])
     ∙ (λ j. or_are (a.to + 1) m u a.code j ++ jump_if a.at_zero a.register m ∷ [])
 
-pub completed_length : (m u : ℕ) (ds : List Draft) → length (map (completed m u) ds) ≡ length ds
-completed_length m u ds = length-map ds (completed m u)
+pub completed_length : (m u : ℕ) (ds : List Draft) → length (map (instruction_of_draft m u) ds) ≡ length ds
+completed_length m u ds = length-map ds (instruction_of_draft m u)
 
 pub on_length : (ds : List Draft) (t : Tested) (u : ℕ) → length (going_on ds t u) ≡ length ds + 1
 on_length ds t u =
-    let a : length (going_on ds t u) ≡ length (map (completed (t.to + 1) u) ds) + 1 = length-append (map (completed (t.to + 1) u) ds) (jump_if_not t.at_zero t.register u ∷ []) in
+    let a : length (going_on ds t u) ≡ length (map (instruction_of_draft (t.to + 1) u) ds) + 1 = length-append (map (instruction_of_draft (t.to + 1) u) ds) (jump_if_not t.at_zero t.register u ∷ []) in
     let b = completed_length (t.to + 1) u ds in
     omega (arith, a, b)
 
 pub back_length : (ds : List Draft) (t : Tested) (m : ℕ) → length (going_back ds t m) ≡ length ds + 1
 back_length ds t m =
-    let a : length (going_back ds t m) ≡ length (map (completed m (t.to + 1)) ds) + 1 = length-append (map (completed m (t.to + 1)) ds) (jump_if t.at_zero t.register m ∷ []) in
+    let a : length (going_back ds t m) ≡ length (map (instruction_of_draft m (t.to + 1)) ds) + 1 = length-append (map (instruction_of_draft m (t.to + 1)) ds) (jump_if t.at_zero t.register m ∷ []) in
     let b = completed_length m (t.to + 1) ds in
     omega (arith, a, b)
 

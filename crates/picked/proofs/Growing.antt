@@ -8,17 +8,17 @@ use Rattle.syntax.specs.Numbers.{common, operand_type}
 use Rattle.syntax.specs.Names.{newest, global_of, GlobalCells}
 use Rattle.bytecode.specs.declared.instr.Instr.{Instr}
 use Rattle.bytecode.specs.declared.instr.Instr.TheVariants as own
-use Rattle.lowered.specs.Expressions.{LocalScope, types_left, arranged}
+use Rattle.lowered.specs.Expressions.{LocalScope, types_left, argument_order}
 use Rattle.picked.specs.declared.held.Held.{Held}
-use Rattle.picked.specs.Lists.{Lists, used, holding}
+use Rattle.picked.specs.Lists.{Lists, with_register, holding}
 use Rattle.picked.specs.Names.{Callee, callee_of}
 use Rattle.picked.specs.Conditions.{Condition, zero_test, zero_tested}
-use Rattle.picked.specs.Expressions.{Emitted, AllEmitted, above, then_one, compared, settled, converting, constant_ready, ready_or, converted_by, in_type, in_first_type, variable, element, called, tested, where_same, taken_types, emitted_type, emitted, due, operand, own_condition, condition, all_emitted}
+use Rattle.picked.specs.Expressions.{Emitted, AllEmitted, above, then_one, logical_negation, value_into, converting, constant_ready, ready_or, converted_by, in_type, in_first_type, variable, element, call_code, condition_of, where_same, taken_types, emitted_type, emitted, due, operand, own_condition, condition, all_emitted}
 
 max_left : (a b : ℕ) → a ≤ max a b
 max_left a b = grind arith
 
-pub used_more : (r : ℕ) (l : Lists) → l.registers ≤ (used r l).registers
+pub used_more : (r : ℕ) (l : Lists) → l.registers ≤ (with_register r l).registers
 used_more r l = max_left l.registers (suc r)
 
 pub holding_more : (n : ℕ) (l : Lists) → l.registers ≤ (holding n l).registers
@@ -33,25 +33,25 @@ pub element_more : (g : Option GlobalCells) (i : Emitted) (from into : ℕ) (l :
 element_more (Some g) i from into l h = let a = used_more into i.lists in omega (arith, h, a)
 element_more None i from into l h = used_more into l
 
-called_more : (f : Option Callee) (args : AllEmitted) (from into : ℕ) (l : Lists) → l.registers ≤ args.lists.registers → l.registers ≤ (called f args from into l).lists.registers
+called_more : (f : Option Callee) (args : AllEmitted) (from into : ℕ) (l : Lists) → l.registers ≤ args.lists.registers → l.registers ≤ (call_code f args from into l).lists.registers
 called_more None args from into l h = used_more into l
 called_more (Some f) args from into l h =
-    let n = length (arranged f.parameters args.registers) in
+    let n = length (argument_order f.parameters args.registers) in
     let a = max_left args.lists.registers n in
     let b = max_left (max args.lists.registers n) (suc into) in
     omega (arith, h, a, b)
 
-pub settled_more : (r : ℕ) (e : Emitted) → e.lists.registers ≤ (settled r e).lists.registers
+pub settled_more : (r : ℕ) (e : Emitted) → e.lists.registers ≤ (value_into r e).lists.registers
 settled_more r e = by (e.held.register == r)
   where
     by : (b : Bool) → e.lists.registers ≤ (if b then e else then_one e (own.Move r e.held.register) r e.held.of).lists.registers
     by true = omega arith
     by false = used_more r e.lists
 
-pub compared_more : (e : Emitted) (into free : ℕ) → e.lists.registers ≤ (compared e into free).lists.registers
+pub compared_more : (e : Emitted) (into free : ℕ) → e.lists.registers ≤ (logical_negation e into free).lists.registers
 compared_more e into free =
     let a = used_more (above free e.held.register) e.lists in
-    let b = used_more into (used (above free e.held.register) e.lists) in
+    let b = used_more into (with_register (above free e.held.register) e.lists) in
     omega (arith, a, b)
 
 pub ready_more : (o : Option Held) (l : Lists) (e : Emitted) → l.registers ≤ e.lists.registers → l.registers ≤ (ready_or o l e).lists.registers
@@ -73,7 +73,7 @@ in_first_more s (u ∷ us) e' e from into l h = in_type_more s u e' e from into 
 abbrev HasMore : Lists → Condition → Type 0
 HasMore l c = l.registers ≤ c.lists.registers
 
-tested_more : (l : Lists) (o : Option Condition) (e : Emitted) → IfSome o (HasMore l) → l.registers ≤ e.lists.registers → l.registers ≤ (tested o e).lists.registers
+tested_more : (l : Lists) (o : Option Condition) (e : Emitted) → IfSome o (HasMore l) → l.registers ≤ e.lists.registers → l.registers ≤ (condition_of o e).lists.registers
 tested_more l None e h k = k
 tested_more l (Some c) e h k = h
 
@@ -105,7 +105,7 @@ module _ (p : Program) (scope : LocalScope) where
         let made = emitted p scope e from free free l in
         let a = emitted_more e from free free l in
         let b = used_more (above free made.held.register) made.lists in
-        let c = used_more into (used (above free made.held.register) made.lists) in
+        let c = used_more into (with_register (above free made.held.register) made.lists) in
         omega (arith, a, b, c)
     emitted_more (Unary Complement e at) from into free l =
         let a = emitted_more e from free free l in let b = used_more into (emitted p scope e from free free l).lists in omega (arith, a, b)
@@ -133,13 +133,13 @@ module _ (p : Program) (scope : LocalScope) where
         let t = common (emitted_type p scope a) (emitted_type p scope b) in
         let made = emitted p scope a (test.to + 1) into free test.lists in
         let first = due p scope t a (test.to + 1) into free test.lists in
-        let next = (settled into first).held.to + 1 in
-        let other = emitted p scope b next into free (settled into first).lists in
-        let second = due p scope t b next into free (settled into first).lists in
+        let next = (value_into into first).held.to + 1 in
+        let other = emitted p scope b next into free (value_into into first).lists in
+        let second = due p scope t b next into free (value_into into first).lists in
         let u = by_parts c from free l (own_more c from free l) (emitted_more c from free free l) in
         let v = in_type_more (emitted_type p scope a) t a made (test.to + 1) into test.lists (emitted_more a (test.to + 1) into free test.lists) in
         let w = settled_more into first in
-        let x = in_type_more (emitted_type p scope b) t b other next into (settled into first).lists (emitted_more b next into free (settled into first).lists) in
+        let x = in_type_more (emitted_type p scope b) t b other next into (value_into into first).lists (emitted_more b next into free (value_into into first).lists) in
         let y = settled_more into second in
         omega (arith, u, v, w, x, y)
     emitted_more (InTransaction mode keyword e at) from into free l = emitted_more e (from + 1) into free l

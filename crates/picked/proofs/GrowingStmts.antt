@@ -13,9 +13,9 @@ use Rattle.lowered.specs.Statements.{with_local, locals_of_start, locals_after}
 use Rattle.picked.specs.declared.held.Target.{Target}
 use Rattle.picked.specs.declared.held.Target.TheVariants as target
 use Rattle.picked.specs.declared.held.Exits.{Exits}
-use Rattle.picked.specs.Lists.{Lists, used}
+use Rattle.picked.specs.Lists.{Lists, with_register}
 use Rattle.picked.specs.Expressions.{Emitted, above, converting, converted_by, both, constant, ready, emitted_type, emitted, all_emitted, condition}
-use Rattle.picked.specs.Simples.{nothing_written, one_written, variable_target, element_target, aimed, above_target, fetched, home_or, stored, type_at, taking, expr_fitting, value_or_one, type_or_int, changed, assigned, adjusted, simple_written, first_written, declarator_written, declared_written, start_written}
+use Rattle.picked.specs.Simples.{nothing_written, one_written, variable_target, element_target, aimed, above_target, target_value, home_or, target_store, type_at, taking, expr_fitting, value_or_one, type_or_int, changed, assigned, adjusted, simple_written, first_written, declarator_written, declared_written, start_written}
 use Rattle.picked.specs.Statements.{in_transaction, looping, pieces_written, for_test, for_step, written, all_written}
 use Rattle.picked.proofs.Growing.{used_more, ready_more, converted_more, emitted_more, due_more, operand_more, all_more, condition_more}
 
@@ -28,13 +28,13 @@ element_more : (check : Bool) (g : Option GlobalCells) (i : Emitted) (from : ℕ
 element_more check (Some g) i from l h = h
 element_more check None i from l h = omega arith
 
-pub fetched_more : (t : Target) (from free : ℕ) (l : Lists) → l.registers ≤ (fetched t from free l).lists.registers
+pub fetched_more : (t : Target) (from free : ℕ) (l : Lists) → l.registers ≤ (target_value t from free l).lists.registers
 fetched_more (target.Local i t) from free l = used_more i l
 fetched_more (target.Cell c t) from free l = used_more free l
 fetched_more (target.Element i c n t) from free l = used_more free l
 fetched_more target.Nowhere from free l = used_more free l
 
-pub stored_same : (t : Target) (a from : ℕ) (l : Lists) → (stored t a from l).lists.registers ≡ l.registers
+pub stored_same : (t : Target) (a from : ℕ) (l : Lists) → (target_store t a from l).lists.registers ≡ l.registers
 stored_same (target.Local i t) a from l = by (a == i)
   where
     by : (b : Bool) → (if b then nothing_written from l else one_written (own.Move i a) from l).lists.registers ≡ l.registers
@@ -81,7 +81,7 @@ module _ (p : Program) (scope : LocalScope) where
   changed_more op by t from free l =
       let s = type_at t in
       let u = operand_type op s (type_or_int p scope by) in
-      let first = fetched t from free l in
+      let first = target_value t from free l in
       let old = converted_by (converting s u) u first free in
       let v = operand_type op (type_or_int p scope by) s in
       let other = value_or_one p scope v by old.held.to (above free old.held.register) old.lists in
@@ -123,7 +123,7 @@ module _ (p : Program) where
   pub declarator_more : (t : Scalar) (d : Declarator) (scope : LocalScope) (from : ℕ) (l : Lists) → l.registers ≤ (declarator_written p t d scope from l).lists.registers
   declarator_more t d scope from l =
       let a = used_more (length scope) l in
-      let b = first_more (with_local scope d.name.text t) (length scope) t d.first (from + 1) (used (length scope) l) in
+      let b = first_more (with_local scope d.name.text t) (length scope) t d.first (from + 1) (with_register (length scope) l) in
       omega (arith, a, b)
 
   pub declared_more : (t : Scalar) (ds : List Declarator) (scope : LocalScope) (from : ℕ) (l : Lists) → l.registers ≤ (declared_written p t ds scope from l).lists.registers

@@ -14,9 +14,9 @@ use Rattle.lowered.specs.Statements.{with_local, locals_of_start, locals_after}
 use Rattle.picked.specs.declared.held.Target.{Target}
 use Rattle.picked.specs.declared.held.Target.TheVariants as target
 use Rattle.picked.specs.declared.held.Exits.{Exits}
-use Rattle.picked.specs.Lists.{Lists, used}
+use Rattle.picked.specs.Lists.{Lists, with_register}
 use Rattle.picked.specs.Expressions.{Emitted, above, constant, ready, converting, converted_by, both, emitted_type, emitted, due, all_emitted, condition}
-use Rattle.picked.specs.Simples.{nothing_written, one_written, variable_target, element_target, aimed, above_target, fetched, home_or, stored, type_at, taking, expr_fitting, value_or_one, type_or_int, changed, assigned, adjusted, simple_written, first_written, declarator_written, declared_written, start_written}
+use Rattle.picked.specs.Simples.{nothing_written, one_written, variable_target, element_target, aimed, above_target, target_value, home_or, target_store, type_at, taking, expr_fitting, value_or_one, type_or_int, changed, assigned, adjusted, simple_written, first_written, declarator_written, declared_written, start_written}
 use Rattle.picked.specs.Statements.{in_transaction, looping, pieces_written, for_test, for_step, written, all_written}
 use Rattle.picked.specs.Programs.{no_exits, body_with, nothing_ready}
 use Rattle.picked.proofs.Growing.{used_more}
@@ -40,19 +40,19 @@ same_element : (check : Bool) (g : Option GlobalCells) (i j : Emitted) (from to 
 same_element check (Some g) i j from to l m same = ap (λ (r : ℕ). target.Element r g.cell (cells g.global) g.global.of) same
 same_element check None i j from to l m same = refl
 
-fetched_leaner : (t : Target) (from to free : ℕ) (l m : Lists) → IsLeaner l m → IsLeaner (fetched t from free l).lists (fetched t to free m).lists
+fetched_leaner : (t : Target) (from to free : ℕ) (l m : Lists) → IsLeaner l m → IsLeaner (target_value t from free l).lists (target_value t to free m).lists
 fetched_leaner (target.Local i t) from to free l m h = used_leaner i l m h
 fetched_leaner (target.Cell c t) from to free l m h = used_leaner free l m h
 fetched_leaner (target.Element i c n t) from to free l m h = used_leaner free l m h
 fetched_leaner target.Nowhere from to free l m h = used_leaner free l m h
 
-same_fetched : (t : Target) (from to free : ℕ) (l m : Lists) → (fetched t from free l).held.register ≡ (fetched t to free m).held.register
+same_fetched : (t : Target) (from to free : ℕ) (l m : Lists) → (target_value t from free l).held.register ≡ (target_value t to free m).held.register
 same_fetched (target.Local i t) from to free l m = refl
 same_fetched (target.Cell c t) from to free l m = refl
 same_fetched (target.Element i c n t) from to free l m = refl
 same_fetched target.Nowhere from to free l m = refl
 
-pub stored_keeps : (t : Target) (a from : ℕ) (l : Lists) → (stored t a from l).lists ≡ l
+pub stored_keeps : (t : Target) (a from : ℕ) (l : Lists) → (target_store t a from l).lists ≡ l
 stored_keeps (target.Local i t) a from l = by (a == i)
   where
     by : (b : Bool) → (if b then nothing_written from l else one_written (own.Move i a) from l).lists ≡ l
@@ -62,9 +62,9 @@ stored_keeps (target.Cell c t) a from l = refl
 stored_keeps (target.Element i c n t) a from l = refl
 stored_keeps target.Nowhere a from l = refl
 
-stored_leaner : (t t' : Target) (a b from to : ℕ) (l m : Lists) → IsLeaner l m → IsLeaner (stored t a from l).lists (stored t' b to m).lists
+stored_leaner : (t t' : Target) (a b from to : ℕ) (l m : Lists) → IsLeaner l m → IsLeaner (target_store t a from l).lists (target_store t' b to m).lists
 stored_leaner t t' a b from to l m h =
-    subst (λ (x : Lists). IsLeaner x (stored t' b to m).lists) (sym (stored_keeps t a from l))
+    subst (λ (x : Lists). IsLeaner x (target_store t' b to m).lists) (sym (stored_keeps t a from l))
     (subst (λ (x : Lists). IsLeaner l x) (sym (stored_keeps t' b to m)) h)
 
 expr_fitting_leaner : (t : Target) (s : Scalar) (e' : Expr) (e d : Emitted) (from to into : ℕ) (l m : Lists) → IsLeaner l m → IsLeaner e.lists d.lists → IsLeaner (expr_fitting t s e' e from into l).lists (expr_fitting t s e' d to into m).lists
@@ -118,14 +118,14 @@ module _ (p : Program) (scope : LocalScope) where
       let s = type_at t in
       let u = operand_type op s (type_or_int p scope by) in
       let v = operand_type op (type_or_int p scope by) s in
-      let old = converted_by (converting s u) u (fetched t from free l) free in
-      let old' = converted_by (converting s u) u (fetched t to free m) free in
+      let old = converted_by (converting s u) u (target_value t from free l) free in
+      let old' = converted_by (converting s u) u (target_value t to free m) free in
       let right = value_or_one p scope v by old.held.to (above free old.held.register) old.lists in
       let right' = λ (r : ℕ). value_or_one p scope v by old'.held.to (above free r) old'.lists in
       let home = home_or t free in
-      let a = converted_leaner (converting s u) u (fetched t from free l) (fetched t to free m) free (fetched_leaner t from to free l m h) in
+      let a = converted_leaner (converting s u) u (target_value t from free l) (target_value t to free m) free (fetched_leaner t from to free l m h) in
       let b = one_leaner v by old.held.to old'.held.to (above free old.held.register) old.lists old'.lists a in
-      let c = subst (λ (r : ℕ). IsLeaner right.lists (right' r).lists) (converted_register (converting s u) u (fetched t from free l) (fetched t to free m) free (same_fetched t from to free l m)) b in
+      let c = subst (λ (r : ℕ). IsLeaner right.lists (right' r).lists) (converted_register (converting s u) u (target_value t from free l) (target_value t to free m) free (same_fetched t from to free l m)) b in
       converted_leaner (taking t (result_type op u)) s (both op u old right home) (both op u old' (right' old'.held.register) home) home (used_leaner home right.lists (right' old'.held.register).lists c)
 
   adjusted_leaner : (op : BinaryOp) (lhs : Expr) (by : Option Expr) (from to free : ℕ) (l m : Lists) → IsLeaner l m → IsLeaner (adjusted p scope op lhs by from free l).lists (adjusted p scope op lhs by to free m).lists
@@ -158,7 +158,7 @@ module _ (p : Program) where
 
   declarator_leaner : (t : Scalar) (d : Declarator) (scope : LocalScope) (from to : ℕ) (l m : Lists) → IsLeaner l m → IsLeaner (declarator_written p t d scope from l).lists (declarator_written p t d scope to m).lists
   declarator_leaner t d scope from to l m h =
-      let n = length scope in first_leaner (with_local scope d.name.text t) n t d.first (from + 1) (to + 1) (used n l) (used n m) (used_leaner n l m h)
+      let n = length scope in first_leaner (with_local scope d.name.text t) n t d.first (from + 1) (to + 1) (with_register n l) (with_register n m) (used_leaner n l m h)
 
   declared_leaner : (t : Scalar) (ds : List Declarator) (scope : LocalScope) (from to : ℕ) (l m : Lists) → IsLeaner l m → IsLeaner (declared_written p t ds scope from l).lists (declared_written p t ds scope to m).lists
   declared_leaner t [] scope from to l m h = h

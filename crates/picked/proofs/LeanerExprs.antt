@@ -8,12 +8,12 @@ use Rattle.syntax.specs.Numbers.{common, operand_type}
 use Rattle.syntax.specs.Names.{newest, global_of, GlobalCells}
 use Rattle.bytecode.specs.declared.instr.Instr.{Instr}
 use Rattle.bytecode.specs.declared.instr.Instr.TheVariants as own
-use Rattle.lowered.specs.Expressions.{LocalScope, Layout, constant_in, types_left, arranged}
+use Rattle.lowered.specs.Expressions.{LocalScope, Layout, constant_in, types_left, argument_order}
 use Rattle.picked.specs.declared.held.Held.{Held}
-use Rattle.picked.specs.Lists.{Lists, used}
+use Rattle.picked.specs.Lists.{Lists, with_register}
 use Rattle.picked.specs.Names.{Callee, callee_of}
 use Rattle.picked.specs.Conditions.{Condition, zero_test, zero_tested}
-use Rattle.picked.specs.Expressions.{Emitted, AllEmitted, above, then_one, compared, settled, variable, element, called, tested, where_same, converting, ready, constant_ready, ready_or, converted_by, in_type, in_first_type, taken_types, emitted_type, emitted, due, own_condition, condition, operand, all_emitted}
+use Rattle.picked.specs.Expressions.{Emitted, AllEmitted, above, then_one, logical_negation, value_into, variable, element, call_code, condition_of, where_same, converting, ready, constant_ready, ready_or, converted_by, in_type, in_first_type, taken_types, emitted_type, emitted, due, own_condition, condition, operand, all_emitted}
 use Rattle.picked.proofs.Growing.{due_more}
 
 -- nothing lies ready in the first run, and the second one needs no more registers
@@ -29,11 +29,11 @@ BothLeaner c d = ⊥
 max_more : (a b n : ℕ) → a ≤ b → max a n ≤ max b n
 max_more a b n h = grind arith
 
-pub used_leaner : (r : ℕ) (l m : Lists) → IsLeaner l m → IsLeaner (used r l) (used r m)
+pub used_leaner : (r : ℕ) (l m : Lists) → IsLeaner l m → IsLeaner (with_register r l) (with_register r m)
 used_leaner r l m h = record { registers = max_more m.registers l.registers (suc r) h.registers; nothing = h.nothing }
 
-used_both : (r s : ℕ) (l m : Lists) → r ≡ s → IsLeaner l m → IsLeaner (used r l) (used s m)
-used_both r s l m e h = subst (λ (x : ℕ). IsLeaner (used r l) (used x m)) e (used_leaner r l m h)
+used_both : (r s : ℕ) (l m : Lists) → r ≡ s → IsLeaner l m → IsLeaner (with_register r l) (with_register s m)
+used_both r s l m e h = subst (λ (x : ℕ). IsLeaner (with_register r l) (with_register x m)) e (used_leaner r l m h)
 
 -- a right side
 pub none_ready : (layout : Layout) (w : ℕ) (t : Scalar) (from : ℕ) → layout.constants ≡ [] → ready layout w t from ≡ None
@@ -69,11 +69,11 @@ element_register : (g : Option GlobalCells) (i j : Emitted) (from to into : ℕ)
 element_register (Some g) i j from to into l m = refl
 element_register None i j from to into l m = refl
 
-called_leaner : (f : Option Callee) (args others : AllEmitted) (from to into : ℕ) (l m : Lists) → args.registers ≡ others.registers → IsLeaner l m → IsLeaner args.lists others.lists → IsLeaner (called f args from into l).lists (called f others to into m).lists
+called_leaner : (f : Option Callee) (args others : AllEmitted) (from to into : ℕ) (l m : Lists) → args.registers ≡ others.registers → IsLeaner l m → IsLeaner args.lists others.lists → IsLeaner (call_code f args from into l).lists (call_code f others to into m).lists
 called_leaner None args others from to into l m e h k = used_leaner into l m h
 called_leaner (Some f) args others from to into l m e h k =
-    let handed = arranged f.parameters args.registers in
-    let n : length handed ≡ length (arranged f.parameters others.registers) = ap (λ rs. length (arranged f.parameters rs)) e in
+    let handed = argument_order f.parameters args.registers in
+    let n : length handed ≡ length (argument_order f.parameters others.registers) = ap (λ rs. length (argument_order f.parameters rs)) e in
     let a = max_more others.lists.registers args.lists.registers (length handed) k.registers in
     let b = max_more (max others.lists.registers (length handed)) (max args.lists.registers (length handed)) (suc into) a in
     record {
@@ -81,22 +81,22 @@ called_leaner (Some f) args others from to into l m e h k =
       nothing = k.nothing;
     }
 
-called_register : (f : Option Callee) (args others : AllEmitted) (from to into : ℕ) (l m : Lists) → (called f args from into l).held.register ≡ (called f others to into m).held.register
+called_register : (f : Option Callee) (args others : AllEmitted) (from to into : ℕ) (l m : Lists) → (call_code f args from into l).held.register ≡ (call_code f others to into m).held.register
 called_register None args others from to into l m = refl
 called_register (Some f) args others from to into l m = refl
 
-settled_leaner : (r : ℕ) (e d : Emitted) → e.held.register ≡ d.held.register → IsLeaner e.lists d.lists → IsLeaner (settled r e).lists (settled r d).lists
+settled_leaner : (r : ℕ) (e d : Emitted) → e.held.register ≡ d.held.register → IsLeaner e.lists d.lists → IsLeaner (value_into r e).lists (value_into r d).lists
 settled_leaner r e d same h =
-    subst (λ (x : ℕ). IsLeaner (settled r e).lists (if x == r then d else then_one d (own.Move r d.held.register) r d.held.of).lists) same (by (e.held.register == r))
+    subst (λ (x : ℕ). IsLeaner (value_into r e).lists (if x == r then d else then_one d (own.Move r d.held.register) r d.held.of).lists) same (by (e.held.register == r))
   where
     by : (b : Bool) → IsLeaner (if b then e else then_one e (own.Move r e.held.register) r e.held.of).lists (if b then d else then_one d (own.Move r d.held.register) r d.held.of).lists
     by true = h
     by false = used_leaner r e.lists d.lists h
 
-compared_leaner : (e d : Emitted) (into free : ℕ) → e.held.register ≡ d.held.register → IsLeaner e.lists d.lists → IsLeaner (compared e into free).lists (compared d into free).lists
+compared_leaner : (e d : Emitted) (into free : ℕ) → e.held.register ≡ d.held.register → IsLeaner e.lists d.lists → IsLeaner (logical_negation e into free).lists (logical_negation d into free).lists
 compared_leaner e d into free same h =
     let a = used_both (above free e.held.register) (above free d.held.register) e.lists d.lists (ap (λ r. above free r) same) h in
-    used_leaner into (used (above free e.held.register) e.lists) (used (above free d.held.register) d.lists) a
+    used_leaner into (with_register (above free e.held.register) e.lists) (with_register (above free d.held.register) d.lists) a
 
 pub converted_leaner : (o : Option (ℕ → ℕ → Instr)) (u : Scalar) (e d : Emitted) (into : ℕ) → IsLeaner e.lists d.lists → IsLeaner (converted_by o u e into).lists (converted_by o u d into).lists
 converted_leaner None u e d into h = h
@@ -122,7 +122,7 @@ in_first_register : (s : Scalar) (ts : List Scalar) (e' : Expr) (e d : Emitted) 
 in_first_register s [] e' e d from to into l m same = same
 in_first_register s (u ∷ us) e' e d from to into l m same = in_type_register s u e' e d from to into l m same
 
-tested_leaner : (o o' : Option Condition) (e d : Emitted) → BothLeaner o o' → IsLeaner e.lists d.lists → IsLeaner (tested o e).lists (tested o' d).lists
+tested_leaner : (o o' : Option Condition) (e d : Emitted) → BothLeaner o o' → IsLeaner e.lists d.lists → IsLeaner (condition_of o e).lists (condition_of o' d).lists
 tested_leaner None None e d h k = k
 tested_leaner (Some c) (Some c') e d h k = h
 tested_leaner None (Some c') e d h k = absurd h
@@ -215,14 +215,14 @@ module _ (p : Program) (scope : LocalScope) where
         let t = common (emitted_type p scope a) (emitted_type p scope b) in
         let first = due p scope t a (test.to + 1) into free test.lists in
         let first' = due p scope t a (other.to + 1) into free other.lists in
-        let u = (settled into first).held.to + 1 in
-        let u' = (settled into first').held.to + 1 in
+        let u = (value_into into first).held.to + 1 in
+        let u' = (value_into into first').held.to + 1 in
         let x = by_parts c from to free l m (own_leaner c from to free l m h) (emitted_leaner c from to free free l m h) in
         let y = in_type_leaner (emitted_type p scope a) t a (emitted p scope a (test.to + 1) into free test.lists) (emitted p scope a (other.to + 1) into free other.lists) (test.to + 1) (other.to + 1) into test.lists other.lists x (emitted_leaner a (test.to + 1) (other.to + 1) into free test.lists other.lists x) in
         let z = settled_leaner into first first' (due_register t a (test.to + 1) (other.to + 1) into free test.lists other.lists) y in
-        let w = in_type_leaner (emitted_type p scope b) t b (emitted p scope b u into free (settled into first).lists) (emitted p scope b u' into free (settled into first').lists) u u' into (settled into first).lists (settled into first').lists z (emitted_leaner b u u' into free (settled into first).lists (settled into first').lists z) in
-        settled_leaner into (due p scope t b u into free (settled into first).lists) (due p scope t b u' into free (settled into first').lists)
-        (due_register t b u u' into free (settled into first).lists (settled into first').lists) w
+        let w = in_type_leaner (emitted_type p scope b) t b (emitted p scope b u into free (value_into into first).lists) (emitted p scope b u' into free (value_into into first').lists) u u' into (value_into into first).lists (value_into into first').lists z (emitted_leaner b u u' into free (value_into into first).lists (value_into into first').lists z) in
+        settled_leaner into (due p scope t b u into free (value_into into first).lists) (due p scope t b u' into free (value_into into first').lists)
+        (due_register t b u u' into free (value_into into first).lists (value_into into first').lists) w
     emitted_leaner (InTransaction mode keyword e at) from to into free l m h = emitted_leaner e (from + 1) (to + 1) into free l m h
 
     own_leaner : (e : Expr) (from to free : ℕ) (l m : Lists) → IsLeaner l m → BothLeaner (own_condition p scope e from free l) (own_condition p scope e to free m)

@@ -12,9 +12,9 @@ use Rattle.lowered.specs.Statements.{with_local, locals_of_start, locals_after}
 use Rattle.picked.specs.declared.held.Target.{Target}
 use Rattle.picked.specs.declared.held.Target.TheVariants as target
 use Rattle.picked.specs.declared.held.Exits.{Exits}
-use Rattle.picked.specs.Lists.{Lists, used}
+use Rattle.picked.specs.Lists.{Lists, with_register}
 use Rattle.picked.specs.Expressions.{Emitted, above, converting, converted_by, both, constant, ready, emitted_type, emitted, all_emitted, condition}
-use Rattle.picked.specs.Simples.{variable_target, element_target, aimed, above_target, fetched, home_or, stored, type_at, taking, expr_fitting, value_or_one, type_or_int, changed, assigned, adjusted, simple_written, first_written, declarator_written, declared_written, start_written}
+use Rattle.picked.specs.Simples.{variable_target, element_target, aimed, above_target, target_value, home_or, target_store, type_at, taking, expr_fitting, value_or_one, type_or_int, changed, assigned, adjusted, simple_written, first_written, declarator_written, declared_written, start_written}
 use Rattle.picked.specs.Statements.{in_transaction, looping, pieces_written, for_test, for_step, written, all_written}
 use Rattle.picked.proofs.stands.Standing.{Grows, grows_same, grows_further, grows_used, front_same, front_more}
 use Rattle.picked.proofs.LongerExprs.{used_longer, ready_longer, converted_longer, emitted_longer, due_longer, all_longer, condition_longer, operand_longer}
@@ -29,13 +29,13 @@ element_longer : (check : Bool) (g : Option GlobalCells) (i : Emitted) (from : �
 element_longer check (Some g) i from l h = h
 element_longer check None i from l h = grows_same l
 
-fetched_longer : (t : Target) (from free : ℕ) (l : Lists) → Grows l (fetched t from free l).lists
+fetched_longer : (t : Target) (from free : ℕ) (l : Lists) → Grows l (target_value t from free l).lists
 fetched_longer (target.Local i t) from free l = used_longer i l
 fetched_longer (target.Cell c t) from free l = used_longer free l
 fetched_longer (target.Element i c n t) from free l = used_longer free l
 fetched_longer target.Nowhere from free l = used_longer free l
 
-stored_longer : (t : Target) (a from : ℕ) (l m : Lists) → Grows l m → Grows l (stored t a from m).lists
+stored_longer : (t : Target) (a from : ℕ) (l m : Lists) → Grows l m → Grows l (target_store t a from m).lists
 stored_longer t a from l m h = subst (λ (x : Lists). Grows l x) (sym (stored_keeps t a from m)) h
 
 expr_fitting_longer : (t : Target) (s : Scalar) (e' : Expr) (e : Emitted) (from into : ℕ) (l : Lists) → Grows l e.lists → Grows l (expr_fitting t s e' e from into l).lists
@@ -76,7 +76,7 @@ module _ (p : Program) (scope : LocalScope) where
   changed_longer op by t from free l =
       let s = type_at t in
       let u = operand_type op s (type_or_int p scope by) in
-      let first = fetched t from free l in
+      let first = target_value t from free l in
       let old = converted_by (converting s u) u first free in
       let v = operand_type op (type_or_int p scope by) s in
       let other = value_or_one p scope v by old.held.to (above free old.held.register) old.lists in
@@ -110,8 +110,8 @@ module _ (p : Program) where
   declarator_longer : (t : Scalar) (d : Declarator) (scope : LocalScope) (from : ℕ) (l : Lists) → Grows l (declarator_written p t d scope from l).lists
   declarator_longer t d scope from l =
       let i = length scope in
-      let rest = first_written p (with_local scope d.name.text t) i t d.first (from + 1) (used i l) in
-      grows_further l (used i l) rest.lists (used_longer i l) (first_longer (with_local scope d.name.text t) i t d.first (from + 1) (used i l))
+      let rest = first_written p (with_local scope d.name.text t) i t d.first (from + 1) (with_register i l) in
+      grows_further l (with_register i l) rest.lists (used_longer i l) (first_longer (with_local scope d.name.text t) i t d.first (from + 1) (with_register i l))
 
   declared_longer : (t : Scalar) (ds : List Declarator) (scope : LocalScope) (from : ℕ) (l : Lists) → Grows l (declared_written p t ds scope from l).lists
   declared_longer t [] scope from l = grows_same l

@@ -8,15 +8,15 @@ use Rattle.syntax.specs.Numbers.{common, operand_type}
 use Rattle.syntax.specs.Names.{newest, global_of, GlobalCells}
 use Rattle.bytecode.specs.declared.instr.Instr.{Instr}
 use Rattle.bytecode.specs.declared.instr.Instr.TheVariants as own
-use Rattle.lowered.specs.Expressions.{LocalScope, types_left, arranged}
+use Rattle.lowered.specs.Expressions.{LocalScope, types_left, argument_order}
 use Rattle.picked.specs.declared.held.Held.{Held}
-use Rattle.picked.specs.Lists.{Lists, used, holding}
+use Rattle.picked.specs.Lists.{Lists, with_register, holding}
 use Rattle.picked.specs.Names.{Callee, callee_of}
 use Rattle.picked.specs.Conditions.{Condition, zero_test, zero_tested}
-use Rattle.picked.specs.Expressions.{Emitted, AllEmitted, above, then_one, compared, settled, converting, constant_ready, ready_or, converted_by, in_type, in_first_type, variable, element, called, tested, where_same, taken_types, emitted_type, emitted, due, operand, own_condition, condition, all_emitted}
+use Rattle.picked.specs.Expressions.{Emitted, AllEmitted, above, then_one, logical_negation, value_into, converting, constant_ready, ready_or, converted_by, in_type, in_first_type, variable, element, call_code, condition_of, where_same, taken_types, emitted_type, emitted, due, operand, own_condition, condition, all_emitted}
 use Rattle.picked.proofs.stands.Standing.{Grows, grows_same, grows_further, grows_used, front_same, front_more, max_left}
 
-pub used_longer : (r : ℕ) (l : Lists) → Grows l (used r l)
+pub used_longer : (r : ℕ) (l : Lists) → Grows l (with_register r l)
 used_longer r l = grows_used l l r (grows_same l)
 
 pub ready_longer : (o : Option Held) (l : Lists) (e : Emitted) → Grows l e.lists → Grows l (ready_or o l e).lists
@@ -32,7 +32,7 @@ element_longer : (g : Option GlobalCells) (i : Emitted) (from into : ℕ) (l : L
 element_longer (Some g) i from into l h = grows_used l i.lists into h
 element_longer None i from into l h = used_longer into l
 
-handed_longer : (handed : List ℕ) (into : ℕ) (l m : Lists) → Grows l m → Grows l (used into (holding (length handed) (record m { arguments = m.arguments ++ handed })))
+handed_longer : (handed : List ℕ) (into : ℕ) (l m : Lists) → Grows l m → Grows l (with_register into (holding (length handed) (record m { arguments = m.arguments ++ handed })))
 handed_longer handed into l m h =
     let more : Lists = record m { arguments = m.arguments ++ handed } in
     let lists : Lists = holding (length handed) more in
@@ -40,20 +40,20 @@ handed_longer handed into l m h =
     let b : Grows more lists = record { arguments = front_same more.arguments; texts = front_same m.texts; registers = max_left m.registers (length handed); layout = refl } in
     grows_used l lists into (grows_further l m lists h (grows_further m more lists a b))
 
-called_longer : (f : Option Callee) (args : AllEmitted) (from into : ℕ) (l : Lists) → Grows l args.lists → Grows l (called f args from into l).lists
+called_longer : (f : Option Callee) (args : AllEmitted) (from into : ℕ) (l : Lists) → Grows l args.lists → Grows l (call_code f args from into l).lists
 called_longer None args from into l h = used_longer into l
-called_longer (Some f) args from into l h = handed_longer (arranged f.parameters args.registers) into l args.lists h
+called_longer (Some f) args from into l h = handed_longer (argument_order f.parameters args.registers) into l args.lists h
 
-settled_longer : (r : ℕ) (e : Emitted) (l : Lists) → Grows l e.lists → Grows l (settled r e).lists
+settled_longer : (r : ℕ) (e : Emitted) (l : Lists) → Grows l e.lists → Grows l (value_into r e).lists
 settled_longer r e l h = by (e.held.register == r)
   where
     by : (b : Bool) → Grows l (if b then e else then_one e (own.Move r e.held.register) r e.held.of).lists
     by true = h
     by false = grows_used l e.lists r h
 
-compared_longer : (e : Emitted) (into free : ℕ) (l : Lists) → Grows l e.lists → Grows l (compared e into free).lists
+compared_longer : (e : Emitted) (into free : ℕ) (l : Lists) → Grows l e.lists → Grows l (logical_negation e into free).lists
 compared_longer e into free l h =
-    let zero_in = above free e.held.register in grows_used l (used zero_in e.lists) into (grows_used l e.lists zero_in h)
+    let zero_in = above free e.held.register in grows_used l (with_register zero_in e.lists) into (grows_used l e.lists zero_in h)
 
 pub converted_longer : (o : Option (ℕ → ℕ → Instr)) (u : Scalar) (e : Emitted) (into : ℕ) (l : Lists) → Grows l e.lists → Grows l (converted_by o u e into).lists
 converted_longer None u e into l h = h
@@ -70,7 +70,7 @@ in_first_longer s (u ∷ us) e' e from into l h = in_type_longer s u e' e from i
 abbrev IsLonger : Lists → Condition → Type 0
 IsLonger l c = Grows l c.lists
 
-tested_longer : (l : Lists) (o : Option Condition) (e : Emitted) → IfSome o (IsLonger l) → Grows l e.lists → Grows l (tested o e).lists
+tested_longer : (l : Lists) (o : Option Condition) (e : Emitted) → IfSome o (IsLonger l) → Grows l e.lists → Grows l (condition_of o e).lists
 tested_longer l None e h k = k
 tested_longer l (Some c) e h k = h
 
@@ -120,14 +120,14 @@ module _ (p : Program) (scope : LocalScope) where
         let test = condition p scope c from free l in
         let t = common (emitted_type p scope a) (emitted_type p scope b) in
         let one = due p scope t a (test.to + 1) into free test.lists in
-        let first = settled into one in
+        let first = value_into into one in
         let second = due p scope t b (first.held.to + 1) into free first.lists in
         let x = in_type_longer (emitted_type p scope a) t a (emitted p scope a (test.to + 1) into free test.lists) (test.to + 1) into test.lists (emitted_longer a (test.to + 1) into free test.lists) in
         let y = in_type_longer (emitted_type p scope b) t b (emitted p scope b (first.held.to + 1) into free first.lists) (first.held.to + 1) into first.lists (emitted_longer b (first.held.to + 1) into free first.lists) in
         let u = by_parts c from free l (own_longer c from free l) (emitted_longer c from free free l) in
         let v = settled_longer into one test.lists x in
         let w = settled_longer into second first.lists y in
-        grows_further l test.lists (settled into second).lists u (grows_further test.lists first.lists (settled into second).lists v w)
+        grows_further l test.lists (value_into into second).lists u (grows_further test.lists first.lists (value_into into second).lists v w)
     emitted_longer (InTransaction mode keyword e at) from into free l = emitted_longer e (from + 1) into free l
 
     own_longer : (e : Expr) (from free : ℕ) (l : Lists) → IfSome (own_condition p scope e from free l) (IsLonger l)

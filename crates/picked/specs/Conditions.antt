@@ -37,16 +37,16 @@ jump_if_not true r to = own.JumpNonzero r to
 jump_if_not false r to = own.JumpZero r to
 
 -- the instruction, once it is known where the condition leads
-abbrev pub completed : (met unmet : ℕ) → Draft → Instr
-completed met unmet (draft.Whole i) = i
-completed met unmet (draft.ToMet at_zero r) = jump_if at_zero r met
-completed met unmet (draft.ToUnmet at_zero r) = jump_if at_zero r unmet
+abbrev pub instruction_of_draft : (met unmet : ℕ) → Draft → Instr
+instruction_of_draft met unmet (draft.Whole i) = i
+instruction_of_draft met unmet (draft.ToMet at_zero r) = jump_if at_zero r met
+instruction_of_draft met unmet (draft.ToUnmet at_zero r) = jump_if at_zero r unmet
 
 -- an instruction of the opposite condition
-abbrev pub turned : Draft → Draft
-turned (draft.Whole i) = draft.Whole i
-turned (draft.ToMet at_zero r) = draft.ToUnmet at_zero r
-turned (draft.ToUnmet at_zero r) = draft.ToMet at_zero r
+abbrev pub opposite_draft : Draft → Draft
+opposite_draft (draft.Whole i) = draft.Whole i
+opposite_draft (draft.ToMet at_zero r) = draft.ToUnmet at_zero r
+opposite_draft (draft.ToUnmet at_zero r) = draft.ToMet at_zero r
 
 -- of the first condition of `&&` and `||`, where it is known where the second one begins
 abbrev pub led_on : LogicalOp → ℕ → Draft → Draft
@@ -64,10 +64,10 @@ short_jump OrElse t = draft.ToMet t.at_zero t.register
 
 -- a condition with its jump: behind it stands what is done where it holds, or where it does not
 abbrev pub going_on : List Draft → Tested → (unmet : ℕ) → List Instr
-going_on code t unmet = map (completed (t.to + 1) unmet) code ++ jump_if_not t.at_zero t.register unmet ∷ []
+going_on code t unmet = map (instruction_of_draft (t.to + 1) unmet) code ++ jump_if_not t.at_zero t.register unmet ∷ []
 
 abbrev pub going_back : List Draft → Tested → (met : ℕ) → List Instr
-going_back code t met = map (completed met (t.to + 1)) code ++ jump_if t.at_zero t.register met ∷ []
+going_back code t met = map (instruction_of_draft met (t.to + 1)) code ++ jump_if t.at_zero t.register met ∷ []
 
 -- the test of a value
 abbrev pub tested_by : Held → Tested
@@ -83,14 +83,14 @@ by_value code l held = record {
 }
 
 abbrev pub opposite : Condition → Condition
-opposite c = record c { code = map turned c.code; at_zero = not c.at_zero }
+opposite c = record c { code = map opposite_draft c.code; at_zero = not c.at_zero }
 
 -- a first condition and its jump
 abbrev pub first_of : LogicalOp → Condition → List Draft
 first_of op a = map (led_on op (a.to + 1)) a.code ++ short_jump op (test_in a) ∷ []
 
-abbrev pub joined : LogicalOp → (a b : Condition) → Condition
-joined op a b = record b { code = first_of op a ++ b.code }
+abbrev pub logical_condition : LogicalOp → (a b : Condition) → Condition
+logical_condition op a b = record b { code = first_of op a ++ b.code }
 
 abbrev pub is_nought : Expr → Bool
 is_nought (Constant zero t at) = true

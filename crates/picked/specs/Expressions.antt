@@ -18,11 +18,11 @@ use Rattle.syntax.specs.Names.{newest, global_of, cells, GlobalCells}
 use Rattle.bytecode.specs.declared.instr.Instr.{Instr}
 use Rattle.bytecode.specs.declared.instr.Instr.TheVariants as own
 use Rattle.bytecode.specs.declared.limits.TheConstants.{MOST_REGISTERS}
-use Rattle.lowered.specs.Expressions.{LocalScope, Layout, constant_in, types_left, arranged}
+use Rattle.lowered.specs.Expressions.{LocalScope, Layout, constant_in, types_left, argument_order}
 use Rattle.picked.specs.declared.held.Held.{Held}
-use Rattle.picked.specs.Lists.{Lists, used, holding}
+use Rattle.picked.specs.Lists.{Lists, with_register, holding}
 use Rattle.picked.specs.Names.{Callee, callee_of}
-use Rattle.picked.specs.Conditions.{Condition, test_in, going_on, by_value, opposite, joined, zero_test, zero_tested}
+use Rattle.picked.specs.Conditions.{Condition, test_in, going_on, by_value, opposite, logical_condition, zero_test, zero_tested}
 
 -- the instruction of an operator: one that asks for more is the other way round
 abbrev pub computing : BinaryOp → Scalar → ℕ → ℕ → ℕ → Instr
@@ -100,12 +100,12 @@ above free r = max free (suc r)
 
 -- one instruction that writes a register
 abbrev pub one : Instr → (from r : ℕ) → Scalar → Lists → Emitted
-one i from r t l = record { code = i ∷ []; lists = used r l; held = record { register = r; of = t; to = from + 1 } }
+one i from r t l = record { code = i ∷ []; lists = with_register r l; held = record { register = r; of = t; to = from + 1 } }
 
 abbrev pub then_one : Emitted → Instr → ℕ → Scalar → Emitted
 then_one e i r t = record {
   code = e.code ++ i ∷ [];
-  lists = used r e.lists;
+  lists = with_register r e.lists;
   held = record { register = r; of = t; to = e.held.to + 1 };
 }
 
@@ -133,7 +133,7 @@ ready_or (Some held) l e = record { code = []; lists = l; held = held }
 
 -- a local's own register
 abbrev pub in_local : ℕ → Scalar → ℕ → Lists → Emitted
-in_local i t from l = record { code = []; lists = used i l; held = record { register = i; of = t; to = from } }
+in_local i t from l = record { code = []; lists = with_register i l; held = record { register = i; of = t; to = from } }
 
 abbrev pub variable : Option (ℕ × Scalar) → Option GlobalCells → (from into : ℕ) → Lists → Emitted
 variable (Some x) g from into l = in_local x.0 x.1 from l
@@ -173,19 +173,19 @@ in_own_transaction e = record {
   held = record { register = e.held.register; of = e.held.of; to = e.held.to + 1 };
 }
 
-abbrev pub negated : Emitted → ℕ → Emitted
-negated e into = then_one e (negating e.held.of into e.held.register) into e.held.of
+abbrev pub negation : Emitted → ℕ → Emitted
+negation e into = then_one e (negating e.held.of into e.held.register) into e.held.of
 
-abbrev pub complemented : Emitted → ℕ → Emitted
-complemented e into = then_one e (complementing e.held.of into e.held.register) into e.held.of
+abbrev pub complement : Emitted → ℕ → Emitted
+complement e into = then_one e (complementing e.held.of into e.held.register) into e.held.of
 
 -- `!`: whether it is 0
-abbrev pub compared : Emitted → (into free : ℕ) → Emitted
-compared e into free =
+abbrev pub logical_negation : Emitted → (into free : ℕ) → Emitted
+logical_negation e into free =
     let zero_in = above free e.held.register in
     record {
       code = e.code ++ own.Constant zero_in 0 ∷ own.Equal into e.held.register zero_in ∷ [];
-      lists = used into (used zero_in e.lists);
+      lists = with_register into (with_register zero_in e.lists);
       held = record { register = into; of = Int; to = e.held.to + 2 };
     }
 
@@ -193,38 +193,38 @@ compared e into free =
 abbrev pub both : BinaryOp → Scalar → Emitted → Emitted → ℕ → Emitted
 both op t a b into = record {
   code = a.code ++ b.code ++ computing op t into a.held.register b.held.register ∷ [];
-  lists = used into b.lists;
+  lists = with_register into b.lists;
   held = record { register = into; of = result_type op t; to = b.held.to + 1 };
 }
 
 -- the int 1 where a condition holds, and 0 where it does not
-abbrev pub answered : Condition → ℕ → Emitted
-answered c into =
+abbrev pub condition_value : Condition → ℕ → Emitted
+condition_value c into =
     let last = c.to in
     record {
       code =
           going_on c.code (test_in c) (last + 3)
           ++ own.Constant into 1 ∷ own.Jump (last + 4) ∷ own.Constant into 0 ∷ [];
-      lists = used into c.lists;
+      lists = with_register into c.lists;
       held = record { register = into; of = Int; to = last + 4 };
     }
 
 -- a value in this very register
-abbrev pub settled : ℕ → Emitted → Emitted
-settled r e = if e.held.register == r then e else then_one e (own.Move r e.held.register) r e.held.of
+abbrev pub value_into : ℕ → Emitted → Emitted
+value_into r e = if e.held.register == r then e else then_one e (own.Move r e.held.register) r e.held.of
 
 -- a condition, and one of two values of this type that lie in one register
-abbrev pub chosen : Scalar → Condition → Emitted → Emitted → ℕ → Emitted
-chosen t c a b into = record {
+abbrev pub conditional_value : Scalar → Condition → Emitted → Emitted → ℕ → Emitted
+conditional_value t c a b into = record {
   code = going_on c.code (test_in c) (a.held.to + 1) ++ a.code ++ own.Jump b.held.to ∷ b.code;
   lists = b.lists;
   held = record { register = into; of = t; to = b.held.to };
 }
 
 -- a condition as its operator has it, or else by its value
-abbrev pub tested : Option Condition → Emitted → Condition
-tested None e = by_value e.code e.lists e.held
-tested (Some c) e = c
+abbrev pub condition_of : Option Condition → Emitted → Condition
+condition_of None e = by_value e.code e.lists e.held
+condition_of (Some c) e = c
 
 -- a condition under a cast, which is tested as it is where no instruction converts it
 abbrev pub where_same : Option (ℕ → ℕ → Instr) → Option Condition → Option Condition
@@ -233,13 +233,13 @@ where_same (Some i) c = None
 
 -- two conditions, one behind the other
 abbrev pub joining : LogicalOp → (first second : ℕ → Lists → Condition) → ℕ → Lists → Condition
-joining op first second from l = let a = first from l in joined op a (second (a.to + 1) a.lists)
+joining op first second from l = let a = first from l in logical_condition op a (second (a.to + 1) a.lists)
 
 abbrev pub none_emitted : ℕ → Lists → AllEmitted
 none_emitted from l = record { code = []; lists = l; registers = []; to = from }
 
-abbrev pub followed : Emitted → AllEmitted → AllEmitted
-followed e es = record {
+abbrev pub with_argument : Emitted → AllEmitted → AllEmitted
+with_argument e es = record {
   code = e.code ++ es.code;
   lists = es.lists;
   registers = e.held.register ∷ es.registers;
@@ -247,14 +247,14 @@ followed e es = record {
 }
 
 -- a call: its arguments' registers go into the code's list of arguments
-abbrev pub called : Option Callee → AllEmitted → (from into : ℕ) → Lists → Emitted
-called None args from into l = constant 0 Int from into l
-called (Some f) args from into l =
+abbrev pub call_code : Option Callee → AllEmitted → (from into : ℕ) → Lists → Emitted
+call_code None args from into l = constant 0 Int from into l
+call_code (Some f) args from into l =
     let made = args.lists.arguments in
-    let handed = arranged f.parameters args.registers in
+    let handed = argument_order f.parameters args.registers in
     record {
       code = args.code ++ own.Call into (length handed) f.number (length made) ∷ [];
-      lists = used into (holding (length handed) (record args.lists { arguments = made ++ handed }));
+      lists = with_register into (holding (length handed) (record args.lists { arguments = made ++ handed }));
       held = record { register = into; of = f.of; to = args.to + 1 };
     }
 
@@ -303,13 +303,13 @@ module _ (p : Program) (scope : LocalScope) where
     emitted (Element x i at) from into free l =
         element (global_of p x.text) (emitted i from free free l) from into l
     emitted (Call f es at) from into free l =
-        called (callee_of p f.text) (all_emitted (taken_types (callee_of p f.text)) es from free l) from into l
+        call_code (callee_of p f.text) (all_emitted (taken_types (callee_of p f.text)) es from free l) from into l
     emitted (Parenthesized e at) from into free l = emitted e from into free l
     emitted (Cast t e at) from into free l = in_type (emitted_type e) t e (emitted e from into free l) from into l
-    emitted (Unary Negate e at) from into free l = negated (emitted e from free free l) into
+    emitted (Unary Negate e at) from into free l = negation (emitted e from free free l) into
     emitted (Unary Keep e at) from into free l = emitted e from into free l
-    emitted (Unary Not e at) from into free l = compared (emitted e from free free l) into free
-    emitted (Unary Complement e at) from into free l = complemented (emitted e from free free l) into
+    emitted (Unary Not e at) from into free l = logical_negation (emitted e from free free l) into free
+    emitted (Unary Complement e at) from into free l = complement (emitted e from free free l) into
     emitted (Binary op a b at) from into free l =
         let t = operand_type op (emitted_type a) (emitted_type b) in
         let u = operand_type op (emitted_type b) (emitted_type a) in
@@ -319,18 +319,18 @@ module _ (p : Program) (scope : LocalScope) where
         let computed = in_type (emitted_type b) u b y left.held.to later left.lists in
         both op t left (ready_or (constant_ready left.lists.layout u b left.held.to) left.lists computed) into
     emitted (Logical op a b at) from into free l =
-        answered
-        (joining op (λ to m. tested (own_condition a to free m) (emitted a to free free m))
-        (λ to m. tested (own_condition b to free m) (emitted b to free free m)) from l)
+        condition_value
+        (joining op (λ to m. condition_of (own_condition a to free m) (emitted a to free free m))
+        (λ to m. condition_of (own_condition b to free m) (emitted b to free free m)) from l)
         into
     emitted (Conditional c a b at) from into free l =
-        let test = tested (own_condition c from free l) (emitted c from free free l) in
+        let test = condition_of (own_condition c from free l) (emitted c from free free l) in
         let t = common (emitted_type a) (emitted_type b) in
         let x = emitted a (test.to + 1) into free test.lists in
-        let first = settled into (in_type (emitted_type a) t a x (test.to + 1) into test.lists) in
+        let first = value_into into (in_type (emitted_type a) t a x (test.to + 1) into test.lists) in
         let y = emitted b (first.held.to + 1) into free first.lists in
-        let second = settled into (in_type (emitted_type b) t b y (first.held.to + 1) into first.lists) in
-        chosen t test first second into
+        let second = value_into into (in_type (emitted_type b) t b y (first.held.to + 1) into first.lists) in
+        conditional_value t test first second into
     emitted (InTransaction mode keyword e at) from into free l =
         in_own_transaction (emitted e (from + 1) into free l)
 
@@ -340,12 +340,12 @@ module _ (p : Program) (scope : LocalScope) where
     own_condition (Cast t e at) from free l = where_same (converting (emitted_type e) t) (own_condition e from free l)
     own_condition (Unary Keep e at) from free l = own_condition e from free l
     own_condition (Unary Not e at) from free l =
-        Some (opposite (tested (own_condition e from free l) (emitted e from free free l)))
+        Some (opposite (condition_of (own_condition e from free l) (emitted e from free free l)))
     own_condition (Binary op a b at) from free l =
-        zero_tested (zero_test op b) (tested (own_condition a from free l) (emitted a from free free l))
+        zero_tested (zero_test op b) (condition_of (own_condition a from free l) (emitted a from free free l))
     own_condition (Logical op a b at) from free l = Some
-        (joining op (λ to m. tested (own_condition a to free m) (emitted a to free free m))
-        (λ to m. tested (own_condition b to free m) (emitted b to free free m)) from l)
+        (joining op (λ to m. condition_of (own_condition a to free m) (emitted a to free free m))
+        (λ to m. condition_of (own_condition b to free m) (emitted b to free free m)) from l)
     own_condition e from free l = None
 
     -- values from left to right, which are due in these types, each in a register of its own
@@ -353,7 +353,7 @@ module _ (p : Program) (scope : LocalScope) where
     all_emitted ts Exprs.[] from free l = none_emitted from l
     all_emitted ts (Exprs.◌∷◌ e es) from free l =
         let first = in_first_type (emitted_type e) ts e (emitted e from free free l) from free l in
-        followed first
+        with_argument first
         (all_emitted (types_left ts) es first.held.to (above free first.held.register) first.lists)
 
   -- an expression's value in this type, in a register of its own or another one
@@ -369,7 +369,7 @@ module _ (p : Program) (scope : LocalScope) where
   operand u e from free l = ready_or (constant_ready l.layout u e from) l (due u e from free free l)
 
   abbrev pub condition : Expr → (from free : ℕ) → Lists → Condition
-  condition e from free l = tested (own_condition e from free l) (emitted e from free free l)
+  condition e from free l = condition_of (own_condition e from free l) (emitted e from free free l)
 
   -- both conditions of `&&` and `||`
   abbrev pub both_conditions : LogicalOp → (a b : Expr) → (from free : ℕ) → Lists → Condition
@@ -381,5 +381,5 @@ module _ (p : Program) (scope : LocalScope) where
   conditional c a b from into free l =
       let test = condition c from free l in
       let t = common (emitted_type a) (emitted_type b) in
-      let first = settled into (due t a (test.to + 1) into free test.lists) in
-      chosen t test first (settled into (due t b (first.held.to + 1) into free first.lists)) into
+      let first = value_into into (due t a (test.to + 1) into free test.lists) in
+      conditional_value t test first (value_into into (due t b (first.held.to + 1) into free first.lists)) into

@@ -11,8 +11,8 @@ pub record Lists : Type 0 where
   pub layout : Layout
 
 -- a register is used
-abbrev pub used : ℕ → Lists → Lists
-used r l = record l { registers = max l.registers (suc r) }
+abbrev pub with_register : ℕ → Lists → Lists
+with_register r l = record l { registers = max l.registers (suc r) }
 
 -- so many registers are used
 abbrev pub holding : ℕ → Lists → Lists

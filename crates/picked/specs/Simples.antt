@@ -13,7 +13,7 @@ use Rattle.bytecode.specs.declared.instr.Instr.{Instr}
 use Rattle.bytecode.specs.declared.instr.Instr.TheVariants as own
 use Rattle.picked.specs.declared.held.Target.{Target}
 use Rattle.picked.specs.declared.held.Target.TheVariants as target
-use Rattle.picked.specs.Lists.{Lists, used}
+use Rattle.picked.specs.Lists.{Lists, with_register}
 use Rattle.lowered.specs.Expressions.{LocalScope, constant_in}
 use Rattle.lowered.specs.Statements.{with_local}
 use Rattle.picked.specs.Expressions.{Emitted, above, one, constant, ready, ready_or, in_local, converting, converted_by}
@@ -39,7 +39,7 @@ abbrev pub aimed_at : Target → ℕ → Lists → Aimed
 aimed_at t from l = record { code = []; lists = l; target = t; to = from }
 
 abbrev pub variable_target : Option (ℕ × Scalar) → Option GlobalCells → ℕ → Lists → Aimed
-variable_target (Some x) g from l = aimed_at (target.Local x.0 x.1) from (used x.0 l)
+variable_target (Some x) g from l = aimed_at (target.Local x.0 x.1) from (with_register x.0 l)
 variable_target None (Some g) from l = aimed_at (target.Cell g.cell g.global.of) from l
 variable_target None None from l = aimed_at target.Nowhere from l
 
@@ -67,11 +67,11 @@ above_target (target.Element i cell n t) free = above free i
 above_target t free = free
 
 -- the old value
-abbrev pub fetched : Target → (from free : ℕ) → Lists → Emitted
-fetched (target.Local i t) from free l = in_local i t from l
-fetched (target.Cell c t) from free l = one (own.Read free c) from free t l
-fetched (target.Element i c n t) from free l = one (own.ReadAt free i c n) from free t l
-fetched target.Nowhere from free l = constant 0 Int from free l
+abbrev pub target_value : Target → (from free : ℕ) → Lists → Emitted
+target_value (target.Local i t) from free l = in_local i t from l
+target_value (target.Cell c t) from free l = one (own.Read free c) from free t l
+target_value (target.Element i c n t) from free l = one (own.ReadAt free i c n) from free t l
+target_value target.Nowhere from free l = constant 0 Int from free l
 
 -- the register that the value takes: a local's own, or else a free one
 abbrev pub home_or : Target → ℕ → ℕ
@@ -82,11 +82,11 @@ abbrev pub one_written : Instr → ℕ → Lists → Written
 one_written i from l = record { code = i ∷ []; lists = l; to = from + 1 }
 
 -- a value goes to its target, where it does not lie there already
-abbrev pub stored : Target → ℕ → ℕ → Lists → Written
-stored (target.Local i t) a from l = if a == i then nothing_written from l else one_written (own.Move i a) from l
-stored (target.Cell c t) a from l = one_written (own.Write a c) from l
-stored (target.Element i c n t) a from l = one_written (own.WriteAt i a c n) from l
-stored target.Nowhere a from l = nothing_written from l
+abbrev pub target_store : Target → ℕ → ℕ → Lists → Written
+target_store (target.Local i t) a from l = if a == i then nothing_written from l else one_written (own.Move i a) from l
+target_store (target.Cell c t) a from l = one_written (own.Write a c) from l
+target_store (target.Element i c n t) a from l = one_written (own.WriteAt i a c n) from l
+target_store target.Nowhere a from l = nothing_written from l
 
 -- the type of what lies at a target
 abbrev pub type_at : Target → Scalar
@@ -120,11 +120,11 @@ expr_fitting t s e' e from into l = fitting t s e into
 abbrev pub and_then : Written → Written → Written
 and_then a b = record { code = a.code ++ b.code; lists = b.lists; to = b.to }
 
-abbrev pub evaluated : Emitted → Written
-evaluated e = record { code = e.code; lists = e.lists; to = e.held.to }
+abbrev pub code_of_value : Emitted → Written
+code_of_value e = record { code = e.code; lists = e.lists; to = e.held.to }
 
 abbrev pub then_stored : Target → Emitted → Written
-then_stored t e = and_then (evaluated e) (stored t e.held.register e.held.to e.lists)
+then_stored t e = and_then (code_of_value e) (target_store t e.held.register e.held.to e.lists)
 
 abbrev pub behind : Aimed → Written → Written
 behind t w = record { code = t.code ++ w.code; lists = w.lists; to = w.to }
@@ -167,7 +167,7 @@ module _ (p : Program) (scope : LocalScope) where
   changed op by t from free l =
       let s = type_at t in
       let u = operand_type op s (type_or_int by) in
-      let old = converted_by (converting s u) u (fetched t from free l) free in
+      let old = converted_by (converting s u) u (target_value t from free l) free in
       let v = operand_type op (type_or_int by) s in
       let other = value_or_one v by old.held.to (above free old.held.register) old.lists in
       let home = home_or t free in
@@ -179,7 +179,7 @@ module _ (p : Program) (scope : LocalScope) where
       behind t (then_stored t.target (changed op by t.target t.to (above_target t.target free) t.lists))
 
   abbrev pub simple_written : Simple → (from free : ℕ) → Lists → Written
-  simple_written (Evaluate e) from free l = evaluated (emitted p scope e from free free l)
+  simple_written (Evaluate e) from free l = code_of_value (emitted p scope e from free free l)
   simple_written (Assign lhs None e) from free l = assigned lhs e from free l
   simple_written (Assign lhs (Some op) e) from free l = adjusted op lhs (Some e) from free l
   simple_written (Adjust lhs by) from free l = adjusted (op_of by) lhs None from free l
@@ -194,7 +194,7 @@ first_written p scope i t (Some e) from l =
 abbrev pub declarator_written : Program → Scalar → Declarator → LocalScope → ℕ → Lists → Written
 declarator_written p t d scope from l =
     let i = length scope in
-    let first = first_written p (with_local scope d.name.text t) i t d.first (from + 1) (used i l) in
+    let first = first_written p (with_local scope d.name.text t) i t d.first (from + 1) (with_register i l) in
     record { code = own.Constant i 0 ∷ first.code; lists = first.lists; to = first.to }
 
 abbrev pub declared_written : Program → Scalar → List Declarator → LocalScope → ℕ → Lists → Written

@@ -16,7 +16,7 @@ use Rattle.picked.specs.declared.held.Exits.{Exits}
 use Rattle.picked.specs.Lists.{Lists}
 use Rattle.picked.specs.Expressions.{Emitted, AllEmitted, due, all_emitted, condition}
 use Rattle.picked.specs.Conditions.{Condition, test_in, going_on, going_back}
-use Rattle.picked.specs.Simples.{Written, nothing_written, one_written, and_then, evaluated, simple_written}
+use Rattle.picked.specs.Simples.{Written, nothing_written, one_written, and_then, code_of_value, simple_written}
 use Rattle.picked.specs.Simples.{declared_written, start_written}
 
 -- so many commits, and then an instruction
@@ -45,8 +45,8 @@ abbrev pub looping : Exits → (break_to continue_to : ℕ) → Exits
 looping x break_to continue_to = record x { break_to = break_to; continue_to = continue_to; in_loop = 0 }
 
 -- a condition, a jump to the place behind the branch where it does not hold, and the branch
-abbrev pub branched : Condition → Written → Written
-branched c a = record { code = going_on c.code (test_in c) a.to ++ a.code; lists = a.lists; to = a.to }
+abbrev pub if_code : Condition → Written → Written
+if_code c a = record { code = going_on c.code (test_in c) a.to ++ a.code; lists = a.lists; to = a.to }
 
 abbrev pub branched_twice : Condition → Written → Written → Written
 branched_twice c a b = record {
@@ -85,11 +85,11 @@ for_written start a step test = record {
 }
 
 -- a cancel goes on behind the commit
-abbrev pub transacted : Written → Written
-transacted a = record { code = own.Begin (a.to + 1) ∷ a.code ++ own.Commit ∷ []; lists = a.lists; to = a.to + 1 }
+abbrev pub transaction_code : Written → Written
+transaction_code a = record { code = own.Begin (a.to + 1) ∷ a.code ++ own.Commit ∷ []; lists = a.lists; to = a.to + 1 }
 
-abbrev pub returned : ℕ → Emitted → Written
-returned n e = and_then (evaluated e) (left_by n (own.ReturnValue e.held.register) e.held.to e.lists)
+abbrev pub return_code : ℕ → Emitted → Written
+return_code n e = and_then (code_of_value e) (left_by n (own.ReturnValue e.held.register) e.held.to e.lists)
 
 abbrev pub printing : Scalar → ℕ → Instr
 printing Int r = own.PrintSigned r
@@ -126,7 +126,7 @@ module _ (p : Program) where
   abbrev pub return_written : LocalScope → Option Expr → Exits → ℕ → Lists → Written
   return_written scope None x from l = left_by x.in_function own.Return from l
   return_written scope (Some e) x from l =
-      returned x.in_function (due p scope x.gives e from (length scope) (length scope) l)
+      return_code x.in_function (due p scope x.gives e from (length scope) (length scope) l)
 
   abbrev mutual
     pub written : Stmt → Exits → LocalScope → ℕ → Lists → Written
@@ -138,7 +138,7 @@ module _ (p : Program) where
         print_written (all_emitted p scope [] es (from + 1) (length scope) l) (pieces format)
     written (If c a) x scope from l =
         let test = condition p scope c from (length scope) l in
-        branched test (written a x scope (test.to + 1) test.lists)
+        if_code test (written a x scope (test.to + 1) test.lists)
     written (IfElse c a b) x scope from l =
         let test = condition p scope c from (length scope) l in
         let first = written a x scope (test.to + 1) test.lists in
@@ -161,7 +161,7 @@ module _ (p : Program) where
     written (Continue at) x scope from l = left_by x.in_loop (own.Jump x.continue_to) from l
     written (Return e at) x scope from l = return_written scope e x from l
     written (Transaction kind ss at) x scope from l =
-        transacted (all_written ss (in_transaction kind x) scope (from + 1) l)
+        transaction_code (all_written ss (in_transaction kind x) scope (from + 1) l)
     written (Cancel at) x scope from l = one_written own.Cancel from l
     written (CancelOuter at) x scope from l = one_written (cancelling x.to_outer) from l
 

@@ -4,12 +4,12 @@ use Rattle.std.specs.Prelude.{◌==◌}
 use Rattle.std.specs.List.{list_any}
 use Rattle.std.proofs.lemmas.List.Concat.{flat_map-cons}
 use Rattle.std.proofs.lemmas.List.Folds.{list_any-append}
-use Rattle.picture.specs.Marks.{escaped, xml}
+use Rattle.picture.specs.Marks.{xml_escape, xml}
 
 -- nor does a byte
-of_byte : (b : ℕ) → list_any (λ c. c == 60) (escaped b) ≡ false
+of_byte : (b : ℕ) → list_any (λ c. c == 60) (xml_escape b) ≡ false
 of_byte b = grind arith
 
 pub no_bracket : (line : List ℕ) → list_any (λ c. c == 60) (xml line) ≡ false
 no_bracket [] = refl
-no_bracket (b ∷ line) = rw (flat_map-cons escaped b line, list_any-append (λ c. c == 60) (escaped b) (xml line), of_byte b, no_bracket line) refl
+no_bracket (b ∷ line) = rw (flat_map-cons xml_escape b line, list_any-append (λ c. c == 60) (xml_escape b) (xml line), of_byte b, no_bracket line) refl

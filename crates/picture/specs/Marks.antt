@@ -9,15 +9,15 @@ use Rattle.machine.specs.declared.event.Event.{Event}
 use Rattle.machine.specs.declared.event.Event.TheVariants.{Quiet, Commit as Committed, Abort, Cancel, Trap}
 
 -- a byte of words for people, as XML wants it; what is not printable ASCII is shown as `?`
-abbrev pub escaped : ℕ → List ℕ
-escaped b =
+abbrev pub xml_escape : ℕ → List ℕ
+xml_escape b =
     if b == 38 then codes "&amp;" else
     if b == 60 then codes "&lt;" else
     if b == 62 then codes "&gt;" else
     if nat_le 32 b && nat_le b 126 then b ∷ [] else 63 ∷ []
 
 abbrev pub xml : List ℕ → List ℕ
-xml words = flat_map escaped words
+xml words = flat_map xml_escape words
 
 abbrev pub is_access : Access → Bool
 is_access Local = false

@@ -1,7 +1,7 @@
 //! Pieces of an SVG's text, each added at the end of a list.
 
 ghost use Rattle.std.specs.Prelude.{◌≡◌, ◌++◌, OnOk, decimal};
-ghost use Rattle.picture.specs.Marks.{escaped, xml};
+ghost use Rattle.picture.specs.Marks.{xml_escape, xml};
 
 use itoa::Buffer;
 use std::alloc::{AllocError, Allocator};
@@ -19,7 +19,7 @@ pub(crate) enum Piece<'a> {
 
 /// Adds a byte of words.
 fn put_byte<A: Allocator>(to: &mut Vec<u8, A>, byte: u8) -> Result<(), AllocError>
-    ensures { OnOk result (to.new.items ≡ to.old.items ++ escaped byte) }
+    ensures { OnOk result (to.new.items ≡ to.old.items ++ xml_escape byte) }
 {
     match byte {
         b'&' => to.extend_from_slice(b"&amp;"),

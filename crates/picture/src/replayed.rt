@@ -1,7 +1,7 @@
 //! The steps of a replay, as they are drawn.
 
 ghost use Rattle.std.specs.Prelude.{◌≡◌, ◌∷◌, ◌++◌, [], IfOk, IfSome, OnSome, flat_map, map, slice_get};
-ghost use Rattle.replay.specs.Replays.{played, timeline_of};
+ghost use Rattle.replay.specs.Replays.{simulation_after, timeline_of};
 ghost use Rattle.picture.specs.Arrows.{Moment, arrow_titles};
 ghost use Rattle.picture.specs.Marks.{IsPicture, is_drawn, title_of};
 ghost use Rattle.picture.specs.Replayed.{IsDrawn, deed_at, deed_of, step_title, titles};
@@ -180,7 +180,7 @@ pub fn replay_picture<A: Allocator + Copy>(
     made: &[u32],
     file: &str,
 ) -> Option<Vec<u8, A>>
-    ensures { IfSome result (λ v. IsDrawn code.now (timeline_of (played code.now threads made.now)) v.items) }
+    ensures { IfSome result (λ v. IsDrawn code.now (timeline_of (simulation_after code.now threads made.now)) v.items) }
 {
     let shown = timeline(alloc, code, threads, made)?;
     let Ok(mut world) = World::new(alloc, code, threads) else {

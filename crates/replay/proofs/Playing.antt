@@ -14,7 +14,7 @@ use Rattle.world.specs.Stops.{StopsFor}
 use Rattle.world.proofs.Stepping.{further_more, further_none, next_accesses, next_world, parts_count}
 use Rattle.replay.specs.declared.line.Line.{Line}
 use Rattle.replay.specs.declared.line.TheConstants.{MOST_STEPS}
-use Rattle.replay.specs.Replays.{IsReplay, events_in, events_of, first_world, is_done, is_over, is_cut_off, is_quiet, line_after, lines_left, played, steps_of, steps_with, told_event}
+use Rattle.replay.specs.Replays.{IsReplay, events_in, events_of, first_world, is_done, is_over, is_cut_off, is_quiet, line_after, lines_left, simulation_after, steps_of, steps_with, told_event}
 use Rattle.replay.specs.declared.play.Halt.{Halt}
 use Rattle.replay.specs.declared.play.Halt.TheVariants.{Stopped, Refused}
 use Rattle.replay.specs.inner.Playing.{ComesTo, Going, HaltsAt, HaltsIn, HasPlayed, IsCut, Plays}
@@ -133,7 +133,7 @@ no_stranger s l k le = at l.accesses
     at false = refl
 
 module _ (code : Code) (threads : ℕ) (lines : List Line) where
-  pub starts : HasPlayed code threads lines MOST_STEPS lines (played code threads [])
+  pub starts : HasPlayed code threads lines MOST_STEPS lines (simulation_after code threads [])
   starts = record { made = []; are = refl; named = refl }
 
   pub plays_on : (room left : ℕ) (line : Line) (rest : List Line) (now next : Simulation) → HasPlayed code threads lines room (line ∷ rest) now → Plays line room left now next → HasPlayed code threads lines left rest next
@@ -173,7 +173,7 @@ module _ (code : Code) (threads : ℕ) (lines : List Line) where
         let h = e.4 in
         let p = e.5 in
         let made : List ℕ = h.made ++ p.made in
-        let are : now ≡ played code threads made = p.are ∙ ap (λ (v : Simulation). further v p.made) h.are in
+        let are : now ≡ simulation_after code threads made = p.are ∙ ap (λ (v : Simulation). further v p.made) h.are in
         let same : e.3.code ≡ code = ap (λ (v : Simulation). v.code) h.are in
         let cut = p.named e.2 in
         record {

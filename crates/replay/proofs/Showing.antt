@@ -6,7 +6,7 @@ use Rattle.machine.specs.declared.event.StepShown.{StepShown}
 use Rattle.machine.specs.Worlds.{World, run, step}
 use Rattle.world.specs.Simulations.{Simulation, accesses_in, accesses_of, cost_at, cost_next, further, shown_at, shown_next}
 use Rattle.world.proofs.Stepping.{next_accesses}
-use Rattle.replay.specs.Replays.{first_world, played, shown_in, step_shown, timeline_of}
+use Rattle.replay.specs.Replays.{first_world, simulation_after, shown_in, step_shown, timeline_of}
 
 module _ (code : Code) where
   shown_more : (ts : List ℕ) (t : ℕ) (w : World Configuration) (n : ℕ) → shown_in code (ts ++ t ∷ []) w n
@@ -28,7 +28,7 @@ next_shown s z t n x is at count =
     ∙ ap (λ (o : Option StepShown). timeline_of s ++ step_shown n t o) at)
 
 -- the steps made with one more
-pub next_made : (code : Code) (threads : ℕ) (ts : List ℕ) (i : ℕ) (t : ℕ) (s z : Simulation) → s ≡ played code threads (take i ts) → z ≡ further s (t ∷ []) → t ≡ get_or ts i 0 → i < length ts → z ≡ played code threads (take (i + 1) ts)
+pub next_made : (code : Code) (threads : ℕ) (ts : List ℕ) (i : ℕ) (t : ℕ) (s z : Simulation) → s ≡ simulation_after code threads (take i ts) → z ≡ further s (t ∷ []) → t ≡ get_or ts i 0 → i < length ts → z ≡ simulation_after code threads (take (i + 1) ts)
 next_made code threads ts i t s z was is here less =
     is ∙ ap (λ (v : Simulation). further v (t ∷ [])) was
-    ∙ ap (λ (us : List ℕ). played code threads us) (ap (λ (u : ℕ). take i ts ++ u ∷ []) here ∙ sym (take_more ts i 0 less))
+    ∙ ap (λ (us : List ℕ). simulation_after code threads us) (ap (λ (u : ℕ). take i ts ++ u ∷ []) here ∙ sym (take_more ts i 0 less))

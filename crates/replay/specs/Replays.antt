@@ -74,11 +74,11 @@ events_in code (t ∷ ts) w n =
     ++ events_in code ts (step (effect code) w t) (n + cost_next code (slice_get w.parts t))
 
 -- the world after these steps
-abbrev pub played : Code → ℕ → List ℕ → Simulation
-played code threads made = record { code = code; threads = threads; trace = made }
+abbrev pub simulation_after : Code → ℕ → List ℕ → Simulation
+simulation_after code threads made = record { code = code; threads = threads; trace = made }
 
 abbrev pub first_world : Code → ℕ → World Configuration
-first_world code threads = world_of (played code threads [])
+first_world code threads = world_of (simulation_after code threads [])
 
 abbrev pub events_of : Simulation → List (ℕ × ℕ × Event)
 events_of s = events_in s.code s.trace (first_world s.code s.threads) 0
@@ -111,11 +111,11 @@ pub record IsReplay {A : Type 0} (code : Code) (threads : ℕ) (lines : List Lin
   pub rest : List ℕ
   pub stop : Option (ℕ × StopReason)
   pub named : steps_of code MOST_STEPS lines (first_world code threads) ≡ made ++ rest
-  pub ends : EndsAt (played code threads made) rest stop
+  pub ends : EndsAt (simulation_after code threads made) rest stop
   pub made_is : r.trace.items ≡ made
-  pub explained : IsExplained (played code threads made)
-  pub events : r.events.items ≡ events_of (played code threads made)
-  pub threads_are : threads_of r.threads.items ≡ threads_shown stop (played code threads made)
-  pub words : r.words.items ≡ (world_of (played code threads made)).words
-  pub holder : IsHolder (world_of (played code threads made)) r.holder
-  pub stop_is : r.stop ≡ stop_with stop (played code threads made)
+  pub explained : IsExplained (simulation_after code threads made)
+  pub events : r.events.items ≡ events_of (simulation_after code threads made)
+  pub threads_are : threads_of r.threads.items ≡ threads_shown stop (simulation_after code threads made)
+  pub words : r.words.items ≡ (world_of (simulation_after code threads made)).words
+  pub holder : IsHolder (world_of (simulation_after code threads made)) r.holder
+  pub stop_is : r.stop ≡ stop_with stop (simulation_after code threads made)

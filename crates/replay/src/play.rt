@@ -4,7 +4,7 @@ ghost use Rattle.std.specs.Prelude.{◌≡◌, ◌+◌, ◌<◌, ◌≤◌, ◌�
 ghost use Rattle.std.specs.Prelude.{if◌then◌else◌, length, slice_get};
 ghost use Rattle.world.specs.Simulations.{IsExplained, cost_at, further, world_of};
 ghost use Rattle.replay.specs.Replays.{IsReplay, events_of, is_cut_off as is_cut_off_spec, is_quiet as is_quiet_spec};
-ghost use Rattle.replay.specs.Replays.{played};
+ghost use Rattle.replay.specs.Replays.{simulation_after};
 ghost use Rattle.replay.specs.inner.Playing.{ComesTo, HaltsAt, HaltsIn, Plays};
 
 use crate::line::{Line, MOST_STEPS};
@@ -141,7 +141,7 @@ fn play_all<A: Allocator + Copy>(
     events: &mut Events<A>,
     lines: &[Line],
 ) -> Result<Option<(u32, StopReason)>, AllocError>
-    requires first { world.old ≡ played world.old.code world.old.threads [] }
+    requires first { world.old ≡ simulation_after world.old.code world.old.threads [] }
     requires events { events.old.items ≡ events_of world.old }
     ensures ends { IfOk result (λ stop. ComesTo world.old.code world.old.threads lines.now stop world.new) }
     ensures events { OnOk result (events.new.items ≡ events_of world.new) }
@@ -164,7 +164,7 @@ fn report_played<A: Allocator + Copy>(
     world: &mut World<A>,
     lines: &[Line],
 ) -> Result<Report<A>, AllocError>
-    requires first { world.old ≡ played world.old.code world.old.threads [] }
+    requires first { world.old ≡ simulation_after world.old.code world.old.threads [] }
     ensures { IfOk result (λ r. IsReplay world.old.code world.old.threads lines.now r) }
 {
     let mut events = Vec::new(alloc);

@@ -2,7 +2,7 @@
 
 ghost use Rattle.std.specs.Prelude.{◌≡◌, ◌∷◌, [], IfSome, OnSome};
 ghost use Rattle.world.specs.Simulations.{further};
-ghost use Rattle.replay.specs.Replays.{played, timeline_of};
+ghost use Rattle.replay.specs.Replays.{simulation_after, timeline_of};
 
 use bytecode::Code;
 use machine::StepShown;
@@ -37,8 +37,8 @@ fn show_all<A: Allocator + Copy>(
     world: &mut World<A>,
     steps: &[u32],
 ) -> Option<Vec<(u64, u32, StepShown), A>>
-    requires first { world.old ≡ played world.old.code world.old.threads [] }
-    ensures { IfSome result (λ v. v.items ≡ timeline_of (played world.old.code world.old.threads steps.now)) }
+    requires first { world.old ≡ simulation_after world.old.code world.old.threads [] }
+    ensures { IfSome result (λ v. v.items ≡ timeline_of (simulation_after world.old.code world.old.threads steps.now)) }
 {
     let mut shown = Vec::new(alloc);
     'steps: for at in 0..steps.len() {
@@ -56,7 +56,7 @@ pub fn timeline<A: Allocator + Copy>(
     threads: u32,
     steps: &[u32],
 ) -> Option<Vec<(u64, u32, StepShown), A>>
-    ensures { IfSome result (λ v. v.items ≡ timeline_of (played code.now threads steps.now)) }
+    ensures { IfSome result (λ v. v.items ≡ timeline_of (simulation_after code.now threads steps.now)) }
 {
     let Ok(mut world) = World::new(alloc, code, threads) else {
         return None;

@@ -5,7 +5,7 @@ use Rattle.std.proofs.lemmas.List.Elements.{All-contains, Contains-append_left, 
 use Rattle.syntax.specs.declared.tree.{Mode.TheVariants.Atomic, Mode.TheVariants.Relaxed, Kind.TheVariants.Plain, Kind.TheVariants.Outer}
 use Rattle.syntax.specs.Tree as Tree
 use Rattle.syntax.specs.Tree.{Stmt, Stmts, Empty, Declare, Do, Block, Print, If, IfElse, While, DoWhile, For, Break, Continue, Return, Transaction, Cancel, CancelOuter, Function, Defines, Shares, Program}
-use Rattle.syntax.specs.Names.{defined, definition_of}
+use Rattle.syntax.specs.Names.{definition_or, definition_of}
 use Rattle.syntax.specs.Typing.{names_of, parameter_names}
 use Rattle.syntax.specs.Actions.{Answer, Gives, Stops}
 use Rattle.syntax.specs.Meaning.{End, Next, Breaks, Continues, Returns, Cancels as CancelEnd, CancelsOuter as OuterEnd, stmts, calls}
@@ -34,7 +34,7 @@ definition_sites (Defines f ∷ items) x d e m c = here f.body e (λ g. definiti
     no_body true h = h
     no_body false h = h
 
-    here : (body : Option Stmts) → defined f x body (definition_of items x) ≡ Some d → (definition_of items x ≡ Some d → Contains (sites_of items x) m) → Contains ((if bytes_eq f.name.text x then body_sites f.parameters body else []) ++ sites_of items x) m
+    here : (body : Option Stmts) → definition_or f x body (definition_of items x) ≡ Some d → (definition_of items x ≡ Some d → Contains (sites_of items x) m) → Contains ((if bytes_eq f.name.text x then body_sites f.parameters body else []) ++ sites_of items x) m
     here None g others = no_body (bytes_eq f.name.text x) (others g)
     here (Some b) g others = by_name b (bytes_eq f.name.text x) g others
 

@@ -7,7 +7,7 @@ use Rattle.std.proofs.lemmas.List.Elements.{Contains-push, Contains-append_left,
 use Rattle.std.proofs.lemmas.List.Sums.{sum_by-set, count_by-le-length}
 use Rattle.std.proofs.lemmas.Grind.{common_steps}
 use Rattle.std.proofs.lemmas.Bool.{cases_lt, cases_eq}
-use Rattle.safety.specs.inner.Graphs.{callers_at, IsReached, State, visited, all_visited}
+use Rattle.safety.specs.inner.Graphs.{callers_at, IsReached, State, enqueue, all_visited}
 use Rattle.safety.specs.inner.Closing.{IsWithin, IsMember, IsQueued, IsClosing, IsClosed}
 
 pub one_is : (x y : ℕ) → Contains (x ∷ []) y → y ≡ x
@@ -55,21 +55,21 @@ module _ (callers : List (List ℕ)) where
     keeps_by true e h less reached = h
     keeps_by false e h less reached = put_keeps h less e reached
 
-    visited_keeps : IsQueued callers s → i < length s.members → IsReached callers i → IsQueued callers (visited s i)
+    visited_keeps : IsQueued callers s → i < length s.members → IsReached callers i → IsQueued callers (enqueue s i)
     visited_keeps h less reached = keeps_by (get_or s.members i true) refl h less reached
 
     member_by : (b : Bool) → get_or s.members i true ≡ b → i < length s.members → IsMember (if b then s else put).members i
     member_by true e less = get_or_default s.members i false true less ∙ e
     member_by false e less = get_or-set_same s.members i true false less
 
-    visited_is_member : i < length s.members → IsMember (visited s i).members i
+    visited_is_member : i < length s.members → IsMember (enqueue s i).members i
     visited_is_member less = member_by (get_or s.members i true) refl less
 
     grows_by : (b : Bool) (k : ℕ) → i < length s.members → IsMember s.members k → IsMember (if b then s else put).members k
     grows_by true k less h = h
     grows_by false k less h = member_more s.members i k less h
 
-    visited_grows : (k : ℕ) → i < length s.members → IsMember s.members k → IsMember (visited s i).members k
+    visited_grows : (k : ℕ) → i < length s.members → IsMember s.members k → IsMember (enqueue s i).members k
     visited_grows k less h = grows_by (get_or s.members i true) k less h
 
     more_by : (b : Bool) → (more : List ℕ) × ((if b then s else put).queue ≡ s.queue ++ more)
@@ -89,7 +89,7 @@ module _ (callers : List (List ℕ)) where
   all_keep (i ∷ all) s h right =
       let here = right i (0, omega arith, refl) in
       let less : i < length s.members = omega (arith, h.same, here.0) in
-      let mid = visited s i in
+      let mid = enqueue s i in
       let rest = all_keep all mid (visited_keeps s i h less here.1) (λ k c. right k (Contains-append_right (i ∷ []) all k c)) in
       let first = more_by s i (get_or s.members i true) in
       record {
@@ -161,7 +161,7 @@ module _ (callers : List (List ℕ)) where
       no : false ≡ true → ⊥
       no e = cc
 
-  pub begins : (n : ℕ) (s : State) → n ≡ length callers → 0 < length callers → s ≡ visited (record { members = replicate n false; queue = [] }) 0 → IsClosing callers 0 s
+  pub begins : (n : ℕ) (s : State) → n ≡ length callers → 0 < length callers → s ≡ enqueue (record { members = replicate n false; queue = [] }) 0 → IsClosing callers 0 s
   begins n s e some is =
       let start : State = record { members = replicate n false; queue = [] } in
       let less : 0 < length start.members = (let size = length_members n in omega (arith, size, e, some)) in

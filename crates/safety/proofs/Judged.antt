@@ -6,7 +6,7 @@ use Rattle.std.proofs.lemmas.List.Elements.{All-nil, All-cons, All-append}
 use Rattle.std.proofs.lemmas.Slice.Eq.{bytes_eq-Decides}
 use Rattle.syntax.specs.declared.tree.Attribute.TheVariants.{Safe}
 use Rattle.syntax.specs.Tree.{Item, Defines, Shares, Program, Stmts}
-use Rattle.syntax.specs.Names.{defined, definition_of}
+use Rattle.syntax.specs.Names.{definition_or, definition_of}
 use Rattle.syntax.specs.Types.{file_scope}
 use Rattle.syntax.specs.Typing.{demand, first_unmet, is_unknown, is_worker, IsTypedItem, IsTypedFunction, AreTypedItems, AreDefined, IsTypedProgram}
 use Rattle.syntax.proofs.Demands.{AreMet, all_met, none_unmet, met_before, met_behind, is_met}
@@ -99,7 +99,7 @@ module _ (p : Program) (safe outer : FunctionSet) (tells : TellsSafe p safe) (le
       named rest b e true t d = own b e ((bytes_eq-Decides g.name.text f).0 t)
       named rest b e false t d = rest d
 
-      here : (is_some (definition_of items f) ≡ true → IsTrue (safe f)) → (o : Option Stmts) → g.body ≡ o → is_some (defined g f o (definition_of items f)) ≡ true → IsTrue (safe f)
+      here : (is_some (definition_of items f) ≡ true → IsTrue (safe f)) → (o : Option Stmts) → g.body ≡ o → is_some (definition_or g f o (definition_of items f)) ≡ true → IsTrue (safe f)
       here rest None e d = rest d
       here rest (Some b) e d = named rest b e (bytes_eq g.name.text f) refl d
 

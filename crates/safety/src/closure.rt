@@ -3,7 +3,7 @@
 ghost use Rattle.std.specs.Prelude.{◌≡◌, ◌<◌, [], length, replicate, false, OnOk, IfOk};
 ghost use Rattle.safety.specs.Links.{IsLeast};
 ghost use Rattle.safety.specs.Sets.{links_of, set_of};
-ghost use Rattle.safety.specs.inner.Graphs.{visited, all_visited};
+ghost use Rattle.safety.specs.inner.Graphs.{enqueue, all_visited};
 ghost use Rattle.safety.specs.inner.Closing.{IsWithin, IsClosing, IsClosed};
 
 use crate::graph::{Graph, graph_of};
@@ -19,7 +19,7 @@ fn visit<A: Allocator + Copy>(
 ) -> Result<(), AllocError>
     ensures { OnOk result
         (record { members = members.new; queue = queue.new }
-        ≡ visited (record { members = members.old; queue = queue.old }) number) }
+        ≡ enqueue (record { members = members.old; queue = queue.old }) number) }
 {
     if number < members.len() && !members[number] {
         queue.push(number)?;

@@ -10,11 +10,11 @@ use Rattle.atomic_table.proofs.Lists.{at_set}
 use Rattle.norec_core.specs.declared.step.Access.{Access}
 use Rattle.norec_core.specs.declared.step.Access.TheVariants.{LoadLock, LoadWord, Swap, StoreWord, StoreLock}
 use Rattle.norec_core.specs.declared.step.Answer.{Answer}
-use Rattle.machine.specs.Answered.{Heard, LocksFrom, is_local, paused}
+use Rattle.machine.specs.Answered.{Heard, LocksFrom, is_local, after_local_steps}
 use Rattle.bytecode.specs.Code.{Configuration}
 use Rattle.machine.specs.Addresses.{AccessFits}
 use Rattle.machine.specs.States.{IsWordOf}
-use Rattle.machine.specs.Threads.{Thread, access, told}
+use Rattle.machine.specs.Threads.{Thread, access, step_with}
 use Rattle.norec_core.specs.Accesses.{stops}
 use Rattle.machine.specs.Worlds.{Part, World, answer, lock_after, part_after, words_after}
 use Rattle.machine.proofs.answers.Answering.{after_step, paused_once, pauses, turns}
@@ -46,7 +46,7 @@ at_most_one true n e = omega arith
 at_most_one false n e = omega arith
 
 module _ (key : Setup) where
-  module _ (words : List ℕ) (views : Views) (rule : IsRuled key words views) (id : ℕ) (p : ViewPart) (at : get_elem? views id ≡ some (p ∷ [])) (k : ℕ) (now : Part Configuration) (x : Access) (pause : paused (effect key.code) k p.part ≡ Some now) (is : access (effect key.code) now.thread ≡ x) (far : is_local x ≡ false) (on : stops x ≡ false) where
+  module _ (words : List ℕ) (views : Views) (rule : IsRuled key words views) (id : ℕ) (p : ViewPart) (at : get_elem? views id ≡ some (p ∷ [])) (k : ℕ) (now : Part Configuration) (x : Access) (pause : after_local_steps (effect key.code) k p.part ≡ Some now) (is : access (effect key.code) now.thread ≡ x) (far : is_local x ≡ false) (on : stops x ≡ false) where
     abbrev w : World Configuration
     w = rule.world
 
@@ -55,7 +55,7 @@ module _ (key : Setup) where
 
     -- the thread's part after the access
     abbrev q : Part Configuration
-    q = part_after rule.world.words now (told (effect key.code) now.thread (answer rule.world.lock rule.world.words x))
+    q = part_after rule.world.words now (step_with (effect key.code) now.thread (answer rule.world.lock rule.world.words x))
 
     -- and the seat's
     abbrev u : ViewPart
@@ -137,12 +137,12 @@ module _ (key : Setup) where
     pub took_as : p.setup ≡ key → TookAs p now x a (u ∷ [])
     took_as same = record {
       words = rule.world.words;
-      leaves = ap (λ (s : Setup). record p { part = part_after rule.world.words now (told (effect s.code) now.thread a); heard = more_heard p.heard x a } ∷ []) (sym same);
+      leaves = ap (λ (s : Setup). record p { part = part_after rule.world.words now (step_with (effect s.code) now.thread a); heard = more_heard p.heard x a } ∷ []) (sym same);
       answers = answer_fits x rule.world.lock rule.world.words;
       word = subst (λ (s : Setup). IsWordOf s.code x a) (sym same)
           (word_fits key.code x rule.world.lock rule.world.words names_cell (memory (effect key.code) (beginning key.code) (bounds_of key.code) (initial_of key.code) (initial_fits key.code) (fits_cells key.code rule.valid) key.threads rule.world rule.heard rule.answered));
       since = since_after;
-      stands = subst (λ (s : Setup). IsPart s p.number (part_after rule.world.words now (told (effect s.code) now.thread a)) (more_heard p.heard x a)) (sym same) stands_after;
+      stands = subst (λ (s : Setup). IsPart s p.number (part_after rule.world.words now (step_with (effect s.code) now.thread a)) (more_heard p.heard x a)) (sym same) stands_after;
     }
 
   -- What the table makes of the words, as the world does
@@ -151,7 +151,7 @@ module _ (key : Setup) where
       (lock : ℕ) (words : List ℕ) → (set (lock ∷ words) i (f (get_or (lock ∷ words) i 0)) ≡ lock_after lock x ∷ words_after words x) × (reply x (g (get_or (lock ∷ words) i 0)) ≡ answer lock words x)
 
   module _ (x : Access) (i : ℕ) (f g : ℕ → ℕ) (agrees : Agrees x i f g) (far : is_local x ≡ false) (on : stops x ≡ false) where
-    module _ (words : List ℕ) (views : Views) (rule : IsRuled key words views) (id : ℕ) (p : ViewPart) (at : get_elem? views id ≡ some (p ∷ [])) (k : ℕ) (now : Part Configuration) (same : p.setup ≡ key) (pause : paused (effect key.code) k p.part ≡ Some now) (is : access (effect key.code) now.thread ≡ x) (n : ℕ) (found : n ≡ g (get_or words i 0)) where
+    module _ (words : List ℕ) (views : Views) (rule : IsRuled key words views) (id : ℕ) (p : ViewPart) (at : get_elem? views id ≡ some (p ∷ [])) (k : ℕ) (now : Part Configuration) (same : p.setup ≡ key) (pause : after_local_steps (effect key.code) k p.part ≡ Some now) (is : access (effect key.code) now.thread ≡ x) (n : ℕ) (found : n ≡ g (get_or words i 0)) where
       abbrev left : List ViewPart
       left = u words views rule id p at k now x pause is far on ∷ []
 
@@ -161,9 +161,9 @@ module _ (key : Setup) where
       took_so : TookAs p now x (reply x n) left
       took_so = subst (λ (y : Answer). TookAs p now x y left) (sym told_is) (took_as words views rule id p at k now x pause is far on same)
 
-      took_one : (j : ℕ) (other : Part Configuration) → paused (effect p.setup.code) j p.part ≡ Some other → is_local (access (effect p.setup.code) other.thread) ≡ false → TookAs p other (access (effect p.setup.code) other.thread) (reply (access (effect p.setup.code) other.thread) n) left
+      took_one : (j : ℕ) (other : Part Configuration) → after_local_steps (effect p.setup.code) j p.part ≡ Some other → is_local (access (effect p.setup.code) other.thread) ≡ false → TookAs p other (access (effect p.setup.code) other.thread) (reply (access (effect p.setup.code) other.thread) n) left
       took_one j other ps away =
-          let ps' : paused (effect key.code) j p.part ≡ Some other = subst (λ (s : Setup). paused (effect s.code) j p.part ≡ Some other) same ps in
+          let ps' : after_local_steps (effect key.code) j p.part ≡ Some other = subst (λ (s : Setup). after_local_steps (effect s.code) j p.part ≡ Some other) same ps in
           let away' : is_local (access (effect key.code) other.thread) ≡ false = subst (λ (s : Setup). is_local (access (effect s.code) other.thread) ≡ false) same away in
           let one : now ≡ other = paused_once (effect key.code) k j p.part now other pause ps' (ap is_local is ∙ far) away' in
           let x' : x ≡ access (effect p.setup.code) other.thread = sym is ∙ (λ i. access (effect (sym same i).code) (one i).thread) in
@@ -174,7 +174,7 @@ module _ (key : Setup) where
         refl,
         λ r j other mine' ps away.
             let same_part : p ≡ r = (let e : (p ∷ []) ≡ (r ∷ []) = sym mine ∙ mine' in cc) in
-            subst (λ (r : ViewPart). (j : ℕ) (other : Part Configuration) → paused (effect r.setup.code) j r.part ≡ Some other → is_local (access (effect r.setup.code) other.thread) ≡ false → TookAs r other (access (effect r.setup.code) other.thread) (reply (access (effect r.setup.code) other.thread) n) left)
+            subst (λ (r : ViewPart). (j : ℕ) (other : Part Configuration) → after_local_steps (effect r.setup.code) j r.part ≡ Some other → is_local (access (effect r.setup.code) other.thread) ≡ false → TookAs r other (access (effect r.setup.code) other.thread) (reply (access (effect r.setup.code) other.thread) n) left)
             same_part took_one j other ps away,
       )
 

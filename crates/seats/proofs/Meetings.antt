@@ -1,6 +1,6 @@
 -- Two seats meet: one speaks for both threads while the lock is loaded, once for each.
 use Rattle.std.proofs.Common.{◌≡◌, inl, inr, ℕ, [], ◌∷◌, ◌++◌, refl, sym, ap, ◌∙◌, subst, arith}
-use Rattle.seats.specs.Views.{Among, ViewPart, all_floored, first_of, floored, without_first}
+use Rattle.seats.specs.Views.{Among, ViewPart, all_floored, first_of, with_floor, without_first}
 use Rattle.seats.specs.Rule.{Floored, SeatView, Settles}
 
 module _ (m o m1 m2 m3 m4 o1 o2 w t : SeatView) (k n : ℕ) (e1 : o1 ≡ ([], o.1)) (e2 : w ≡ (o.0, [])) (e3 : m1 ≡ (m.0 ++ w.0, m.1)) (e4 : Floored m1 k m2) (e5 : Floored m2 n m3) (e6 : m4 ≡ (first_of m3.0, m3.1)) (e7 : t ≡ (without_first m3.0, [])) (e8 : o2 ≡ (o1.0 ++ t.0, o1.1))
@@ -8,27 +8,27 @@ module _ (m o m1 m2 m3 m4 o1 o2 w t : SeatView) (k n : ℕ) (e1 : o1 ≡ ([], o.
   both : m1.0 ≡ p ∷ q ∷ []
   both = ap (λ (x : SeatView). x.0) e3 ∙ (λ i. (mine i).0 ++ (ap (λ (x : SeatView). x.0) e2 ∙ ap (λ (x : SeatView). x.0) theirs) i)
 
-  first : m2.0 ≡ floored k p ∷ floored k q ∷ []
+  first : m2.0 ≡ with_floor k p ∷ with_floor k q ∷ []
   first = e4.1 ∙ ap (all_floored k) both
 
-  second : m3.0 ≡ floored n p ∷ floored n q ∷ []
+  second : m3.0 ≡ with_floor n p ∷ with_floor n q ∷ []
   second = e5.1 ∙ ap (all_floored n) first
 
-  m4_is : m4 ≡ (floored n p ∷ [], [])
+  m4_is : m4 ≡ (with_floor n p ∷ [], [])
   m4_is = e6 ∙ (λ i. (first_of (second i), (e5.0 ∙ (e4.0 ∙ (ap (λ (x : SeatView). x.1) e3 ∙ ap (λ (x : SeatView). x.1) mine))) i))
 
-  o2_is : o2 ≡ (floored n q ∷ [], [])
+  o2_is : o2 ≡ (with_floor n q ∷ [], [])
   o2_is = e8 ∙ (λ i. ((e1 i).0 ++ (ap (λ (x : SeatView). x.0) e7 ∙ ap without_first second) i, (ap (λ (x : SeatView). x.1) e1 ∙ ap (λ (x : SeatView). x.1) theirs) i))
 
   -- the second load is not below the first, nor that below the old floor
-  settled : (r : ViewPart) → Settles k r → Settles n (floored k r) → Settles n r
+  settled : (r : ViewPart) → Settles k r → Settles n (with_floor k r) → Settles n r
   settled r f g = let a = f.2 in let b = g.2 in (g.0, g.1, omega arith)
 
   settles_mine : Settles n p
-  settles_mine = settled p (e4.2 p (subst (Among p) (sym both) (inl refl))) (e5.2 (floored k p) (subst (Among (floored k p)) (sym first) (inl refl)))
+  settles_mine = settled p (e4.2 p (subst (Among p) (sym both) (inl refl))) (e5.2 (with_floor k p) (subst (Among (with_floor k p)) (sym first) (inl refl)))
 
   settles_theirs : Settles n q
-  settles_theirs = settled q (e4.2 q (subst (Among q) (sym both) (inr (inl refl)))) (e5.2 (floored k q) (subst (Among (floored k q)) (sym first) (inr (inl refl))))
+  settles_theirs = settled q (e4.2 q (subst (Among q) (sym both) (inr (inl refl)))) (e5.2 (with_floor k q) (subst (Among (with_floor k q)) (sym first) (inr (inl refl))))
 
-  pub meets_both : ((m4 ≡ (floored n p ∷ [], [])) × Settles n p) × ((o2 ≡ (floored n q ∷ [], [])) × Settles n q)
+  pub meets_both : ((m4 ≡ (with_floor n p ∷ [], [])) × Settles n p) × ((o2 ≡ (with_floor n q ∷ [], [])) × Settles n q)
   meets_both = ((m4_is, settles_mine), (o2_is, settles_theirs))

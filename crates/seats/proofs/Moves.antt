@@ -10,7 +10,7 @@ use Rattle.bytecode.specs.Valid.{bounds_of}
 use Rattle.bytecode.proofs.Fits.{fits_cells}
 use Rattle.seats.proofs.Codes.{initial_fits}
 use Rattle.seats.specs.Setup.{Setup}
-use Rattle.seats.specs.Views.{Among, ViewPart, all_floored, first_of, floored, parts_of, without_first}
+use Rattle.seats.specs.Views.{Among, ViewPart, all_floored, first_of, with_floor, parts_of, without_first}
 use Rattle.seats.specs.Rule.{Fits, Floored, IsRuled, Settles}
 use Rattle.seats.proofs.Parts.{parts_in-set, parts_in-append, parts_of-append, among_append, none_since}
 use Rattle.machine.proofs.answers.Holding.{answers_ok, numbers_below}
@@ -93,7 +93,7 @@ module _ (key : Setup) where
   same_counts number n [] = refl
   same_counts number n (p ∷ ps) = let h = same_counts number n ps in omega arith
 
-  was_among : (n : ℕ) (v : List ViewPart) (q : ViewPart) → Among q (all_floored n v) → (p : ViewPart) × (q ≡ floored n p) × Among p v
+  was_among : (n : ℕ) (v : List ViewPart) (q : ViewPart) → Among q (all_floored n v) → (p : ViewPart) × (q ≡ with_floor n p) × Among p v
   was_among n [] q a = absurd a
   was_among n (p ∷ ps) q (inl e) = (p, e, inl refl)
   was_among n (p ∷ ps) q (inr a) = let r = was_among n ps q a in (r.0, r.1, inr r.2)

@@ -11,13 +11,13 @@ use Rattle.norec_core.specs.declared.step.Access.{Access}
 use Rattle.norec_core.specs.declared.step.Access.TheVariants.{Local, LoadLock, LoadWord, Swap, StoreWord, StoreLock}
 use Rattle.norec_core.specs.declared.step.Answer.{Answer}
 use Rattle.norec_core.specs.declared.step.Answer.TheVariants.{Done, Value, Won, Lost}
-use Rattle.machine.specs.Answered.{Heard, LocksFrom, LocksTo, NumbersBelow, is_local, paused}
-use Rattle.machine.specs.Threads.{Thread, access, told}
+use Rattle.machine.specs.Answered.{Heard, LocksFrom, LocksTo, NumbersBelow, is_local, after_local_steps}
+use Rattle.machine.specs.Threads.{Thread, access, step_with}
 use Rattle.machine.specs.Worlds.{Part, World, part_after}
 use Rattle.norec_core.specs.Accesses.{IsAnswerTo}
 use Rattle.machine.specs.States.{IsWordOf}
 use Rattle.seats.specs.Setup.{Setup, IsPart, IsWorldOf}
-use Rattle.seats.specs.Views.{ViewPart, Views, parts_in, Among, all_floored, floored}
+use Rattle.seats.specs.Views.{ViewPart, Views, parts_in, Among, all_floored, with_floor}
 
 -- what the rule says of one part
 pub record Fits (key : Setup) (w : World Configuration) (heard : List (List Heard)) (p : ViewPart) : Type 0 where
@@ -59,7 +59,7 @@ more_heard hs x a = hs ++ record { access = x; answer = a } ∷ []
 -- the part and its answers after an access of the thread, which by then had come to the part now
 abbrev pub part_told : ViewPart → List ℕ → Part Configuration → Access → Answer → ViewPart
 part_told p words now x a = record p {
-  part = part_after words now (told (effect p.setup.code) now.thread a);
+  part = part_after words now (step_with (effect p.setup.code) now.thread a);
   heard = more_heard p.heard x a;
 }
 
@@ -78,14 +78,14 @@ abbrev pub Took : SeatView → ℕ → SeatView → Type 0
 Took m n w =
     (w.1 ≡ m.1)
     × ((p : ViewPart) (k : ℕ) (now : Part Configuration) → m.0 ≡ p ∷ [] →
-    paused (effect p.setup.code) k p.part ≡ Some now → is_local (access (effect p.setup.code) now.thread) ≡ false →
+    after_local_steps (effect p.setup.code) k p.part ≡ Some now → is_local (access (effect p.setup.code) now.thread) ≡ false →
     TookAs p now (access (effect p.setup.code) now.thread)
     (reply (access (effect p.setup.code) now.thread) n) w.0)
 
 -- the seat speaks for one thread alone, which has made local steps since the seat's last access and now has this part
 abbrev pub SitsAt : Setup → SeatView → Part Configuration → Type 0
 SitsAt key m now =
-    (p : ViewPart) × (k : ℕ) × (m ≡ (p ∷ [], [])) × (p.setup ≡ key) × (paused (effect key.code) k p.part ≡ Some now)
+    (p : ViewPart) × (k : ℕ) × (m ≡ (p ∷ [], [])) × (p.setup ≡ key) × (after_local_steps (effect key.code) k p.part ≡ Some now)
 
 -- the seat speaks for this thread alone
 abbrev pub Sits : Setup → SeatView → Thread Configuration → Type 0
@@ -120,7 +120,7 @@ Floored m n w = (w.1 ≡ m.1) × (w.0 ≡ all_floored n m.0) × ((p : ViewPart) 
 -- two seats that speak for one thread each, before and after they met at the lock value n
 abbrev pub MeetsBoth : ℕ → SeatView → SeatView → SeatView → SeatView → Type 0
 MeetsBoth n m o m' o' = (p q : ViewPart) → m ≡ (p ∷ [], []) → o ≡ (q ∷ [], []) →
-    ((m' ≡ (floored n p ∷ [], [])) × Settles n p) × ((o' ≡ (floored n q ∷ [], [])) × Settles n q)
+    ((m' ≡ (with_floor n p ∷ [], [])) × Settles n p) × ((o' ≡ (with_floor n q ∷ [], [])) × Settles n q)
 
 -- the table's cells when it is closed, by a seat that knows this
 abbrev pub Leaves : Setup → ℕ → SeatView → List ℕ → Type 0

@@ -60,9 +60,9 @@ abbrev pub first_view : Setup → List ViewPart
 first_view key = first_parts key 0 key.threads
 
 -- from now on no lock value below n is answered
-abbrev pub floored : ℕ → ViewPart → ViewPart
-floored n p = record p { floor = n; floor_at = length p.heard }
+abbrev pub with_floor : ℕ → ViewPart → ViewPart
+with_floor n p = record p { floor = n; floor_at = length p.heard }
 
 abbrev pub all_floored : ℕ → List ViewPart → List ViewPart
 all_floored n [] = []
-all_floored n (p ∷ ps) = floored n p ∷ all_floored n ps
+all_floored n (p ∷ ps) = with_floor n p ∷ all_floored n ps

@@ -12,12 +12,12 @@ use Rattle.syntax.specs.declared.numbers.Trap.{Trap}
 use Rattle.syntax.specs.declared.numbers.Halt.{Halt}
 use Rattle.syntax.specs.declared.numbers.Halt.TheVariants.{Trapped, Wants, Spent, Astray}
 use Rattle.syntax.specs.declared.numbers.Value.{Value}
-use Rattle.syntax.specs.Numbers.{number, converted}
+use Rattle.syntax.specs.Numbers.{number, value_in_type}
 use Rattle.syntax.specs.Names.{Local, word_at, with_word}
 use Rattle.syntax.specs.Formats.{Piece, Literal, Figure, figures}
 use Rattle.syntax.specs.Behaviours.{Memory}
 use Rattle.syntax.specs.Actions.{Context, Outside, Inside, State, Answer, Gives, Stops, Action, pure, go_on, ◌>>=◌, ◌>>◌, spend, tick, trap, or_trap, or_astray, locals, put_locals, load_at, load, store_at, store, may_print_at, may_print, print_piece}
-use Rattle.syntax.specs.Meaning.{Spot, InLocal, InCell, fetch, assign, print_pieces, End, Next, Breaks, Continues, Returns, Cancels, CancelsOuter, on_next, scoped, after_turn, turns, loop, after_body, Left, mode_of, left_by, close_inner, close, enter, transaction, begin_at, begin_value, value_at, value_transaction}
+use Rattle.syntax.specs.Meaning.{Spot, InLocal, InCell, fetch, assign, print_pieces, End, Next, Breaks, Continues, Returns, Cancels, CancelsOuter, on_next, in_scope, after_turn, turns, loop, after_body, Left, mode_of, left_by, close_inner, close, enter, transaction, begin_at, begin_value, value_at, value_transaction}
 use Rattle.syntax.specs.Laws.{shape}
 use Rattle.syntax.proofs.OlderLocals.{same_shapes}
 use Rattle.syntax.proofs.ExactLocals.{same_taken}
@@ -158,8 +158,8 @@ fetch_goes (InLocal i t) h = on_goes locals_goes (λ mine e. pure_goes (record {
 fetch_goes (InCell c t) h = on_goes (load_goes c h) (λ v e. pure_goes (record { of = t; word = v }) tt)
 
 pub assign_goes : {w : Option Mode} {ls : Shapes} (at : Spot) (v : Value) → SpotFits w at → Goes w ls ls Any (assign at v)
-assign_goes (InLocal i t) v h = on_goes locals_goes (λ mine e. put_goes (with_word mine i (converted t v).word) (same_shapes mine i (converted t v).word ∙ e))
-assign_goes (InCell c t) v h = store_goes c (converted t v).word h
+assign_goes (InLocal i t) v h = on_goes locals_goes (λ mine e. put_goes (with_word mine i (value_in_type t v).word) (same_shapes mine i (value_in_type t v).word ∙ e))
+assign_goes (InCell c t) v h = store_goes c (value_in_type t v).word h
 
 pub pieces_go : {w : Option Mode} {ls : Shapes} (ps : List Piece) (vs : List Value) → length (figures ps) ≡ length vs → Goes w ls ls Any (print_pieces ps vs)
 pieces_go [] vs h = pure_goes tt tt
@@ -182,7 +182,7 @@ scope_fine : (w : Option Mode) (ls : Shapes) (P : End → Type 0) (outer : List 
 scope_fine w ls P outer (Gives end now) e f = (f.0, same_taken outer now.locals f.1.0 (f.1.1 ∙ ap (λ x. x ++ f.1.0) (sym e)) ∙ e, f.2)
 scope_fine w ls P outer (Stops why now) e f = f
 
-pub scoped_goes : {w : Option Mode} {ls : Shapes} {P : End → Type 0} {run : Action End} → Opens w ls P run → Goes w ls ls P (scoped run)
+pub scoped_goes : {w : Option Mode} {ls : Shapes} {P : End → Type 0} {run : Action End} → Opens w ls P run → Goes w ls ls P (in_scope run)
 scoped_goes {w = w} {ls = ls} {P = P} {run = run} g = record { goes = λ s e f. scope_fine w ls P s.locals (run s) f (g.opens s e f) }
 
 on_open : {A B : Type 0} (w : Option Mode) (ls os : Shapes) (P : A → Type 0) (Q : B → Type 0) (r : Answer A) (rest : A → Action B) → FineOpen w ls P r → ((a : A) → P a → (ms : Shapes) → Goes w ms os Q (rest a)) → Fine w os Q (go_on r rest)

@@ -17,14 +17,14 @@ use Rattle.syntax.specs.declared.numbers.Halt.TheVariants.{Astray}
 use Rattle.syntax.specs.declared.numbers.Value.{Value}
 use Rattle.syntax.specs.Tree as Tree
 use Rattle.syntax.specs.Tree.{Name, Expr, Exprs, Variable, Constant, Element, Call, Parenthesized, Cast, Unary, Binary, Logical, Conditional, InTransaction, Simple, Evaluate, Assign, Adjust, Declarator, Start, Nothing, Declares, Does, Stmt, Stmts, Empty, Declare, Do, Block, Print, If, IfElse, While, DoWhile, For, Break, Continue, Return, Transaction, Cancel, CancelOuter, Parameter, Function, Program}
-use Rattle.syntax.specs.Numbers.{word_of, converted, flag, is_zero, unary, binary}
+use Rattle.syntax.specs.Numbers.{word_of, value_in_type, flag, is_zero, unary, binary}
 use Rattle.syntax.specs.Names.{Local, newest, global_of, definition_of, cells}
 use Rattle.syntax.specs.Formats.{pieces, figures}
 use Rattle.syntax.specs.Types.{Known, Unknown, Number, Array, Callable, Scope, known_function, file_scope, with_number, type_of, running_scope}
 use Rattle.syntax.specs.Typing.{has_name, is_unknown, may_be_number, may_be_array, may_be_function, may_be_assigned, takes_so_many, count, is_void, is_worker, knows, scope_after, names_of, scope_of_start, parameter_names}
 use Rattle.syntax.specs.Behaviours.{Stopped}
 use Rattle.syntax.specs.Actions.{Answer, Stops, Action, pure}
-use Rattle.syntax.specs.Meaning.{Spot, InLocal, InCell, End, Next, Breaks, Continues, Returns, Cancels, CancelsOuter, scoped, op_of, int_one, Caller, spot_from, named, element, expr, exprs, spot, changed, assigned, simple, first_value, declare, start_with, holds, stepped, return_value, stmt, stmts, entered, result_of, invoke, calls}
+use Rattle.syntax.specs.Meaning.{Spot, InLocal, InCell, End, Next, Breaks, Continues, Returns, Cancels, CancelsOuter, in_scope, op_of, int_one, Caller, spot_from, named, element, expr, exprs, spot, changed, assigned, simple, first_value, declare, start_with, holds, stepped, return_value, stmt, stmts, call_locals, result_of, invoke, calls}
 use Rattle.syntax.specs.Threads.{outcome_of, first_state, worker_run}
 use Rattle.syntax.specs.Laws.{shape}
 use Rattle.syntax.specs.ScopeLaws.{IsSubscope, declared_by, body_scope}
@@ -234,7 +234,7 @@ module _ (p : Program) (call : Caller) (called : CallsGo p call) (outer : Option
           on_goes (exprs_go a here es h.1 (back_permitted (site a (Calls f.text) f.at) (exprs_sites es a) m))
           (λ vs n. then_goes tick_goes (call_goes a here f es vs h.0 h.2 h.3 n (front_permitted (site a (Calls f.text) f.at) (exprs_sites es a) m)))
       expr_goes a here (Parenthesized e at) h m = expr_goes a here e h m
-      expr_goes a here (Cast t e at) h m = on_goes (expr_goes a here e h m) (λ v _. pure_goes (converted t v) tt)
+      expr_goes a here (Cast t e at) h m = on_goes (expr_goes a here e h m) (λ v _. pure_goes (value_in_type t v) tt)
       expr_goes a here (Unary op e at) h m = on_goes (expr_goes a here e h.0 m) (λ v _. or_trap_goes (unary op v))
       expr_goes a here (Binary op x y at) h m =
           on_goes (expr_goes a here x h.0 (front_permitted (expr_sites x a) (expr_sites y a) m)) (λ v _. on_goes (expr_goes a here y h.2 (back_permitted (expr_sites x a) (expr_sites y a) m)) (λ w _. or_trap_goes (binary op v w)))
@@ -246,7 +246,7 @@ module _ (p : Program) (call : Caller) (called : CallsGo p call) (outer : Option
           let first = front_permitted (expr_sites c a ++ expr_sites x a) (expr_sites y a) m in
           on_goes (expr_goes a here c h.0 (front_permitted (expr_sites c a) (expr_sites x a) first))
           (λ v _. on_goes (if_goes (is_zero v) (expr_goes a here y h.3 (back_permitted (expr_sites c a ++ expr_sites x a) (expr_sites y a) m)) (expr_goes a here x h.1 (back_permitted (expr_sites c a) (expr_sites x a) first)))
-          (λ w _. on_goes locals_goes (λ mine f. on_goes (there_goes (type_of (running_scope p mine) (Conditional c x y at)) (typed_there a here (Conditional c x y at) h refl mine f)) (λ t _. pure_goes (converted t w) tt))))
+          (λ w _. on_goes locals_goes (λ mine f. on_goes (there_goes (type_of (running_scope p mine) (Conditional c x y at)) (typed_there a here (Conditional c x y at) h refl mine f)) (λ t _. pure_goes (value_in_type t w) tt))))
       expr_goes a here (InTransaction Atomic keyword e at) h m =
           let a' = in_transaction (Plain Atomic) a in
           value_transaction_goes Atomic (may_begin_atomic (mode_of a))
@@ -376,7 +376,7 @@ module _ (p : Program) (call : Caller) (called : CallsGo p call) (outer : Option
         let a' = in_transaction (Plain Relaxed) a in
         let permit = (one_permitted (record { construct = Relaxes; at = at; atomic = a.atomic; outer = a.outer; in_any = a.in_any }) (front_permitted (site a Relaxes at) (stmts_sites ss a') m)).0 in
         no_further (then_goes tick_goes (transaction_goes l a.atomic a.atomic a.outer (Plain Relaxed) (may_begin_relaxed p (mode_of a) permit)
-        (subst (λ w. Goes w ls ls (EndFits l a.atomic a.outer) (scoped (stmts p call ss))) (relaxed_inside p outer a.atomic a.in_any permit)
+        (subst (λ w. Goes w ls ls (EndFits l a.atomic a.outer) (in_scope (stmts p call ss))) (relaxed_inside p outer a.atomic a.in_any permit)
         (scoped_goes (stmts_open ss known ls a' l (record { fits = here.fits; named = here.named }) h (back_permitted (site a Relaxes at) (stmts_sites ss a') m))))))
     stmt_goes (Transaction Outer ss at) known ls a l here h m =
         let a' = in_transaction Outer a in
@@ -396,10 +396,10 @@ module _ (p : Program) (call : Caller) (called : CallsGo p call) (outer : Option
 
 -- a function that is called goes well: its body is typed, and all its sites are permitted
 result_goes : {w : Option Mode} {ls : Shapes} (t : Option Scalar) (end : End) → EndFits false false false end → Goes w ls ls Any (result_of t end)
-result_goes t Next h = pure_goes (converted (unwrap_or t Int) (flag false)) tt
+result_goes t Next h = pure_goes (value_in_type (unwrap_or t Int) (flag false)) tt
 result_goes t Breaks h = absurd (cc)
 result_goes t Continues h = absurd (cc)
-result_goes t (Returns v) h = pure_goes (converted (unwrap_or t Int) v) tt
+result_goes t (Returns v) h = pure_goes (value_in_type (unwrap_or t Int) v) tt
 result_goes t Cancels h = absurd (cc)
 result_goes t CancelsOuter h = absurd (cc)
 
@@ -411,7 +411,7 @@ takes_as_many : (d : Function) (result : Option Scalar) (takes : List Scalar) (n
 takes_as_many d result takes n e h = h ∙ ap (λ k. length (takes_of k)) (sym e) ∙ length-map d.parameters (λ q. q.of)
 
 module _ (p : Program) (accepted : IsAccepted p) where
-  body_goes : (call : Caller) → CallsGo p call → (w : Option Mode) (x : List ℕ) (d : Function × Stmts) (vs : List Value) (mine : List Local) → definition_of p x ≡ Some d → entered d.0.parameters vs ≡ Some mine → Permits p w (Calls x) → (ms : Shapes) → map shape mine ≡ ms → Opens w ms (EndFits false false false) (stmts p call d.1)
+  body_goes : (call : Caller) → CallsGo p call → (w : Option Mode) (x : List ℕ) (d : Function × Stmts) (vs : List Value) (mine : List Local) → definition_of p x ≡ Some d → call_locals d.0.parameters vs ≡ Some mine → Permits p w (Calls x) → (ms : Shapes) → map shape mine ≡ ms → Opens w ms (EndFits false false false) (stmts p call d.1)
   body_goes call called w x d vs mine e g h ms same =
       let typed = bodies_are_typed p accepted.typed x d e in
       let known = body_scope typed.earlier d.0 in
@@ -428,7 +428,7 @@ module _ (p : Program) (accepted : IsAccepted p) where
   invoke_goes call called w ls x vs result takes e n h =
       let there = called_are_defined p accepted.typed x result takes e in
       on_goes (there_goes (definition_of p x) (is_there (definition_of p x) there.0 there.1))
-      (λ d f. on_goes (there_goes (entered d.0.parameters vs) (enters d (known_as d f there)))
+      (λ d f. on_goes (there_goes (call_locals d.0.parameters vs) (enters d (known_as d f there)))
       (λ mine g. on_goes locals_goes
       (λ outer k. then_goes (put_goes {ms = map shape mine} mine refl) (on_opens (body_goes call called w x d vs mine f g h (map shape mine) refl)
       (λ end i ms. then_goes (put_goes outer k) (result_goes d.0.result end i))))))
@@ -439,8 +439,8 @@ module _ (p : Program) (accepted : IsAccepted p) where
       known_as : (d : Function × Stmts) → definition_of p x ≡ Some d → ((c : Function × Stmts) × (definition_of p x ≡ Some c) × (known_function c.0 ≡ Callable result takes)) → known_function d.0 ≡ Callable result takes
       known_as d f there = subst (λ c. known_function c.0 ≡ Callable result takes) (some_is there.0 d (sym there.1 ∙ f)) there.2
 
-      enters : (d : Function × Stmts) → known_function d.0 ≡ Callable result takes → IsTrue (is_some (entered d.0.parameters vs))
-      enters d k = let all = all_enter d.0.parameters vs (takes_as_many d.0 result takes (length vs) k n) in is_there (entered d.0.parameters vs) all.0 all.1
+      enters : (d : Function × Stmts) → known_function d.0 ≡ Callable result takes → IsTrue (is_some (call_locals d.0.parameters vs))
+      enters d k = let all = all_enter d.0.parameters vs (takes_as_many d.0 result takes (length vs) k n) in is_there (call_locals d.0.parameters vs) all.0 all.1
 
   calls_go : (k : ℕ) → CallsGo p (calls p k)
   calls_go zero w ls x vs result takes e n h = trap_goes Frames

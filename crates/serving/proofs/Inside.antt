@@ -19,7 +19,7 @@ use Rattle.norec_core.specs.declared.step.Phase.TheVariants.{AtOperation, ReadsL
 use Rattle.norec_core.specs.Attempts.{Attempt}
 use Rattle.norec_core.specs.Phases.{CoreStep, core_compare, core_phase, core_step, core_time}
 use Rattle.machine.specs.Serializable.{world_after}
-use Rattle.machine.specs.Threads.{Thread, access, op_of, own_step, print_inside, resumed, status_after, told, told_inside, told_of, told_outside}
+use Rattle.machine.specs.Threads.{Thread, access, op_of, own_step, print_inside, resume_next, status_after, step_with, told_inside, told_of, told_outside}
 use Rattle.machine.specs.Worlds.{Part, World, answer, new_world, part_after, run, step, step_of}
 use Rattle.machine.proofs.answers.Hearing.{no_attempt}
 use Rattle.machine.proofs.steps.Worlds.{get-set_other, get-set_same}
@@ -83,13 +83,13 @@ module _ {C : Type 0} (code : C → Effect C) where
     after_any (outcome.Read v) x other = refl
     after_any outcome.Aborted x other = refl
 
-    resumes : (x : Effect C) (n : CoreStep C) → th.status ≡ Running → ((cause : Trap) → x ≡ Traps cause → ⊥) → RunsInside (resumed code th x n).thread
+    resumes : (x : Effect C) (n : CoreStep C) → th.status ≡ Running → ((cause : Trap) → x ≡ Traps cause → ⊥) → RunsInside (resume_next code th x n).thread
     resumes x n is other a e = after_any n.outcome x other ∙ is
 
     abbrev at_trap : Trap → Effect C
     at_trap cause = Traps cause
 
-    releases : (cause : Trap) (n : CoreStep C) → th.status ≡ Running → EndsOrGoes n → RunsInside (resumed code th (at_trap cause) n).thread
+    releases : (cause : Trap) (n : CoreStep C) → th.status ≡ Running → EndsOrGoes n → RunsInside (resume_next code th (at_trap cause) n).thread
     releases cause n is (inl gone) a e = let f : None ≡ Some a = sym gone ∙ e in absurd (cc)
     releases cause n is (inr goes) a e = ap (λ (o : Outcome). status_after o (at_trap cause) th.status) goes ∙ is
 
@@ -146,7 +146,7 @@ module _ {C : Type 0} (code : C → Effect C) where
     outside (Traps cause) none Running is a e = let f : None ≡ Some a = sym none ∙ e in absurd (cc)
     outside End none Running is a e = let f : None ≡ Some a = sym none ∙ e in absurd (cc)
 
-    steps_inside : RunsInside th → RunsInside (told code th ans).thread
+    steps_inside : RunsInside th → RunsInside (step_with code th ans).thread
     steps_inside runs = by th.attempt refl
       where
         by : (o : Option (Attempt C)) → th.attempt ≡ o → RunsInside (told_of code th o (code th.configuration) ans).thread
@@ -166,7 +166,7 @@ module _ {C : Type 0} (code : C → Effect C) where
       at (Some p) e u r here = by (eqb_tells u t)
         where
           q : Part C
-          q = part_after w.words p (told code p.thread (answer w.lock w.words (access code p.thread)))
+          q = part_after w.words p (step_with code p.thread (answer w.lock w.words (access code p.thread)))
 
           by : ((u == t) ≡ true) × (u ≡ t) ⊎ ((u == t) ≡ false) × (u ≢ t) → RunsInside r.thread
           by (inl f) =

@@ -21,7 +21,7 @@ use Rattle.world.specs.Simulations.{IsHolder, world_of}
 use Rattle.command.specs.declared.request.Steps.{Steps}
 use Rattle.replay.specs.declared.line.Line.{Line}
 use Rattle.replay.specs.declared.line.TheConstants.{MOST_STEPS}
-use Rattle.replay.specs.Replays.{IsReplay, played, timeline_of}
+use Rattle.replay.specs.Replays.{IsReplay, simulation_after, timeline_of}
 use Rattle.replay.specs.Schedules.{AreLines, AreRows, counts}
 use Rattle.replay.specs.Seeds.{generator_of, one_step}
 use Rattle.report.specs.Printed.{Printed}
@@ -49,7 +49,7 @@ replay_of p code threads found r made stop shown compiled replay made_is stop_is
       named = replay.named;
       ends = replay.ends;
       explained = replay.explained.programs (thread p) (subst (λ bs. Means bs (meaning (effect code) (beginning code)) (thread p)) cells compiled.means);
-      holder = subst (λ (h : Option ℕ). IsHolder (world_of (played code threads replay.made)) h) (sym held) replay.holder;
+      holder = subst (λ (h : Option ℕ). IsHolder (world_of (simulation_after code threads replay.made)) h) (sym held) replay.holder;
       shows = cc (shows, events, found_are, words, held);
       stopped_is = stop_is ∙ replay.stop_is;
     }
@@ -72,7 +72,7 @@ replays threads steps schedule text code made stop shown whole replay = record {
 }
 
 -- with the lines that show each step
-pub replays_shown : (threads : ℕ) (steps : Steps) (schedule : Option (List ℕ)) (text : List ℕ) (code : Code) (made : List ℕ) (stop : Option WorldStop) (shown : Printed) → stop ≡ None → IsReplayOfText threads steps schedule text code made stop shown → ReplaysShown threads steps schedule text (timeline_text code (timeline_of (played code threads made))) shown
+pub replays_shown : (threads : ℕ) (steps : Steps) (schedule : Option (List ℕ)) (text : List ℕ) (code : Code) (made : List ℕ) (stop : Option WorldStop) (shown : Printed) → stop ≡ None → IsReplayOfText threads steps schedule text code made stop shown → ReplaysShown threads steps schedule text (timeline_text code (timeline_of (simulation_after code threads made))) shown
 replays_shown threads steps schedule text code made stop shown whole replay = record {
   code = code;
   made = made;
@@ -98,7 +98,7 @@ lines_of seed threads count rows found slice is same few asked =
     (subst (λ (ls : List Line). AreRows rows ls) (same ∙ is) asked, omega (arith, counted, few))
 
 -- with its picture
-pub replays_drawn : (threads : ℕ) (steps : Steps) (schedule : Option (List ℕ)) (text : List ℕ) (code : Code) (made : List ℕ) (stop : Option WorldStop) (shown : Printed) (svg : List ℕ) → stop ≡ None → IsReplayOfText threads steps schedule text code made stop shown → IsDrawn code (timeline_of (played code threads made)) svg → ReplaysDrawn threads steps schedule text svg shown
+pub replays_drawn : (threads : ℕ) (steps : Steps) (schedule : Option (List ℕ)) (text : List ℕ) (code : Code) (made : List ℕ) (stop : Option WorldStop) (shown : Printed) (svg : List ℕ) → stop ≡ None → IsReplayOfText threads steps schedule text code made stop shown → IsDrawn code (timeline_of (simulation_after code threads made)) svg → ReplaysDrawn threads steps schedule text svg shown
 replays_drawn threads steps schedule text code made stop shown svg whole replay drawn = record {
   code = code;
   made = made;

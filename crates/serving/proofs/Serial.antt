@@ -44,7 +44,7 @@ use Rattle.world.specs.declared.stop.WorldStop.{WorldStop}
 use Rattle.world.specs.Reports.{end_by, end_of, end_with, parts_shown}
 use Rattle.world.specs.Simulations.{IsHolder, world_of}
 use Rattle.replay.specs.declared.line.Line.{Line}
-use Rattle.replay.specs.Replays.{played}
+use Rattle.replay.specs.Replays.{simulation_after}
 use Rattle.report.specs.declared.printed.End.{End}
 use Rattle.report.specs.Printed.{ThreadShown, Printed}
 use Rattle.serving.specs.Replays.{IsReplayOf, end_after_replay, thread_found}
@@ -276,7 +276,7 @@ count_shown o b (q ∷ ps) = ap suc (count_shown o (suc b) ps)
 
 pub serial_replay : (p : Program) (code : Code) (threads : ℕ) (found : List Line) (made : List ℕ) (stopped : Option WorldStop) (shown : Printed) → code.globals ≡ globals p → IsReplayOf p code threads found made stopped shown → shown.holder ≡ None → IsSerial p threads shown
 serial_replay p code threads found made stopped shown compiled r free =
-    let w : World Configuration = world_of (played code threads made) in
+    let w : World Configuration = world_of (simulation_after code threads made) in
     let es : List Entry = merge_after (effect code) (beginning code) (initial_of code) threads made in
     let same : initial_of code ≡ initial_memory p = ap initial_from compiled in
     let x = r.explained.serializable.each_merge es r.explained.serializable.is_merge in
@@ -301,7 +301,7 @@ pub free_replay : (p : Program) (code : Code) (threads : ℕ) (found : List Line
 free_replay p code threads found made stopped shown r none = by shown.holder refl
   where
     w : World Configuration
-    w = world_of (played code threads made)
+    w = world_of (simulation_after code threads made)
 
     by : (o : Option ℕ) → shown.holder ≡ o → shown.holder ≡ None
     by None e = e

@@ -1,7 +1,7 @@
 -- What is shown of threads that were told of.
 use Rattle.std.proofs.Common.{◌≡◌, ◌∙◌, ℕ, List, [], ◌∷◌, map, refl, ap, ap₂}
 use Rattle.syntax.specs.Behaviours.{Outcome}
-use Rattle.meaning.specs.InOrder.{report_in, told}
+use Rattle.meaning.specs.InOrder.{report_in, text_and_end}
 use Rattle.meaning.specs.declared.outcome.ThreadReport.{ThreadReport}
 use Rattle.syntax.specs.Tree.{Program}
 use Rattle.syntax.specs.Names.{initial_memory}
@@ -18,12 +18,12 @@ pub reports-told : {A : Type 0} (rs : List (ThreadReport A)) → map report_show
 reports-told [] = refl
 reports-told (r ∷ rs) = ap (λ t. report_shown r ∷ t) (reports-told rs)
 
-pub outcomes-told : (os : List Outcome) → map told_shown (map told os) ≡ map thread_shown os
+pub outcomes-told : (os : List Outcome) → map told_shown (map text_and_end os) ≡ map thread_shown os
 outcomes-told [] = refl
 outcomes-told (o ∷ os) = ap (λ t. thread_shown o ∷ t) (outcomes-told os)
 
 -- threads' reports show what their outcomes do
-pub reports_shown : {A : Type 0} (rs : List (ThreadReport A)) (os : List Outcome) → map report_in rs ≡ map told os → map report_shown rs ≡ map thread_shown os
+pub reports_shown : {A : Type 0} (rs : List (ThreadReport A)) (os : List Outcome) → map report_in rs ≡ map text_and_end os → map report_shown rs ≡ map thread_shown os
 reports_shown rs os same = reports-told rs ∙ ap (map told_shown) same ∙ outcomes-told os
 
 -- what is shown of an outcome is what a report shows of threads in this order

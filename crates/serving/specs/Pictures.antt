@@ -3,7 +3,7 @@ use Rattle.std.specs.Prelude.{◌≡◌, ◌⊎◌, ℕ, List, Option, None}
 use Rattle.std.specs.Io.KnownBytes.{Appends}
 use Rattle.bytecode.specs.Code.{Code}
 use Rattle.picture.specs.Replayed.{IsDrawn}
-use Rattle.replay.specs.Replays.{played, timeline_of}
+use Rattle.replay.specs.Replays.{simulation_after, timeline_of}
 use Rattle.report.specs.Printed.{Printed}
 use Rattle.command.specs.declared.request.Steps.{Steps}
 use Rattle.serving.specs.Replays.{IsReplayOfText}
@@ -16,7 +16,7 @@ pub record ReplaysDrawn (threads : ℕ) (steps : Steps) (schedule : Option (List
   pub code : Code
   pub made : List ℕ
   pub replay : IsReplayOfText threads steps schedule text code made None shown
-  pub drawn : IsDrawn code (timeline_of (played code threads made)) svg
+  pub drawn : IsDrawn code (timeline_of (simulation_after code threads made)) svg
 
 -- the picture of something that is so, and the status that its report would have
 abbrev pub PrintsPicture : (List ℕ → Printed → Type 0) → ℕ → Option (List ℕ) → Option (List ℕ) → Type 0

@@ -21,7 +21,7 @@ use Rattle.world.specs.Reports.{stop_with, threads_shown}
 use Rattle.world.specs.Simulations.{IsHolder, Simulation, world_of}
 use Rattle.replay.specs.declared.line.Line.{Line}
 use Rattle.replay.specs.declared.line.TheConstants.{MOST_STEPS}
-use Rattle.replay.specs.Replays.{EndsAt, events_of, first_world, played, steps_of, timeline_of}
+use Rattle.replay.specs.Replays.{EndsAt, events_of, first_world, simulation_after, steps_of, timeline_of}
 use Rattle.replay.specs.Schedules.{AreLines}
 use Rattle.replay.specs.Seeds.{generator_of, one_step}
 use Rattle.command.specs.declared.request.Steps.{Steps}
@@ -87,11 +87,11 @@ pub record IsReplayOf (p : Program) (code : Code) (threads : ℕ) (found : List 
   pub rest : List ℕ
   pub stop : Option (ℕ × StopReason)
   pub named : steps_of code MOST_STEPS found (first_world code threads) ≡ made ++ rest
-  pub ends : EndsAt (played code threads made) rest stop
+  pub ends : EndsAt (simulation_after code threads made) rest stop
   pub explained : IsOpaque (effect code) (beginning code) (thread p) (bounds_of code) (initial_of code) threads made
-  pub holder : IsHolder (world_of (played code threads made)) shown.holder
-  pub shows : shown ≡ world_shown p stop shown.holder (played code threads made)
-  pub stopped_is : stopped ≡ stop_with stop (played code threads made)
+  pub holder : IsHolder (world_of (simulation_after code threads made)) shown.holder
+  pub shows : shown ≡ world_shown p stop shown.holder (simulation_after code threads made)
+  pub stopped_is : stopped ≡ stop_with stop (simulation_after code threads made)
 
 -- the status 0 tells of a text that spells an accepted program with code, and that a schedule of these lines was
 -- written
@@ -121,7 +121,7 @@ pub record ReplaysShown (threads : ℕ) (steps : Steps) (schedule : Option (List
   pub code : Code
   pub made : List ℕ
   pub replay : IsReplayOfText threads steps schedule text code made None shown
-  pub lines_are : lines ≡ timeline_text code (timeline_of (played code threads made))
+  pub lines_are : lines ≡ timeline_text code (timeline_of (simulation_after code threads made))
 
 -- the lines and the report of something that is so
 abbrev pub PrintsTimeline : (List ℕ → Printed → Type 0) → ℕ → Option (List ℕ) → Option (List ℕ) → Type 0

@@ -4,7 +4,7 @@ use Rattle.std.specs.Io.KnownBytes.{Appends}
 use Rattle.std.specs.Str.Lines.{lines}
 use Rattle.bytecode.specs.Code.{Code}
 use Rattle.world.specs.declared.stop.WorldStop.{WorldStop}
-use Rattle.replay.specs.Replays.{played, timeline_of}
+use Rattle.replay.specs.Replays.{simulation_after, timeline_of}
 use Rattle.replay.specs.Schedules.{AreLines}
 use Rattle.report.specs.Printed.{Printed}
 use Rattle.report.specs.Report.{report_text}
@@ -44,12 +44,12 @@ IsReplayReport threads steps schedule text written =
 -- what is shown of each of its steps, and then the report
 abbrev pub IsReplayTimeline : ℕ → Steps → Option (List ℕ) → (text : List ℕ) → (written : List ℕ) → Type 0
 IsReplayTimeline threads steps schedule text written = (r : ReplayedTo threads steps schedule text)
-    × (written ≡ timeline_text r.code (timeline_of (played r.code threads r.made)) ++ report_text r.shown)
+    × (written ≡ timeline_text r.code (timeline_of (simulation_after r.code threads r.made)) ++ report_text r.shown)
 
 -- its picture
 abbrev pub IsReplayPicture : ℕ → Steps → Option (List ℕ) → (text : List ℕ) → (written : List ℕ) → Type 0
 IsReplayPicture threads steps schedule text written = (r : ReplayedTo threads steps schedule text)
-    × IsDrawn r.code (timeline_of (played r.code threads r.made)) written
+    × IsDrawn r.code (timeline_of (simulation_after r.code threads r.made)) written
 
 -- a schedule of the steps of a seed, for a text that has code
 abbrev pub IsSeedSchedule : (seed threads count : ℕ) → (text : List ℕ) → (written : List ℕ) → Type 0

@@ -4,7 +4,7 @@ ghost use Rattle.std.specs.Prelude.{◌≡◌, ◌≢◌, ◌≤◌, ◌⊎◌, 
 ghost use Rattle.std.specs.Prelude.{string_bytes, true};
 ghost use Rattle.std.specs.Io.KnownBytes.{Appends};
 ghost use Rattle.serving.specs.Answers.{Answers, AnswersRequest};
-ghost use Rattle.replay.specs.Replays.{played, timeline_of};
+ghost use Rattle.replay.specs.Replays.{simulation_after, timeline_of};
 ghost use Rattle.report.specs.Report.{report_text};
 ghost use Rattle.report.specs.Timeline.{timeline_text};
 ghost use Rattle.report.specs.Views.{printed_of};
@@ -689,7 +689,7 @@ fn timeline_and_report<A: Allocator + Copy>(
     replayed: &Replayed<A>,
 ) -> Option<Vec<u8, A>>
     ensures { IfSome result
-        (λ v. v.items ≡ timeline_text code.now (timeline_of (played code.now threads replayed.now.made.items))
+        (λ v. v.items ≡ timeline_text code.now (timeline_of (simulation_after code.now threads replayed.now.made.items))
         ++ report_text (printed_of replayed.now.printed)) }
 {
     // The steps were made once, so where they have no lines memory was refused.
@@ -717,10 +717,10 @@ fn print_timeline<A: Allocator + Copy, W: Write, E: Write>(
     ensures status { result ≤ 4 }
     ensures whole { (result ≡ 0) ⊎ (result ≡ 3) → replayed.now.stop ≡ None }
     ensures report { PrintsBehind
-        (timeline_text code.now (timeline_of (played code.now threads replayed.now.made.items)))
+        (timeline_text code.now (timeline_of (simulation_after code.now threads replayed.now.made.items)))
         (printed_of replayed.now.printed) result (W.contents out.old) (W.contents out.new) }
     ensures written { WritesPart
-        (λ written. written ≡ timeline_text code.now (timeline_of (played code.now threads replayed.now.made.items))
+        (λ written. written ≡ timeline_text code.now (timeline_of (simulation_after code.now threads replayed.now.made.items))
         ++ report_text (printed_of replayed.now.printed)) (W.contents out.old) (W.contents out.new) }
     ensures not_refused { result ≢ 1 }
 {
@@ -739,7 +739,7 @@ fn picture_of<A: Allocator + Copy>(
     replayed: &Replayed<A>,
 ) -> Option<Vec<u8, A>>
     ensures { IfSome result
-        (λ v. IsDrawn compiled.now.code (timeline_of (played compiled.now.code threads replayed.now.made.items))
+        (λ v. IsDrawn compiled.now.code (timeline_of (simulation_after compiled.now.code threads replayed.now.made.items))
         v.items) }
 {
     match replayed.stop {
@@ -769,10 +769,10 @@ fn print_picture<A: Allocator + Copy, W: Write, E: Write>(
     ensures status { result ≤ 4 }
     ensures whole { (result ≡ 0) ⊎ (result ≡ 3) → replayed.now.stop ≡ None }
     ensures picture { PrintsPicture
-        (λ svg shown. IsDrawn compiled.now.code (timeline_of (played compiled.now.code threads replayed.now.made.items))
+        (λ svg shown. IsDrawn compiled.now.code (timeline_of (simulation_after compiled.now.code threads replayed.now.made.items))
         svg × (shown ≡ printed_of replayed.now.printed)) result (W.contents out.old) (W.contents out.new) }
     ensures written { WritesPart
-        (λ written. IsDrawn compiled.now.code (timeline_of (played compiled.now.code threads replayed.now.made.items))
+        (λ written. IsDrawn compiled.now.code (timeline_of (simulation_after compiled.now.code threads replayed.now.made.items))
         written) (W.contents out.old) (W.contents out.new) }
     ensures not_refused { result ≢ 1 }
 {

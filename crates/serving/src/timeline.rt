@@ -1,7 +1,7 @@
 //! What is shown of each step of a replay.
 
 ghost use Rattle.std.specs.Prelude.{◌≡◌, IfSome};
-ghost use Rattle.replay.specs.Replays.{played, timeline_of};
+ghost use Rattle.replay.specs.Replays.{simulation_after, timeline_of};
 ghost use Rattle.report.specs.Timeline.{timeline_text as lines_of};
 
 use bytecode::Code;
@@ -17,7 +17,7 @@ pub fn lines_shown<A: Allocator + Copy>(
     threads: u32,
     steps: &[u32],
 ) -> Option<Vec<u8, A>>
-    ensures { IfSome result (λ v. v.items ≡ lines_of code.now (timeline_of (played code.now threads steps.now))) }
+    ensures { IfSome result (λ v. v.items ≡ lines_of code.now (timeline_of (simulation_after code.now threads steps.now))) }
 {
     match timeline(alloc, code, threads, steps) {
         Some(shown) => match timeline_text(alloc, code, shown.as_slice()) {

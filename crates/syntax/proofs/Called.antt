@@ -7,11 +7,11 @@ use Rattle.lex.specs.declared.token.Span.{Span}
 use Rattle.lex.specs.declared.token.Scalar.{Scalar}
 use Rattle.syntax.specs.Tree.{Name, Stmts, Parameter, Function, Global, Item, Defines, Shares, Program}
 use Rattle.syntax.specs.declared.numbers.Value.{Value}
-use Rattle.syntax.specs.Numbers.{converted}
-use Rattle.syntax.specs.Names.{Local, defined, definition_of}
+use Rattle.syntax.specs.Numbers.{value_in_type}
+use Rattle.syntax.specs.Names.{Local, definition_or, definition_of}
 use Rattle.syntax.specs.Types.{Known, Unknown, Number, Array, Callable, Scope, known_global, known_function, known_among, file_scope, with_number}
 use Rattle.syntax.specs.Typing.{is_unknown, may_be_function, same_type, same_types, same_result, agrees, has_name, defined_names, parameter_names, with_parameters, is_worker, demand, AreDistinct, AreTypedStmts, IsTypedBody, IsTypedFunction, AreTypedItems, AreDefined, IsTypedProgram}
-use Rattle.syntax.specs.Meaning.{bound, entered}
+use Rattle.syntax.specs.Meaning.{parameter_local, call_locals}
 use Rattle.syntax.specs.Laws.{shape}
 use Rattle.syntax.specs.ScopeLaws.{IsSubscope, CalledAreDefined, BodiesAreTyped, body_scope}
 use Rattle.syntax.proofs.Demands.{AreMet, met_before, met_behind, is_met}
@@ -45,7 +45,7 @@ stands_from earlier (Defines f ∷ items) x d h e =
         (record { earlier = earlier; later = items; stands = refl; name = (bytes_eq-Decides f.name.text x).0 n; body = own; typed = h })
     by_name b own false n g others = others g
 
-    here : (body : Option Stmts) → f.body ≡ body → defined f x body (definition_of items x) ≡ Some d → (definition_of items x ≡ Some d → Stands (earlier ++ Defines f ∷ items) x d) → Stands (earlier ++ Defines f ∷ items) x d
+    here : (body : Option Stmts) → f.body ≡ body → definition_or f x body (definition_of items x) ≡ Some d → (definition_of items x ≡ Some d → Stands (earlier ++ Defines f ∷ items) x d) → Stands (earlier ++ Defines f ∷ items) x d
     here None own g others = others g
     here (Some b) own g others = by_name b own (bytes_eq f.name.text x) refl g others
 
@@ -150,33 +150,33 @@ abbrev pub shapes_of : List Parameter → List (List ℕ × Scalar)
 shapes_of [] = []
 shapes_of (q ∷ qs) = unwrap_or (option_map (λ x. (x.text, q.of) ∷ []) q.name) [] ++ shapes_of qs
 
-bound_shape : (q : Parameter) (v : Value) → map shape (bound q v) ≡ unwrap_or (option_map (λ x. (x.text, q.of) ∷ []) q.name) []
+bound_shape : (q : Parameter) (v : Value) → map shape (parameter_local q v) ≡ unwrap_or (option_map (λ x. (x.text, q.of) ∷ []) q.name) []
 bound_shape q v = named q.name
   where
-    named : (n : Option Name) → map shape (unwrap_or (option_map (λ (x : Name). record { name = x.text; of = q.of; word = (converted q.of v).word } ∷ []) n) []) ≡ unwrap_or (option_map (λ x. (x.text, q.of) ∷ []) n) []
+    named : (n : Option Name) → map shape (unwrap_or (option_map (λ (x : Name). record { name = x.text; of = q.of; word = (value_in_type q.of v).word } ∷ []) n) []) ≡ unwrap_or (option_map (λ x. (x.text, q.of) ∷ []) n) []
     named None = refl
     named (Some x) = refl
 
-pub entered_shapes : (qs : List Parameter) (vs : List Value) (ls : List Local) → entered qs vs ≡ Some ls → map shape ls ≡ shapes_of qs
+pub entered_shapes : (qs : List Parameter) (vs : List Value) (ls : List Local) → call_locals qs vs ≡ Some ls → map shape ls ≡ shapes_of qs
 entered_shapes [] [] ls e = ap (λ o. map shape (unwrap_or o [])) (sym e)
 entered_shapes [] (v ∷ vs) ls e = absurd (cc)
 entered_shapes (q ∷ qs) [] ls e = absurd (cc)
-entered_shapes (q ∷ qs) (v ∷ vs) ls e = behind (entered qs vs) (λ ms f. entered_shapes qs vs ms f) e
+entered_shapes (q ∷ qs) (v ∷ vs) ls e = behind (call_locals qs vs) (λ ms f. entered_shapes qs vs ms f) e
   where
-    behind : (o : Option (List Local)) → ((ms : List Local) → o ≡ Some ms → map shape ms ≡ shapes_of qs) → option_map (λ ms. bound q v ++ ms) o ≡ Some ls → map shape ls ≡ shapes_of (q ∷ qs)
+    behind : (o : Option (List Local)) → ((ms : List Local) → o ≡ Some ms → map shape ms ≡ shapes_of qs) → option_map (λ ms. parameter_local q v ++ ms) o ≡ Some ls → map shape ls ≡ shapes_of (q ∷ qs)
     behind None h e = absurd (cc)
     behind (Some ms) h e =
-        ap (λ o. map shape (unwrap_or o [])) (sym e) ∙ map-append shape (bound q v) ms ∙ ap (λ x. x ++ map shape ms) (bound_shape q v)
+        ap (λ o. map shape (unwrap_or o [])) (sym e) ∙ map-append shape (parameter_local q v) ms ∙ ap (λ x. x ++ map shape ms) (bound_shape q v)
         ∙ ap (λ x. unwrap_or (option_map (λ x. (x.text, q.of) ∷ []) q.name) [] ++ x) (h ms refl)
 
 -- as many arguments as parameters enter
-pub all_enter : (qs : List Parameter) (vs : List Value) → length vs ≡ length qs → (ls : List Local) × (entered qs vs ≡ Some ls)
+pub all_enter : (qs : List Parameter) (vs : List Value) → length vs ≡ length qs → (ls : List Local) × (call_locals qs vs ≡ Some ls)
 all_enter [] [] e = ([], refl)
 all_enter [] (v ∷ vs) e = absurd (omega (arith, e))
 all_enter (q ∷ qs) [] e = absurd (omega (arith, e))
 all_enter (q ∷ qs) (v ∷ vs) e =
     let others = all_enter qs vs (omega (arith, e)) in
-    (bound q v ++ others.0, ap (option_map (λ ls. bound q v ++ ls)) others.1)
+    (parameter_local q v ++ others.0, ap (option_map (λ ls. parameter_local q v ++ ls)) others.1)
 
 -- the parameters' names are known as those locals
 parameters_fit : (p : Program) (known : Scope) (ls : List (List ℕ × Scalar)) (qs : List Parameter) → IsSubscope known (scope_in p ls) → IsSubscope (with_parameters qs known) (scope_in p (ls ++ shapes_of qs))

@@ -16,7 +16,7 @@ use Rattle.syntax.specs.Typing.{scope_after, scope_of_start}
 use Rattle.syntax.specs.Behaviours.{Memory}
 use Rattle.syntax.specs.Actions.{Context, Outside, Inside, State, Answer, Gives, Stops, Action, pure, go_on, ◌>>=◌, ◌>>◌, spend, tick, locals, put_locals, may_print}
 use Rattle.syntax.specs.Formats.{pieces}
-use Rattle.syntax.specs.Meaning.{End, Next, Breaks, Continues, Returns, Cancels, CancelsOuter, mode_of, on_next, scoped, after_turn, turns, loop, after_body, Left, left_by, close_inner, close, enter, transaction, Caller, InLocal, op_of, int_one, expr, exprs, spot, assigned, changed, first_value, holds, return_value, print_pieces, simple, declare, start_with, stepped, stmt, stmts, calls}
+use Rattle.syntax.specs.Meaning.{End, Next, Breaks, Continues, Returns, Cancels, CancelsOuter, mode_of, on_next, in_scope, after_turn, turns, loop, after_body, Left, left_by, close_inner, close, enter, transaction, Caller, InLocal, op_of, int_one, expr, exprs, spot, assigned, changed, first_value, holds, return_value, print_pieces, simple, declare, start_with, stepped, stmt, stmts, calls}
 use Rattle.syntax.specs.Laws.{WhereGiven}
 use Rattle.syntax.specs.ScopeLaws.{IsNoJump, EndsFit}
 use Rattle.syntax.proofs.TypedParts.{TypedStmt, TypedStmts, stmt_parts}
@@ -102,7 +102,7 @@ scope_ends : (l c o : Bool) (n : ℕ) (r : Answer End) → WhereGiven r (λ end 
 scope_ends l c o n (Gives end t) h = h
 scope_ends l c o n (Stops why t) h = tt
 
-scoped_ends : {l c o : Bool} {run : Action End} → EndsSo l c o run → EndsSo l c o (scoped run)
+scoped_ends : {l c o : Bool} {run : Action End} → EndsSo l c o run → EndsSo l c o (in_scope run)
 scoped_ends {l = l} {c = c} {o = o} {run = run} h = record { ends = λ s. scope_ends l c o (length s.locals) (run s) (h.ends s) }
 
 on_next_ends : {l c o : Bool} {rest : Action End} → EndsSo l c o rest → (end : End) → Fits l c o end → EndsSo l c o (on_next rest end)

@@ -18,7 +18,7 @@ use Rattle.syntax.specs.Types.{Scope, running_scope}
 use Rattle.syntax.specs.Typing.{scope_after}
 use Rattle.syntax.specs.Behaviours.{Memory}
 use Rattle.syntax.specs.Actions.{Context, Outside, Inside, State, Answer, Gives, Stops, Action, pure, stop, go_on, ◌>>=◌, ◌>>◌, spend, tick, store_at, may_print_at, may_print, print_piece}
-use Rattle.syntax.specs.Meaning.{Spot, InLocal, InCell, assign, print_pieces, End, Next, Breaks, Continues, Returns, Cancels, CancelsOuter, mode_of, scoped, after_turn, turns, loop, after_body, Left, undoes, left_or, left_by, close_inner, close, enter, transaction, op_of, int_one, Caller, expr, spot, changed, assigned, simple, first_value, declare, return_value, stmt, calls}
+use Rattle.syntax.specs.Meaning.{Spot, InLocal, InCell, assign, print_pieces, End, Next, Breaks, Continues, Returns, Cancels, CancelsOuter, mode_of, in_scope, after_turn, turns, loop, after_body, Left, undoes, left_or, left_by, close_inner, close, enter, transaction, op_of, int_one, Caller, expr, spot, changed, assigned, simple, first_value, declare, return_value, stmt, calls}
 use Rattle.syntax.specs.Laws.{WhereGiven, shape, BeginsWithLocals}
 use Rattle.syntax.specs.ScopeLaws.{LocalsExact, ScopeFits, IsSubscope, declared_by}
 use Rattle.syntax.proofs.Expressions.{LeavesLocals, named_holds, element_holds, expr_holds, exprs_holds, fetch_holds, or_trap_holds, calls_holds}
@@ -107,7 +107,7 @@ same_taken (l ∷ ls) (m ∷ ms) more e =
     head_of d [] = d
     head_of d (x ∷ xs) = x
 
-scoped_same : {run : Action End} → KeepsOlder run → KeepsShape (scoped run)
+scoped_same : {run : Action End} → KeepsOlder run → KeepsShape (in_scope run)
 scoped_same {run} h = record { keeps = λ s. scope_ends s.locals (run s) (h.keeps s) }
   where
     scope_ends : (ls : List Local) (r : Answer End) → WhereGiven r (λ a now. BeginsWithLocals ls now.locals) → WhereGiven (go_on r (λ end t. Gives end (record t { locals = take (length ls) t.locals }))) (λ a now. map shape now.locals ≡ map shape ls)

@@ -19,7 +19,7 @@ use Rattle.syntax.specs.declared.numbers.Halt.TheVariants.{Trapped, Astray}
 use Rattle.syntax.specs.Actions.{State, spend, Answer, Gives, Stops, go_on, Action, pure, stop, ◌>>=◌, ◌>>◌, tick, trap, or_trap, or_astray, locals, put_locals, load, store, may_print, print_piece}
 use Rattle.syntax.specs.Formats.{Piece, Literal, Figure, pieces, formats_in, formats_among, IsFormatOf}
 use Rattle.syntax.specs.Laws.{IsPieceOf}
-use Rattle.syntax.specs.Meaning.{Spot, InLocal, InCell, fetch, assign, print_pieces, End, Next, Breaks, Continues, Returns, Cancels, CancelsOuter, on_next, scoped, loop, after_body, transaction, begin_value, value_at, op_of, int_one, Caller, spot_from, named, element, expr, exprs, spot, changed, assigned, simple, first_value, declare, start_with, holds, stepped, return_value, stmt, stmts, entered, result_of, invoke, calls}
+use Rattle.syntax.specs.Meaning.{Spot, InLocal, InCell, fetch, assign, print_pieces, End, Next, Breaks, Continues, Returns, Cancels, CancelsOuter, on_next, in_scope, loop, after_body, transaction, begin_value, value_at, op_of, int_one, Caller, spot_from, named, element, expr, exprs, spot, changed, assigned, simple, first_value, declare, start_with, holds, stepped, return_value, stmt, stmts, call_locals, result_of, invoke, calls}
 use Rattle.syntax.proofs.Words.{word_below}
 use Rattle.syntax.specs.Threads.{worker_run}
 
@@ -136,7 +136,7 @@ module _ (p : Program) (IsPiece : List ℕ → Type 0) (IsCell : ℕ → Scalar 
   value_at_holds Cancels = astray_holds
   value_at_holds CancelsOuter = astray_holds
 
-  pub scoped_holds : {run : Action End} → Q _ run → Q _ (scoped run)
+  pub scoped_holds : {run : Action End} → Q _ run → Q _ (in_scope run)
   scoped_holds h = on_holds locals_holds (λ outer. on_holds h (λ end. on_holds locals_holds (λ all. then_holds (put_locals_holds _) (pure_holds end))))
 
   after_body_holds : {go : Action (Option End)} → Q _ go → (end : End) → Q _ (after_body go end)
@@ -275,7 +275,7 @@ module _ (p : Program) (IsPiece : List ℕ → Type 0) (IsCell : ℕ → Scalar 
     result_of_holds t CancelsOuter = astray_holds
 
     invoke_holds : (x : List ℕ) (vs : List Value) → Q _ (invoke p call x vs)
-    invoke_holds x vs = found_holds (definition_of p x) (λ f e. on_holds (or_astray_holds (entered f.0.parameters vs)) (λ mine. on_holds locals_holds (λ outer. then_holds (put_locals_holds mine) (on_holds (stmts_holds f.1 (λ format c. literal_piece format (x, f, e, c))) (λ end. then_holds (put_locals_holds outer) (result_of_holds f.0.result end))))))
+    invoke_holds x vs = found_holds (definition_of p x) (λ f e. on_holds (or_astray_holds (call_locals f.0.parameters vs)) (λ mine. on_holds locals_holds (λ outer. then_holds (put_locals_holds mine) (on_holds (stmts_holds f.1 (λ format c. literal_piece format (x, f, e, c))) (λ end. then_holds (put_locals_holds outer) (result_of_holds f.0.result end))))))
 
   pub calls_holds : (n : ℕ) (x : List ℕ) (vs : List Value) → Q _ (calls p n x vs)
   calls_holds zero x vs = trap_holds Frames
@@ -296,7 +296,7 @@ pub any_cells : (p : Program) → AreCells p (λ c t. Unit {0})
 any_cells p = record { first = λ x g e. tt; each = λ x g k e h. tt }
 
 module _ (p : Program) (Q : (A : Type 0) → Action A → Type 0) (kept : IsAlwaysKept Q) where
-  pub block_holds : (call : Caller) → ((x : List ℕ) (vs : List Value) → Q Value (call x vs)) → (ss : Stmts) → Q End (scoped (stmts p call ss))
+  pub block_holds : (call : Caller) → ((x : List ℕ) (vs : List Value) → Q Value (call x vs)) → (ss : Stmts) → Q End (in_scope (stmts p call ss))
   block_holds call h ss =
       scoped_holds p (λ text. Unit {0}) (λ c t. Unit {0}) (any_cells p) (λ z. tt) (λ format is text c. tt) Q kept
       (stmts_holds p (λ text. Unit {0}) (λ c t. Unit {0}) (any_cells p) (λ z. tt) (λ format is text c. tt) Q kept call h ss (λ format c text d. tt))

@@ -16,7 +16,7 @@ use Rattle.syntax.specs.Names.{Local, with_word}
 use Rattle.syntax.specs.Formats.{Piece, Literal, Figure, pieces}
 use Rattle.syntax.specs.Behaviours.{Memory}
 use Rattle.syntax.specs.Actions.{Context, Outside, Inside, State, Answer, Gives, Stops, Action, pure, stop, go_on, ◌>>=◌, ◌>>◌, spend, tick, store_at, may_print_at, may_print, write, print_piece}
-use Rattle.syntax.specs.Meaning.{Spot, InLocal, InCell, assign, print_pieces, End, Next, Breaks, Continues, Returns, Cancels, CancelsOuter, mode_of, on_next, scoped, after_turn, turns, loop, after_body, Left, undoes, left_or, left_by, close_inner, close, enter, transaction, op_of, int_one, Caller, expr, spot, changed, assigned, simple, first_value, declare, start_with, holds, stepped, return_value, stmt, stmts, calls}
+use Rattle.syntax.specs.Meaning.{Spot, InLocal, InCell, assign, print_pieces, End, Next, Breaks, Continues, Returns, Cancels, CancelsOuter, mode_of, on_next, in_scope, after_turn, turns, loop, after_body, Left, undoes, left_or, left_by, close_inner, close, enter, transaction, op_of, int_one, Caller, expr, spot, changed, assigned, simple, first_value, declare, start_with, holds, stepped, return_value, stmt, stmts, calls}
 use Rattle.syntax.specs.Laws.{WhereGiven, shape, KeepsOlderLocals, BeginsWithLocals}
 use Rattle.syntax.proofs.Expressions.{LeavesLocals, named_holds, element_holds, expr_holds, exprs_holds, fetch_holds, or_trap_holds, calls_holds}
 
@@ -130,7 +130,7 @@ scope_ends : (ls : List Local) (r : Answer End) → WhereGiven r (λ a now. Begi
 scope_ends ls (Gives end t) h = taken ls t.locals h
 scope_ends ls (Stops why t) h = tt
 
-pub scoped_older : {run : Action End} → KeepsOlder run → KeepsOlder (scoped run)
+pub scoped_older : {run : Action End} → KeepsOlder run → KeepsOlder (in_scope run)
 scoped_older {run} h = record { keeps = λ s. scope_ends s.locals (run s) (h.keeps s) }
 
 pub after_body_older : {go : Action (Option End)} → KeepsOlder go → (end : End) → KeepsOlder (after_body go end)

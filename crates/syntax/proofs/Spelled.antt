@@ -10,7 +10,7 @@ use Rattle.lex.specs.declared.token.Span.{Span}
 use Rattle.lex.specs.Tokens.{name, fixed, Tok}
 use Rattle.syntax.specs.declared.tree.Mode.TheVariants.{Atomic}
 use Rattle.syntax.specs.Tree.{Name, Expr, Variable, InTransaction, Stmt, Empty, CancelOuter, If, IfElse, Shares}
-use Rattle.syntax.specs.Grammar.{Spells, in_parens, outer_mark, expr, stmt}
+use Rattle.syntax.specs.Grammar.{Spells, in_parens, outer_phrase, expr, stmt}
 
 -- one byte from here on
 abbrev byte : ℕ → Span
@@ -81,7 +81,7 @@ one_transaction = (
 abbrev outer_token : ℕ → Tok
 outer_token n = record { terminal = name (codes "outer"); span = byte n }
 
-marked : (n : ℕ) → outer_mark (sign (Punctuator punct.OpenBracket) n ∷ sign (Punctuator punct.OpenBracket) (n + 1) ∷ outer_token (n + 2) ∷ sign (Punctuator punct.CloseBracket) (n + 3) ∷ sign (Punctuator punct.CloseBracket) (n + 4) ∷ [])
+marked : (n : ℕ) → outer_phrase (sign (Punctuator punct.OpenBracket) n ∷ sign (Punctuator punct.OpenBracket) (n + 1) ∷ outer_token (n + 2) ∷ sign (Punctuator punct.CloseBracket) (n + 3) ∷ sign (Punctuator punct.CloseBracket) (n + 4) ∷ [])
 marked n = inl (record {
   front = sign (Punctuator punct.OpenBracket) n ∷ [];
   back = _;

@@ -16,13 +16,13 @@ use Rattle.syntax.specs.declared.numbers.Trap.TheVariants.{Index, Frames}
 use Rattle.syntax.specs.declared.numbers.Halt.TheVariants.{Trapped}
 use Rattle.syntax.specs.declared.numbers.Value.{Value}
 use Rattle.syntax.specs.Tree.{Expr, Variable, Constant, Element, Call, Parenthesized, Cast, Unary, Binary, Logical, Conditional, InTransaction, Function, Global, Item, Defines, Shares, Stmts, Program}
-use Rattle.syntax.specs.Numbers.{common, converted, result_type, operand_type, typed, unary, binary, is_zero, flag}
-use Rattle.syntax.specs.Names.{Local, GlobalCells, globals, cells, global_from, global_of, defined, definition_of, newest}
+use Rattle.syntax.specs.Numbers.{common, value_in_type, result_type, operand_type, typed_result, unary, binary, is_zero, flag}
+use Rattle.syntax.specs.Names.{Local, GlobalCells, globals, cells, global_from, global_of, definition_or, definition_of, newest}
 use Rattle.syntax.specs.Types.{Known, Unknown, Number, Array, Callable, known_global, known_function, known_among, file_scope, number_type, element_type, call_type, Scope, common_of, unary_type, binary_type, type_of, running_scope}
 use Rattle.syntax.specs.Typing.{same_type, same_result, agrees, may_be_function, has_name, defined_names, is_worker, demand, AreDistinct, IsTypedBody, IsTypedFunction, IsTypedItem, AreTypedItems, AreDefined, IsTypedProgram}
 use Rattle.syntax.proofs.Demands.{AreMet, met_before, met_behind, is_met}
 use Rattle.syntax.specs.Actions.{Context, Outside, Inside, State, Answer, Gives, Stops, Action, pure, stop, go_on, ◌>>=◌, ◌>>◌, spend, tick, trap, or_trap, or_astray, locals, put_locals, load_at}
-use Rattle.syntax.specs.Meaning.{Spot, InLocal, InCell, fetch, End, Next, Breaks, Continues, Returns, Cancels, CancelsOuter, spot_from, element, expr, exprs, stmts, entered, result_of, Caller, calls}
+use Rattle.syntax.specs.Meaning.{Spot, InLocal, InCell, fetch, End, Next, Breaks, Continues, Returns, Cancels, CancelsOuter, spot_from, element, expr, exprs, stmts, call_locals, result_of, Caller, calls}
 use Rattle.syntax.specs.Laws.{WhereGiven, GivesItsType}
 use Rattle.syntax.proofs.Expressions.{expr_holds, calls_holds, value_transaction_gives}
 
@@ -105,7 +105,7 @@ trap_typed : (o : Option Scalar) (k : Trap) (s : State) → GivesType o (trap k 
 trap_typed o k s = trapped o k s.ticks s
 
 -- an operator's result as a value of type t
-result_typed : (o : Option Scalar) (t : Scalar) (r : Result ℕ Trap) (s : State) → ((v : Value) → v.of ≡ t → HasType o v) → GivesType o (or_trap (typed t r) s)
+result_typed : (o : Option Scalar) (t : Scalar) (r : Result ℕ Trap) (s : State) → ((v : Value) → v.of ≡ t → HasType o v) → GivesType o (or_trap (typed_result t r) s)
 result_typed o t (Ok w) s h = h (record { of = t; word = w }) refl
 result_typed o t (Err k) s h = trap_typed o k s
 
@@ -242,7 +242,7 @@ agreeing g (Array s n) t h e = none_some t e
 agreeing g (Callable None ts) t h e = none_some t e
 agreeing g (Callable (Some s) ts) t h e = same_result_is g.result s (both_true _ _ h) ∙ e
 
-defined_is : (g : Function) (f : List ℕ) (body : Option Stmts) (rest : Option (Function × Stmts)) (d : Function × Stmts) → defined g f body rest ≡ Some d → (rest ≡ Some d) ⊎ ((bytes_eq g.name.text f ≡ true) × (d.0 ≡ g))
+defined_is : (g : Function) (f : List ℕ) (body : Option Stmts) (rest : Option (Function × Stmts)) (d : Function × Stmts) → definition_or g f body rest ≡ Some d → (rest ≡ Some d) ⊎ ((bytes_eq g.name.text f ≡ true) × (d.0 ≡ g))
 defined_is g f None rest d e = inl e
 defined_is g f (Some b) rest d e = by_name (bytes_eq g.name.text f) refl e
   where
@@ -300,8 +300,8 @@ module _ (p : Program) (checked : IsTypedProgram p) where
   body_typed call o d vs s h (Some ls) = returned_typed o d.0.result h s.locals (stmts p call d.1 (record s { locals = ls }))
   body_typed call o d vs s h None = tt
 
-  invoke_typed : (call : Caller) (f : List ℕ) (vs : List Value) (s : State) → (d : Option (Function × Stmts)) → definition_of p f ≡ d → GivesType (call_type (file_scope p f)) (go_on (or_astray d s) (λ c. or_astray (entered c.0.parameters vs) >>= λ ls. locals >>= λ outer. put_locals ls >> (stmts p call c.1 >>= λ end. put_locals outer >> result_of c.0.result end)))
-  invoke_typed call f vs s (Some d) e = body_typed call (call_type (file_scope p f)) d vs s (λ t g. agreed p f t d checked g e) (entered d.0.parameters vs)
+  invoke_typed : (call : Caller) (f : List ℕ) (vs : List Value) (s : State) → (d : Option (Function × Stmts)) → definition_of p f ≡ d → GivesType (call_type (file_scope p f)) (go_on (or_astray d s) (λ c. or_astray (call_locals c.0.parameters vs) >>= λ ls. locals >>= λ outer. put_locals ls >> (stmts p call c.1 >>= λ end. put_locals outer >> result_of c.0.result end)))
+  invoke_typed call f vs s (Some d) e = body_typed call (call_type (file_scope p f)) d vs s (λ t g. agreed p f t d checked g e) (call_locals d.0.parameters vs)
   invoke_typed call f vs s None e = tt
 
   called_typed : (n : ℕ) (f : List ℕ) (vs : List Value) (s : State) → GivesType (call_type (file_scope p f)) (calls p n f vs s)
@@ -321,7 +321,7 @@ module _ (p : Program) (checked : IsTypedProgram p) where
   ticked o zero rest s h = tt
   ticked o (suc k) rest s h = h (record s { ticks = k }) refl
 
-  converted_typed : (o o' : Option Scalar) (w : Value) (s : State) → o' ≡ o → GivesType o (go_on (or_astray o' s) (λ t. pure (converted t w)))
+  converted_typed : (o o' : Option Scalar) (w : Value) (s : State) → o' ≡ o → GivesType o (go_on (or_astray o' s) (λ t. pure (value_in_type t w)))
   converted_typed o (Some t) w s e = λ t' f. some_same t t' (e ∙ f)
   converted_typed o None w s e = tt
 
@@ -355,7 +355,7 @@ module _ (p : Program) (checked : IsTypedProgram p) where
         on_any (type_at s.locals (Call f es at)) (exprs p (calls p n) es s) (λ vs. tick >> calls p n f.text vs)
         (λ vs u. ticked (type_at s.locals (Call f es at)) u.ticks (calls p n f.text vs) u (λ w e. call_typed n f.text vs (newest s.locals f.text) w))
     expr_typed (Parenthesized e at) s = expr_typed e s
-    expr_typed (Cast t e at) s = on_any (Some t) (expr p (calls p n) e s) (λ v. pure (converted t v)) (λ v u i f. some_same t i f)
+    expr_typed (Cast t e at) s = on_any (Some t) (expr p (calls p n) e s) (λ v. pure (value_in_type t v)) (λ v u i f. some_same t i f)
     expr_typed (Unary op e at) s =
         on_typed (type_at s.locals e) (type_at s.locals (Unary op e at)) (expr p (calls p n) e s) (λ v. or_trap (unary op v)) (expr_typed e s)
         (λ v u h. unary_typed op (type_at s.locals e) v u h)
@@ -371,8 +371,8 @@ module _ (p : Program) (checked : IsTypedProgram p) where
         (λ v u. on_any (Some Int) ((if is_zero v then expr p (calls p n) b else pure v) u) (λ w. pure (flag (not (is_zero w)))) (λ w x i f. some_same Int i f))
     expr_typed (Conditional c a b at) s =
         let o = type_at s.locals (Conditional c a b at) in
-        on_locals s.locals o (expr p (calls p n) c s) (λ v. (if is_zero v then expr p (calls p n) b else expr p (calls p n) a) >>= λ w. locals >>= λ mine. or_astray (type_at mine (Conditional c a b at)) >>= λ t. pure (converted t w)) (at_locals c s)
-        (λ v u e. on_locals u.locals o ((if is_zero v then expr p (calls p n) b else expr p (calls p n) a) u) (λ w. locals >>= λ mine. or_astray (type_at mine (Conditional c a b at)) >>= λ t. pure (converted t w)) (branch_locals (is_zero v) b a u)
+        on_locals s.locals o (expr p (calls p n) c s) (λ v. (if is_zero v then expr p (calls p n) b else expr p (calls p n) a) >>= λ w. locals >>= λ mine. or_astray (type_at mine (Conditional c a b at)) >>= λ t. pure (value_in_type t w)) (at_locals c s)
+        (λ v u e. on_locals u.locals o ((if is_zero v then expr p (calls p n) b else expr p (calls p n) a) u) (λ w. locals >>= λ mine. or_astray (type_at mine (Conditional c a b at)) >>= λ t. pure (value_in_type t w)) (branch_locals (is_zero v) b a u)
         (λ w x f. converted_typed o (type_at x.locals (Conditional c a b at)) w x (ap (λ ls. type_at ls (Conditional c a b at)) (f ∙ e))))
     expr_typed (InTransaction mode keyword e at) s =
         let o = type_at s.locals e in

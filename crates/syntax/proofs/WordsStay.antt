@@ -22,13 +22,13 @@ use Rattle.syntax.specs.declared.numbers.Halt.TheVariants.{Trapped, Spent, Astra
 use Rattle.syntax.specs.declared.numbers.Value.{Value}
 use Rattle.syntax.specs.Tree as Tree
 use Rattle.syntax.specs.Tree.{Expr, Exprs, Variable, Constant, Element, Call, Parenthesized, Cast, Unary, Binary, Logical, Conditional, InTransaction, Simple, Evaluate, Assign, Adjust, Declarator, Start, Nothing, Declares, Does, Stmt, Stmts, Empty, Declare, Do, Block, Print, If, IfElse, While, DoWhile, For, Break, Continue, Return, Transaction, Cancel, CancelOuter, Parameter, Program}
-use Rattle.syntax.specs.Numbers.{modulus, number, common, complemented, number_of, is_zero, flag, converted, fitted, computed, typed, operand_type, result_type, unary, binary}
+use Rattle.syntax.specs.Numbers.{modulus, number, common, bitwise_complement, number_of, is_zero, flag, value_in_type, fit_result, operation_result, typed_result, operand_type, result_type, unary, binary}
 use Rattle.syntax.specs.Types.{type_of, running_scope}
 use Rattle.syntax.specs.Names.{Local, newest, newest_from, word_at, with_word, GlobalCells, cells, global_of, definition_of, bounds}
 use Rattle.syntax.specs.Behaviours.{Memory, IsMemory}
 use Rattle.syntax.specs.Actions.{Context, Outside, Inside, State, Answer, Gives, Stops, Action, pure, stop, go_on, ◌>>=◌, ◌>>◌, spend, tick, trap, or_trap, or_astray, locals, put_locals, load_at, store, may_print_at, may_print, write, print_piece, memory_in}
 use Rattle.syntax.specs.Formats.{Piece, Literal, Figure, pieces}
-use Rattle.syntax.specs.Meaning.{Spot, InLocal, InCell, fetch, assign, print_pieces, End, Next, Breaks, Continues, Returns, Cancels, CancelsOuter, mode_of, begin_at, value_at, on_next, scoped, after_turn, turns, loop, after_body, Left, undoes, left_or, left_by, close_inner, close, enter, transaction, op_of, int_one, Caller, spot_from, named, element, expr, exprs, spot, changed, assigned, simple, first_value, declare, start_with, holds, stepped, return_value, stmt, stmts, bound, entered, result_of, invoke, calls}
+use Rattle.syntax.specs.Meaning.{Spot, InLocal, InCell, fetch, assign, print_pieces, End, Next, Breaks, Continues, Returns, Cancels, CancelsOuter, mode_of, begin_at, value_at, on_next, in_scope, after_turn, turns, loop, after_body, Left, undoes, left_or, left_by, close_inner, close, enter, transaction, op_of, int_one, Caller, spot_from, named, element, expr, exprs, spot, changed, assigned, simple, first_value, declare, start_with, holds, stepped, return_value, stmt, stmts, parameter_local, call_locals, result_of, invoke, calls}
 use Rattle.syntax.specs.Laws.{WhereGiven, StaysIn, memories_of, HasWords, WordsStay}
 use Rattle.syntax.specs.Typing.{IsTypedProgram}
 use Rattle.syntax.proofs.Expressions.{LeavesLocals, expr_holds, fetch_holds, or_trap_holds, calls_holds}
@@ -116,26 +116,26 @@ module _ {X : Type 0} (P : X → Type 0) where
   all_behind (x ∷ xs) ys h = all_behind xs ys h.1
 
 -- operators
-typed_word : (t : Scalar) (r : Result ℕ Trap) → IfOk r (λ w. w < modulus t) → IfOk (typed t r) IsValue
+typed_word : (t : Scalar) (r : Result ℕ Trap) → IfOk r (λ w. w < modulus t) → IfOk (typed_result t r) IsValue
 typed_word t (Ok w) h = h
 typed_word t (Err k) h = tt
 
-complement_below : (t : Scalar) (w : ℕ) → complemented t w < modulus t
+complement_below : (t : Scalar) (w : ℕ) → bitwise_complement t w < modulus t
 complement_below Int w = omega arith
 complement_below Unsigned w = omega arith
 complement_below LongLong w = omega arith
 
 unary_word : (op : UnaryOp) (v : Value) → IsValue v → IfOk (unary op v) IsValue
-unary_word Negate v h = typed_word v.of (fitted v.of (neg_ℤ (number_of v))) (fitted_below v.of (neg_ℤ (number_of v)))
+unary_word Negate v h = typed_word v.of (fit_result v.of (neg_ℤ (number_of v))) (fitted_below v.of (neg_ℤ (number_of v)))
 unary_word Keep v h = h
 unary_word Not v h = truth_below _
 unary_word Complement v h = complement_below v.of v.word
 
-shift_left_below : (s : Scalar) (a b : ℕ) → IfOk (computed ShiftLeft s a b) (λ w. w < modulus s)
-shift_left_below s a b = shift_below s (λ k. fitted s (number s a *ℤ pos (2 ^ k))) b (λ k. fitted_below s (number s a *ℤ pos (2 ^ k)))
+shift_left_below : (s : Scalar) (a b : ℕ) → IfOk (operation_result ShiftLeft s a b) (λ w. w < modulus s)
+shift_left_below s a b = shift_below s (λ k. fit_result s (number s a *ℤ pos (2 ^ k))) b (λ k. fitted_below s (number s a *ℤ pos (2 ^ k)))
 
-shift_right_below : (s : Scalar) (a b : ℕ) → IfOk (computed ShiftRight s a b) (λ w. w < modulus s)
-shift_right_below s a b = shift_below s (λ k. fitted s (int_div_euclid (number s a) (pos (2 ^ k)))) b (λ k. fitted_below s (int_div_euclid (number s a) (pos (2 ^ k))))
+shift_right_below : (s : Scalar) (a b : ℕ) → IfOk (operation_result ShiftRight s a b) (λ w. w < modulus s)
+shift_right_below s a b = shift_below s (λ k. fit_result s (int_div_euclid (number s a) (pos (2 ^ k)))) b (λ k. fitted_below s (int_div_euclid (number s a) (pos (2 ^ k))))
 
 -- of two operands that are of one type but for a shift's count
 common_same : (s t : Scalar) → common t s ≡ common s t
@@ -149,7 +149,7 @@ common_same LongLong Int = refl
 common_same LongLong Unsigned = refl
 common_same LongLong LongLong = refl
 
-pub any_below : (op : BinaryOp) (s t : Scalar) (a b : ℕ) → a < modulus (operand_type op s t) → b < modulus (operand_type op t s) → IfOk (computed op (operand_type op s t) a b) (λ w. w < modulus (result_type op (operand_type op s t)))
+pub any_below : (op : BinaryOp) (s t : Scalar) (a b : ℕ) → a < modulus (operand_type op s t) → b < modulus (operand_type op t s) → IfOk (operation_result op (operand_type op s t) a b) (λ w. w < modulus (result_type op (operand_type op s t)))
 any_below ShiftLeft s t a b g h = shift_left_below s a b
 any_below ShiftRight s t a b g h = shift_right_below s a b
 any_below op s t a b g h = computed_below op (common s t) a b g (subst (λ (u : Scalar). b < modulus u) (common_same s t) h)
@@ -158,9 +158,9 @@ any_below op s t a b g h = computed_below op (common s t) a b g (subst (λ (u : 
 binary_word : (op : BinaryOp) (v w : Value) → IfOk (binary op v w) IsValue
 binary_word op v w =
     let t = operand_type op v.of w.of in
-    let a = converted t v in
-    let b = converted (operand_type op w.of v.of) w in
-    typed_word (result_type op t) (computed op t a.word b.word) (any_below op v.of w.of a.word b.word (word_below t (number_of v)) (word_below (operand_type op w.of v.of) (number_of w)))
+    let a = value_in_type t v in
+    let b = value_in_type (operand_type op w.of v.of) w in
+    typed_word (result_type op t) (operation_result op t a.word b.word) (any_below op v.of w.of a.word b.word (word_below t (number_of v)) (word_below (operand_type op w.of v.of) (number_of w)))
 
 -- a memory's word is below the bound of its cell
 memory_word : (bs : List ℕ) (m : Memory) (c n : ℕ) → IsMemory bs m → slice_index bs c ≡ n → 0 < n → slice_index m c < n
@@ -274,9 +274,9 @@ module _ (q : Program) (checked : IsTypedProgram q) where
 
   assign_at : (ls : List Local) (at : Spot) → Fits ls at → (v : Value) → KeepsAt ls IsAny (assign at v)
   assign_at ls (InLocal i t) f v = record {
-    keeps = λ s e w. (tt, record { locals = with_words s.locals i (converted t v).word t (subst (λ (ms : List Local). TypeIs ms i t) (sym e) f) (word_below t (number_of v)) w.locals; memories = w.memories });
+    keeps = λ s e w. (tt, record { locals = with_words s.locals i (value_in_type t v).word t (subst (λ (ms : List Local). TypeIs ms i t) (sym e) f) (word_below t (number_of v)) w.locals; memories = w.memories });
   }
-  assign_at ls (InCell c t) f v = record { keeps = λ s e w. cell_stored s.ticks s.locals s.context s.text c (converted t v).word t f (word_below t (number_of v)) w.locals w.memories }
+  assign_at ls (InCell c t) f v = record { keeps = λ s e w. cell_stored s.ticks s.locals s.context s.text c (value_in_type t v).word t f (word_below t (number_of v)) w.locals w.memories }
 
   -- a run that gives a spot among the locals that it leaves
   record GivesSpot (run : Action Spot) : Type 0 where
@@ -322,7 +322,7 @@ module _ (q : Program) (checked : IsTypedProgram q) where
   begin_keeps (Outside f l) s w = tick_keeps.keeps s w
   begin_keeps (Inside mode m) s w = (tt, w)
 
-  scoped_keeps : {run : Action End} → Keeps IsEnd run → Keeps IsEnd (scoped run)
+  scoped_keeps : {run : Action End} → Keeps IsEnd run → Keeps IsEnd (in_scope run)
   scoped_keeps g =
       on AreLocals IsEnd locals_keeps (λ outer _. on IsEnd IsEnd g (λ end e. on AreLocals IsEnd locals_keeps (λ all h. then_ IsAny IsEnd (put_locals_keeps _ (all_taken IsOwn (length outer) all h)) (pure_keeps IsEnd end e))))
 
@@ -396,13 +396,13 @@ module _ (q : Program) (checked : IsTypedProgram q) where
   transaction_keeps kind {run} g h = record { keeps = λ s w. enter_keeps kind run g h s.context s.ticks s.locals s.text w.locals w.memories }
 
   -- the parameters hold words
-  bound_words : (d : Parameter) (v : Value) (o : Option Tree.Name) (ls : List Local) → AreLocals ls → AreLocals (unwrap_or (option_map (λ (x : Tree.Name). record { name = x.text; of = d.of; word = (converted d.of v).word } ∷ []) o) [] ++ ls)
+  bound_words : (d : Parameter) (v : Value) (o : Option Tree.Name) (ls : List Local) → AreLocals ls → AreLocals (unwrap_or (option_map (λ (x : Tree.Name). record { name = x.text; of = d.of; word = (value_in_type d.of v).word } ∷ []) o) [] ++ ls)
   bound_words d v None ls h = h
   bound_words d v (Some x) ls h = (word_below d.of (number_of v), h)
 
-  put_before : (d : Parameter) (v : Value) (o : Option (List Local)) → ((ls : List Local) → o ≡ Some ls → AreLocals ls) → (ls : List Local) → option_map (λ (ms : List Local). bound d v ++ ms) o ≡ Some ls → AreLocals ls
+  put_before : (d : Parameter) (v : Value) (o : Option (List Local)) → ((ls : List Local) → o ≡ Some ls → AreLocals ls) → (ls : List Local) → option_map (λ (ms : List Local). parameter_local d v ++ ms) o ≡ Some ls → AreLocals ls
   put_before d v None h ls e = absurd cc
-  put_before d v (Some ms) h ls e = same (bound d v ++ ms) ls e (bound_words d v d.name ms (h ms refl))
+  put_before d v (Some ms) h ls e = same (parameter_local d v ++ ms) ls e (bound_words d v d.name ms (h ms refl))
     where
       same : (xs ys : List Local) → Some xs ≡ Some ys → AreLocals xs → AreLocals ys
       same xs ys e h = subst_locals xs ys (unpack xs ys e) h
@@ -413,11 +413,11 @@ module _ (q : Program) (checked : IsTypedProgram q) where
           subst_locals : (xs ys : List Local) → xs ≡ ys → AreLocals xs → AreLocals ys
           subst_locals xs ys e h = rw (← e) h
 
-  entered_words : (qs : List Parameter) (vs : List Value) (ls : List Local) → entered qs vs ≡ Some ls → AreLocals ls
+  entered_words : (qs : List Parameter) (vs : List Value) (ls : List Local) → call_locals qs vs ≡ Some ls → AreLocals ls
   entered_words [] [] ls e = let none : [] ≡ ls = cc in rw (← none) tt
   entered_words [] (v ∷ vs) ls e = absurd cc
   entered_words (d ∷ ds) [] ls e = absurd cc
-  entered_words (d ∷ ds) (v ∷ vs) ls e = put_before d v (entered ds vs) (λ ms f. entered_words ds vs ms f) ls e
+  entered_words (d ∷ ds) (v ∷ vs) ls e = put_before d v (call_locals ds vs) (λ ms f. entered_words ds vs ms f) ls e
 
   module _ (call : Caller) (g : (x : List ℕ) (vs : List Value) → Stays (call x vs)) (leave : (x : List ℕ) (vs : List Value) → LeavesLocals (call x vs)) (h : (x : List ℕ) (vs : List Value) → Keeps IsValue (call x vs)) where
     cells_are : AreCells q (IsBounded q)
@@ -464,7 +464,7 @@ module _ (q : Program) (checked : IsTypedProgram q) where
       expr_keeps (Binary op a b at) = on IsValue IsValue (expr_keeps a) (λ v _. on IsValue IsValue (expr_keeps b) (λ w _. or_trap_keeps IsValue (binary op v w) (binary_word op v w)))
       expr_keeps (Logical AndThen a b at) = on IsValue IsValue (expr_keeps a) (λ v w. on IsValue IsValue (if_keeps IsValue _ (pure_keeps IsValue v w) (expr_keeps b)) (λ x _. pure_keeps IsValue (flag (not (is_zero x))) (truth_below (not (is_zero x)))))
       expr_keeps (Logical OrElse a b at) = on IsValue IsValue (expr_keeps a) (λ v w. on IsValue IsValue (if_keeps IsValue _ (expr_keeps b) (pure_keeps IsValue v w)) (λ x _. pure_keeps IsValue (flag (not (is_zero x))) (truth_below (not (is_zero x)))))
-      expr_keeps (Conditional c a b at) = on IsValue IsValue (expr_keeps c) (λ v _. on IsValue IsValue (if_keeps IsValue _ (expr_keeps b) (expr_keeps a)) (λ w _. on AreLocals IsValue locals_keeps (λ mine _. on IsAny IsValue (any_or_astray (type_of (running_scope q mine) (Conditional c a b at))) (λ t _. pure_keeps IsValue (converted t w) (word_below t (number_of w))))))
+      expr_keeps (Conditional c a b at) = on IsValue IsValue (expr_keeps c) (λ v _. on IsValue IsValue (if_keeps IsValue _ (expr_keeps b) (expr_keeps a)) (λ w _. on AreLocals IsValue locals_keeps (λ mine _. on IsAny IsValue (any_or_astray (type_of (running_scope q mine) (Conditional c a b at))) (λ t _. pure_keeps IsValue (value_in_type t w) (word_below t (number_of w))))))
       expr_keeps (InTransaction mode keyword e at) =
           then_ IsAny IsValue (record { keeps = λ s w. begin_keeps s.context s w })
           (on IsEnd IsValue (transaction_keeps (Plain mode) (returned_holds q (λ A run. Stays run) stays_kept call g e) (on IsValue IsEnd (expr_keeps e) (λ v w. pure_keeps IsEnd (Returns v) w))) value_at_keeps)
@@ -570,8 +570,8 @@ module _ (q : Program) (checked : IsTypedProgram q) where
       stmts_keep (Tree.◌∷◌ s ss) = on IsEnd IsEnd (stmt_keeps s) (on_next_keeps (stmts_keep ss))
 
     result_keeps : (t : Option Scalar) (end : End) → Keeps IsValue (result_of t end)
-    result_keeps t Next = pure_keeps IsValue (converted (unwrap_or t Int) (flag false)) (word_below (unwrap_or t Int) (number_of (flag false)))
-    result_keeps t (Returns v) = pure_keeps IsValue (converted (unwrap_or t Int) v) (word_below (unwrap_or t Int) (number_of v))
+    result_keeps t Next = pure_keeps IsValue (value_in_type (unwrap_or t Int) (flag false)) (word_below (unwrap_or t Int) (number_of (flag false)))
+    result_keeps t (Returns v) = pure_keeps IsValue (value_in_type (unwrap_or t Int) v) (word_below (unwrap_or t Int) (number_of v))
     result_keeps t Breaks = stop_keeps IsValue Astray
     result_keeps t Continues = stop_keeps IsValue Astray
     result_keeps t Cancels = stop_keeps IsValue Astray
@@ -579,7 +579,7 @@ module _ (q : Program) (checked : IsTypedProgram q) where
 
     invoke_keeps : (x : List ℕ) (vs : List Value) → Keeps IsValue (invoke q call x vs)
     invoke_keeps x vs =
-        on IsAny IsValue (any_or_astray (definition_of q x)) (λ f _. on AreLocals IsValue (or_astray_keeps AreLocals (entered f.0.parameters vs) (λ ls e. entered_words f.0.parameters vs ls e)) (λ mine w.
+        on IsAny IsValue (any_or_astray (definition_of q x)) (λ f _. on AreLocals IsValue (or_astray_keeps AreLocals (call_locals f.0.parameters vs) (λ ls e. entered_words f.0.parameters vs ls e)) (λ mine w.
         on AreLocals IsValue locals_keeps (λ outer o. then_ IsAny IsValue (put_locals_keeps mine w) (on IsEnd IsValue (stmts_keep f.1) (λ end _. then_ IsAny IsValue (put_locals_keeps outer o) (result_keeps f.0.result end))))))
 
   calls_keep : (n : ℕ) (x : List ℕ) (vs : List Value) → Keeps IsValue (calls q n x vs)

@@ -16,7 +16,7 @@ use Rattle.syntax.specs.Tree.{Empty, Declare, Do, Block, Print, If, IfElse, Whil
 use Rattle.syntax.specs.Tree.{Return, Transaction, Cancel, CancelOuter, Parameter, Function, Global, Item, Defines}
 use Rattle.syntax.specs.Tree.{Shares, Program}
 use Rattle.syntax.specs.Depth.{program_depth}
-use Rattle.syntax.specs.Phrases.{Phrase, One, Nil, never, ◌⨾◌, ◌∣◌, given, Many, Sign, Word, IsAt, Listed, spanning}
+use Rattle.syntax.specs.Phrases.{Phrase, One, Nil, never, ◌⨾◌, ◌∣◌, phrase_if, Many, Sign, Word, IsAt, Listed, spanning}
 use Rattle.syntax.specs.Phrases.{end_of}
 
 -- ---- what single tokens say (C11 6.4)
@@ -185,8 +185,8 @@ scalar Int = Word key.Int ∣ Word key.Signed ∣ Word key.Signed ⨾ Word key.I
 scalar Unsigned = Word key.Unsigned ∣ Word key.Unsigned ⨾ Word key.Int
 scalar LongLong = (Nil ∣ Word key.Signed) ⨾ Word key.Long ⨾ Word key.Long ⨾ (Nil ∣ Word key.Int)
 
-abbrev pub named : Name → Phrase
-named = One the_name
+abbrev pub name_phrase : Name → Phrase
+name_phrase = One the_name
 
 abbrev pub mode_keyword : Mode → Fixed
 mode_keyword Atomic = (Keyword key.Atomic)
@@ -194,19 +194,19 @@ mode_keyword Relaxed = (Keyword key.Relaxed)
 
 abbrev mutual
   pub expr : Expr → Phrase
-  expr (Variable x) = named x
+  expr (Variable x) = name_phrase x
   expr (Constant n t at) = One the_integer_constant (record { value = n; of = t; at = at })
-  expr (Element x i at) = spanning at (named x ⨾ Sign punct.OpenBracket ⨾ expr i ⨾ Sign punct.CloseBracket)
-  expr (Call f es at) = spanning at (named f ⨾ Sign punct.OpenParen ⨾ arguments es ⨾ Sign punct.CloseParen)
+  expr (Element x i at) = spanning at (name_phrase x ⨾ Sign punct.OpenBracket ⨾ expr i ⨾ Sign punct.CloseBracket)
+  expr (Call f es at) = spanning at (name_phrase f ⨾ Sign punct.OpenParen ⨾ arguments es ⨾ Sign punct.CloseParen)
   expr (Parenthesized e at) = spanning at (Sign punct.OpenParen ⨾ expr e ⨾ Sign punct.CloseParen)
   expr (Cast t e at) =
-      given (11 ≤ level e) (spanning at (Sign punct.OpenParen ⨾ scalar t ⨾ Sign punct.CloseParen ⨾ expr e))
-  expr (Unary op e at) = given (11 ≤ level e) (spanning at (One the_unary op ⨾ expr e))
-  expr (Binary op a b at) = given (Groups (precedence op) a b) (spanning at (expr a ⨾ One the_binary op ⨾ expr b))
+      phrase_if (11 ≤ level e) (spanning at (Sign punct.OpenParen ⨾ scalar t ⨾ Sign punct.CloseParen ⨾ expr e))
+  expr (Unary op e at) = phrase_if (11 ≤ level e) (spanning at (One the_unary op ⨾ expr e))
+  expr (Binary op a b at) = phrase_if (Groups (precedence op) a b) (spanning at (expr a ⨾ One the_binary op ⨾ expr b))
   expr (Logical op a b at) =
-      given (Groups (logical_precedence op) a b) (spanning at (expr a ⨾ One the_logical op ⨾ expr b))
+      phrase_if (Groups (logical_precedence op) a b) (spanning at (expr a ⨾ One the_logical op ⨾ expr b))
   expr (Conditional c a b at) =
-      given (1 ≤ level c) (spanning at (expr c ⨾ Sign punct.Question ⨾ expr a ⨾ Sign punct.Colon ⨾ expr b))
+      phrase_if (1 ≤ level c) (spanning at (expr c ⨾ Sign punct.Question ⨾ expr a ⨾ Sign punct.Colon ⨾ expr b))
   expr (InTransaction mode keyword e at) =
       spanning at (IsAt (mode_keyword mode) keyword ⨾ Sign punct.OpenParen ⨾ expr e ⨾ Sign punct.CloseParen)
 
@@ -231,7 +231,7 @@ simple (Assign to op e) = expr to ⨾ One the_assigning op ⨾ expr e
 simple (Adjust to by) = expr to ⨾ One the_step by ∣ One the_step by ⨾ expr to
 
 abbrev pub declarator : Declarator → Phrase
-declarator d = named d.name ⨾ optional (λ e. Sign punct.Assign ⨾ expr e) d.first
+declarator d = name_phrase d.name ⨾ optional (λ e. Sign punct.Assign ⨾ expr e) d.first
 
 abbrev pub declaration : Declaration → Phrase
 declaration d = scalar d.of ⨾ Listed declarator d.declarators ⨾ Sign punct.Semicolon
@@ -242,8 +242,8 @@ start (Declares d) = declaration d
 start (Does s) = simple s ⨾ Sign punct.Semicolon
 
 -- `[[outer]]`, or the same as GCC's attribute (the C++ draft on transactions 1.1: outer transactions)
-abbrev pub outer_mark : Phrase
-outer_mark =
+abbrev pub outer_phrase : Phrase
+outer_phrase =
     Sign punct.OpenBracket ⨾ Sign punct.OpenBracket ⨾ One the_outer tt ⨾ Sign punct.CloseBracket
     ⨾ Sign punct.CloseBracket
     ∣ Word key.Attribute ⨾ Sign punct.OpenParen ⨾ Sign punct.OpenParen ⨾ One the_outer tt ⨾ Sign punct.CloseParen
@@ -253,7 +253,7 @@ outer_mark =
 -- words for C)
 abbrev pub kind : Kind → Span → Phrase
 kind (Plain mode) at = IsAt (mode_keyword mode) at
-kind Outer at = IsAt (mode_keyword Atomic) at ⨾ outer_mark
+kind Outer at = IsAt (mode_keyword Atomic) at ⨾ outer_phrase
 
 -- a statement that a further else would belong to
 abbrev pub ends_open : Stmt → Bool
@@ -276,7 +276,7 @@ abbrev mutual
       IsAt (Keyword key.Printf) at ⨾ Sign punct.OpenParen ⨾ One the_text (format, format_at) ⨾ further es
       ⨾ Sign punct.CloseParen ⨾ Sign punct.Semicolon
   stmt (If c a) = Word key.If ⨾ in_parens c ⨾ stmt a
-  stmt (IfElse c a b) = given (IsFalse (ends_open a)) (Word key.If ⨾ in_parens c ⨾ stmt a ⨾ Word key.Else ⨾ stmt b)
+  stmt (IfElse c a b) = phrase_if (IsFalse (ends_open a)) (Word key.If ⨾ in_parens c ⨾ stmt a ⨾ Word key.Else ⨾ stmt b)
   stmt (While c a) = Word key.While ⨾ in_parens c ⨾ stmt a
   stmt (DoWhile a c) = Word key.Do ⨾ stmt a ⨾ Word key.While ⨾ in_parens c ⨾ Sign punct.Semicolon
   stmt (For first c step a) =
@@ -287,7 +287,7 @@ abbrev mutual
   stmt (Return e at) = IsAt (Keyword key.Return) at ⨾ optional expr e ⨾ Sign punct.Semicolon
   stmt (Transaction k ss at) = kind k at ⨾ Sign punct.OpenBrace ⨾ stmts ss ⨾ Sign punct.CloseBrace
   stmt (Cancel at) = IsAt (Keyword key.Cancel) at ⨾ Sign punct.Semicolon
-  stmt (CancelOuter at) = IsAt (Keyword key.Cancel) at ⨾ outer_mark ⨾ Sign punct.Semicolon
+  stmt (CancelOuter at) = IsAt (Keyword key.Cancel) at ⨾ outer_phrase ⨾ Sign punct.Semicolon
 
   -- what stands in a block: declarations too
   pub stmts : Stmts → Phrase
@@ -307,21 +307,21 @@ attribute_list words =
     ∣ Word key.Attribute ⨾ Sign punct.OpenParen ⨾ Sign punct.OpenParen ⨾ Listed (One the_attribute) words
     ⨾ Sign punct.CloseParen ⨾ Sign punct.CloseParen
 
-abbrev pub joined : List (List Attribute) → List Attribute
-joined [] = []
-joined (words ∷ rest) = words ++ joined rest
+abbrev pub attributes_of : List (List Attribute) → List Attribute
+attributes_of [] = []
+attributes_of (words ∷ rest) = words ++ attributes_of rest
 
 -- lists of attributes, which say these in all (the C++ draft on transactions 1.1: `transaction_safe`,
 -- `transaction_callable` and so on)
 abbrev pub attributes : List Attribute → Phrase
-attributes words ts = (lists : List (List Attribute)) × (words ≡ joined lists) × Many attribute_list lists ts
+attributes words ts = (lists : List (List Attribute)) × (words ≡ attributes_of lists) × Many attribute_list lists ts
 
 abbrev pub result : Option Scalar → Phrase
 result None = Word key.Void
 result (Some t) = scalar t
 
 abbrev pub parameter : Parameter → Phrase
-parameter q = scalar q.of ⨾ optional named q.name
+parameter q = scalar q.of ⨾ optional name_phrase q.name
 
 abbrev pub parameters : List Parameter → Phrase
 parameters [] = Sign punct.OpenParen ⨾ (Nil ∣ Word key.Void) ⨾ Sign punct.CloseParen
@@ -334,12 +334,12 @@ AreNamed (q ∷ qs) = IsSome q.name × AreNamed qs
 -- a prototype ends here, and a definition's parameters all have names
 abbrev pub body : List Parameter → Option Stmts → Phrase
 body qs None = Sign punct.Semicolon
-body qs (Some ss) = given (AreNamed qs) (block ss)
+body qs (Some ss) = phrase_if (AreNamed qs) (block ss)
 
 abbrev pub function : Function → Phrase
 function f ts =
     (before after : List Attribute) × (f.attributes ≡ before ++ after)
-    × (attributes before ⨾ result f.result ⨾ named f.name ⨾ parameters f.parameters ⨾ attributes after
+    × (attributes before ⨾ result f.result ⨾ name_phrase f.name ⨾ parameters f.parameters ⨾ attributes after
     ⨾ body f.parameters f.body) ts
 
 -- ---- globals (C11 6.7, 6.7.6.2, 6.7.9)
@@ -377,16 +377,16 @@ first_values (i ∷ is) =
     Sign punct.Assign ⨾ Sign punct.OpenBrace ⨾ Listed initialiser (i ∷ is) ⨾ (Nil ∣ Sign punct.Comma)
     ⨾ Sign punct.CloseBrace
 
-abbrev pub sized : Option (ℕ × Span) → List First → Phrase
-sized None is = first_value is
-sized (Some n) is = Sign punct.OpenBracket ⨾ One the_length n ⨾ Sign punct.CloseBracket ⨾ first_values is
+abbrev pub global_phrase : Option (ℕ × Span) → List First → Phrase
+global_phrase None is = first_value is
+global_phrase (Some n) is = Sign punct.OpenBracket ⨾ One the_length n ⨾ Sign punct.CloseBracket ⨾ first_values is
 
 abbrev pub global : Global → Phrase
-global g = named g.name ⨾ sized g.length g.first
+global g = name_phrase g.name ⨾ global_phrase g.length g.first
 
 -- globals of one declaration have one type
 abbrev pub globals : Scalar → List Global → Phrase
-globals t gs = scalar t ⨾ Listed (λ g. given (g.of ≡ t) (global g)) gs ⨾ Sign punct.Semicolon
+globals t gs = scalar t ⨾ Listed (λ g. phrase_if (g.of ≡ t) (global g)) gs ⨾ Sign punct.Semicolon
 
 abbrev pub item : Item → Phrase
 item (Defines f) = function f

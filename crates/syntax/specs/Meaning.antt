@@ -8,7 +8,7 @@ use Rattle.syntax.specs.Tree.{Parenthesized, Cast, Unary, Binary, Logical, Condi
 use Rattle.syntax.specs.Tree.{Assign, Adjust, Declarator, Start, Nothing, Declares, Does, Stmt, Stmts, Empty, Declare}
 use Rattle.syntax.specs.Tree.{Do, Block, Print, If, IfElse, While, DoWhile, For, Break, Continue, Return, Transaction}
 use Rattle.syntax.specs.Tree.{Cancel, CancelOuter, Parameter, Program}
-use Rattle.syntax.specs.Numbers.{Value, Index, Frames, word_of, number, converted, is_zero, flag, unary, binary}
+use Rattle.syntax.specs.Numbers.{Value, Index, Frames, word_of, number, value_in_type, is_zero, flag, unary, binary}
 use Rattle.syntax.specs.Names.{Local, newest, word_at, with_word, global_of, cells, definition_of}
 use Rattle.syntax.specs.Formats.{Piece, Literal, Figure, pieces}
 use Rattle.syntax.specs.Types.{type_of, running_scope}
@@ -27,8 +27,8 @@ fetch (InLocal i t) = do mine ← locals; pure (record { of = t; word = word_at 
 fetch (InCell c t) = do w ← load c; pure (record { of = t; word = w })
 
 abbrev pub assign : Spot → Value → Action (Unit {0})
-assign (InLocal i t) v = do mine ← locals; put_locals (with_word mine i (converted t v).word)
-assign (InCell c t) v = store c (converted t v).word
+assign (InLocal i t) v = do mine ← locals; put_locals (with_word mine i (value_in_type t v).word)
+assign (InCell c t) v = store c (value_in_type t v).word
 
 -- the pieces of a format, with these values for its figures
 abbrev pub print_pieces : List Piece → List Value → Action (Unit {0})
@@ -51,8 +51,8 @@ on_next rest Next = rest
 on_next rest end = pure end
 
 -- a stretch with names of its own: they are gone at its end
-abbrev pub scoped : Action End → Action End
-scoped run = do
+abbrev pub in_scope : Action End → Action End
+in_scope run = do
   outer ← locals
   end ← run
   all ← locals
@@ -205,7 +205,7 @@ module _ (p : Program) (call : Caller) where
     expr (Call f es at) = do vs ← exprs es; tick; call f.text vs
     expr (Parenthesized e at) = expr e
     -- conversions and operators (6.5.4, 6.5.3.3, 6.5.5 to 6.5.12)
-    expr (Cast t e at) = do v ← expr e; pure (converted t v)
+    expr (Cast t e at) = do v ← expr e; pure (value_in_type t v)
     expr (Unary op e at) = do v ← expr e; or_trap (unary op v)
     expr (Binary op a b at) = do v ← expr a; w ← expr b; or_trap (binary op v w)
     -- what is computed only where it is needed (6.5.13 to 6.5.15)
@@ -218,7 +218,7 @@ module _ (p : Program) (call : Caller) where
       w ← if is_zero v then expr b else expr a
       mine ← locals
       t ← or_astray (type_of (running_scope p mine) (Conditional c a b at))
-      pure (converted t w)
+      pure (value_in_type t w)
     -- a transaction of its own, as one step
     expr (InTransaction mode keyword e at) = value_transaction mode (expr e)
 
@@ -283,30 +283,30 @@ module _ (p : Program) (call : Caller) where
     stmt Empty = do tick; pure Next
     stmt (Declare d) = do tick; declare d.of d.declarators
     stmt (Do s) = do tick; simple s
-    stmt (Block ss) = do tick; scoped (stmts ss)
+    stmt (Block ss) = do tick; in_scope (stmts ss)
     stmt (Print at format format_at es) = do tick; may_print; vs ← exprs es; print_pieces (pieces format) vs; pure Next
     -- selection and iteration: each substatement is a scope of its own (6.8.4, 6.8.5)
-    stmt (If c a) = do tick; v ← expr c; if is_zero v then pure Next else scoped (stmt a)
-    stmt (IfElse c a b) = do tick; v ← expr c; if is_zero v then scoped (stmt b) else scoped (stmt a)
+    stmt (If c a) = do tick; v ← expr c; if is_zero v then pure Next else in_scope (stmt a)
+    stmt (IfElse c a b) = do tick; v ← expr c; if is_zero v then in_scope (stmt b) else in_scope (stmt a)
     stmt (While c a) = do
       tick
-      loop (do v ← expr c; if is_zero v then pure (Some Next) else (scoped (stmt a) >>= after_body (pure None)))
+      loop (do v ← expr c; if is_zero v then pure (Some Next) else (in_scope (stmt a) >>= after_body (pure None)))
     stmt (DoWhile a c) = do
       tick
-      loop (scoped (stmt a) >>= after_body (do v ← expr c; pure (if is_zero v then Some Next else None)))
+      loop (in_scope (stmt a) >>= after_body (do v ← expr c; pure (if is_zero v then Some Next else None)))
     stmt (For start c step a) = do
       tick
-      scoped (do
+      in_scope (do
         start_with start
         loop (do
           more ← holds c
-          if more then (scoped (stmt a) >>= after_body (stepped step)) else pure (Some Next)))
+          if more then (in_scope (stmt a) >>= after_body (stepped step)) else pure (Some Next)))
     -- jumps (6.8.6)
     stmt (Break at) = do tick; pure Breaks
     stmt (Continue at) = do tick; pure Continues
     stmt (Return e at) = do tick; v ← return_value e; pure (Returns v)
     -- transactions run as one step; a cancel ends the innermost one, an outer cancel the innermost outer one
-    stmt (Transaction kind ss at) = do tick; transaction kind (scoped (stmts ss))
+    stmt (Transaction kind ss at) = do tick; transaction kind (in_scope (stmts ss))
     stmt (Cancel at) = do tick; pure Cancels
     stmt (CancelOuter at) = do tick; pure CancelsOuter
 
@@ -315,27 +315,27 @@ module _ (p : Program) (call : Caller) where
     stmts (Stmts.◌∷◌ s ss) = stmt s >>= on_next (stmts ss)
 
 -- the parameters, with the arguments converted (C11 6.5.2.2); one without a name binds nothing
-abbrev pub bound : Parameter → Value → List Local
-bound q v =
-    unwrap_or (option_map (λ x. record { name = x.text; of = q.of; word = (converted q.of v).word } ∷ []) q.name) []
+abbrev pub parameter_local : Parameter → Value → List Local
+parameter_local q v =
+    unwrap_or (option_map (λ x. record { name = x.text; of = q.of; word = (value_in_type q.of v).word } ∷ []) q.name) []
 
-abbrev pub entered : List Parameter → List Value → Option (List Local)
-entered [] [] = Some []
-entered (q ∷ qs) (v ∷ vs) = option_map (λ ls. bound q v ++ ls) (entered qs vs)
-entered qs vs = None
+abbrev pub call_locals : List Parameter → List Value → Option (List Local)
+call_locals [] [] = Some []
+call_locals (q ∷ qs) (v ∷ vs) = option_map (λ ls. parameter_local q v ++ ls) (call_locals qs vs)
+call_locals qs vs = None
 
 -- the value of a call, of the function's own type (6.8.6.4): one that runs off its end gives 0, and no other end leaves
 -- it
 abbrev pub result_of : Option Scalar → End → Action Value
-result_of t Next = pure (converted (unwrap_or t Int) (flag false))
-result_of t (Returns v) = pure (converted (unwrap_or t Int) v)
+result_of t Next = pure (value_in_type (unwrap_or t Int) (flag false))
+result_of t (Returns v) = pure (value_in_type (unwrap_or t Int) v)
 result_of t end = stop Astray
 
 -- a function's body, with locals of its own
 abbrev pub invoke : Program → Caller → Caller
 invoke p call x vs = do
   f ← or_astray (definition_of p x)
-  mine ← or_astray (entered f.0.parameters vs)
+  mine ← or_astray (call_locals f.0.parameters vs)
   outer ← locals
   put_locals mine
   end ← stmts p call f.1

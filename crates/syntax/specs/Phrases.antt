@@ -44,8 +44,8 @@ abbrev pub ◌∣◌ : Phrase → Phrase → Phrase
 ◌∣◌ L M ts = L ts ⊎ M ts
 
 -- a phrase under a condition
-abbrev pub given : Type 0 → Phrase → Phrase
-given c L ts = c × L ts
+abbrev pub phrase_if : Type 0 → Phrase → Phrase
+phrase_if c L ts = c × L ts
 
 -- any number, one after another
 abbrev pub Many : {A : Type 0} → (A → Phrase) → List A → Phrase

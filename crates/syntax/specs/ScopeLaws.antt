@@ -7,7 +7,7 @@ use Rattle.syntax.specs.Types.{Scope, Callable, known_function, file_scope, type
 use Rattle.syntax.specs.Typing.{is_unknown, is_void, scope_after, parameter_names, with_parameters, Demand, IsTyped}
 use Rattle.syntax.specs.Typing.{IsTypedStmt, AreTypedStmts, IsTypedProgram}
 use Rattle.syntax.specs.Actions.{State}
-use Rattle.syntax.specs.Meaning.{End, Breaks, Continues, stmt, entered, calls}
+use Rattle.syntax.specs.Meaning.{End, Breaks, Continues, stmt, call_locals, calls}
 use Rattle.syntax.specs.Laws.{WhereGiven, shape}
 
 -- each of these demands is met
@@ -36,7 +36,7 @@ pub record StandsTyped (p : Program) (d : Function × Stmts) : Type 0 where
   pub stands : p ≡ (earlier ++ Defines d.0 ∷ []) ++ later
   pub body : AreAllMet (AreTypedStmts d.0.result d.1 (body_scope earlier d.0) (parameter_names d.0.parameters) false)
   -- with the arguments as its locals, what is known as it runs agrees with what is known of its body
-  pub fits : (vs : List Value) (ls : List Local) → entered d.0.parameters vs ≡ Some ls →
+  pub fits : (vs : List Value) (ls : List Local) → call_locals d.0.parameters vs ≡ Some ls →
       IsSubscope (body_scope earlier d.0) (running_scope p ls)
 
 abbrev pub BodiesAreTyped : Type 0

@@ -2,7 +2,7 @@
 use Rattle.std.proofs.Common.{◌≡◌, ℕ, ◌+◌, List, [], ◌∷◌, ◌++◌, Option, Some, None, Bool, true, false, refl, sym, ap, ◌∙◌, arith, if◌then◌else◌, ◌||◌, option_map, unwrap_or, bytes_eq, is_some}
 use Rattle.std.proofs.lemmas.Slice.Eq.{bytes_eq-Decides}
 use Rattle.syntax.specs.Tree.{Span, Scalar, Function, Global, Item, Defines, Shares, Stmts}
-use Rattle.syntax.specs.Names.{definition_of, defined}
+use Rattle.syntax.specs.Names.{definition_of, definition_or}
 use Rattle.syntax.specs.Types.{Known, Unknown, Number, Array, Callable, Scope, file_scope, known_among, known_global, known_function}
 use Rattle.syntax.specs.Typing.{is_unknown, has_name, defined_names, all_cells}
 
@@ -113,7 +113,7 @@ defined_here f x items h = by f f.body (definition_of items x) (defined_names it
     if_some true y rest t h = refl
     if_some false y rest t h = h
 
-    by : (g : Function) (body : Option Stmts) (rest : Option (Function × Stmts)) (ns : List (List ℕ)) → is_some rest ≡ has_name ns x → is_some (defined g x body rest) ≡ has_name (unwrap_or (option_map (λ b. g.name.text ∷ ns) body) ns) x
+    by : (g : Function) (body : Option Stmts) (rest : Option (Function × Stmts)) (ns : List (List ℕ)) → is_some rest ≡ has_name ns x → is_some (definition_or g x body rest) ≡ has_name (unwrap_or (option_map (λ b. g.name.text ∷ ns) body) ns) x
     by g None rest ns h = h
     by g (Some b) rest ns h = if_some (bytes_eq g.name.text x) (g, b) rest (has_name ns x) h
 

@@ -6,7 +6,7 @@ use Rattle.norec_core.specs.declared.step.Answer.TheVariants.{Value}
 use Rattle.norec_core.specs.Accesses.{cost}
 use Rattle.bytecode.specs.Code.{Code, Configuration, effect}
 use Rattle.bytecode.specs.Valid.{cells_of}
-use Rattle.machine.specs.Threads.{Thread, access, told}
+use Rattle.machine.specs.Threads.{Thread, access, step_with}
 use Rattle.machine.specs.Standing.{IsThreadOf}
 use Rattle.machine.specs.States.{IsWordOf, told_twice}
 use Rattle.machine.proofs.keeping.Words.{word_fits}
@@ -34,7 +34,7 @@ module _ (key : Setup) (number : ℕ) (th : Thread Configuration) (steps accesse
 
     -- the thread between both steps
     abbrev middle : Thread Configuration
-    middle = (told (effect code) ready (Value word)).thread
+    middle = (step_with (effect code) ready (Value word)).thread
 
     module _ (of_code : IsThreadOf code middle) (second : access (effect code) middle ≡ LoadLock) where
       half : (is : Works key number middle (steps + 1) (accesses + cost (access (effect code) ready)) w) × GoesOnFrom key.code works.part works.now is.part is.now

@@ -3,15 +3,15 @@ use Rattle.std.proofs.Common.{◌≡◌, ℕ, [], ◌∷◌, refl}
 use Rattle.bytecode.specs.Code.{Configuration}
 use Rattle.machine.specs.Threads.{Thread}
 use Rattle.seats.specs.Setup.{Setup}
-use Rattle.seats.specs.Views.{floored}
+use Rattle.seats.specs.Views.{with_floor}
 use Rattle.seats.specs.Rule.{MeetsBoth, SeatView}
 use Rattle.workers.specs.Works.{MeetsAt, Works}
 use Rattle.seats.proofs.Parts.{none_since}
 
-works_at : (key : Setup) (number : ℕ) (th : Thread Configuration) (steps accesses n : ℕ) (m w : SeatView) (works : Works key number th steps accesses m) → w ≡ (floored n works.part ∷ [], []) → (is : Works key number th steps accesses w) × (is.part ≡ floored n works.part) × (is.now ≡ works.now)
+works_at : (key : Setup) (number : ℕ) (th : Thread Configuration) (steps accesses n : ℕ) (m w : SeatView) (works : Works key number th steps accesses m) → w ≡ (with_floor n works.part ∷ [], []) → (is : Works key number th steps accesses w) × (is.part ≡ with_floor n works.part) × (is.now ≡ works.now)
 works_at key number th steps accesses n m w works e = (
   record {
-    part = floored n works.part;
+    part = with_floor n works.part;
     pauses = works.pauses;
     now = works.now;
     sits = e;

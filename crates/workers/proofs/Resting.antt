@@ -3,8 +3,8 @@ use Rattle.std.proofs.Common.{◌≡◌, ℕ, ◌+◌, true, List, [], ◌∷◌
 use Rattle.norec_core.specs.declared.step.Answer.TheVariants.{Done}
 use Rattle.bytecode.specs.Effects.{Effect}
 use Rattle.bytecode.specs.Code.{Code, Configuration, effect}
-use Rattle.machine.specs.Answered.{Heard, StepsHearing, is_local, local_step, paused}
-use Rattle.machine.specs.Threads.{Thread, access, told}
+use Rattle.machine.specs.Answered.{Heard, StepsHearing, is_local, local_step, after_local_steps}
+use Rattle.machine.specs.Threads.{Thread, access, step_with}
 use Rattle.machine.specs.Worlds.{Part}
 use Rattle.machine.specs.Standing.{IsThreadOf}
 use Rattle.machine.specs.States.{first_thread}
@@ -17,13 +17,13 @@ no_last : {X : Type 0} (xs : List X) (x : X) → xs ++ x ∷ [] ≡ [] → ⊥
 no_last xs x e = let l = ap length e in omega (arith, l, length-append xs (x ∷ []))
 
 -- local steps of a thread are its part's
-module _ {C : Type 0} (code : C → Effect C) (k : ℕ) (p now : Part C) (e : paused code k p ≡ Some now) where
-  pub part_rests : (th u : Thread C) (n : ℕ) (hs : List Heard) → now.thread ≡ th → StepsHearing code th n hs u → hs ≡ [] → (later : Part C) × (paused code (k + n) p ≡ Some later) × (later.thread ≡ u) × Grows now.records later.records
-  part_rests th u n hs t StepsHearing.none z = (now, ap (λ (j : ℕ). paused code j p) (add-zero k) ∙ e, t, ([], sym (append-nil now.records)))
+module _ {C : Type 0} (code : C → Effect C) (k : ℕ) (p now : Part C) (e : after_local_steps code k p ≡ Some now) where
+  pub part_rests : (th u : Thread C) (n : ℕ) (hs : List Heard) → now.thread ≡ th → StepsHearing code th n hs u → hs ≡ [] → (later : Part C) × (after_local_steps code (k + n) p ≡ Some later) × (later.thread ≡ u) × Grows now.records later.records
+  part_rests th u n hs t StepsHearing.none z = (now, ap (λ (j : ℕ). after_local_steps code j p) (add-zero k) ∙ e, t, ([], sym (append-nil now.records)))
   part_rests th u n hs t (StepsHearing.local_more m gs v r far) z =
       let b = part_rests th v m gs t r z in
       let at : is_local (access code b.0.thread) ≡ true = ap (λ (y : Thread C). is_local (access code y)) b.2 ∙ far in
-      (local_step code b.0, ap (λ (j : ℕ). paused code j p) (add-suc k m) ∙ paused_more code (k + m) p b.0 b.1 at, ap (λ (y : Thread C). (told code y Done).thread) b.2, grows_on now.records b.0.records (local_step code b.0).records b.3 (local_grows code b.0))
+      (local_step code b.0, ap (λ (j : ℕ). after_local_steps code j p) (add-suc k m) ∙ paused_more code (k + m) p b.0 b.1 at, ap (λ (y : Thread C). (step_with code y Done).thread) b.2, grows_on now.records b.0.records (local_step code b.0).records b.3 (local_grows code b.0))
   part_rests th u n hs t (StepsHearing.heard_more m gs v a r far on) z = absurd (no_last gs _ z)
 
 module _ (key : Setup) (number : ℕ) (th : Thread Configuration) (steps accesses : ℕ) (m : SeatView) (works : Works key number th steps accesses m) (code : Code) (same : key.code ≡ code) where

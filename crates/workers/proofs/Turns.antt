@@ -5,9 +5,9 @@ use Rattle.norec_core.specs.declared.step.Access.{Access}
 use Rattle.norec_core.specs.declared.step.Access.TheVariants.{LoadLock, LoadWord, Local, StoreLock, StoreWord, Swap}
 use Rattle.norec_core.specs.declared.step.Answer.{Answer}
 use Rattle.norec_core.specs.declared.step.Answer.TheVariants.{Done}
-use Rattle.machine.specs.Answered.{Heard, StepsHearing, is_local, local_step, paused}
+use Rattle.machine.specs.Answered.{Heard, StepsHearing, is_local, local_step, after_local_steps}
 use Rattle.bytecode.specs.Code.{Configuration}
-use Rattle.machine.specs.Threads.{Thread, access, told}
+use Rattle.machine.specs.Threads.{Thread, access, step_with}
 use Rattle.norec_core.specs.Accesses.{IsAnswerTo, cost, stops}
 use Rattle.machine.specs.Worlds.{Part, part_after}
 use Rattle.machine.specs.Addresses.{AccessFits}
@@ -43,7 +43,7 @@ room_for x count accesses steps e f room = let c = at_most_one x in omega arith
     at_most_one (StoreLock n) = omega arith
 
 -- a world with the part as it is now
-pub stands_now : (key : Setup) (number k : ℕ) (p now : Part Configuration) (hs : List Heard) → paused (effect key.code) k p ≡ Some now → IsPart key number p hs → IsPart key number now hs
+pub stands_now : (key : Setup) (number k : ℕ) (p now : Part Configuration) (hs : List Heard) → after_local_steps (effect key.code) k p ≡ Some now → IsPart key number p hs → IsPart key number now hs
 stands_now key number k p now hs e s = record {
   world = record { lock = s.world.lock; words = s.world.words; parts = Rattle.std.proofs.Common.set s.world.parts number now };
   heard = s.heard;
@@ -79,7 +79,7 @@ module _ (key : Setup) (number : ℕ) (th : Thread Configuration) (steps accesse
   Later t n w = (is : Works key number t (steps + 1) n w) × GoesOnFrom key.code works.part works.now is.part is.now
 
   -- after a local step
-  works_local : is_local (access (effect key.code) th) ≡ true → IsThreadOf key.code (told (effect key.code) th Done).thread → Later (told (effect key.code) th Done).thread accesses m
+  works_local : is_local (access (effect key.code) th) ≡ true → IsThreadOf key.code (step_with (effect key.code) th Done).thread → Later (step_with (effect key.code) th Done).thread accesses m
   unfolding Later
   works_local far of_code =
       let far_now : is_local (access (effect key.code) works.now.thread) ≡ true = ap (λ (t : Thread Configuration). is_local (access (effect key.code) t)) works.thread_is ∙ far in (
@@ -91,7 +91,7 @@ module _ (key : Setup) (number : ℕ) (th : Thread Configuration) (steps accesse
           setup = works.setup;
           number_is = works.number_is;
           paused_to = paused_more (effect key.code) works.pauses works.part.part works.now works.paused_to far_now;
-          thread_is = ap (λ (t : Thread Configuration). (told (effect key.code) t Done).thread) works.thread_is;
+          thread_is = ap (λ (t : Thread Configuration). (step_with (effect key.code) t Done).thread) works.thread_is;
           valid = works.valid;
           of_code = of_code;
           replays = rw add-one (StepsHearing.local_more steps works.part.heard th works.replays far);
@@ -117,20 +117,20 @@ module _ (key : Setup) (number : ℕ) (th : Thread Configuration) (steps accesse
     one : TookAs works.part works.now (access (effect key.code) th) a w.0
     one =
         let same : works.part.setup.code ≡ key.code = ap (λ (s : Setup). s.code) works.setup in
-        let pause : paused (effect works.part.setup.code) works.pauses works.part.part ≡ Some works.now = subst (λ (c : Code). paused (effect c) works.pauses works.part.part ≡ Some works.now) (sym same) works.paused_to in
+        let pause : after_local_steps (effect works.part.setup.code) works.pauses works.part.part ≡ Some works.now = subst (λ (c : Code). after_local_steps (effect c) works.pauses works.part.part ≡ Some works.now) (sym same) works.paused_to in
         let access_is : access (effect works.part.setup.code) works.now.thread ≡ access (effect key.code) th = (λ i. access (effect (same i)) (works.thread_is i)) in
         let away : is_local (access (effect works.part.setup.code) works.now.thread) ≡ false = ap is_local access_is ∙ far in
         subst (λ (x : Access). TookAs works.part works.now x (reply x n) w.0) access_is (took.1 works.part works.pauses works.now (ap (λ (x : SeatView). x.0) works.sits) pause away)
 
-    works_heard : stops (access (effect key.code) th) ≡ false → IsThreadOf key.code (told (effect key.code) th a).thread → Later (told (effect key.code) th a).thread (accesses + 1) w
+    works_heard : stops (access (effect key.code) th) ≡ false → IsThreadOf key.code (step_with (effect key.code) th a).thread → Later (step_with (effect key.code) th a).thread (accesses + 1) w
     unfolding Later
     works_heard on of_code =
         let x : Access = access (effect key.code) th in
         let same : works.part.setup ≡ key = works.setup in
         let access_now : access (effect key.code) works.now.thread ≡ access (effect key.code) th = ap (access (effect key.code)) works.thread_is in
-        let q : Part Configuration = part_after one.words works.now (told (effect key.code) works.now.thread a) in
+        let q : Part Configuration = part_after one.words works.now (step_with (effect key.code) works.now.thread a) in
         let leaves : w.0 ≡ record works.part { part = q; heard = more_heard works.part.heard x a } ∷ [] =
-        one.leaves ∙ ap (λ (s : Setup). record works.part { part = part_after one.words works.now (told (effect s.code) works.now.thread a); heard = more_heard works.part.heard x a } ∷ []) same in (
+        one.leaves ∙ ap (λ (s : Setup). record works.part { part = part_after one.words works.now (step_with (effect s.code) works.now.thread a); heard = more_heard works.part.heard x a } ∷ []) same in (
           record {
             part = record works.part { part = q; heard = more_heard works.part.heard x a };
             pauses = 0;
@@ -139,7 +139,7 @@ module _ (key : Setup) (number : ℕ) (th : Thread Configuration) (steps accesse
             setup = works.setup;
             number_is = works.number_is;
             paused_to = refl;
-            thread_is = ap (λ (t : Thread Configuration). (told (effect key.code) t a).thread) works.thread_is;
+            thread_is = ap (λ (t : Thread Configuration). (step_with (effect key.code) t a).thread) works.thread_is;
             valid = works.valid;
             of_code = of_code;
             replays = rw add-one (StepsHearing.heard_more steps works.part.heard th a works.replays far on);
@@ -147,13 +147,13 @@ module _ (key : Setup) (number : ℕ) (th : Thread Configuration) (steps accesse
             fewer = (let f = works.fewer in omega arith);
             since = one.since;
             stands = subst (λ (k : ℕ). IsPart key k q (more_heard works.part.heard x a)) works.number_is
-                (subst (λ (s : Setup). IsPart s works.part.number (part_after one.words works.now (told (effect s.code) works.now.thread a)) (more_heard works.part.heard x a)) same one.stands);
+                (subst (λ (s : Setup). IsPart s works.part.number (part_after one.words works.now (step_with (effect s.code) works.now.thread a)) (more_heard works.part.heard x a)) same one.stands);
           },
           record {
             count = 1;
             more = record { access = x; answer = a } ∷ [];
             heard = refl;
-            steps = subst (λ (y : Access). StepsHearing (effect key.code) works.now.thread 1 (record { access = y; answer = a } ∷ []) (told (effect key.code) works.now.thread a).thread) access_now
+            steps = subst (λ (y : Access). StepsHearing (effect key.code) works.now.thread 1 (record { access = y; answer = a } ∷ []) (step_with (effect key.code) works.now.thread a).thread) access_now
                 (StepsHearing.heard_more 0 [] works.now.thread a StepsHearing.none (ap is_local access_now ∙ far) (ap stops access_now ∙ on));
             records = added_grows works.now.records _;
             floor = (refl, refl);
@@ -173,19 +173,19 @@ module _ (key : Setup) (number : ℕ) (th : Thread Configuration) (steps accesse
           subst (λ (y : Answer). IsAnswerTo (access (effect key.code) th) y × IsWordOf key.code (access (effect key.code) th) y) (sym made.1) (o.answers, word)
 
   -- after a step
-  pub steps_on : (answer : Answer) (w : SeatView) → stops (access (effect key.code) th) ≡ false → IsThreadOf key.code (told (effect key.code) th answer).thread → IsSeatStep (access (effect key.code) th) m answer w
-      → (is : Works key number (told (effect key.code) th answer).thread (steps + 1) (accesses + cost (access (effect key.code) th)) w) × GoesOnFrom key.code works.part works.now is.part is.now
+  pub steps_on : (answer : Answer) (w : SeatView) → stops (access (effect key.code) th) ≡ false → IsThreadOf key.code (step_with (effect key.code) th answer).thread → IsSeatStep (access (effect key.code) th) m answer w
+      → (is : Works key number (step_with (effect key.code) th answer).thread (steps + 1) (accesses + cost (access (effect key.code) th)) w) × GoesOnFrom key.code works.part works.now is.part is.now
   unfolding Later
   steps_on answer w on of_code made =
-      subst (λ n. (is : Works key number (told (effect key.code) th answer).thread (steps + 1) (accesses + n) w) × GoesOnFrom key.code works.part works.now is.part is.now) (sym (cost_is (access (effect key.code) th)))
+      subst (λ n. (is : Works key number (step_with (effect key.code) th answer).thread (steps + 1) (accesses + n) w) × GoesOnFrom key.code works.part works.now is.part is.now) (sym (cost_is (access (effect key.code) th)))
       (at (is_local (access (effect key.code) th)) refl made)
     where
       at : (b : Bool) → is_local (access (effect key.code) th) ≡ b → MatchBool b ((w ≡ m) × (answer ≡ Done)) ((n : ℕ) × (answer ≡ reply (access (effect key.code) th) n) × Took m n w)
-          → (is : Works key number (told (effect key.code) th answer).thread (steps + 1) (accesses + (if b then 0 else 1)) w) × GoesOnFrom key.code works.part works.now is.part is.now
+          → (is : Works key number (step_with (effect key.code) th answer).thread (steps + 1) (accesses + (if b then 0 else 1)) w) × GoesOnFrom key.code works.part works.now is.part is.now
       at true far made =
-          subst (λ (z : Answer × SeatView × ℕ). IsThreadOf key.code (told (effect key.code) th z.0).thread → (is : Works key number (told (effect key.code) th z.0).thread (steps + 1) z.2 z.1) × GoesOnFrom key.code works.part works.now is.part is.now) (λ i. (sym made.1 i, sym made.0 i, sym (add-zero accesses) i)) (works_local far) of_code
+          subst (λ (z : Answer × SeatView × ℕ). IsThreadOf key.code (step_with (effect key.code) th z.0).thread → (is : Works key number (step_with (effect key.code) th z.0).thread (steps + 1) z.2 z.1) × GoesOnFrom key.code works.part works.now is.part is.now) (λ i. (sym made.1 i, sym made.0 i, sym (add-zero accesses) i)) (works_local far) of_code
       at false far made =
-          subst (λ (z : Answer). IsThreadOf key.code (told (effect key.code) th z).thread → (is : Works key number (told (effect key.code) th z).thread (steps + 1) (accesses + 1) w) × GoesOnFrom key.code works.part works.now is.part is.now) (sym made.1) (works_heard made.0 w made.2 far on) of_code
+          subst (λ (z : Answer). IsThreadOf key.code (step_with (effect key.code) th z).thread → (is : Works key number (step_with (effect key.code) th z).thread (steps + 1) (accesses + 1) w) × GoesOnFrom key.code works.part works.now is.part is.now) (sym made.1) (works_heard made.0 w made.2 far on) of_code
 
 module _ (key : Setup) (number : ℕ) (th : Thread Configuration) (steps accesses : ℕ) (m : SeatView) (works : Works key number th steps accesses m) (code : Code) (same : key.code ≡ code) where
   -- as the thread's calls say it, of the code that they were given
@@ -206,10 +206,10 @@ module _ (key : Setup) (number : ℕ) (th : Thread Configuration) (steps accesse
       pub answer_ready : IsAnswerTo (access (effect code) ready) answer × IsWordOf code (access (effect code) ready) answer
       answer_ready = subst (λ (z : Code × Access). IsAnswerTo z.1 answer × IsWordOf z.0 z.1 answer) (λ i. (same i, access (effect (same i)) (sym r i))) (made_fits key number th steps accesses m works answer w made_it)
 
-      module _ (on : stops x ≡ false) (next : Thread Configuration) (next_is : next ≡ (told (effect code) ready answer).thread) (of_code : IsThreadOf code next) (count : ℕ) (count_is : count ≡ accesses + cost (access (effect code) ready)) where
+      module _ (on : stops x ≡ false) (next : Thread Configuration) (next_is : next ≡ (step_with (effect code) ready answer).thread) (of_code : IsThreadOf code next) (count : ℕ) (count_is : count ≡ accesses + cost (access (effect code) ready)) where
         pub stepped : (is : Works key number next (steps + 1) count w) × GoesOnFrom key.code works.part works.now is.part is.now
         stepped =
-            let e : next ≡ (told (effect key.code) th answer).thread = next_is ∙ (λ i. (told (effect (sym same i)) (r i) answer).thread) in
+            let e : next ≡ (step_with (effect key.code) th answer).thread = next_is ∙ (λ i. (step_with (effect (sym same i)) (r i) answer).thread) in
             let y : access (effect key.code) th ≡ x = (λ i. access (effect (same i)) th) ∙ sym x_is in
             let cnt : accesses + cost (access (effect key.code) th) ≡ count = (λ i. accesses + cost (access (effect (same i)) (sym r i))) ∙ sym count_is in
             subst (λ (z : Thread Configuration × ℕ). (is : Works key number z.0 (steps + 1) z.1 w) × GoesOnFrom key.code works.part works.now is.part is.now) (λ i. (sym e i, cnt i))

@@ -14,7 +14,7 @@ use Rattle.norec_core.specs.declared.step.Access.{Access}
 use Rattle.norec_core.specs.declared.step.Access.TheVariants.{LoadLock, LoadWord}
 use Rattle.norec_core.specs.declared.step.Answer.{Answer}
 use Rattle.norec_core.specs.declared.step.Answer.TheVariants.{Value}
-use Rattle.machine.specs.Threads.{Thread, access, resumed, told, told_of, told_outside}
+use Rattle.machine.specs.Threads.{Thread, access, resume_next, step_with, told_of, told_outside}
 use Rattle.machine.specs.Standing.{IsThreadOf}
 use Rattle.machine.specs.States.{IsWordOf, StandsAt, ThreadState}
 use Rattle.seats.specs.Setup.{Setup}
@@ -25,7 +25,7 @@ use Rattle.workers.proofs.Turns.{answer_ready, ready_makeable, ready_next, stepp
 module _ (key : Setup) (number : ℕ) (th : Thread Configuration) (steps accesses : ℕ) (m : SeatView) (works : Works key number th steps accesses m) (code : Code) (same : key.code ≡ code) where
   -- after one access
   module _ (x : Access) (x_is : access (effect code) th ≡ x) (one : cost x ≡ 1) (on : stops x ≡ false) (answer : Answer) (w : SeatView) (made : IsSeatStep x m answer w)
-      (next : Thread Configuration) (next_is : next ≡ (told (effect code) th answer).thread) (of_code : IsThreadOf code next) (all count : ℕ) (all_is : all ≡ steps + 1) (count_is : count ≡ accesses + 1) where
+      (next : Thread Configuration) (next_is : next ≡ (step_with (effect code) th answer).thread) (of_code : IsThreadOf code next) (all count : ℕ) (all_is : all ≡ steps + 1) (count_is : count ≡ accesses + 1) where
     accessed : (is : Works key number next all count w) × GoesOnFrom key.code works.part works.now is.part is.now
     accessed =
         let c : cost (access (effect code) th) ≡ 1 = ap cost x_is ∙ one in
@@ -37,7 +37,7 @@ module _ (key : Setup) (number : ℕ) (th : Thread Configuration) (steps accesse
     pub lock_is_next : IsNext key m LoadLock
     lock_is_next = ready_next key number th steps accesses m works code same th refl LoadLock (sym loads)
 
-    pub lock_loaded : (lock : ℕ) (w : SeatView) → Took m lock w → (next : Thread Configuration) → next ≡ (told (effect code) th (Value lock)).thread → IsThreadOf code next → (all count : ℕ) → all ≡ steps + 1 → count ≡ accesses + 1
+    pub lock_loaded : (lock : ℕ) (w : SeatView) → Took m lock w → (next : Thread Configuration) → next ≡ (step_with (effect code) th (Value lock)).thread → IsThreadOf code next → (all count : ℕ) → all ≡ steps + 1 → count ≡ accesses + 1
         → (is : Works key number next all count w) × GoesOnFrom key.code works.part works.now is.part is.now
     lock_loaded lock w took next next_is of_code all count all_is count_is =
         accessed LoadLock loads refl refl (Value lock) w (lock, refl, took) next next_is of_code all count all_is count_is
@@ -54,7 +54,7 @@ module _ (key : Setup) (number : ℕ) (th : Thread Configuration) (steps accesse
       pub loaded_fits : IsWordOf code (LoadWord cell) (Value word)
       loaded_fits = subst (λ (x : Access). IsWordOf code x (Value word)) loads (answer_ready key number th steps accesses m works code same th refl (LoadWord cell) (sym loads) (Value word) w (word, refl, took)).1
 
-      pub word_loaded : (next : Thread Configuration) → next ≡ (told (effect code) th (Value word)).thread → IsThreadOf code next → (all count : ℕ) → all ≡ steps + 1 → count ≡ accesses + 1
+      pub word_loaded : (next : Thread Configuration) → next ≡ (step_with (effect code) th (Value word)).thread → IsThreadOf code next → (all count : ℕ) → all ≡ steps + 1 → count ≡ accesses + 1
           → (is : Works key number next all count w) × GoesOnFrom key.code works.part works.now is.part is.now
       word_loaded next next_is of_code all count all_is count_is =
           accessed (LoadWord cell) loads refl refl (Value word) w (word, refl, took) next next_is of_code all count all_is count_is
@@ -67,13 +67,13 @@ module _ (code : Code) (to lock : ℕ) (odd : lock % 2 ≡ 1) where
   no_snapshot : {S : Type 0} (now : S) → core_begin now (Value lock) ≡ idle
   no_snapshot now = other (lock % 2) _ idle odd
 
-  stays_at : (th : Thread Configuration) → th.attempt ≡ None → th.status ≡ Running → Tells code th.configuration (doing.Begin to) → (told (effect code) th (Value lock)).thread.configuration ≡ th.configuration
+  stays_at : (th : Thread Configuration) → th.attempt ≡ None → th.status ≡ Running → Tells code th.configuration (doing.Begin to) → (step_with (effect code) th (Value lock)).thread.configuration ≡ th.configuration
   stays_at th none running t =
       ap (λ (a : Option (Attempt Configuration)). (told_of (effect code) th a (effect code th.configuration) (Value lock)).thread.configuration) none
       ∙ ap (λ (s : Status). (told_outside (effect code) th s (effect code th.configuration) (Value lock)).thread.configuration) running
       ∙ ap (λ (x : Effect Configuration). (told_outside (effect code) th Running x (Value lock)).thread.configuration) t
-      ∙ ap (λ (n : CoreStep Configuration). (resumed (effect code) th (Effect.Begin (onward th.configuration) (going th.configuration to)) n).thread.configuration) (no_snapshot th.configuration)
+      ∙ ap (λ (n : CoreStep Configuration). (resume_next (effect code) th (Effect.Begin (onward th.configuration) (going th.configuration to)) n).thread.configuration) (no_snapshot th.configuration)
 
-  pub begin_stands : (s t : ThreadState) → s.thread.attempt ≡ None → s.thread.status ≡ Running → StandsAt code s (doing.Begin to) → t.thread ≡ (told (effect code) s.thread (Value lock)).thread → StandsAt code t (doing.Begin to)
+  pub begin_stands : (s t : ThreadState) → s.thread.attempt ≡ None → s.thread.status ≡ Running → StandsAt code s (doing.Begin to) → t.thread ≡ (step_with (effect code) s.thread (Value lock)).thread → StandsAt code t (doing.Begin to)
   begin_stands s t none running stands e = λ _.
       subst (λ (c : Configuration). Tells code c (doing.Begin to)) (sym (ap (λ (th : Thread Configuration). th.configuration) e ∙ stays_at s.thread none running (stands running))) (stands running)

@@ -11,7 +11,7 @@ use Rattle.norec_core.specs.declared.step.Stop.{Stop}
 use Rattle.norec_core.specs.declared.step.Stop.TheVariants.{OutOfMemory, SequenceUsedUp}
 use Rattle.norec_core.specs.Accesses.{stops}
 use Rattle.norec_core.specs.Attempts.{Attempt}
-use Rattle.machine.specs.Answered.{Heard, LocksFrom, StepsHearing, paused}
+use Rattle.machine.specs.Answered.{Heard, LocksFrom, StepsHearing, after_local_steps}
 use Rattle.machine.specs.Computes.{HasComputed}
 use Rattle.machine.specs.Merges.{Entry, own, run_of}
 use Rattle.machine.specs.Threads.{Thread, access}
@@ -19,7 +19,7 @@ use Rattle.machine.specs.Worlds.{Part, Record}
 use Rattle.machine.specs.Standing.{IsThreadOf}
 use Rattle.machine.specs.States.{first_thread}
 use Rattle.seats.specs.Setup.{Setup, IsPart}
-use Rattle.seats.specs.Views.{ViewPart, floored}
+use Rattle.seats.specs.Views.{ViewPart, with_floor}
 use Rattle.seats.specs.Rule.{SeatView, Settles}
 
 -- The seat speaks for the thread alone. The thread is what `steps` steps make of its beginning where its accesses get
@@ -33,7 +33,7 @@ pub record Works (key : Setup) (number : ℕ) (th : Thread Configuration) (steps
   pub sits : me ≡ (part ∷ [], [])
   pub setup : part.setup ≡ key
   pub number_is : part.number ≡ number
-  pub paused_to : paused (effect key.code) pauses part.part ≡ Some now
+  pub paused_to : after_local_steps (effect key.code) pauses part.part ≡ Some now
   pub thread_is : now.thread ≡ th
   pub valid : IsValid key.code
   pub of_code : IsThreadOf key.code th
@@ -85,7 +85,7 @@ StopsAt code th e = (th.status ≡ Running) × Because e (access (effect code) t
 -- the part with a new floor, which is at least the old one, and at least all that it settles
 pub record MeetsAt (n : ℕ) (p : ViewPart) (now : Part Configuration) (q : ViewPart) (later : Part Configuration)
     : Type 0 where
-  pub part : q ≡ floored n p
+  pub part : q ≡ with_floor n p
   pub same : later ≡ now
   pub settles : Settles n p
 
@@ -93,6 +93,6 @@ pub record MeetsAt (n : ℕ) (p : ViewPart) (now : Part Configuration) (q : View
 abbrev pub BeginsLater : Type 0
 BeginsLater =
     (code : Code) (n : ℕ) (p : ViewPart) (now : Part Configuration) (q : ViewPart) (later : Part Configuration)
-    (a : Attempt Configuration) → GoesOnFrom code (floored n p) now q later →
+    (a : Attempt Configuration) → GoesOnFrom code (with_floor n p) now q later →
     LocksFrom q.floor (drop q.floor_at q.heard) → now.thread.attempt ≡ None → later.thread.attempt ≡ Some a →
     n ≤ a.first

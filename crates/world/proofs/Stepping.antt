@@ -25,7 +25,7 @@ use Rattle.machine.specs.Merges.{Entry, IsMerge}
 use Rattle.machine.specs.Standing.{IsThreadOf}
 use Rattle.machine.specs.States.{IsWordOf, ThreadState, attempt_has_lock, thread_has_lock}
 use Rattle.machine.specs.Tallies.{IsOpenAfter, IsOverAfter}
-use Rattle.machine.specs.Threads.{Thread, access, told}
+use Rattle.machine.specs.Threads.{Thread, access, step_with}
 use Rattle.machine.specs.Traces.{DoesNotStop, RunsOn, heard_run}
 use Rattle.machine.specs.Worlds.{Part, World, answer, lock_after, new_world, part_after, run, step, step_of, words_after}
 use Rattle.machine.proofs.answers.Answering.{reached}
@@ -203,14 +203,14 @@ module _ (s : Simulation) (lock : ℕ) (words : List ℕ) (threads : List Thread
     output_is = ap (option_map (λ (p : Part Configuration). p.thread.text)) part.1 ∙ ap (λ (th : Thread Configuration). Some th.text) (sym part.2.thread)
 
     -- the thread after it
-    module _ (y : ThreadState) (on : stops a ≡ false) (next : y.thread ≡ (told (effect s.code) x.thread (answer lock words a)).thread) (of : IsThreadOf s.code y.thread) (counted : y.accesses ≡ x.accesses + cost a) where
+    module _ (y : ThreadState) (on : stops a ≡ false) (next : y.thread ≡ (step_with (effect s.code) x.thread (answer lock words a)).thread) (of : IsThreadOf s.code y.thread) (counted : y.accesses ≡ x.accesses + cost a) where
       q : Part Configuration
-      q = part_after w.words part.0 (told (effect s.code) part.0.thread (answer w.lock w.words (access (effect s.code) part.0.thread)))
+      q = part_after w.words part.0 (step_with (effect s.code) part.0.thread (answer w.lock w.words (access (effect s.code) part.0.thread)))
 
       is_part : IsOfPart s.code (length (s.trace ++ t ∷ [])) y q
       unfolding q
       is_part = record {
-        thread = next ∙ (λ i. (told (effect s.code) (part.2.thread i) (answer (k.lock_is i) (k.words_are i) (access (effect s.code) (part.2.thread i)))).thread);
+        thread = next ∙ (λ i. (step_with (effect s.code) (part.2.thread i) (answer (k.lock_is i) (k.words_are i) (access (effect s.code) (part.2.thread i)))).thread);
         of = of;
         few = (let one = at_most_one a in let f = part.2.few in let l = length-append s.trace (t ∷ []) in omega arith);
       }
@@ -289,20 +289,20 @@ module _ (s : Simulation) (lock : ℕ) (words : List ℕ) (threads : List Thread
           pub ready_word : IsWordOf s.code (access (effect s.code) y.thread) reply
           ready_word = subst (λ (z : Access × Answer). IsWordOf s.code z.0 z.1) (λ i. (sym b i, sym same_answer i)) word
 
-          pub ready_shown : (event : Event) → event ≡ (told (effect s.code) y.thread reply).event → shown_at s t ≡ Some (record { status = x.thread.status; place = x.thread.configuration.place; access = made; answer = reply; event = event })
+          pub ready_shown : (event : Event) → event ≡ (step_with (effect s.code) y.thread reply).event → shown_at s t ≡ Some (record { status = x.thread.status; place = x.thread.configuration.place; access = made; answer = reply; event = event })
           ready_shown event e =
               let of_part : access (effect s.code) part.0.thread ≡ made = same_access ∙ sym made_is in
               let of_reply : answer w.lock w.words (access (effect s.code) part.0.thread) ≡ reply = (λ i. answer (sym k.lock_is i) (sym k.words_are i) (of_part i)) ∙ sym reply_is in
-              let of_event : (told (effect s.code) part.0.thread (answer w.lock w.words (access (effect s.code) part.0.thread))).event ≡ event = (λ i. (told (effect s.code) ((sym part.2.thread ∙ sym th) i) (of_reply i)).event) ∙ sym e in
+              let of_event : (step_with (effect s.code) part.0.thread (answer w.lock w.words (access (effect s.code) part.0.thread))).event ≡ event = (λ i. (step_with (effect s.code) ((sym part.2.thread ∙ sym th) i) (of_reply i)).event) ∙ sym e in
               ap (shown_next s.code w) part.1 ∙ (λ i. Some (record { status = (sym part.2.thread i).status; place = (sym part.2.thread i).configuration.place; access = of_part i; answer = of_reply i; event = of_event i }))
 
-          module _ (z : ThreadState) (on : stops made ≡ false) (next : z.thread ≡ (told (effect s.code) y.thread reply).thread) (of : IsThreadOf s.code z.thread) (counted : z.accesses ≡ y.accesses + cost (access (effect s.code) y.thread))
+          module _ (z : ThreadState) (on : stops made ≡ false) (next : z.thread ≡ (step_with (effect s.code) y.thread reply).thread) (of : IsThreadOf s.code z.thread) (counted : z.accesses ≡ y.accesses + cost (access (effect s.code) y.thread))
               (lock_now : ℕ) (words_now : List ℕ) (m : ℕ) (trace_now : List ℕ) (lock_is : lock_now ≡ lock_after lock made) (words_is : words_now ≡ words_after words made) (m_is : m ≡ cost made) (trace_is : trace_now ≡ s.trace ++ t ∷ []) where
             pub after_is : record { code = s.code; threads = length (set threads t z); trace = trace_now } ≡ further s (t ∷ [])
             after_is = λ i. record { code = s.code; threads = (length-set threads t z ∙ sym k.count) i; trace = trace_is i }
 
             done : IsWorldOf (further s (t ∷ [])) (lock_after lock a) (words_after words a) (set threads t z) (accesses + cost a)
-            done = stepped z (ap stops (sym made_is) ∙ on) (next ∙ (λ i. (told (effect s.code) (th i) (same_answer i)).thread)) of (counted ∙ (λ i. n i + cost (b i)))
+            done = stepped z (ap stops (sym made_is) ∙ on) (next ∙ (λ i. (step_with (effect s.code) (th i) (same_answer i)).thread)) of (counted ∙ (λ i. n i + cost (b i)))
 
             pub stepped_now : IsWorldOf (record { code = s.code; threads = length (set threads t z); trace = trace_now }) lock_now words_now (set threads t z) (accesses + m)
             stepped_now = subst (λ (v : Simulation × ℕ × List ℕ × ℕ). IsWorldOf v.0 v.1 v.2 (set threads t z) v.3)

@@ -26,7 +26,7 @@ use Rattle.machine.specs.States.{thread_has_lock}
 use Rattle.machine.specs.Strict.{IsStrictlySerializable}
 use Rattle.machine.specs.Tallies as tallies
 use Rattle.machine.specs.Tallies.{BeginsFree, IsOpenAfter, IsOverAfter, IsUndisturbed}
-use Rattle.machine.specs.Threads.{access, told}
+use Rattle.machine.specs.Threads.{access, step_with}
 use Rattle.machine.specs.Worlds.{Part, Reached, World, answer, new_world, step}
 
 -- a code, how many threads run it, and the thread of each step that was made
@@ -62,7 +62,7 @@ stops_at s t = stops_next s.code (part_of s t)
 -- what happens in a thread's next step
 abbrev pub event_next : Code → World Configuration → Option (Part Configuration) → Event
 event_next code w None = event.Quiet
-event_next code w (Some p) = (told (effect code) p.thread (answer w.lock w.words (access (effect code) p.thread))).event
+event_next code w (Some p) = (step_with (effect code) p.thread (answer w.lock w.words (access (effect code) p.thread))).event
 
 abbrev pub event_at : Simulation → ℕ → Event
 event_at s t = event_next s.code (world_of s) (part_of s t)
@@ -77,7 +77,7 @@ shown_by code w p =
       place = p.thread.configuration.place;
       access = a;
       answer = reply;
-      event = (told (effect code) p.thread reply).event;
+      event = (step_with (effect code) p.thread reply).event;
     }
 
 abbrev pub shown_next : Code → World Configuration → Option (Part Configuration) → Option StepShown

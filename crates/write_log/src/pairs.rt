@@ -3,7 +3,7 @@
 ghost use Rattle.std.specs.Prelude.{◌≡◌, true, false, ◌+◌, ◌<◌, ◌≤◌, ◌^◌, [], OnOk, OnErr, length, vec_len};
 ghost use Rattle.std.specs.Prelude.{vec_capacity};
 ghost use Rattle.std.specs.List.{slice_get, insert};
-ghost use Rattle.write_log.specs.Overlay.{put, IsDistinct};
+ghost use Rattle.write_log.specs.Overlay.{with_write, IsDistinct};
 ghost use Rattle.write_log.specs.inner.Order.{IsAbove, IsRising, IsSearched, IsFound, IsWithinDigits, AreWithin};
 ghost use Rattle.write_log.specs.inner.Journal.{undone, CanUndo};
 
@@ -200,7 +200,7 @@ impl<A: Allocator + Copy> Pairs<A> {
     #[inline(always)]
     pub fn put(&mut self, address: u32, word: u64) -> Change
         requires { 0 < self.old.room }
-        ensures pairs { self.new.pairs ≡ put address word self.old.pairs }
+        ensures pairs { self.new.pairs ≡ with_write address word self.old.pairs }
         ensures undone { undone result self.new.pairs ≡ self.old.pairs }
         ensures can_undo { CanUndo result self.new.pairs }
         ensures room { self.old.room ≤ self.new.room + 1 }
@@ -219,7 +219,7 @@ impl<A: Allocator + Copy> Pairs<A> {
     #[inline(never)]
     fn put_among(&mut self, address: u32, word: u64) -> Change
         requires { 0 < self.old.room }
-        ensures pairs { self.new.pairs ≡ put address word self.old.pairs }
+        ensures pairs { self.new.pairs ≡ with_write address word self.old.pairs }
         ensures undone { undone result self.new.pairs ≡ self.old.pairs }
         ensures can_undo { CanUndo result self.new.pairs }
         ensures room { self.old.room ≤ self.new.room + 1 }

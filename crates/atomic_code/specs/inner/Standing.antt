@@ -5,14 +5,14 @@ use Rattle.syntax.specs.Behaviours.{Memory}
 use Rattle.bytecode.specs.Code.{Code, effect}
 use Rattle.bytecode.specs.Beginning.{beginning}
 use Rattle.bytecode.specs.Sequential.{start, steps}
-use Rattle.atomic_code.specs.Threads.{AtomicThread, RunsAtomically, meant}
+use Rattle.atomic_code.specs.Threads.{AtomicThread, RunsAtomically, meaning_thread}
 
 -- after so many instructions the thread has left these memories, and stands outside transactions
 pub record HasComeTo (code : Code) (t : ℕ) (founds : List Memory) (most made : ℕ) (lefts : List Memory) (k : AtomicThread)
     : Type 0 where
   pub few : made ≤ most
   pub does : steps (effect code) made (start (beginning code t) founds)
-      ≡ meant code (drop (length lefts) founds) lefts false k
+      ≡ meaning_thread code (drop (length lefts) founds) lefts false k
   pub outside : k.open_in ≡ None
   pub running : k.status ≡ Running
   pub runs : RunsAtomically code k

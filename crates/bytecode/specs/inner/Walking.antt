@@ -34,39 +34,39 @@ same_arrival (Inside b) (Inside c) = b == c
 same_arrival _ _ = false
 
 -- a way comes to a place that has this arrival: the arrivals and places after it, or nothing where it may not come
-abbrev pub met : ℕ → Arrivals → List ℕ → ℕ → Arrival → Option Arrival → Option (Arrivals × List ℕ)
-met first ms work q m None = None
-met first ms work q m (Some Unseen) = Some (slice_set ms (q - first) m, work ++ q ∷ [])
-met first ms work q m (Some Outside) = if same_arrival Outside m then Some (ms, work) else None
-met first ms work q m (Some (Inside b)) = if same_arrival (Inside b) m then Some (ms, work) else None
+abbrev pub arrive_with : ℕ → Arrivals → List ℕ → ℕ → Arrival → Option Arrival → Option (Arrivals × List ℕ)
+arrive_with first ms work q m None = None
+arrive_with first ms work q m (Some Unseen) = Some (slice_set ms (q - first) m, work ++ q ∷ [])
+arrive_with first ms work q m (Some Outside) = if same_arrival Outside m then Some (ms, work) else None
+arrive_with first ms work q m (Some (Inside b)) = if same_arrival (Inside b) m then Some (ms, work) else None
 
-abbrev pub visited : ℕ → Arrivals → List ℕ → ℕ → Arrival → Option (Arrivals × List ℕ)
-visited first ms work q m = met first ms work q m (arrival_at first ms q)
+abbrev pub visit_place : ℕ → Arrivals → List ℕ → ℕ → Arrival → Option (Arrivals × List ℕ)
+visit_place first ms work q m = arrive_with first ms work q m (arrival_at first ms q)
 
 -- what a call that answers yes or no gives
-abbrev pub given : Bool → Arrivals → List ℕ → Option (Arrivals × List ℕ)
-given true ms work = Some (ms, work)
-given false ms work = None
+abbrev pub walk_answer : Bool → Arrivals → List ℕ → Option (Arrivals × List ℕ)
+walk_answer true ms work = Some (ms, work)
+walk_answer false ms work = None
 
 -- back under the begin that encloses another: its arrival
-abbrev pub reopened : ℕ → Arrivals → List ℕ → ℕ → Option Arrival → Option (Arrivals × List ℕ)
-reopened first ms work to None = None
-reopened first ms work to (Some Unseen) = None
-reopened first ms work to (Some Outside) = visited first ms work to Outside
-reopened first ms work to (Some (Inside c)) = visited first ms work to (Inside c)
+abbrev pub reopen_begin : ℕ → Arrivals → List ℕ → ℕ → Option Arrival → Option (Arrivals × List ℕ)
+reopen_begin first ms work to None = None
+reopen_begin first ms work to (Some Unseen) = None
+reopen_begin first ms work to (Some Outside) = visit_place first ms work to Outside
+reopen_begin first ms work to (Some (Inside c)) = visit_place first ms work to (Inside c)
 
 -- where a cancel of the begin that stands here goes on
 abbrev pub begun_by : Instr → Option ℕ
 begun_by (Instr.Begin to) = Some to
 begun_by i = None
 
-abbrev pub begun : Option Instr → Option ℕ
-begun None = None
-begun (Some i) = begun_by i
+abbrev pub begin_target : Option Instr → Option ℕ
+begin_target None = None
+begin_target (Some i) = begun_by i
 
-abbrev pub cancelled : ℕ → Arrivals → List ℕ → Option Arrival → Option ℕ → Option (Arrivals × List ℕ)
-cancelled first ms work o (Some to) = reopened first ms work to o
-cancelled first ms work o None = None
+abbrev pub cancel_to : ℕ → Arrivals → List ℕ → Option Arrival → Option ℕ → Option (Arrivals × List ℕ)
+cancel_to first ms work o (Some to) = reopen_begin first ms work to o
+cancel_to first ms work o None = None
 
 -- the begin round this one in which it lies, and so on so many times: the arrival at a begin tells which one it is
 abbrev pub begin_in : Option Arrival → (ℕ → Option ℕ) → Option ℕ
@@ -79,22 +79,22 @@ begin_round first ms (suc n) b = begin_in (arrival_at first ms b) (begin_round f
 
 abbrev pub cancelled_at : List Instr → ℕ → Arrivals → List ℕ → Option ℕ → Option (Arrivals × List ℕ)
 cancelled_at is first ms work None = None
-cancelled_at is first ms work (Some b) = cancelled first ms work (arrival_at first ms b) (begun (slice_get is b))
+cancelled_at is first ms work (Some b) = cancel_to first ms work (arrival_at first ms b) (begin_target (slice_get is b))
 
 abbrev pub twice : ℕ → ℕ → Arrival → Option (Arrivals × List ℕ) → Option (Arrivals × List ℕ)
 twice first to m None = None
-twice first to m (Some s) = visited first s.0 s.1 to m
+twice first to m (Some s) = visit_place first s.0 s.1 to m
 
 -- a way goes on from a place, by its instruction
 abbrev pub went_by : List Instr → ℕ → Arrivals → List ℕ → ℕ → Arrival → Way → Option (Arrivals × List ℕ)
-went_by is first ms work q m On = visited first ms work (suc q) m
-went_by is first ms work q m (To to) = visited first ms work to m
-went_by is first ms work q m (Both to) = twice first to m (visited first ms work (suc q) m)
-went_by is first ms work q m Opens = visited first ms work (suc q) (Inside q)
-went_by is first ms work q (Inside b) Closes = reopened first ms work (suc q) (arrival_at first ms b)
+went_by is first ms work q m On = visit_place first ms work (suc q) m
+went_by is first ms work q m (To to) = visit_place first ms work to m
+went_by is first ms work q m (Both to) = twice first to m (visit_place first ms work (suc q) m)
+went_by is first ms work q m Opens = visit_place first ms work (suc q) (Inside q)
+went_by is first ms work q (Inside b) Closes = reopen_begin first ms work (suc q) (arrival_at first ms b)
 went_by is first ms work q Outside Closes = None
 went_by is first ms work q Unseen Closes = None
-went_by is first ms work q (Inside b) Cancels = cancelled first ms work (arrival_at first ms b) (begun (slice_get is b))
+went_by is first ms work q (Inside b) Cancels = cancel_to first ms work (arrival_at first ms b) (begin_target (slice_get is b))
 went_by is first ms work q (Inside b) (CancelsOuter n) = cancelled_at is first ms work (begin_round first ms (n - 1) b)
 went_by is first ms work q Outside (CancelsOuter zero) = Some (ms, work)
 went_by is first ms work q Unseen (CancelsOuter zero) = Some (ms, work)

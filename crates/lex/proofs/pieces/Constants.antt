@@ -293,7 +293,7 @@ is_one (b ∷ c ∷ after) = go (is_unsigned_suffix b) (is_long_long_suffix (b �
     go false true = refl
     go false false = refl
 
-pub constant_typed : (rest : List ℕ) (lt : 0 < length rest) (h : is_digit (slice_index rest 0) ≡ true) → s.typed (constant_piece rest lt h) ≡ s.type_of (s.is_decimal (base_at rest)) (suffix_at (after_of rest)) (value_from (radix (base_at rest)) 0 (digits_of rest))
+pub constant_typed : (rest : List ℕ) (lt : 0 < length rest) (h : is_digit (slice_index rest 0) ≡ true) → s.constant_type (constant_piece rest lt h) ≡ s.type_of (s.is_decimal (base_at rest)) (suffix_at (after_of rest)) (value_from (radix (base_at rest)) 0 (digits_of rest))
 unfolding constant_piece
 constant_typed rest lt h = ap (λ (t : Suffix). s.type_of (s.is_decimal (base_at rest)) t (value_from (radix (base_at rest)) 0 (digits_of rest))) (is_one (after_of rest))
 

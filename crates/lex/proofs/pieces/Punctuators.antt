@@ -9,7 +9,7 @@ use Rattle.lex.specs.declared.token.Keyword.TheVariants as key
 use Rattle.lex.specs.declared.token.Punctuator.{Punctuator as Own}
 use Rattle.lex.specs.declared.token.Punctuator.TheVariants as punct
 use Rattle.lex.specs.Spelling.{spelling}
-use Rattle.lex.specs.inner.Punctuators.{singles, doubles, triples, spelled_so, one, two, three, sized, punctuator_at, NoOtherPiece}
+use Rattle.lex.specs.inner.Punctuators.{singles, doubles, triples, spelled_so, one, two, three, with_length, punctuator_at, NoOtherPiece}
 use Rattle.lex.specs.Pieces.{Shape, Longest, Strange}
 use Rattle.lex.specs.Pieces as s
 use Rattle.lex.proofs.pieces.Runs.{front_byte}
@@ -118,7 +118,7 @@ pair {k} {n} x e =
 pub found : (rest : List ℕ) (x : Fixed × ℕ) → punctuator_at rest ≡ Some x → Found rest x
 found rest x e = go (three rest) refl (two rest) refl (one rest) refl e
   where
-    go : (a : Option Fixed) → three rest ≡ a → (b : Option Fixed) → two rest ≡ b → (c : Option Fixed) → one rest ≡ c → sized 3 a (sized 2 b (sized 1 c None)) ≡ Some x → Found rest x
+    go : (a : Option Fixed) → three rest ≡ a → (b : Option Fixed) → two rest ≡ b → (c : Option Fixed) → one rest ≡ c → with_length 3 a (with_length 2 b (with_length 1 c None)) ≡ Some x → Found rest x
     go (Some k) i b j c l e = let p = pair x e in by_three (i ∙ p.0) p.1
     go None i (Some k) j c l e = let p = pair x e in by_two i (j ∙ p.0) p.1
     go None i None j (Some k) l e = let p = pair x e in by_one i j (l ∙ p.0) p.1
@@ -132,7 +132,7 @@ pub record Missing (rest : List ℕ) : Type 0 where
 pub missing : (rest : List ℕ) → punctuator_at rest ≡ None → Missing rest
 missing rest e = go (three rest) refl (two rest) refl (one rest) refl e
   where
-    go : (a : Option Fixed) → three rest ≡ a → (b : Option Fixed) → two rest ≡ b → (c : Option Fixed) → one rest ≡ c → sized 3 a (sized 2 b (sized 1 c None)) ≡ None → Missing rest
+    go : (a : Option Fixed) → three rest ≡ a → (b : Option Fixed) → two rest ≡ b → (c : Option Fixed) → one rest ≡ c → with_length 3 a (with_length 2 b (with_length 1 c None)) ≡ None → Missing rest
     go (Some k) i b j c l e = absurd cc
     go None i (Some k) j c l e = absurd cc
     go None i None j (Some k) l e = absurd cc

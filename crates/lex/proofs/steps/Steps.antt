@@ -15,7 +15,7 @@ use Rattle.lex.specs.Tokens.{Terminal}
 use Rattle.lex.specs.Tokens as tokens
 use Rattle.lex.specs.Bytes.{is_letter, is_digit, is_part, is_glue, in_line, starts}
 use Rattle.lex.specs.Faults.{FaultAt, character_len}
-use Rattle.lex.specs.Pieces.{ClosesComment, IsOpen, IsDirective, IsInclude, FirstOnLine, Constant, typed, value, Gap, Says, Parted, Longest, IsGap, IsToken, Inside}
+use Rattle.lex.specs.Pieces.{ClosesComment, IsOpen, IsDirective, IsInclude, FirstOnLine, Constant, constant_type, value, Gap, Says, Parted, Longest, IsGap, IsToken, Inside}
 use Rattle.lex.specs.Pieces as s
 use Rattle.lex.specs.inner.Strings.{Unclosed}
 use Rattle.lex.specs.declared.constant.Suffix.{Suffix}
@@ -171,13 +171,13 @@ word_step text rest word at len t e lt a h w m p =
 record At (text : List ℕ) (at len : ℕ) (o : Option Scalar) (v : ℕ) : Type 0 where
   long : Longest (drop at text) len
   constant : Constant (take len (drop at text))
-  of : typed constant ≡ o
+  of : constant_type constant ≡ o
   counts : value constant ≡ v
 
 record Here (rest : List ℕ) (len : ℕ) (o : Option Scalar) (v : ℕ) : Type 0 where
   long : Longest rest len
   constant : Constant (take len rest)
-  of : typed constant ≡ o
+  of : constant_type constant ≡ o
   counts : value constant ≡ v
 
 at_of : (text rest : List ℕ) (at len : ℕ) (o : Option Scalar) (v : ℕ) → rest ≡ drop at text → Here rest len o v → At text at len o v

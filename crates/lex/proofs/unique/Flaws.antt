@@ -6,7 +6,7 @@ use Rattle.lex.specs.declared.fault.LexFault.TheVariants as fault
 use Rattle.lex.specs.Tokens.{Terminal}
 use Rattle.lex.specs.Bytes.{starts, is_glue}
 use Rattle.lex.specs.Faults.{FaultAt}
-use Rattle.lex.specs.Pieces.{Longest, IsGap, IsToken, Gap, Says, Parted, Constant, typed, IsDirective, IsInclude, IsOpen, FirstOnLine}
+use Rattle.lex.specs.Pieces.{Longest, IsGap, IsToken, Gap, Says, Parted, Constant, constant_type, IsDirective, IsInclude, IsOpen, FirstOnLine}
 use Rattle.lex.specs.Pieces as s
 use Rattle.lex.specs.Faults as wrong
 use Rattle.lex.proofs.unique.Lies.{some_len}
@@ -30,8 +30,8 @@ no_end text at len e l =
 -- what is wrong with the longest piece
 data Flaw (before w after : List ℕ) (at len : ℕ) : LexFault → Type 0 where
   misplaced : IsDirective w → (FirstOnLine before → ⊥) → Flaw before w after at len (fault.BadCharacter (record { start = at; «end» = at + 1 }))
-  glued : (t : Scalar) (c : Constant w) → typed c ≡ Some t → starts is_glue after ≡ true → Flaw before w after at len (fault.BadCharacter (record { start = at + len; «end» = at + len + 1 }))
-  large : (c : Constant w) → typed c ≡ None → Flaw before w after at len (fault.ConstantTooLarge (record { start = at; «end» = at + len }))
+  glued : (t : Scalar) (c : Constant w) → constant_type c ≡ Some t → starts is_glue after ≡ true → Flaw before w after at len (fault.BadCharacter (record { start = at + len; «end» = at + len + 1 }))
+  large : (c : Constant w) → constant_type c ≡ None → Flaw before w after at len (fault.ConstantTooLarge (record { start = at; «end» = at + len }))
   unclosed : IsOpen w → Flaw before w after at len (fault.OpenComment (record { start = at; «end» = at + len }))
   quote : w ≡ codes "\"" → Flaw before w after at len (fault.BadString (record { start = at; «end» = at + 1 }))
   unknown : IsDirective w → FirstOnLine before → (IsInclude w → ⊥) → Flaw before w after at len (fault.Directive (record { start = at; «end» = at + 1 }))
@@ -80,8 +80,8 @@ one_flaw : (before w after : List ℕ) (at len : ℕ) (f g : LexFault) (x : Flaw
 one_flaw before w after at len x y (misplaced d f) (misplaced d2 f2) same = refl
 one_flaw before w after at len x y (misplaced d f) (unknown d2 f2 i2) same = absurd (f f2)
 one_flaw before w after at len x y (glued t c e g) (glued t2 c2 e2 g2) same = refl
-one_flaw before w after at len x y (glued t c e g) (large c2 e2) same = absurd (some_none (typed c) e (same_type c c2 ∙ e2))
-one_flaw before w after at len x y (large c e) (glued t2 c2 e2 g2) same = absurd (some_none (typed c2) e2 (same_type c2 c ∙ e))
+one_flaw before w after at len x y (glued t c e g) (large c2 e2) same = absurd (some_none (constant_type c) e (same_type c c2 ∙ e2))
+one_flaw before w after at len x y (large c e) (glued t2 c2 e2 g2) same = absurd (some_none (constant_type c2) e2 (same_type c2 c ∙ e))
 one_flaw before w after at len x y (large c e) (large c2 e2) same = refl
 one_flaw before w after at len x y (unclosed o) (unclosed o2) same = refl
 one_flaw before w after at len x y (quote q) (quote q2) same = refl
@@ -176,7 +176,7 @@ flaw_token before w after at len f t (large c e) m p = go t m
     go t (s.name h n r) = let q : letter ≡ digit = sym (word_class w h) ∙ constant_class c in cc
     go t (s.reserved r) = let q : letter ≡ digit = sym (reserved_class w r) ∙ constant_class c in cc
     go t (s.fixed k h) = no_fixed_word w k digit h (constant_class c) refl
-    go t (s.constant d u h) = some_none (typed d) h (same_type d c ∙ e)
+    go t (s.constant d u h) = some_none (constant_type d) h (same_type d c ∙ e)
     go t (s.string i h) = let q : quotes ≡ digit = sym (string_class w i h) ∙ constant_class c in cc
 flaw_token before w after at len f t (quote q) m p = go t m
   where

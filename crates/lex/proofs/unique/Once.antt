@@ -10,7 +10,7 @@ use Rattle.lex.specs.Spelling.{spelling}
 use Rattle.lex.specs.Tokens.{Terminal}
 use Rattle.lex.specs.Tokens as tokens
 use Rattle.lex.specs.Bytes.{Only, starts, is_octal}
-use Rattle.lex.specs.Pieces.{is_digit_of, IsWritten, IsSuffix, Constant, typed, value, value_from, radix, Says, Gap, IsString, IsWord}
+use Rattle.lex.specs.Pieces.{is_digit_of, IsWritten, IsSuffix, Constant, constant_type, value, value_from, radix, Says, Gap, IsString, IsWord}
 use Rattle.lex.specs.Pieces as s
 use Rattle.lex.specs.Bytes as bytes
 use Rattle.lex.proofs.pieces.Classes.{Class, space, letter, digit, number, quotes, slash, class, begins_fixed, no_fixed, constant_first, white_class, letter_class, digit_class, byte_class}
@@ -127,7 +127,7 @@ same_value {w} c d =
     let q = alike c d in
     ap (λ (b : Base). value_from (radix b) 0 c.digits) q.0 ∙ ap (value_from (radix d.base) 0) q.1
 
-pub same_type : {w : List ℕ} (c d : Constant w) → typed c ≡ typed d
+pub same_type : {w : List ℕ} (c d : Constant w) → constant_type c ≡ constant_type d
 same_type {w} c d =
     let q = alike c d in
     ap (λ (b : Base). s.type_of (s.is_decimal b) (s.suffix_of c.suffix) (value c)) q.0 ∙ ap (λ (z : List ℕ). s.type_of (s.is_decimal d.base) (s.suffix_of z) (value c)) q.2 ∙ ap (s.type_of (s.is_decimal d.base) (s.suffix_of d.suffix)) (same_value c d)

@@ -51,13 +51,13 @@ three (a ∷ b ∷ []) = None
 three (a ∷ b ∷ c ∷ rest) = spelled_so triples (a ∷ b ∷ c ∷ [])
 
 -- a punctuator with its length, and where there is none what else there is
-abbrev pub sized : ℕ → Option Fixed → Option (Fixed × ℕ) → Option (Fixed × ℕ)
-sized n None other = other
-sized n (Some m) other = Some (m, n)
+abbrev pub with_length : ℕ → Option Fixed → Option (Fixed × ℕ) → Option (Fixed × ℕ)
+with_length n None other = other
+with_length n (Some m) other = Some (m, n)
 
 -- the longest punctuator at the front, and its length
 abbrev pub punctuator_at : List ℕ → Option (Fixed × ℕ)
-punctuator_at rest = sized 3 (three rest) (sized 2 (two rest) (sized 1 (one rest) None))
+punctuator_at rest = with_length 3 (three rest) (with_length 2 (two rest) (with_length 1 (one rest) None))
 
 -- no piece but a punctuator can begin here: not white space, a word, a constant, a directive, a string or a comment
 pub record NoOtherPiece (rest : List ℕ) : Type 0 where

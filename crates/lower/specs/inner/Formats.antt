@@ -8,9 +8,9 @@ use Rattle.picked.specs.Simples.{Written, nothing_written, one_written, and_then
 use Rattle.picked.specs.Statements.{printing}
 
 -- bytes of literal text before these pieces
-abbrev pub joined : List ℕ → List Piece → List Piece
-joined [] ps = ps
-joined (c ∷ cs) ps = literal c (joined cs ps)
+abbrev pub with_literal : List ℕ → List Piece → List Piece
+with_literal [] ps = ps
+with_literal (c ∷ cs) ps = literal c (with_literal cs ps)
 
 -- a literal text, where there is any
 abbrev pub text_written : List ℕ → ℕ → Lists → Written

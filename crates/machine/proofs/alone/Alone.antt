@@ -5,7 +5,7 @@ use Rattle.std.proofs.lemmas.Bool.{eq-eqb}
 use Rattle.syntax.specs.declared.numbers.Status.{Status}
 use Rattle.syntax.specs.declared.numbers.Status.TheVariants.{Running, Ended as HasEnded, Trapped as HasTrapped}
 use Rattle.syntax.specs.declared.numbers.Trap.{Trap}
-use Rattle.write_log.specs.Overlay.{IsDistinct, overlay, put, written}
+use Rattle.write_log.specs.Overlay.{IsDistinct, overlay, with_write, overlay_word}
 use Rattle.bytecode.specs.Effects.{Effect, FitsCells, after_cancel}
 use Rattle.bytecode.specs.Effects.Effect.{Begin, Cancel, CancelOuter, Commit, End, Irrevocable, Print, Pure, Read, Traps, Write}
 use Rattle.bytecode.specs.Sequential.{InnerTransaction, OpenTransaction, Sequential, cancel_step, commit_step, end_of, found_next, inside_step, next, outside, outside_step, print_step, sequential_step, start, steps}
@@ -198,7 +198,7 @@ module _ {C : Type 0} (code : C → Effect C) (bounds : List ℕ) (fits : FitsCe
       ),
     )
 
-    unlogged : (kept : Bool) (ad : ℕ) (k : ℕ → C) → code c ≡ Read ad k → written ad writes ≡ None → Does kept (Read ad k)
+    unlogged : (kept : Bool) (ad : ℕ) (k : ℕ → C) → code c ≡ Read ad k → overlay_word ad writes ≡ None → Does kept (Read ad k)
     unlogged true ad k ex g = within true _ (k (slice_index words ad)) text reads writes inner true (once _ _ (Read ad k) ex (rw g refl)) distinct marks
         (ap (λ v. inside (k v) (inside_of code words saved writes inner true) founds lefts text) (overlay-other words ad writes (not_written ad writes g)))
     unlogged false ad k ex g = within false _ (k (slice_index words ad)) text (reads ++ (ad, slice_index words ad) ∷ []) writes inner false
@@ -207,7 +207,7 @@ module _ {C : Type 0} (code : C → Effect C) (bounds : List ℕ) (fits : FitsCe
         (once _ _ (Read ad k) ex (rw (eq-eqb snapshot snapshot refl) refl))) distinct marks
         (ap (λ v. inside (k v) (inside_of code words saved writes inner false) founds lefts text) (overlay-other words ad writes (not_written ad writes g)))
 
-    reading : (kept : Bool) (ad : ℕ) (k : ℕ → C) (o : Option ℕ) → code c ≡ Read ad k → written ad writes ≡ o → Does kept (Read ad k)
+    reading : (kept : Bool) (ad : ℕ) (k : ℕ → C) (o : Option ℕ) → code c ≡ Read ad k → overlay_word ad writes ≡ o → Does kept (Read ad k)
     reading kept ad k None ex g = unlogged kept ad k ex g
     reading kept ad k (Some v) ex g = within kept _ (k v) text reads writes inner kept (once _ _ (Read ad k) ex (rw g refl)) distinct marks
         (ap (λ v'. inside (k v') (inside_of code words saved writes inner kept) founds lefts text) (overlay-written words ad v writes distinct (let lt = fits.reads c ad k ex in omega arith) g))
@@ -260,8 +260,8 @@ module _ {C : Type 0} (code : C → Effect C) (bounds : List ℕ) (fits : FitsCe
     in_step kept (Pure e) ex = within kept _ e text reads writes inner kept (once _ _ (Pure e) ex refl) distinct marks refl
     in_step kept (Print piece e) ex = printing kept piece e ex
     in_step kept (Begin e e') ex = within kept _ e text reads writes (record { saved = c; writes = writes } ∷ inner) kept (once _ _ (Begin e e') ex refl) distinct (distinct, marks) (rw ex refl)
-    in_step kept (Read ad k) ex = reading kept ad k (written ad writes) ex refl
-    in_step kept (Write ad v e) ex = within kept _ e text reads (put ad v writes) inner kept (once _ _ (Write ad v e) ex refl) (distinct-put ad v writes distinct) marks
+    in_step kept (Read ad k) ex = reading kept ad k (overlay_word ad writes) ex refl
+    in_step kept (Write ad v e) ex = within kept _ e text reads (with_write ad v writes) inner kept (once _ _ (Write ad v e) ex refl) (distinct-put ad v writes distinct) marks
         (ap (λ w. inside e (record { cancelled = after_cancel (code saved) saved; found = words; mem = w; inner = inners_of code words inner; kept = kept }) founds lefts text) (sym (overlay-put words ad v writes distinct)))
     in_step kept (Commit e) ex = committing kept e inner writes ex refl refl
     in_step kept Cancel ex = cancelling kept inner ex refl

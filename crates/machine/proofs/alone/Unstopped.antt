@@ -5,7 +5,7 @@ use Rattle.std.proofs.lemmas.Bool.Decides.{eqb_tells}
 use Rattle.syntax.specs.declared.numbers.Status.{Status}
 use Rattle.syntax.specs.Behaviours.{IsMemory}
 use Rattle.syntax.specs.declared.numbers.Status.TheVariants.{Running}
-use Rattle.write_log.specs.Overlay.{written}
+use Rattle.write_log.specs.Overlay.{overlay_word}
 use Rattle.bytecode.specs.Effects.{Effect, FitsCells}
 use Rattle.bytecode.specs.Effects.Effect.{Begin}
 use Rattle.norec_core.specs.Attempts.{Attempt, Checkpoint}
@@ -55,7 +55,7 @@ module _ {C : Type 0} (a : Attempt C) (from : ℕ) where
 
   operation_swaps : (o : Op) → operation_access a o ≡ Swap from → from ≡ a.snapshot
   operation_swaps op.Begin e = absurd (cc)
-  operation_swaps (op.Read ad) e = read_swaps ad (written ad a.writes) e
+  operation_swaps (op.Read ad) e = read_swaps ad (overlay_word ad a.writes) e
   operation_swaps (op.Write ad v) e = absurd (cc)
   operation_swaps op.Commit e = commit_swaps a.inner a.kept a.writes e
   operation_swaps op.Cancel e = absurd (cc)

@@ -3,7 +3,7 @@ use Rattle.std.proofs.Common.{◌≡◌, ◌-◌, ◌<◌, ◌==◌, ◌%◌, �
 use Rattle.std.specs.List.{AllByRecursion}
 use Rattle.syntax.specs.declared.numbers.Status.{Status}
 use Rattle.syntax.specs.declared.numbers.Status.TheVariants.{Running, Ended as HasEnded, Trapped as HasTrapped}
-use Rattle.write_log.specs.Overlay.{put, written}
+use Rattle.write_log.specs.Overlay.{with_write, overlay_word}
 use Rattle.bytecode.specs.Effects.{Effect, FitsCells}
 use Rattle.bytecode.specs.Effects.Effect.{Begin, Print, Read, Traps, Write}
 use Rattle.norec_core.specs.Attempts.{Attempt, Checkpoint}
@@ -19,7 +19,7 @@ use Rattle.norec_core.specs.declared.step.Outcome.TheVariants as outcome
 use Rattle.norec_core.specs.declared.step.Phase.{Phase}
 use Rattle.norec_core.specs.declared.step.Phase.TheVariants.{AtOperation, ReadsLock, Stores, ValidatesEntry, ValidatesTime}
 use Rattle.machine.specs.Addresses.{AccessFits, AreCells, LogsFit, LogsFitIf}
-use Rattle.machine.specs.Threads.{Thread, access, access_of, inside_access, op_of, outside_access, own_step, print_inside, told, told_inside, told_of, told_outside, told_running}
+use Rattle.machine.specs.Threads.{Thread, access, access_of, inside_access, op_of, outside_access, own_step, print_inside, step_with, told_inside, told_of, told_outside, told_running}
 use Rattle.machine.proofs.Levels.{all_left}
 use Rattle.machine.proofs.parts.Part.{each_append}
 
@@ -33,11 +33,11 @@ all_at P [] i x all e = absurd (cc)
 all_at P (y ∷ xs) zero x all e = let r : y ≡ x = cc in subst P r all.0
 all_at P (y ∷ xs) (suc i) x all e = all_at P xs i x all.1 e
 
-put_cells : (cells ad v : ℕ) (ps : List (ℕ × ℕ)) → ad < cells → AreCells cells ps → AreCells cells (put ad v ps)
+put_cells : (cells ad v : ℕ) (ps : List (ℕ × ℕ)) → ad < cells → AreCells cells ps → AreCells cells (with_write ad v ps)
 put_cells cells ad v [] lt all = (lt, tt)
 put_cells cells ad v (p ∷ ps) lt all = at (p.0 == ad) (put_cells cells ad v ps lt all.1)
   where
-    at : (b : Bool) → AreCells cells (put ad v ps) → AreCells cells (cond b ((ad, v) ∷ ps) (p ∷ put ad v ps))
+    at : (b : Bool) → AreCells cells (with_write ad v ps) → AreCells cells (cond b ((ad, v) ∷ ps) (p ∷ with_write ad v ps))
     at true ih = (lt, all.1)
     at false ih = (all.0, ih)
 
@@ -85,7 +85,7 @@ module _ {C : Type 0} (cells : ℕ) where
 
     operation_fits : (o : Op) (answer : Answer) → OpFits cells o → LogsFitIf cells (core_operation now a o answer).attempt
     operation_fits op.Begin answer fit = record { reads = f.reads; writes = f.writes; marks = (f.writes, f.marks) }
-    operation_fits (op.Read ad) answer fit = read_fits (written ad a.writes) answer
+    operation_fits (op.Read ad) answer fit = read_fits (overlay_word ad a.writes) answer
     operation_fits (op.Write ad v) answer fit = record { reads = f.reads; writes = put_cells cells ad v a.writes fit f.writes; marks = f.marks }
     operation_fits op.Commit answer fit = commit_fits a.inner a.kept a.writes answer f.marks
     operation_fits op.Cancel answer fit = cancel_fits a.inner a.kept f.marks
@@ -141,7 +141,7 @@ module _ {C : Type 0} (cells : ℕ) where
 
     operation_cell : (o : Op) → OpFits cells o → AccessFits cells (operation_access a o)
     operation_cell op.Begin fit = tt
-    operation_cell (op.Read ad) fit = read_cell ad (written ad a.writes) fit
+    operation_cell (op.Read ad) fit = read_cell ad (overlay_word ad a.writes) fit
     operation_cell (op.Write ad v) fit = tt
     operation_cell op.Commit fit = commit_cell a.inner a.kept a.writes f.writes
     operation_cell op.Cancel fit = tt
@@ -194,7 +194,7 @@ module _ {C : Type 0} (code : C → Effect C) (bounds : List ℕ) (fits : FitsCe
   inside_fits a x None answer fit g f = own_fits a x f
   inside_fits a x (Some o) answer fit g f = phase_fits (length bounds) th.configuration a g a.phase o answer fit
 
-  pub told_fits : (answer : Answer) → LogsFitIf (length bounds) th.attempt → LogsFitIf (length bounds) (told code th answer).thread.attempt
+  pub told_fits : (answer : Answer) → LogsFitIf (length bounds) th.attempt → LogsFitIf (length bounds) (step_with code th answer).thread.attempt
   told_fits answer f = at th.attempt refl f
     where
       at : (o : Option (Attempt C)) → th.attempt ≡ o → LogsFitIf (length bounds) o → LogsFitIf (length bounds) (told_of code th o (code th.configuration) answer).thread.attempt

@@ -6,9 +6,9 @@ use Rattle.norec_core.specs.declared.step.Access.{Access}
 use Rattle.norec_core.specs.declared.step.Access.TheVariants.{Local}
 use Rattle.norec_core.specs.declared.step.Answer.{Answer}
 use Rattle.norec_core.specs.declared.step.Answer.TheVariants.{Done}
-use Rattle.machine.specs.Answered.{Answered, Heard, hearing, is_local, StepsHearing, local_step, paused}
-use Rattle.machine.specs.Threads.{Thread, access, told}
-use Rattle.machine.specs.Worlds.{Part, Reached, Record, World, added, answer, lock_after, part_after, recorded, step_of, words_after}
+use Rattle.machine.specs.Answered.{Answered, Heard, hearing, is_local, StepsHearing, local_step, after_local_steps}
+use Rattle.machine.specs.Threads.{Thread, access, step_with}
+use Rattle.machine.specs.Worlds.{Part, Reached, Record, World, with_record, answer, lock_after, part_after, step_record, step_of, words_after}
 use Rattle.norec_core.specs.Accesses.{stops}
 use Rattle.machine.proofs.answers.Quiet.{local_part}
 use Rattle.machine.proofs.steps.Worlds.{get-set_other, get-set_same}
@@ -41,7 +41,7 @@ module _ {X : Type 0} where
   pub grows_on : (xs ys zs : List X) → Grows xs ys → Grows ys zs → Grows xs zs
   grows_on xs ys zs g h = (g.0 ++ h.0, h.1 ∙ ap (λ l. l ++ h.0) g.1 ∙ append_assoc xs g.0 h.0)
 
-pub added_grows : (xs : List Record) (o : Option Record) → Grows xs (added xs o)
+pub added_grows : (xs : List Record) (o : Option Record) → Grows xs (with_record xs o)
 added_grows xs None = ([], sym (append-nil xs))
 added_grows xs (Some x) = (x ∷ [], refl)
 
@@ -51,23 +51,23 @@ hears x a e = rw e refl
 module _ {C : Type 0} (code : C → Effect C) where
   -- the world after a step of thread t, whose part is p, with this access
   abbrev pub after_step : World C → ℕ → Part C → Access → World C
-  after_step w t p x = record { lock = lock_after w.lock x; words = words_after w.words x; parts = set w.parts t (part_after w.words p (told code p.thread (answer w.lock w.words x))) }
+  after_step w t p x = record { lock = lock_after w.lock x; words = words_after w.words x; parts = set w.parts t (part_after w.words p (step_with code p.thread (answer w.lock w.words x))) }
 
   -- a local step keeps the records and perhaps adds one
   pub local_grows : (p : Part C) → Grows p.records (local_step code p).records
-  local_grows p = added_grows p.records (recorded p.base (told code p.thread Done).completed)
+  local_grows p = added_grows p.records (step_record p.base (step_with code p.thread Done).completed)
 
   -- the local steps before an access are determined
-  pub paused_once : (k j : ℕ) (t a b : Part C) → paused code k t ≡ Some a → paused code j t ≡ Some b → is_local (access code a.thread) ≡ false → is_local (access code b.thread) ≡ false → a ≡ b
+  pub paused_once : (k j : ℕ) (t a b : Part C) → after_local_steps code k t ≡ Some a → after_local_steps code j t ≡ Some b → is_local (access code a.thread) ≡ false → is_local (access code b.thread) ≡ false → a ≡ b
   paused_once zero zero t a b p q fa fb = cc
   paused_once zero (suc j) t a b p q fa fb = let same : t ≡ a = cc in absurd (true≢false (sym (if_some _ _ b q).0 ∙ (ap (λ (y : Part C). is_local (access code y.thread)) same ∙ fa)))
   paused_once (suc k) zero t a b p q fa fb = let same : t ≡ b = cc in absurd (true≢false (sym (if_some _ _ a p).0 ∙ (ap (λ (y : Part C). is_local (access code y.thread)) same ∙ fb)))
   paused_once (suc k) (suc j) t a b p q fa fb = paused_once k j (local_step code t) a b (if_some _ _ a p).1 (if_some _ _ b q).1 fa fb
 
   -- one local step more
-  pub paused_more : (k : ℕ) (t a : Part C) → paused code k t ≡ Some a → is_local (access code a.thread) ≡ true → paused code (suc k) t ≡ Some (local_step code a)
+  pub paused_more : (k : ℕ) (t a : Part C) → after_local_steps code k t ≡ Some a → is_local (access code a.thread) ≡ true → after_local_steps code (suc k) t ≡ Some (local_step code a)
   paused_more zero t a p far = let same : t ≡ a = cc in rw (ap (λ (y : Part C). is_local (access code y.thread)) same ∙ far) (ap (λ (y : Part C). Some (local_step code y)) same)
-  paused_more (suc k) t a p far = let q = if_some (is_local (access code t.thread)) (paused code k (local_step code t)) a p in rw q.0 (paused_more k (local_step code t) a q.1 far)
+  paused_more (suc k) t a p far = let q = if_some (is_local (access code t.thread)) (after_local_steps code k (local_step code t)) a p in rw q.0 (paused_more k (local_step code t) a q.1 far)
 
   -- a replay after another
   pub replays_on : (th u v : Thread C) (n m : ℕ) (hs gs : List Heard) → StepsHearing code th n hs u → StepsHearing code u m gs v → StepsHearing code th (n + m) (hs ++ gs) v
@@ -86,31 +86,31 @@ module _ {C : Type 0} (code : C → Effect C) where
         (Answered.moved w heard t p hs r here said (ap stops is ∙ on)))
 
     -- local steps
-    pub pauses : (k t : ℕ) (p now : Part C) (hs : List Heard) (lock : ℕ) (words : List ℕ) (parts : List (Part C)) (heard : List (List Heard)) → Answered code init m0 threads (record { lock = lock; words = words; parts = parts }) heard → slice_get parts t ≡ Some p → slice_get heard t ≡ Some hs → paused code k p ≡ Some now
+    pub pauses : (k t : ℕ) (p now : Part C) (hs : List Heard) (lock : ℕ) (words : List ℕ) (parts : List (Part C)) (heard : List (List Heard)) → Answered code init m0 threads (record { lock = lock; words = words; parts = parts }) heard → slice_get parts t ≡ Some p → slice_get heard t ≡ Some hs → after_local_steps code k p ≡ Some now
         → Answered code init m0 threads (record { lock = lock; words = words; parts = set parts t now }) heard
     pauses zero t p now hs lock words parts heard r here said e =
         let same : p ≡ now = cc in
         subst (λ ps. Answered code init m0 threads (record { lock = lock; words = words; parts = ps }) heard) (sym (set_same parts t now (here ∙ ap (λ (q : Part C). Some q) same))) r
     pauses (suc k) t p now hs lock words parts heard r here said e =
-        let q = if_some (is_local (access code p.thread)) (paused code k (local_step code p)) now e in
+        let q = if_some (is_local (access code p.thread)) (after_local_steps code k (local_step code p)) now e in
         let is : access code p.thread ≡ Local = local_is (access code p.thread) q.0 in
         let m = moves (record { lock = lock; words = words; parts = parts }) heard t p hs Local is r here said refl in
         let same : set heard t (hs ++ []) ≡ heard = ap (set heard t) (append-nil hs) ∙ set_same heard t hs said in
         let r1 : Answered code init m0 threads (record { lock = lock; words = words; parts = set parts t (local_step code p) }) heard =
         subst (λ (q : Part C). Answered code init m0 threads (record { lock = lock; words = words; parts = set parts t q }) heard) (local_part code words p)
-        (subst (λ hh. Answered code init m0 threads (record { lock = lock; words = words; parts = set parts t (part_after words p (told code p.thread Done)) }) hh) same m) in
+        (subst (λ hh. Answered code init m0 threads (record { lock = lock; words = words; parts = set parts t (part_after words p (step_with code p.thread Done)) }) hh) same m) in
         let rest = pauses k t (local_step code p) now hs lock words (set parts t (local_step code p)) heard r1 (get-set_same parts t (local_step code p) p here) said q.1 in
         subst (λ ps. Answered code init m0 threads (record { lock = lock; words = words; parts = ps }) heard) (set-set parts t (local_step code p) now) rest
 
     -- one access, with the local steps before it
-    pub turns : (k t : ℕ) (p now : Part C) (hs : List Heard) (w : World C) (heard : List (List Heard)) (x : Access) → Answered code init m0 threads w heard → slice_get w.parts t ≡ Some p → slice_get heard t ≡ Some hs → paused code k p ≡ Some now
+    pub turns : (k t : ℕ) (p now : Part C) (hs : List Heard) (w : World C) (heard : List (List Heard)) (x : Access) → Answered code init m0 threads w heard → slice_get w.parts t ≡ Some p → slice_get heard t ≡ Some hs → after_local_steps code k p ≡ Some now
         → access code now.thread ≡ x → is_local x ≡ false → stops x ≡ false
         → Answered code init m0 threads (after_step w t now x) (set heard t (hs ++ record { access = x; answer = answer w.lock w.words x } ∷ []))
     turns k t p now hs w heard x r here said e is far on =
         let r1 = pauses k t p now hs w.lock w.words w.parts heard r here said e in
         let m = moves (record { lock = w.lock; words = w.words; parts = set w.parts t now }) heard t now hs x is r1 (get-set_same w.parts t now p here) said on in
         subst (λ ps. Answered code init m0 threads (record { lock = lock_after w.lock x; words = words_after w.words x; parts = ps }) (set heard t (hs ++ record { access = x; answer = answer w.lock w.words x } ∷ []))) (set-set w.parts t now _)
-        (subst (λ (l : List Heard). Answered code init m0 threads (record { lock = lock_after w.lock x; words = words_after w.words x; parts = set (set w.parts t now) t (part_after w.words now (told code now.thread (answer w.lock w.words x))) }) (set heard t (hs ++ l))) (hears x (answer w.lock w.words x) far) m)
+        (subst (λ (l : List Heard). Answered code init m0 threads (record { lock = lock_after w.lock x; words = words_after w.words x; parts = set (set w.parts t now) t (part_after w.words now (step_with code now.thread (answer w.lock w.words x))) }) (set heard t (hs ++ l))) (hears x (answer w.lock w.words x) far) m)
 
     -- the answers aside
     pub reached : (w : World C) (heard : List (List Heard)) → Answered code init m0 threads w heard → Reached code init m0 threads w

@@ -5,7 +5,7 @@ use Rattle.machine.proofs.steps.Worlds.{get-set_other, get-set_same}
 use Rattle.bytecode.specs.Effects.{Effect, FitsCells}
 use Rattle.machine.specs.Addresses.{LogsFitIf, NamesCells}
 use Rattle.machine.specs.Serializable.{world_after}
-use Rattle.machine.specs.Threads.{access, told}
+use Rattle.machine.specs.Threads.{access, step_with}
 use Rattle.machine.specs.Worlds.{Part, World, answer, new_world, part_after, run, step, step_of}
 use Rattle.machine.proofs.answers.Addresses.{access_fits, told_fits}
 use Rattle.machine.proofs.answers.Hearing.{no_attempt}
@@ -15,7 +15,7 @@ module _ {C : Type 0} (code : C → Effect C) (bounds : List ℕ) (fits : FitsCe
   LogsAre w = (t : ℕ) (p : Part C) → slice_get w.parts t ≡ Some p → LogsFitIf (length bounds) p.thread.attempt
 
   abbrev part_by : World C → Part C → Part C
-  part_by w p = part_after w.words p (told code p.thread (answer w.lock w.words (access code p.thread)))
+  part_by w p = part_after w.words p (step_with code p.thread (answer w.lock w.words (access code p.thread)))
 
   moved_logs : (w : World C) (t : ℕ) (p : Part C) → slice_get w.parts t ≡ Some p → LogsAre w → LogsAre (step_of code w t (Some p))
   moved_logs w t p e logs u r f = go (eqb_tells u t)

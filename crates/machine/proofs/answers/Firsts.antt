@@ -2,7 +2,7 @@
 use Rattle.std.proofs.Common.{◌≡◌, ◌-◌, ◌≤◌, ◌==◌, ◌%◌, inl, inr, ℕ, Bool, true, false, cond, List, [], ◌∷◌, ◌++◌, Option, None, Some, refl, sym, ◌∙◌, ap, subst, slice_get, drop}
 use Rattle.syntax.specs.declared.numbers.Status.{Status}
 use Rattle.syntax.specs.declared.numbers.Status.TheVariants.{Running, Ended as HasEnded, Trapped as HasTrapped}
-use Rattle.write_log.specs.Overlay.{written}
+use Rattle.write_log.specs.Overlay.{overlay_word}
 use Rattle.bytecode.specs.Effects.{Effect}
 use Rattle.bytecode.specs.Effects.Effect.{Begin, Print}
 use Rattle.norec_core.specs.Attempts.{Attempt, Checkpoint}
@@ -18,7 +18,7 @@ use Rattle.norec_core.specs.declared.step.Outcome.TheVariants as outcome
 use Rattle.norec_core.specs.declared.step.Phase.{Phase}
 use Rattle.norec_core.specs.declared.step.Phase.TheVariants.{AtOperation, ReadsLock, Stores, ValidatesEntry, ValidatesTime}
 use Rattle.machine.specs.Answered.{HasLoad, Heard, LocksFrom, StepsHearing}
-use Rattle.machine.specs.Threads.{Thread, access, access_of, op_of, outside_access, own_step, print_inside, told, told_inside, told_of, told_outside, told_running}
+use Rattle.machine.specs.Threads.{Thread, access, access_of, op_of, outside_access, own_step, print_inside, step_with, told_inside, told_of, told_outside, told_running}
 
 abbrev FirstIf : {C : Type 0} → ℕ → Option (Attempt C) → Type 0
 FirstIf n None = Unit {0}
@@ -64,7 +64,7 @@ module _ {C : Type 0} (now : C) (a : Attempt C) where
 
   operation_same : (o : Op) (answer : Answer) → Same (core_operation now a o answer)
   operation_same op.Begin answer = refl
-  operation_same (op.Read ad) answer = read_same (written ad a.writes) answer
+  operation_same (op.Read ad) answer = read_same (overlay_word ad a.writes) answer
   operation_same (op.Write ad v) answer = refl
   operation_same op.Commit answer = commit_same a.inner a.kept a.writes answer
   operation_same op.Cancel answer = cancel_same a.inner a.kept
@@ -109,7 +109,7 @@ module _ {C : Type 0} (code : C → Effect C) (th : Thread C) where
   inside_same a e x (Some o) answer = phase_same th.configuration a a.phase o answer
 
   -- the attempt goes on with its first snapshot, or is over
-  told_same : (a : Attempt C) → th.attempt ≡ Some a → (answer : Answer) → FirstIf a.first (told code th answer).thread.attempt
+  told_same : (a : Attempt C) → th.attempt ≡ Some a → (answer : Answer) → FirstIf a.first (step_with code th answer).thread.attempt
   told_same a e answer = subst (λ o. FirstIf a.first (told_of code th o (code th.configuration) answer).thread.attempt) (sym e) (inside_same a e (code th.configuration) (op_of (code th.configuration) a.kept th.trapping) answer)
 
   -- an attempt begins with the value of the lock
@@ -140,7 +140,7 @@ module _ {C : Type 0} (code : C → Effect C) (th : Thread C) where
     outside_begins HasEnded x = still _
     outside_begins (HasTrapped cause) x = still _
 
-    told_begins : Begins (access code th) answer (told code th answer).thread.attempt
+    told_begins : Begins (access code th) answer (step_with code th answer).thread.attempt
     told_begins = subst (λ o. Begins (access_of th o (code th.configuration)) answer (told_of code th o (code th.configuration) answer).thread.attempt) (sym e) (outside_begins th.status (code th.configuration))
 
 -- one more answer
@@ -155,7 +155,7 @@ load_front n (x ∷ hs) h (inr l) = inr (load_front n hs h l)
 
 module _ {C : Type 0} (code : C → Effect C) (th : Thread C) (idle : th.attempt ≡ None) where
   -- after one more step: either the attempt was there, or it began with this answer
-  one_step : (u : Thread C) (hs more : List Heard) (answer : Answer) (b : Attempt C) → (told code u answer).thread.attempt ≡ Some b → ((a : Attempt C) → u.attempt ≡ Some a → HasLoad a.first more) → ((access code u ≡ LoadLock) → answer ≡ Value b.first → HasLoad b.first more) → HasLoad b.first more
+  one_step : (u : Thread C) (hs more : List Heard) (answer : Answer) (b : Attempt C) → (step_with code u answer).thread.attempt ≡ Some b → ((a : Attempt C) → u.attempt ≡ Some a → HasLoad a.first more) → ((access code u ≡ LoadLock) → answer ≡ Value b.first → HasLoad b.first more) → HasLoad b.first more
   one_step u hs more answer b e was began = at u.attempt refl
     where
       goes_on : (a : Attempt C) (o : Option (Attempt C)) → o ≡ Some b → FirstIf a.first o → b.first ≡ a.first
@@ -167,8 +167,8 @@ module _ {C : Type 0} (code : C → Effect C) (th : Thread C) (idle : th.attempt
       begins (Some c) f g = let same : c ≡ b = cc in (g.0, g.1 ∙ ap (λ (y : Attempt C). Value y.first) same)
 
       at : (o : Option (Attempt C)) → u.attempt ≡ o → HasLoad b.first more
-      at None f = let g = begins (told code u answer).thread.attempt e (told_begins code u f answer) in began g.0 g.1
-      at (Some a) f = let g = goes_on a (told code u answer).thread.attempt e (told_same code u a f answer) in subst (λ n. HasLoad n more) (sym g) (was a f)
+      at None f = let g = begins (step_with code u answer).thread.attempt e (told_begins code u f answer) in began g.0 g.1
+      at (Some a) f = let g = goes_on a (step_with code u answer).thread.attempt e (told_same code u a f answer) in subst (λ n. HasLoad n more) (sym g) (was a f)
 
   -- an attempt that a thread has which had none, began with one of the answers since
   pub first_heard : (n : ℕ) (hs : List Heard) (v : Thread C) → StepsHearing code th n hs v → (b : Attempt C) → v.attempt ≡ Some b → HasLoad b.first hs

@@ -20,7 +20,7 @@ use Rattle.norec_core.specs.declared.step.Phase.TheVariants.{AtOperation, ReadsL
 use Rattle.machine.specs.Answered.{Answered, AreAnswers, Ascends, Heard, IsAmong, LocksFrom, LocksTo, hearing, lock_value, next_lock}
 use Rattle.machine.specs.Explained.{has_lock, stored_of}
 use Rattle.machine.specs.inner.Invariant.{History, InHand, Invariant, IsHistory, StepOk, LockBy, LockIs, Now, PartOk}
-use Rattle.machine.specs.Threads.{Thread, access, access_of, told, told_of}
+use Rattle.machine.specs.Threads.{Thread, access, access_of, step_with, told_of}
 use Rattle.machine.specs.Worlds.{Part, World, answer, lock_after, new_parts, new_world, part_after, step_of, words_after}
 use Rattle.machine.specs.Addresses.{LogsFitIf}
 use Rattle.machine.proofs.answers.Addresses.{told_fits}
@@ -184,7 +184,7 @@ module _ {C : Type 0} (code : C → Effect C) where
     store_is : access code th ≡ store_access b.snapshot o
     store_is = ap (λ y. access_of th y (code th.configuration)) e ∙ ap (λ x. access_of th (Some b) x) ex ∙ ap (λ q. phase_access b q op.Commit) ph ∙ ap (store_access b.snapshot) g
 
-    stored_leaves : (y : Answer) → (told code th y).thread.attempt ≡ (core_store b i o).attempt
+    stored_leaves : (y : Answer) → (step_with code th y).thread.attempt ≡ (core_store b i o).attempt
     stored_leaves y =
         ap (λ z. (told_of code th z (code th.configuration) y).thread.attempt) e
         ∙ ap (λ x. (told_of code th (Some b) x y).thread.attempt) ex
@@ -250,7 +250,7 @@ module _ {C : Type 0} (code : C → Effect C) where
               other (inr g) = let was : h.holder ≡ Some u = k.moves.held u g.1 f in absurd (let x : u ≡ t = cc in g.1 x)
 
       -- the thread has the lock
-      by_mine : (p : Part C) → PartOk code bounds h t c0 p → h.holder ≡ Some t → words' ≡ words_after words (access code p.thread) → ((x : Attempt C) → r.thread.attempt ≡ (told code p.thread (answer h.lock words (access code p.thread))).thread.attempt) → InHistory k.after words' l a v
+      by_mine : (p : Part C) → PartOk code bounds h t c0 p → h.holder ≡ Some t → words' ≡ words_after words (access code p.thread) → ((x : Attempt C) → r.thread.attempt ≡ (step_with code p.thread (answer h.lock words (access code p.thread))).thread.attempt) → InHistory k.after words' l a v
       by_mine p ok is ws left = at p.thread.attempt refl ok.now
         where
           empty : {A : Type 0} (ps : List (ℕ × ℕ)) → h.stored ≡ ps → ps ≡ [] → A
@@ -276,7 +276,7 @@ module _ {C : Type 0} (code : C → Effect C) where
           at (Some b) f n = phases b b.phase f refl n.in_hand n.steady.log.0 (locked b (has_lock b.kept b.phase) n.holds)
 
     -- a step keeps each word answered so far
-    module _ (p : Part C) (ok : PartOk code bounds h t c0 p) (ws : words' ≡ words_after words (access code p.thread)) (left : r.thread.attempt ≡ (told code p.thread (answer h.lock words (access code p.thread))).thread.attempt) where
+    module _ (p : Part C) (ok : PartOk code bounds h t c0 p) (ws : words' ≡ words_after words (access code p.thread)) (left : r.thread.attempt ≡ (step_with code p.thread (answer h.lock words (access code p.thread))).thread.attempt) where
       word_stays : (l a v : ℕ) → InHistory h words l a v → InHistory k.after words' l a v
       word_stays l a v (inl f) = let m = k.moves in let up = m.top in let le = f.2 in inl (f.0, f.1, omega arith, f.3, ap (λ n. slice_index n a) (m.mem f.0 f.2) ∙ f.4)
       word_stays l a v (inr f) = at h.holder refl i.lock
@@ -333,7 +333,7 @@ module _ {C : Type 0} (code : C → Effect C) (init : ℕ → C) (bounds : List 
 
   module _ (w : World C) (heard : List (List Heard)) (t : ℕ) (p : Part C) (s : Sound w heard) (here : slice_get w.parts t ≡ Some p) where
     abbrev pub StepOkBy : ℕ → Type 0
-    StepOkBy l = StepOk code bounds t (init t) s.history (lock_after l (access code p.thread)) (words_after w.words (access code p.thread)) (part_after w.words p (told code p.thread (answer l w.words (access code p.thread))))
+    StepOkBy l = StepOk code bounds t (init t) s.history (lock_after l (access code p.thread)) (words_after w.words (access code p.thread)) (part_after w.words p (step_with code p.thread (answer l w.words (access code p.thread))))
 
     pub kept : StepOkBy w.lock
     kept = subst StepOkBy (sym s.invariant.lock) (part_step code bounds t (init t) s.history w.words fits s.invariant.history p (s.invariant.parts t p here))
@@ -343,8 +343,8 @@ module _ {C : Type 0} (code : C → Effect C) (init : ℕ → C) (bounds : List 
     k = kept w heard t p s here
 
     abbrev old : (us : List Heard) → HearsOk s.history w.words us → HearsOk k.after (words_after w.words (access code p.thread)) us
-    old = hears_on code bounds t (init t) s.history w.words s.invariant.history (lock_after w.lock (access code p.thread)) (words_after w.words (access code p.thread)) (part_after w.words p (told code p.thread (answer w.lock w.words (access code p.thread)))) k p (s.invariant.parts t p here) refl
-        (ap (λ l. (told code p.thread (answer l w.words (access code p.thread))).thread.attempt) s.invariant.lock)
+    old = hears_on code bounds t (init t) s.history w.words s.invariant.history (lock_after w.lock (access code p.thread)) (words_after w.words (access code p.thread)) (part_after w.words p (step_with code p.thread (answer w.lock w.words (access code p.thread)))) k p (s.invariant.parts t p here) refl
+        (ap (λ l. (step_with code p.thread (answer l w.words (access code p.thread))).thread.attempt) s.invariant.lock)
 
     new_hears : HearsOk k.after (words_after w.words (access code p.thread)) (hs ++ hearing (access code p.thread) (answer w.lock w.words (access code p.thread)))
     new_hears = old _ (subst (λ l. HearsOk s.history w.words (hs ++ hearing (access code p.thread) (answer l w.words (access code p.thread)))) (sym s.invariant.lock) (hears_more bounds s.history w.words hs (access code p.thread) s.invariant.history (s.hears t p hs here said)))
@@ -352,20 +352,20 @@ module _ {C : Type 0} (code : C → Effect C) (init : ℕ → C) (bounds : List 
     sound_step : Sound (after_step code w t p (access code p.thread)) (set heard t (hs ++ hearing (access code p.thread) (answer w.lock w.words (access code p.thread))))
     sound_step = record {
       history = k.after;
-      invariant = changed code bounds init m0 fits w s.history t p (part_after w.words p (told code p.thread (answer w.lock w.words (access code p.thread)))) (lock_after w.lock (access code p.thread)) (words_after w.words (access code p.thread)) here s.invariant k;
+      invariant = changed code bounds init m0 fits w s.history t p (part_after w.words p (step_with code p.thread (answer w.lock w.words (access code p.thread)))) (lock_after w.lock (access code p.thread)) (words_after w.words (access code p.thread)) here s.invariant k;
       hears = λ u r us e f. each u r us (at_set w.parts t u _ r p here e) (at_set heard t u _ us hs said f);
       logs = λ u r e. log u r (at_set w.parts t u _ r p here e);
     }
       where
         each : (u : ℕ) (r : Part C) (us : List Heard)
-            → ((u ≡ t) × (part_after w.words p (told code p.thread (answer w.lock w.words (access code p.thread))) ≡ r)) ⊎ ((u ≢ t) × (slice_get w.parts u ≡ Some r))
+            → ((u ≡ t) × (part_after w.words p (step_with code p.thread (answer w.lock w.words (access code p.thread))) ≡ r)) ⊎ ((u ≢ t) × (slice_get w.parts u ≡ Some r))
             → ((u ≡ t) × ((hs ++ hearing (access code p.thread) (answer w.lock w.words (access code p.thread))) ≡ us)) ⊎ ((u ≢ t) × (slice_get heard u ≡ Some us))
             → HearsOk k.after (words_after w.words (access code p.thread)) us
         each u r us e (inl f) = subst (HearsOk k.after (words_after w.words (access code p.thread))) f.1 new_hears
         each u r us (inl e) (inr f) = absurd (f.0 e.0)
         each u r us (inr e) (inr f) = old us (s.hears u r us e.1 f.1)
 
-        log : (u : ℕ) (r : Part C) → ((u ≡ t) × (part_after w.words p (told code p.thread (answer w.lock w.words (access code p.thread))) ≡ r)) ⊎ ((u ≢ t) × (slice_get w.parts u ≡ Some r)) → LogsFitIf (length bounds) r.thread.attempt
+        log : (u : ℕ) (r : Part C) → ((u ≡ t) × (part_after w.words p (step_with code p.thread (answer w.lock w.words (access code p.thread))) ≡ r)) ⊎ ((u ≢ t) × (slice_get w.parts u ≡ Some r)) → LogsFitIf (length bounds) r.thread.attempt
         log u r (inl e) = subst (λ (y : Part C). LogsFitIf (length bounds) y.thread.attempt) e.1 (told_fits code bounds fits p.thread (answer w.lock w.words (access code p.thread)) (s.logs t p here))
         log u r (inr e) = s.logs u r e.1
 

@@ -2,7 +2,7 @@
 use Rattle.std.proofs.Common.{◌≡◌, ◌-◌, ℕ, Bool, true, false, cond, List, [], ◌∷◌, Option, None, Some, refl, sym, ◌∙◌, ap, slice_get, drop}
 use Rattle.syntax.specs.declared.numbers.Status.{Status}
 use Rattle.syntax.specs.declared.numbers.Status.TheVariants.{Running, Ended as HasEnded, Trapped as HasTrapped}
-use Rattle.write_log.specs.Overlay.{written}
+use Rattle.write_log.specs.Overlay.{overlay_word}
 use Rattle.bytecode.specs.Effects.{Effect}
 use Rattle.bytecode.specs.Effects.Effect.{Print, Pure}
 use Rattle.norec_core.specs.Attempts.{Attempt, Checkpoint}
@@ -13,7 +13,7 @@ use Rattle.norec_core.specs.declared.step.Op.TheVariants as op
 use Rattle.norec_core.specs.declared.step.Phase.{Phase}
 use Rattle.norec_core.specs.declared.step.Phase.TheVariants.{AtOperation, ReadsLock, Stores, ValidatesEntry}
 use Rattle.machine.specs.Answered.{local_step}
-use Rattle.machine.specs.Threads.{Thread, op_of, own_step, print_inside, told, told_inside, told_of, told_outside, told_running}
+use Rattle.machine.specs.Threads.{Thread, op_of, own_step, print_inside, step_with, told_inside, told_of, told_outside, told_running}
 use Rattle.machine.specs.Worlds.{Part, part_after}
 
 module _ {C : Type 0} (now : C) (a : Attempt C) where
@@ -46,7 +46,7 @@ module _ {C : Type 0} (now : C) (a : Attempt C) where
 
   operation_quiet : (o : Op) → (core_operation now a o Done).sets_snapshot ≡ false
   operation_quiet op.Begin = refl
-  operation_quiet (op.Read ad) = read_quiet (written ad a.writes)
+  operation_quiet (op.Read ad) = read_quiet (overlay_word ad a.writes)
   operation_quiet (op.Write ad v) = refl
   operation_quiet op.Commit = commit_quiet a.inner a.kept a.writes
   operation_quiet op.Cancel = cancel_quiet a.inner a.kept
@@ -91,7 +91,7 @@ module _ {C : Type 0} (code : C → Effect C) (th : Thread C) where
   inside_quiet a x None = own_quiet a x
   inside_quiet a x (Some o) = phase_quiet th.configuration a a.phase o
 
-  pub told_quiet : (told code th Done).sets_snapshot ≡ false
+  pub told_quiet : (step_with code th Done).sets_snapshot ≡ false
   told_quiet = at th.attempt
     where
       at : (o : Option (Attempt C)) → (told_of code th o (code th.configuration) Done).sets_snapshot ≡ false
@@ -99,5 +99,5 @@ module _ {C : Type 0} (code : C → Effect C) (th : Thread C) where
       at (Some a) = inside_quiet a (code th.configuration) (op_of (code th.configuration) a.kept th.trapping)
 
 -- whatever the words are, a local step leaves the same part
-pub local_part : {C : Type 0} (code : C → Effect C) (words : List ℕ) (p : Part C) → part_after words p (told code p.thread Done) ≡ local_step code p
+pub local_part : {C : Type 0} (code : C → Effect C) (words : List ℕ) (p : Part C) → part_after words p (step_with code p.thread Done) ≡ local_step code p
 local_part code words p = ap (λ (b : Bool). record (local_step code p) { base = cond b words p.base }) (told_quiet code p.thread) ∙ ap (λ (b : Bool). record (local_step code p) { base = cond b p.base p.base }) (sym (told_quiet code p.thread))

@@ -7,10 +7,10 @@ use Rattle.syntax.specs.declared.numbers.Trap.{Trap}
 use Rattle.nesting.specs.Begins.{Saved}
 use Rattle.bytecode.specs.Effects.{Effect}
 use Rattle.bytecode.specs.Effects.Effect.{Pure, Print, Begin, Traps, End}
-use Rattle.bytecode.specs.Code.{Code, Configuration, Frame, effect, returned}
+use Rattle.bytecode.specs.Code.{Code, Configuration, Frame, effect, return_effect}
 use Rattle.frames.specs.declared.doing.Doing.{Doing}
 use Rattle.frames.specs.declared.doing.Doing.TheVariants as doing
-use Rattle.frames.specs.Open.{restored, saved_in, BeginsStayOpen}
+use Rattle.frames.specs.Open.{begin_configuration, saved_in, BeginsStayOpen}
 use Rattle.frames.specs.Told.{Tells}
 use Rattle.norec_core.specs.declared.step.Op.{Op}
 use Rattle.norec_core.specs.declared.step.Op.TheVariants as op
@@ -21,19 +21,19 @@ use Rattle.norec_core.specs.declared.step.Answer.{Answer}
 use Rattle.norec_core.specs.Attempts.{Attempt}
 use Rattle.norec_core.specs.Phases.{CoreStep, core_access, core_step}
 use Rattle.norec_core.specs.Accesses.{IsAnswerTo}
-use Rattle.norec_core.specs.Cores.{CoreState, IsAnswered, stepped, stepped_by}
+use Rattle.norec_core.specs.Cores.{CoreState, IsAnswered, core_step_with, stepped_by}
 use Rattle.norec_core.proofs.SavedByMaps.{commutes}
 use Rattle.machine.specs.declared.event.Event.{Event}
-use Rattle.machine.specs.Threads.{Thread, access, access_of, outside_access, inside_access, told, op_of}
+use Rattle.machine.specs.Threads.{Thread, access, access_of, outside_access, inside_access, step_with, op_of}
 use Rattle.machine.specs.States.{Ready, IsReady, IsWordOf, asks, asks_by, asks_outside}
-use Rattle.machine.specs.inner.Kept.{Kept, shown, shown_from, RunsKept, MayGoBack, Makes, back_by, op_by, op_outside, op_asked}
+use Rattle.machine.specs.inner.Kept.{PlainContext, machine_thread, shown_from, RunsInContext, MayGoBack, Makes, back_by, op_by, op_outside, op_asked}
 use Rattle.machine.proofs.keeping.Operations.{WritesWord}
 use Rattle.machine.proofs.keeping.Makes.{Resumes, may_go_back, core_makes}
 use Rattle.machine.proofs.keeping.Words.{FitsRegister, word_fits}
 
 module _ (code : Code) (c : Configuration) where
   -- a return goes on
-  return_is : (fs : List Frame) (w : ℕ) → 0 < length fs → (d : Configuration) × (returned fs w ≡ Pure d)
+  return_is : (fs : List Frame) (w : ℕ) → 0 < length fs → (d : Configuration) × (return_effect fs w ≡ Pure d)
   return_is [] w h = absurd (omega arith)
   return_is (f ∷ fs) w h = (record { place = f.place; registers = slice_set f.registers f.result w; frames = fs }, refl)
 
@@ -114,13 +114,13 @@ module _ (code : Code) (c : Configuration) where
   writes_word x None t o h e = writes_out x o e
   writes_word x (Some a) t o h e = writes x a.kept t o h e
 
-module _ (code : Code) (k : Kept) (running : k.status ≡ Running) (x : Doing) (t : Tells code k.configuration x) where
-  asks_at : (att : Option (Attempt Saved)) → asks_by (shown k) (shown_from k.configuration att) (effect code k.configuration) ≡ op_asked x att k.trapping
+module _ (code : Code) (k : PlainContext) (running : k.status ≡ Running) (x : Doing) (t : Tells code k.configuration x) where
+  asks_at : (att : Option (Attempt Saved)) → asks_by (machine_thread k) (shown_from k.configuration att) (effect code k.configuration) ≡ op_asked x att k.trapping
   asks_at None = ap (λ (s : Status). asks_outside s (effect code k.configuration)) running ∙ out_told code k.configuration x t
   asks_at (Some a) = op_told code k.configuration x a.kept k.trapping t
 
   -- what the thread that is shown asks is what is to be done
-  pub asks_is : asks (effect code) (shown k) ≡ op_asked x k.core.attempt k.trapping
+  pub asks_is : asks (effect code) (machine_thread k) ≡ op_asked x k.core.attempt k.trapping
   asks_is = asks_at k.core.attempt
 
 module _ {C : Type 0} (th : Thread C) where
@@ -141,24 +141,24 @@ module _ {C : Type 0} (th : Thread C) where
   access_none (Some a) x e = ap (inside_access a) e
 
 -- the access of a kept thread
-pub access_is : (code : Code) (k : Kept) (o : Op) → asks (effect code) (shown k) ≡ Some o → access (effect code) (shown k) ≡ core_access k.core.attempt o
-access_is code k o e = access_asked (shown k) (shown k).attempt (effect code k.configuration) o e ∙ (commutes (restored k.configuration)).access k.core.attempt o
+pub access_is : (code : Code) (k : PlainContext) (o : Op) → asks (effect code) (machine_thread k) ≡ Some o → access (effect code) (machine_thread k) ≡ core_access k.core.attempt o
+access_is code k o e = access_asked (machine_thread k) (machine_thread k).attempt (effect code k.configuration) o e ∙ (commutes (begin_configuration k.configuration)).access k.core.attempt o
 
-pub access_local : (code : Code) (k : Kept) → asks (effect code) (shown k) ≡ None → access (effect code) (shown k) ≡ Local
-access_local code k e = access_none (shown k) (shown k).attempt (effect code k.configuration) e
+pub access_local : (code : Code) (k : PlainContext) → asks (effect code) (machine_thread k) ≡ None → access (effect code) (machine_thread k) ≡ Local
+access_local code k e = access_none (machine_thread k) (machine_thread k).attempt (effect code k.configuration) e
 
-pub stepped_is : (c : CoreState) (o : Op) (y : Answer) → c.asked ≡ Some o → stepped c y ≡ core_step c.saved c.attempt o y
+pub stepped_is : (c : CoreState) (o : Op) (y : Answer) → c.asked ≡ Some o → core_step_with c y ≡ core_step c.saved c.attempt o y
 stepped_is c o y e = ap (λ (z : Option Op). stepped_by c z y) e
 
 -- what the core says of a step that was prepared
-pub record CoreTold (k : Kept) (y : Answer) (new : CoreState) (r : Outcome) : Type 0 where
-  pub attempt : new.attempt ≡ (stepped k.core y).attempt
-  pub outcome : r ≡ (stepped k.core y).outcome
-  pub back : IfSome (stepped k.core y).back (λ s. new.saved ≡ s)
+pub record CoreTold (k : PlainContext) (y : Answer) (new : CoreState) (r : Outcome) : Type 0 where
+  pub attempt : new.attempt ≡ (core_step_with k.core y).attempt
+  pub outcome : r ≡ (core_step_with k.core y).outcome
+  pub back : IfSome (core_step_with k.core y).back (λ s. new.saved ≡ s)
 
-module _ (code : Code) (law : BeginsStayOpen code) (k : Kept) (o : Op) (y : Answer) (running : k.status ≡ Running) (runs : RunsKept code k) (x : Doing) (t : Tells code k.configuration x)
-    (asked : op_asked x k.core.attempt k.trapping ≡ Some o) (r : Ready) (same_asked : r.asked ≡ k.core.asked) (same_saved : r.saved ≡ k.core.saved) (ready : IsReady code (shown k) r) (word : IsWordOf code (access (effect code) (shown k)) y) where
-  asks_some : asks (effect code) (shown k) ≡ Some o
+module _ (code : Code) (law : BeginsStayOpen code) (k : PlainContext) (o : Op) (y : Answer) (running : k.status ≡ Running) (runs : RunsInContext code k) (x : Doing) (t : Tells code k.configuration x)
+    (asked : op_asked x k.core.attempt k.trapping ≡ Some o) (r : Ready) (same_asked : r.asked ≡ k.core.asked) (same_saved : r.saved ≡ k.core.saved) (ready : IsReady code (machine_thread k) r) (word : IsWordOf code (access (effect code) (machine_thread k)) y) where
+  asks_some : asks (effect code) (machine_thread k) ≡ Some o
   asks_some = asks_is code k running x t ∙ asked
 
   core_asked : k.core.asked ≡ Some o
@@ -168,19 +168,19 @@ module _ (code : Code) (law : BeginsStayOpen code) (k : Kept) (o : Op) (y : Answ
   saves e = sym same_saved ∙ ready.saved (asks_some ∙ ap Some e)
 
   words : FitsRegister (core_access k.core.attempt o) y
-  words = subst (λ (z : Access). FitsRegister z y) (access_is code k o asks_some) (word_fits code (access (effect code) (shown k)) y word)
+  words = subst (λ (z : Access). FitsRegister z y) (access_is code k o asks_some) (word_fits code (access (effect code) (machine_thread k)) y word)
 
   -- an answer to the thread's access is one to what the core was asked
-  pub operation_answered : IsAnswerTo (access (effect code) (shown k)) y → IsAnswered k.core y
+  pub operation_answered : IsAnswerTo (access (effect code) (machine_thread k)) y → IsAnswered k.core y
   operation_answered fits = subst (λ (z : Option Op). IsSomeAnd z (λ q. IsAnswerTo (core_access k.core.attempt q) y)) (sym core_asked) (subst (λ (z : Access). IsAnswerTo z y) (access_is code k o asks_some) fits)
 
-  pub operation_back : (new : CoreState) (q : Outcome) → CoreTold k y new q → MayGoBack code k.configuration new.saved (back_by (effect code k.configuration) q (restored k.configuration new.saved))
+  pub operation_back : (new : CoreState) (q : Outcome) → CoreTold k y new q → MayGoBack code k.configuration new.saved (back_by (effect code k.configuration) q (begin_configuration k.configuration new.saved))
   operation_back new q z =
       let e = stepped_is k.core o y core_asked in
       may_go_back code law k o y running runs asks_some saves (writes_word code k.configuration x k.core.attempt k.trapping o t asked) words q new.saved
       (z.outcome ∙ ap (λ (n : CoreStep Saved). n.outcome) e) (subst (λ (n : CoreStep Saved). IfSome n.back (λ s. new.saved ≡ s)) e z.back)
 
-  pub operation_makes : (l : Kept) (q : Outcome) (e : Event) → CoreTold k y l.core q → Resumes code law k l q e → Makes code (told (effect code) (shown k) y) l e
+  pub operation_makes : (l : PlainContext) (q : Outcome) (e : Event) → CoreTold k y l.core q → Resumes code law k l q e → Makes code (step_with (effect code) (machine_thread k) y) l e
   operation_makes l q ev z w =
       let e = stepped_is k.core o y core_asked in
       core_makes code law k o y running runs asks_some saves (writes_word code k.configuration x k.core.attempt k.trapping o t asked) words l q ev

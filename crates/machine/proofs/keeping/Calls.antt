@@ -29,10 +29,10 @@ use Rattle.norec_core.specs.declared.step.Phase.{Phase}
 use Rattle.norec_core.specs.declared.step.Phase.TheVariants.{AtOperation}
 use Rattle.machine.specs.Explained.{has_lock}
 use Rattle.machine.specs.declared.event.Event.TheVariants as event
-use Rattle.machine.specs.Threads.{Thread, access, access_of, outside_access, told}
+use Rattle.machine.specs.Threads.{Thread, access, access_of, outside_access, step_with}
 use Rattle.machine.specs.Standing.{begins_of, GivesWordsIf, IsThreadOf}
 use Rattle.machine.specs.States.{Ready, IsReady, asks, asks_by, asks_outside, attempt_has_lock}
-use Rattle.machine.specs.inner.Kept.{Kept, shown, shown_from, AreWithin, RunsKept, KeptBy, IsKeptOf, op_by, op_asked}
+use Rattle.machine.specs.inner.Kept.{PlainContext, machine_thread, shown_from, AreWithin, RunsInContext, ContextWith, IsContextOf, op_by, op_asked}
 use Rattle.machine.proofs.keeping.Asking.{asks_is, access_is}
 use Rattle.machine.proofs.keeping.Seen.{kept_of, thread_of}
 use Rattle.machine.proofs.keeping.Work.{work_over}
@@ -77,25 +77,25 @@ asks_print : (att : Option (Attempt Configuration)) (th : Thread Configuration) 
 asks_print None th p d e = ap (λ (s : Status). asks_outside {C = Configuration} s (Print p d)) e
 asks_print (Some a) th p d e = refl
 
-module _ (code : Code) (k : Kept) (running : k.status ≡ Running) where
+module _ (code : Code) (k : PlainContext) (running : k.status ≡ Running) where
   abbrev c : Configuration
   c = k.configuration
 
-  no_op : (o : Op) → asks (effect code) (shown k) ≡ Some o → asks (effect code) (shown k) ≡ None → ⊥
+  no_op : (o : Op) → asks (effect code) (machine_thread k) ≡ Some o → asks (effect code) (machine_thread k) ≡ None → ⊥
   no_op o e h = let z : Some o ≡ None = sym e ∙ h in cc
 
-  pure_asks : (d : Configuration) → effect code c ≡ Pure d → asks (effect code) (shown k) ≡ None
-  pure_asks d e = ap (asks_by (shown k) (shown k).attempt) e ∙ asks_pure (shown k).attempt (shown k) d running
+  pure_asks : (d : Configuration) → effect code c ≡ Pure d → asks (effect code) (machine_thread k) ≡ None
+  pure_asks d e = ap (asks_by (machine_thread k) (machine_thread k).attempt) e ∙ asks_pure (machine_thread k).attempt (machine_thread k) d running
 
-  print_asks : (p : List ℕ) (d : Configuration) → effect code c ≡ Print p d → asks (effect code) (shown k) ≡ None
-  print_asks p d e = ap (asks_by (shown k) (shown k).attempt) e ∙ asks_print (shown k).attempt (shown k) p d running
+  print_asks : (p : List ℕ) (d : Configuration) → effect code c ≡ Print p d → asks (effect code) (machine_thread k) ≡ None
+  print_asks p d e = ap (asks_by (machine_thread k) (machine_thread k).attempt) e ∙ asks_print (machine_thread k).attempt (machine_thread k) p d running
 
   -- the core was asked
   pub ready_operation : (r : Result Access Stop) (o : Op) (x : Doing) (new : CoreState) (rd : Ready) → Tells code c x → op_asked x k.core.attempt k.trapping ≡ Some o → rd.asked ≡ new.asked → rd.saved ≡ new.saved →
-      OnOk r (new.asked ≡ Some o) → (o ≡ op.Begin → OnOk r (new.saved ≡ saved_in c)) → OnOk r (IsReady code (shown k) rd)
+      OnOk r (new.asked ≡ Some o) → (o ≡ op.Begin → OnOk r (new.saved ≡ saved_in c)) → OnOk r (IsReady code (machine_thread k) rd)
   ready_operation (Err w) o x new rd t e a b p q = tt
   ready_operation (Ok y) o x new rd t e a b p q =
-      let asked : asks (effect code) (shown k) ≡ Some o = asks_is code k running x t ∙ e in
+      let asked : asks (effect code) (machine_thread k) ≡ Some o = asks_is code k running x t ∙ e in
       record {
         asked = λ z h. a ∙ p ∙ sym asked ∙ h;
         saved = λ h. let same : o ≡ op.Begin = let z : Some o ≡ Some op.Begin = sym asked ∙ h in cc in b ∙ q same;
@@ -103,35 +103,35 @@ module _ (code : Code) (k : Kept) (running : k.status ≡ Running) where
         print = λ z d h. absurd (no_op o asked (print_asks z d h));
       }
 
-  pub access_operation : (x : Doing) (o : Op) → Tells code c x → op_asked x k.core.attempt k.trapping ≡ Some o → access (effect code) (shown k) ≡ core_access k.core.attempt o
+  pub access_operation : (x : Doing) (o : Op) → Tells code c x → op_asked x k.core.attempt k.trapping ≡ Some o → access (effect code) (machine_thread k) ≡ core_access k.core.attempt o
   access_operation x o t e = access_is code k o (asks_is code k running x t ∙ e)
 
 -- a thread as its contracts see it, and what it keeps
-module _ (code : Code) (law : BeginsStayOpen code) (k : Kept) (th : Thread Configuration) (is : shown k ≡ th) where
-  pub runs_of : AreWithin k.configuration (begins_of k.core.attempt) → k.status ≡ Running → IsThreadOf code th → RunsKept code k
-  runs_of w s t = subst (KeptBy code k) s (kept_of code law k w (subst (IsThreadOf code) (sym is) t))
+module _ (code : Code) (law : BeginsStayOpen code) (k : PlainContext) (th : Thread Configuration) (is : machine_thread k ≡ th) where
+  pub runs_of : AreWithin k.configuration (begins_of k.core.attempt) → k.status ≡ Running → IsThreadOf code th → RunsInContext code k
+  runs_of w s t = subst (ContextWith code k) s (kept_of code law k w (subst (IsThreadOf code) (sym is) t))
 
-  running_by : (P : Attempt Saved → Type 0) → IsSomeAnd k.core.attempt P → (s : Status) → KeptBy code k s → s ≡ Running
+  running_by : (P : Attempt Saved → Type 0) → IsSomeAnd k.core.attempt P → (s : Status) → ContextWith code k s → s ≡ Running
   running_by P some Running h = refl
   running_by P some HasEnded h = absurd (subst (λ (o : Option (Attempt Saved)). IsSomeAnd o P) h some)
   running_by P some (HasTrapped cause) h = absurd (subst (λ (o : Option (Attempt Saved)). IsSomeAnd o P) h some)
 
-  none_by : (s : Status) → (s ≡ Running → ⊥) → KeptBy code k s → k.core.attempt ≡ None
+  none_by : (s : Status) → (s ≡ Running → ⊥) → ContextWith code k s → k.core.attempt ≡ None
   none_by Running ne h = absurd (ne refl)
   none_by HasEnded ne h = h
   none_by (HasTrapped cause) ne h = h
 
   module _ (w : AreWithin k.configuration (begins_of k.core.attempt)) (over : k.status ≡ Running → ⊥) (t : IsThreadOf code th) where
-    kept_so : IsKeptOf code k
+    kept_so : IsContextOf code k
     kept_so = kept_of code law k w (subst (IsThreadOf code) (sym is) t)
 
     none : k.core.attempt ≡ None
     none = none_by k.status over kept_so
 
-    pub over_makes : (y : Answer) → (shown k ≡ (told (effect code) th y).thread) × (event.Quiet ≡ (told (effect code) th y).event)
+    pub over_makes : (y : Answer) → (machine_thread k ≡ (step_with (effect code) th y).thread) × (event.Quiet ≡ (step_with (effect code) th y).event)
     over_makes y =
         let m = work_over code k y none over kept_so in
-        (m.thread ∙ ap (λ (z : Thread Configuration). (told (effect code) z y).thread) is, m.event ∙ ap (λ (z : Thread Configuration). (told (effect code) z y).event) is)
+        (m.thread ∙ ap (λ (z : Thread Configuration). (step_with (effect code) z y).thread) is, m.event ∙ ap (λ (z : Thread Configuration). (step_with (effect code) z y).event) is)
 
     out_local : (s : Status) (x : Effect Configuration) → (s ≡ Running → ⊥) → outside_access s x ≡ Local
     out_local Running x ne = absurd (ne refl)
@@ -139,18 +139,18 @@ module _ (code : Code) (law : BeginsStayOpen code) (k : Kept) (th : Thread Confi
     out_local (HasTrapped cause) x ne = refl
 
     pub over_local : access (effect code) th ≡ Local
-    over_local = ap (access (effect code)) (sym is) ∙ ap (λ (z : Option (Attempt Saved)). access_of (shown k) (shown_from k.configuration z) (effect code k.configuration)) none ∙ out_local k.status (effect code k.configuration) over
+    over_local = ap (access (effect code)) (sym is) ∙ ap (λ (z : Option (Attempt Saved)). access_of (machine_thread k) (shown_from k.configuration z) (effect code k.configuration)) none ∙ out_local k.status (effect code k.configuration) over
 
-    pub over_shown : access (effect code) (shown k) ≡ Local
+    pub over_shown : access (effect code) (machine_thread k) ≡ Local
     over_shown = ap (access (effect code)) is ∙ over_local
 
 pub used_up_never : (x a : Access) → a ≡ Local → UsedUp (Ok x) a
 used_up_never x a e = (λ h. cc, λ h. let z : stops a ≡ false = ap stops e in cc)
 
 -- a thread at its beginning
-pub new_thread_of : (code : Code) (law : BeginsStayOpen code) (k : Kept) (t : ℕ) → t < 2 ^ 32 → k.configuration ≡ beginning code t → k.core.attempt ≡ None → k.status ≡ Running → IsThreadOf code (shown k)
+pub new_thread_of : (code : Code) (law : BeginsStayOpen code) (k : PlainContext) (t : ℕ) → t < 2 ^ 32 → k.configuration ≡ beginning code t → k.core.attempt ≡ None → k.status ≡ Running → IsThreadOf code (machine_thread k)
 new_thread_of code law k t lt c a s =
-    thread_of code law k (subst (KeptBy code k) (sym s) (record {
+    thread_of code law k (subst (ContextWith code k) (sym s) (record {
       stands = subst (λ (z : Configuration). MayStand code z (begins_of k.core.attempt)) (sym c) (subst (λ (z : Option (Attempt Saved)). MayStand code (beginning code t) (begins_of z)) (sym a) (law.none_yet t lt));
       words = subst GivesWordsIf (sym a) tt;
     }))

@@ -6,7 +6,7 @@ use Rattle.syntax.specs.declared.numbers.Status.TheVariants.{Running}
 use Rattle.nesting.specs.Begins.{Saved}
 use Rattle.bytecode.specs.Code.{Code, Configuration, effect}
 use Rattle.frames.specs.declared.doing.Doing.TheVariants as doing
-use Rattle.frames.specs.Open.{restored, saved_in, BeginsStayOpen}
+use Rattle.frames.specs.Open.{begin_configuration, saved_in, BeginsStayOpen}
 use Rattle.frames.specs.Told.{Tells}
 use Rattle.norec_core.specs.declared.step.Access.{Access}
 use Rattle.norec_core.specs.declared.step.Access.TheVariants.{Local, LoadLock, Swap}
@@ -19,30 +19,30 @@ use Rattle.norec_core.specs.Phases.{CoreStep, core_access, core_step, store_acce
 use Rattle.norec_core.specs.Cores.{IsStoring}
 use Rattle.norec_core.proofs.Committing.{begin_keeps, store_access_is, store_is, store_keeps, swap_under}
 use Rattle.machine.specs.declared.event.Event.{Event}
-use Rattle.machine.specs.Threads.{access, told}
+use Rattle.machine.specs.Threads.{access, step_with}
 use Rattle.machine.specs.States.{asks}
-use Rattle.machine.specs.inner.Kept.{Kept, Makes, MayGoBack, RunsKept, back_by, op_asked, shown, shown_from}
+use Rattle.machine.specs.inner.Kept.{PlainContext, Makes, MayGoBack, RunsInContext, back_by, op_asked, machine_thread, shown_from}
 use Rattle.machine.proofs.keeping.Asking.{access_is, access_local, asks_is}
 use Rattle.machine.proofs.keeping.Makes.{Resumes, core_makes, may_go_back}
 use Rattle.machine.proofs.keeping.Reading.{some_and}
 use Rattle.machine.proofs.keeping.Words.{FitsRegister}
 
-module _ (code : Code) (law : BeginsStayOpen code) (k : Kept) (running : k.status ≡ Running) (runs : RunsKept code k) (t : Tells code k.configuration doing.Commit) where
+module _ (code : Code) (law : BeginsStayOpen code) (k : PlainContext) (running : k.status ≡ Running) (runs : RunsInContext code k) (t : Tells code k.configuration doing.Commit) where
   module _ (a : Attempt Saved) (under : k.core.attempt ≡ Some a) where
-    asked : asks (effect code) (shown k) ≡ Some op.Commit
+    asked : asks (effect code) (machine_thread k) ≡ Some op.Commit
     asked = asks_is code k running doing.Commit t ∙ ap (λ (z : Option (Attempt Saved)). op_asked doing.Commit z k.trapping) under
 
-    pub commit_access_is : access (effect code) (shown k) ≡ core_access k.core.attempt op.Commit
+    pub commit_access_is : access (effect code) (machine_thread k) ≡ core_access k.core.attempt op.Commit
     commit_access_is = access_is code k op.Commit asked
 
     module _ (y : Answer) (word : FitsRegister (core_access k.core.attempt op.Commit) y) where
       abbrev n : CoreStep Saved
       n = core_step k.core.saved k.core.attempt op.Commit y
 
-      pub commit_back : (s : Saved) (r : Outcome) → r ≡ n.outcome → IfSome n.back (λ z. s ≡ z) → MayGoBack code k.configuration s (back_by (effect code k.configuration) r (restored k.configuration s))
+      pub commit_back : (s : Saved) (r : Outcome) → r ≡ n.outcome → IfSome n.back (λ z. s ≡ z) → MayGoBack code k.configuration s (back_by (effect code k.configuration) r (begin_configuration k.configuration s))
       commit_back s r e h = may_go_back code law k op.Commit y running runs asked (λ z. absurd (cc)) tt word r s e h
 
-      pub commit_makes : (l : Kept) (r : Outcome) (e : Event) → r ≡ n.outcome → l.core.attempt ≡ n.attempt → IfSome n.back (λ z. l.core.saved ≡ z) → Resumes code law k l r e → Makes code (told (effect code) (shown k) y) l e
+      pub commit_makes : (l : PlainContext) (r : Outcome) (e : Event) → r ≡ n.outcome → l.core.attempt ≡ n.attempt → IfSome n.back (λ z. l.core.saved ≡ z) → Resumes code law k l r e → Makes code (step_with (effect code) (machine_thread k) y) l e
       commit_makes l r e er ea eb z = core_makes code law k op.Commit y running runs asked (λ h. absurd (cc)) tt word l r e er ea eb z
 
   -- the swap
@@ -53,20 +53,20 @@ module _ (code : Code) (law : BeginsStayOpen code) (k : Kept) (running : k.statu
     swap_word : (y : Answer) → FitsRegister (core_access k.core.attempt op.Commit) y
     swap_word y = subst (λ (x : Access). FitsRegister x y) (sym swaps) tt
 
-    pub swap_back : (y : Answer) (s : Saved) (r : Outcome) → r ≡ (core_step k.core.saved k.core.attempt op.Commit y).outcome → IfSome (core_step k.core.saved k.core.attempt op.Commit y).back (λ z. s ≡ z) → MayGoBack code k.configuration s (back_by (effect code k.configuration) r (restored k.configuration s))
+    pub swap_back : (y : Answer) (s : Saved) (r : Outcome) → r ≡ (core_step k.core.saved k.core.attempt op.Commit y).outcome → IfSome (core_step k.core.saved k.core.attempt op.Commit y).back (λ z. s ≡ z) → MayGoBack code k.configuration s (back_by (effect code k.configuration) r (begin_configuration k.configuration s))
     swap_back y = commit_back swapping.0 swapping.1 y (swap_word y)
 
-    pub swap_makes : (y : Answer) (l : Kept) (r : Outcome) (e : Event) → r ≡ (core_step k.core.saved k.core.attempt op.Commit y).outcome → l.core.attempt ≡ (core_step k.core.saved k.core.attempt op.Commit y).attempt → IfSome (core_step k.core.saved k.core.attempt op.Commit y).back (λ z. l.core.saved ≡ z) → Resumes code law k l r e → Makes code (told (effect code) (shown k) y) l e
+    pub swap_makes : (y : Answer) (l : PlainContext) (r : Outcome) (e : Event) → r ≡ (core_step k.core.saved k.core.attempt op.Commit y).outcome → l.core.attempt ≡ (core_step k.core.saved k.core.attempt op.Commit y).attempt → IfSome (core_step k.core.saved k.core.attempt op.Commit y).back (λ z. l.core.saved ≡ z) → Resumes code law k l r e → Makes code (step_with (effect code) (machine_thread k) y) l e
     swap_makes y = commit_makes swapping.0 swapping.1 y (swap_word y)
 
   -- a thread whose commit swaps the lock has a core that does
-  core_swaps_at : (from : ℕ) (o : Option (Attempt Saved)) → k.core.attempt ≡ o → access (effect code) (shown k) ≡ Swap from → core_access k.core.attempt op.Commit ≡ Swap from
+  core_swaps_at : (from : ℕ) (o : Option (Attempt Saved)) → k.core.attempt ≡ o → access (effect code) (machine_thread k) ≡ Swap from → core_access k.core.attempt op.Commit ≡ Swap from
   core_swaps_at from None under e =
       let none = asks_is code k running doing.Commit t ∙ ap (λ (z : Option (Attempt Saved)). op_asked doing.Commit z k.trapping) under in
       let away : Local ≡ Swap from = sym (access_local code k none) ∙ e in absurd (cc)
   core_swaps_at from (Some a) under e = sym (commit_access_is a under) ∙ e
 
-  pub core_swaps : (from : ℕ) → access (effect code) (shown k) ≡ Swap from → core_access k.core.attempt op.Commit ≡ Swap from
+  pub core_swaps : (from : ℕ) → access (effect code) (machine_thread k) ≡ Swap from → core_access k.core.attempt op.Commit ≡ Swap from
   core_swaps from e = core_swaps_at from k.core.attempt refl e
 
   -- a store
@@ -92,21 +92,21 @@ module _ (code : Code) (law : BeginsStayOpen code) (k : Kept) (running : k.statu
         let e = ap (λ (z : Option (Attempt Saved)). (core_step k.core.saved z op.Commit y).back) storing.1 ∙ ap (λ (n : CoreStep Saved). n.back) (store_is k.core.saved b place storing.2 y) ∙ store_keeps k.core.saved b place (slice_get b.writes place) in
         subst (λ (z : Option Saved). IfSome z (λ w. s ≡ w)) (sym e) tt
 
-    pub store_back : (y : Answer) (s : Saved) (r : Outcome) → r ≡ (core_step k.core.saved k.core.attempt op.Commit y).outcome → MayGoBack code k.configuration s (back_by (effect code k.configuration) r (restored k.configuration s))
+    pub store_back : (y : Answer) (s : Saved) (r : Outcome) → r ≡ (core_step k.core.saved k.core.attempt op.Commit y).outcome → MayGoBack code k.configuration s (back_by (effect code k.configuration) r (begin_configuration k.configuration s))
     store_back y s r e = commit_back b storing.1 y (store_word y) s r e (store_stays y s)
 
-    pub store_makes : (y : Answer) (l : Kept) (r : Outcome) (e : Event) → r ≡ (core_step k.core.saved k.core.attempt op.Commit y).outcome → l.core.attempt ≡ (core_step k.core.saved k.core.attempt op.Commit y).attempt → Resumes code law k l r e → Makes code (told (effect code) (shown k) y) l e
+    pub store_makes : (y : Answer) (l : PlainContext) (r : Outcome) (e : Event) → r ≡ (core_step k.core.saved k.core.attempt op.Commit y).outcome → l.core.attempt ≡ (core_step k.core.saved k.core.attempt op.Commit y).attempt → Resumes code law k l r e → Makes code (step_with (effect code) (machine_thread k) y) l e
     store_makes y l r e er ea z = commit_makes b storing.1 y (store_word y) l r e er ea (store_stays y l.core.saved) z
 
 -- an outermost begin
-module _ (code : Code) (law : BeginsStayOpen code) (k : Kept) (to : ℕ) (running : k.status ≡ Running) (runs : RunsKept code k) (t : Tells code k.configuration (doing.Begin to)) (none : k.core.attempt ≡ None) where
-  begin_asked : asks (effect code) (shown k) ≡ Some op.Begin
+module _ (code : Code) (law : BeginsStayOpen code) (k : PlainContext) (to : ℕ) (running : k.status ≡ Running) (runs : RunsInContext code k) (t : Tells code k.configuration (doing.Begin to)) (none : k.core.attempt ≡ None) where
+  begin_asked : asks (effect code) (machine_thread k) ≡ Some op.Begin
   begin_asked = asks_is code k running (doing.Begin to) t ∙ ap (λ (z : Option (Attempt Saved)). op_asked (doing.Begin to) z k.trapping) none
 
   loads : core_access k.core.attempt op.Begin ≡ LoadLock
   loads = ap (λ (z : Option (Attempt Saved)). core_access z op.Begin) none
 
-  pub begin_access : access (effect code) (shown k) ≡ LoadLock
+  pub begin_access : access (effect code) (machine_thread k) ≡ LoadLock
   begin_access = access_is code k op.Begin begin_asked ∙ loads
 
   module _ (same : k.core.saved ≡ saved_in k.configuration) (lock : ℕ) where
@@ -118,10 +118,10 @@ module _ (code : Code) (law : BeginsStayOpen code) (k : Kept) (to : ℕ) (runnin
         let e = ap (λ (z : Option (Attempt Saved)). (core_step k.core.saved z op.Begin (Value lock)).back) none ∙ begin_keeps k.core.saved lock in
         subst (λ (z : Option Saved). IfSome z (λ w. s ≡ w)) (sym e) tt
 
-    pub begin_back : (s : Saved) (r : Outcome) → r ≡ (core_step k.core.saved k.core.attempt op.Begin (Value lock)).outcome → MayGoBack code k.configuration s (back_by (effect code k.configuration) r (restored k.configuration s))
+    pub begin_back : (s : Saved) (r : Outcome) → r ≡ (core_step k.core.saved k.core.attempt op.Begin (Value lock)).outcome → MayGoBack code k.configuration s (back_by (effect code k.configuration) r (begin_configuration k.configuration s))
     begin_back s r e = may_go_back code law k op.Begin (Value lock) running runs begin_asked (λ z. same) tt begin_word r s e (begin_stays s)
 
-    pub begin_makes : (l : Kept) (r : Outcome) (e : Event) → r ≡ (core_step k.core.saved k.core.attempt op.Begin (Value lock)).outcome → l.core.attempt ≡ (core_step k.core.saved k.core.attempt op.Begin (Value lock)).attempt → Resumes code law k l r e → Makes code (told (effect code) (shown k) (Value lock)) l e
+    pub begin_makes : (l : PlainContext) (r : Outcome) (e : Event) → r ≡ (core_step k.core.saved k.core.attempt op.Begin (Value lock)).outcome → l.core.attempt ≡ (core_step k.core.saved k.core.attempt op.Begin (Value lock)).attempt → Resumes code law k l r e → Makes code (step_with (effect code) (machine_thread k) (Value lock)) l e
     begin_makes l r e er ea z = core_makes code law k op.Begin (Value lock) running runs begin_asked (λ h. same) tt begin_word l r e er ea (begin_stays l.core.saved) z
 
 -- what is under way in the thread that is shown is so in the one that is kept

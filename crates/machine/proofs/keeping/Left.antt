@@ -6,7 +6,7 @@ use Rattle.bytecode.specs.Effects.{Effect}
 use Rattle.bytecode.specs.Effects.Effect.{Pure}
 use Rattle.bytecode.specs.Code.{Code, Configuration, Instr, effect}
 use Rattle.local_steps.specs.Local.{MayEnd}
-use Rattle.frames.specs.Open.{restored}
+use Rattle.frames.specs.Open.{begin_configuration}
 use Rattle.frames.specs.Told.{IsLocalStep, Tells}
 use Rattle.frames.specs.declared.doing.Doing.{Doing}
 use Rattle.frames.specs.declared.doing.Doing.TheVariants as doing
@@ -41,7 +41,7 @@ left_other o x a b d = tt
 
 -- the machine's attempt shows the same
 module _ (c : Configuration) where
-  commit_shown : (a : Attempt Saved) (inner : List (Checkpoint Saved)) (kept : Bool) (ws : List (ℕ × ℕ)) → commit_access (attempt_as (restored c) a) (map (checkpoint_as (restored c)) inner) kept ws ≡ Local → commit_access a inner kept ws ≡ Local
+  commit_shown : (a : Attempt Saved) (inner : List (Checkpoint Saved)) (kept : Bool) (ws : List (ℕ × ℕ)) → commit_access (attempt_as (begin_configuration c) a) (map (checkpoint_as (begin_configuration c)) inner) kept ws ≡ Local → commit_access a inner kept ws ≡ Local
   commit_shown a [] true ws e = e
   commit_shown a [] false [] e = refl
   commit_shown a [] false (p ∷ ps) e = absurd (cc)

@@ -7,14 +7,14 @@ use Rattle.norec_core.specs.Attempts.{Attempt}
 use Rattle.norec_core.specs.Cores.{IsComparing, IsStoring}
 use Rattle.machine.specs.Threads.{Thread}
 use Rattle.machine.specs.States.{ComparesNext, StoresNext, ThreadState}
-use Rattle.machine.specs.inner.Kept.{Kept, shown, shown_from}
+use Rattle.machine.specs.inner.Kept.{PlainContext, machine_thread, shown_from}
 use Rattle.machine.proofs.keeping.Committing.{kept_stores}
 
 kept_compares : (c : Configuration) (time place : ℕ) (o : Option (Attempt Saved)) → IsSomeAnd (shown_from c o) (λ a. IsComparing time place a) → IsSomeAnd o (λ a. IsComparing time place a)
 kept_compares c time place None h = absurd h
 kept_compares c time place (Some a) h = h
 
-module _ (k : Kept) (s : ThreadState) (is : shown k ≡ s.thread) where
+module _ (k : PlainContext) (s : ThreadState) (is : machine_thread k ≡ s.thread) where
   pub no_store : (r : Option ℕ) → IfNone r ((place : ℕ) → IsSomeAnd k.core.attempt (λ a. IsStoring place a) → ⊥) → IfNone r ((place : ℕ) → StoresNext s place → ⊥)
   no_store (Some place) h = tt
   no_store None h = λ place n. h place (kept_stores k.configuration place k.core.attempt (subst (λ (th : Thread Configuration). IsSomeAnd th.attempt (λ a. IsStoring place a)) (sym is) n.stores))

@@ -2,7 +2,7 @@
 use Rattle.std.proofs.Common.{◌≡◌, ◌≢◌, ◌<◌, ◌≤◌, ◌-◌, ◌^◌, ◌==◌, ◌%◌, ℕ, suc, Bool, true, false, cond, List, [], ◌∷◌, ◌++◌, Option, None, Some, refl, sym, ◌∙◌, ap, subst, slice_get, map, length, take, drop, append_assoc, take-append-drop, length-append, length-take-le, arith}
 use Rattle.std.proofs.lemmas.List.{length-map, map-append}
 use Rattle.std.specs.List.{AllByRecursion}
-use Rattle.write_log.specs.Overlay.{written, put}
+use Rattle.write_log.specs.Overlay.{overlay_word, with_write}
 use Rattle.norec_core.specs.declared.step.Op.{Op}
 use Rattle.norec_core.specs.declared.step.Op.TheVariants as op
 use Rattle.norec_core.specs.declared.step.Access.TheVariants.{LoadWord}
@@ -69,19 +69,19 @@ pub data Does {S : Type 0} (now : S) (old : List S) (o : Op) (n : CoreStep S) : 
   releases : o ≡ op.Release → n.outcome ≡ outcome.Done → n.back ≡ None → n.attempt ≡ None → Does now old o n
 
 -- a word that was written is one of a log of words
-pub written_word : (ad : ℕ) (ws : List (ℕ × ℕ)) (v : ℕ) → HaveWords ws → written ad ws ≡ Some v → v < 2 ^ 64
+pub written_word : (ad : ℕ) (ws : List (ℕ × ℕ)) (v : ℕ) → HaveWords ws → overlay_word ad ws ≡ Some v → v < 2 ^ 64
 written_word ad [] v h e = absurd (cc)
 written_word ad (p ∷ ps) v h e = at (p.0 == ad) e (written_word ad ps v h.1)
   where
-    at : (b : Bool) → cond b (Some p.1) (written ad ps) ≡ Some v → (written ad ps ≡ Some v → v < 2 ^ 64) → v < 2 ^ 64
+    at : (b : Bool) → cond b (Some p.1) (overlay_word ad ps) ≡ Some v → (overlay_word ad ps ≡ Some v → v < 2 ^ 64) → v < 2 ^ 64
     at true f g = let same : p.1 ≡ v = cc in subst (λ x. x < 2 ^ 64) same h.0
     at false f g = g f
 
-pub put_words : (ad v : ℕ) (ws : List (ℕ × ℕ)) → v < 2 ^ 64 → HaveWords ws → HaveWords (put ad v ws)
+pub put_words : (ad v : ℕ) (ws : List (ℕ × ℕ)) → v < 2 ^ 64 → HaveWords ws → HaveWords (with_write ad v ws)
 put_words ad v [] g h = (g, tt)
 put_words ad v (p ∷ ps) g h = at (p.0 == ad) (put_words ad v ps g h.1)
   where
-    at : (b : Bool) → HaveWords (put ad v ps) → HaveWords (cond b ((ad, v) ∷ ps) (p ∷ put ad v ps))
+    at : (b : Bool) → HaveWords (with_write ad v ps) → HaveWords (cond b ((ad, v) ∷ ps) (p ∷ with_write ad v ps))
     at true k = (g, h.1)
     at false k = (h.0, k)
 
@@ -141,7 +141,7 @@ module _ {S : Type 0} (now : S) (a : Attempt S) (w : GivesRegisterWords a) where
   word ad false (Value v) h = going (op.Read ad) (record a { phase = ReadsLock v }) (in_phase (op.Read ad) (ReadsLock v) h)
   word ad kept z h = stays (op.Read ad)
 
-  read : (ad : ℕ) (r : Option ℕ) (z : Answer) → r ≡ written ad a.writes → FitsRegister (read_access ad r) z → Does now old (op.Read ad) (core_read a r z)
+  read : (ad : ℕ) (r : Option ℕ) (z : Answer) → r ≡ overlay_word ad a.writes → FitsRegister (read_access ad r) z → Does now old (op.Read ad) (core_read a r z)
   read ad (Some v) z e h = gives (op.Read ad) a v refl (written_word ad a.writes v w.writes (sym e)) (refl, w)
   read ad None z e h = word ad a.kept z h
 
@@ -194,7 +194,7 @@ module _ {S : Type 0} (now : S) (a : Attempt S) (w : GivesRegisterWords a) where
 
   operation : (o : Op) (z : Answer) → a.phase ≡ AtOperation → WritesWord o → FitsRegister (operation_access a o) z → Does now old o (core_operation now a o z)
   operation op.Begin z q g h = begins refl refl refl refl (record { writes = w.writes; marks = (w.writes, w.marks); in_hand = hand (record { saved = now; writes = a.writes } ∷ a.inner) q })
-  operation (op.Read ad) z q g h = read ad (written ad a.writes) z refl h
+  operation (op.Read ad) z q g h = read ad (overlay_word ad a.writes) z refl h
   operation (op.Write ad v) z q g h = works refl refl refl refl (record { writes = put_words ad v a.writes g w.writes; marks = w.marks; in_hand = w.in_hand })
   operation op.Commit z q g h = commit a.inner a.kept a.writes z refl q
   operation op.Cancel z q g h = cancel op.Cancel 0 a.inner a.kept refl q refl

@@ -6,7 +6,7 @@ use Rattle.syntax.specs.declared.numbers.Status.{Status}
 use Rattle.syntax.specs.declared.numbers.Status.TheVariants.{Running, Ended as HasEnded, Trapped as HasTrapped}
 use Rattle.nesting.specs.Begins.{Saved}
 use Rattle.bytecode.specs.Code.{Code, Configuration}
-use Rattle.frames.specs.Open.{MayStand, restored, saved_in, BeginsStayOpen}
+use Rattle.frames.specs.Open.{MayStand, begin_configuration, saved_in, BeginsStayOpen}
 use Rattle.norec_core.specs.declared.step.Op.{Op}
 use Rattle.norec_core.specs.declared.step.Op.TheVariants as op
 use Rattle.norec_core.specs.declared.step.Answer.{Answer}
@@ -16,7 +16,7 @@ use Rattle.norec_core.specs.Attempts.{Checkpoint, Attempt}
 use Rattle.norec_core.specs.Phases.{core_step, core_phase}
 use Rattle.norec_core.specs.Saved.{if_some, checkpoint_as, attempt_as}
 use Rattle.machine.specs.Standing.{begins_of, HaveWords, HasInHand, GivesWordsIf, IsStanding, IsThreadOf}
-use Rattle.machine.specs.inner.Kept.{Kept, shown_from, shown, AreWithin, KeptBy, IsKeptOf}
+use Rattle.machine.specs.inner.Kept.{PlainContext, shown_from, machine_thread, AreWithin, ContextWith, IsContextOf}
 
 module _ {S T : Type 0} where
   inner_begins : (f : S → T) (ks : List (Checkpoint S)) (s : S) → map (λ (k : Checkpoint T). k.saved) (map (checkpoint_as f) ks) ++ f s ∷ [] ≡ map f (map (λ (k : Checkpoint S). k.saved) ks ++ s ∷ [])
@@ -86,7 +86,7 @@ module _ {S T : Type 0} where
       ∙ ap (λ (ks : List (Checkpoint T)). Some (record { saved = g a.saved; first = a.first; snapshot = a.snapshot; reads = a.reads; writes = a.writes; inner = ks; kept = a.kept; phase = a.phase })) r.0
 
 -- what a begin saves here is restored to all
-pub restored_saved : (c : Configuration) → restored c (saved_in c) ≡ c
+pub restored_saved : (c : Configuration) → begin_configuration c (saved_in c) ≡ c
 restored_saved c = ap (λ n. record { place = c.place; registers = c.registers; frames = drop n c.frames }) zero_left
   where
     zero_left : suc (length c.frames) - suc (length c.frames) ≡ 0
@@ -124,20 +124,20 @@ module _ {S : Type 0} (now new : S) where
 same_drop : {X : Type 0} (fs : List X) (m n : ℕ) → 0 < m → m ≤ suc (length fs) → 0 < n → n ≤ suc (length fs) → drop (suc (length fs) - m) fs ≡ drop (suc (length fs) - n) fs → m ≡ n
 same_drop fs m n a b c d e = let l = ap length e in omega (arith, length-drop (suc (length fs) - m) fs, length-drop (suc (length fs) - n) fs, l)
 
-same_saved : (c : Configuration) (s t : Saved) → 0 < s.frames → s.frames ≤ suc (length c.frames) → 0 < t.frames → t.frames ≤ suc (length c.frames) → restored c s ≡ restored c t → s ≡ t
+same_saved : (c : Configuration) (s t : Saved) → 0 < s.frames → s.frames ≤ suc (length c.frames) → 0 < t.frames → t.frames ≤ suc (length c.frames) → begin_configuration c s ≡ begin_configuration c t → s ≡ t
 same_saved c s t a b d e h =
     let n = same_drop c.frames s.frames t.frames a b d e (ap (λ (x : Configuration). x.frames) h) in
     let p = ap (λ (x : Configuration). x.place) h in
     let r = ap (λ (x : Configuration). x.registers) h in
     ap (λ x. record { registers = x; frames = s.frames; place = s.place }) r ∙ ap (λ x. record { registers = t.registers; frames = x; place = s.place }) n ∙ ap (λ x. record { registers = t.registers; frames = t.frames; place = x }) p
 
-pub same_begins : (c : Configuration) (ss ts : List Saved) → AreWithin c ss → AreWithin c ts → map (restored c) ss ≡ map (restored c) ts → ss ≡ ts
+pub same_begins : (c : Configuration) (ss ts : List Saved) → AreWithin c ss → AreWithin c ts → map (begin_configuration c) ss ≡ map (begin_configuration c) ts → ss ≡ ts
 same_begins c [] [] a b e = refl
 same_begins c [] (t ∷ ts) a b e = absurd (cc)
 same_begins c (s ∷ ss) [] a b e = absurd (cc)
 same_begins c (s ∷ ss) (t ∷ ts) a b e =
-    let h : restored c s ≡ restored c t = cc in
-    let k : map (restored c) ss ≡ map (restored c) ts = cc in
+    let h : begin_configuration c s ≡ begin_configuration c t = cc in
+    let k : map (begin_configuration c) ss ≡ map (begin_configuration c) ts = cc in
     ap (λ (x : Saved). x ∷ ss) (same_saved c s t a.0.0 a.0.1 b.0.0 b.0.1 h) ∙ ap (λ (xs : List Saved). t ∷ xs) (same_begins c ss ts a.1 b.1 k)
 
 module _ (code : Code) (law : BeginsStayOpen code) where
@@ -157,27 +157,27 @@ module _ (code : Code) (law : BeginsStayOpen code) where
   within c ss m = all_within c [] ss m
 
   -- what the thread that is shown says of the one that is kept, and back
-  kept_by : (k : Kept) (s : Status) → AreWithin k.configuration (begins_of k.core.attempt) → IsStanding code (shown k) s → KeptBy code k s
+  kept_by : (k : PlainContext) (s : Status) → AreWithin k.configuration (begins_of k.core.attempt) → IsStanding code (machine_thread k) s → ContextWith code k s
   kept_by k Running w r =
-      let same = same_begins k.configuration (begins_of k.core.attempt) r.saved w (within k.configuration r.saved r.stands) (sym (begins_shown (restored k.configuration) k.core.attempt) ∙ r.begins) in
-      record { stands = subst (MayStand code k.configuration) (sym same) r.stands; words = words_kept (restored k.configuration) k.core.attempt r.words }
-  kept_by k HasEnded w r = none_shown (restored k.configuration) k.core.attempt r
-  kept_by k (HasTrapped cause) w r = none_shown (restored k.configuration) k.core.attempt r
+      let same = same_begins k.configuration (begins_of k.core.attempt) r.saved w (within k.configuration r.saved r.stands) (sym (begins_shown (begin_configuration k.configuration) k.core.attempt) ∙ r.begins) in
+      record { stands = subst (MayStand code k.configuration) (sym same) r.stands; words = words_kept (begin_configuration k.configuration) k.core.attempt r.words }
+  kept_by k HasEnded w r = none_shown (begin_configuration k.configuration) k.core.attempt r
+  kept_by k (HasTrapped cause) w r = none_shown (begin_configuration k.configuration) k.core.attempt r
 
-  shown_by : (k : Kept) (s : Status) → KeptBy code k s → IsStanding code (shown k) s
+  shown_by : (k : PlainContext) (s : Status) → ContextWith code k s → IsStanding code (machine_thread k) s
   shown_by k Running r = record {
     saved = begins_of k.core.attempt;
     stands = r.stands;
-    begins = begins_shown (restored k.configuration) k.core.attempt;
-    words = words_shown (restored k.configuration) k.core.attempt r.words;
+    begins = begins_shown (begin_configuration k.configuration) k.core.attempt;
+    words = words_shown (begin_configuration k.configuration) k.core.attempt r.words;
   }
   shown_by k HasEnded r = ap (shown_from k.configuration) r
   shown_by k (HasTrapped cause) r = ap (shown_from k.configuration) r
 
-  pub kept_of : (k : Kept) → AreWithin k.configuration (begins_of k.core.attempt) → IsThreadOf code (shown k) → IsKeptOf code k
+  pub kept_of : (k : PlainContext) → AreWithin k.configuration (begins_of k.core.attempt) → IsThreadOf code (machine_thread k) → IsContextOf code k
   unfolding IsThreadOf
   kept_of k w r = kept_by k k.status w r
 
-  pub thread_of : (k : Kept) → IsKeptOf code k → IsThreadOf code (shown k)
+  pub thread_of : (k : PlainContext) → IsContextOf code k → IsThreadOf code (machine_thread k)
   unfolding IsThreadOf
   thread_of k r = shown_by k k.status r

@@ -7,7 +7,7 @@ use Rattle.nesting.specs.Begins.{Saved}
 use Rattle.bytecode.specs.Effects.{Effect, after_cancel}
 use Rattle.bytecode.specs.Effects.Effect.{Pure, Print, Begin, Read, Write, Commit, Cancel, CancelOuter, Irrevocable, Traps, End}
 use Rattle.bytecode.specs.Code.{Code, Configuration, effect}
-use Rattle.frames.specs.Open.{MayStand, AreRestored, IsSuccessor, restored, saved_in, BeginsStayOpen}
+use Rattle.frames.specs.Open.{MayStand, AreRestored, IsSuccessor, begin_configuration, saved_in, BeginsStayOpen}
 use Rattle.norec_core.specs.declared.step.Op.{Op}
 use Rattle.norec_core.specs.declared.step.Op.TheVariants as op
 use Rattle.norec_core.specs.declared.step.Outcome.{Outcome}
@@ -17,36 +17,36 @@ use Rattle.norec_core.specs.Attempts.{Attempt}
 use Rattle.norec_core.specs.Phases.{CoreStep, core_step}
 use Rattle.norec_core.specs.Saved.{if_some, core_step_as}
 use Rattle.norec_core.proofs.SavedByMaps.{commutes}
-use Rattle.machine.specs.Threads.{Thread, told_of, told_outside, told_inside, resumed, resume, status_after, op_of}
+use Rattle.machine.specs.Threads.{Thread, told_of, told_outside, told_inside, resume_next, resume, status_after, op_of}
 use Rattle.machine.specs.Standing.{begins_of, GivesWordsIf}
 use Rattle.machine.specs.States.{asks_outside, asks_by}
-use Rattle.machine.specs.inner.Kept.{shown_from, AreWithin, KeptBy}
+use Rattle.machine.specs.inner.Kept.{shown_from, AreWithin, ContextWith}
 use Rattle.machine.proofs.Levels.{same_split}
 use Rattle.machine.proofs.keeping.Operations.{Does, TakesAway, cancels_so, is_cancel, is_plain, is_read}
 use Rattle.machine.proofs.keeping.Operations.Does.{goes, reads, works, begins, commits, cancels, drops, releases}
 use Rattle.machine.proofs.keeping.Seen.{restored_saved, now_unused, within}
 
 -- a step of the core shows as the core's step on what is shown
-pub core_shown : (c : Configuration) (s : Saved) (att : Option (Attempt Saved)) (o : Op) (y : Answer) → (o ≡ op.Begin → s ≡ saved_in c) → core_step c (shown_from c att) o y ≡ core_step_as (restored c) (core_step s att o y)
-core_shown c s att o y h = at o h ∙ (commutes (restored c)).step s att o y
+pub core_shown : (c : Configuration) (s : Saved) (att : Option (Attempt Saved)) (o : Op) (y : Answer) → (o ≡ op.Begin → s ≡ saved_in c) → core_step c (shown_from c att) o y ≡ core_step_as (begin_configuration c) (core_step s att o y)
+core_shown c s att o y h = at o h ∙ (commutes (begin_configuration c)).step s att o y
   where
-    at : (x : Op) → (x ≡ op.Begin → s ≡ saved_in c) → core_step c (shown_from c att) x y ≡ core_step (restored c s) (shown_from c att) x y
-    at op.Begin e = ap (λ (z : Configuration). core_step z (shown_from c att) op.Begin y) (sym (ap (restored c) (e refl) ∙ restored_saved c))
-    at (op.Read a) e = now_unused c (restored c s) (shown_from c att) (op.Read a) y (λ g. cc)
-    at (op.Write a v) e = now_unused c (restored c s) (shown_from c att) (op.Write a v) y (λ g. cc)
-    at op.Commit e = now_unused c (restored c s) (shown_from c att) op.Commit y (λ g. cc)
-    at op.Cancel e = now_unused c (restored c s) (shown_from c att) op.Cancel y (λ g. cc)
-    at (op.CancelOuter levels) e = now_unused c (restored c s) (shown_from c att) (op.CancelOuter levels) y (λ g. cc)
-    at op.Irrevocable e = now_unused c (restored c s) (shown_from c att) op.Irrevocable y (λ g. cc)
-    at op.Release e = now_unused c (restored c s) (shown_from c att) op.Release y (λ g. cc)
+    at : (x : Op) → (x ≡ op.Begin → s ≡ saved_in c) → core_step c (shown_from c att) x y ≡ core_step (begin_configuration c s) (shown_from c att) x y
+    at op.Begin e = ap (λ (z : Configuration). core_step z (shown_from c att) op.Begin y) (sym (ap (begin_configuration c) (e refl) ∙ restored_saved c))
+    at (op.Read a) e = now_unused c (begin_configuration c s) (shown_from c att) (op.Read a) y (λ g. cc)
+    at (op.Write a v) e = now_unused c (begin_configuration c s) (shown_from c att) (op.Write a v) y (λ g. cc)
+    at op.Commit e = now_unused c (begin_configuration c s) (shown_from c att) op.Commit y (λ g. cc)
+    at op.Cancel e = now_unused c (begin_configuration c s) (shown_from c att) op.Cancel y (λ g. cc)
+    at (op.CancelOuter levels) e = now_unused c (begin_configuration c s) (shown_from c att) (op.CancelOuter levels) y (λ g. cc)
+    at op.Irrevocable e = now_unused c (begin_configuration c s) (shown_from c att) op.Irrevocable y (λ g. cc)
+    at op.Release e = now_unused c (begin_configuration c s) (shown_from c att) op.Release y (λ g. cc)
 
 module _ {C : Type 0} (f : C → Effect C) (th : Thread C) (y : Answer) where
-  outside_asked : (s : Status) (x : Effect C) (o : Op) → asks_outside s x ≡ Some o → told_outside f th s x y ≡ resumed f th x (core_step th.configuration None o y)
-  outside_asked Running (Begin c d) o e = let same : op.Begin ≡ o = cc in ap (λ (z : Op). resumed f th (Begin c d) (core_step th.configuration None z y)) same
+  outside_asked : (s : Status) (x : Effect C) (o : Op) → asks_outside s x ≡ Some o → told_outside f th s x y ≡ resume_next f th x (core_step th.configuration None o y)
+  outside_asked Running (Begin c d) o e = let same : op.Begin ≡ o = cc in ap (λ (z : Op). resume_next f th (Begin c d) (core_step th.configuration None z y)) same
   outside_asked s x o e = absurd (cc)
 
   -- a step that asks the core for an operation
-  pub told_asked : (att : Option (Attempt C)) (x : Effect C) (o : Op) → asks_by th att x ≡ Some o → told_of f th att x y ≡ resumed f th x (core_step th.configuration att o y)
+  pub told_asked : (att : Option (Attempt C)) (x : Effect C) (o : Op) → asks_by th att x ≡ Some o → told_of f th att x y ≡ resume_next f th x (core_step th.configuration att o y)
   told_asked None x o e = outside_asked th.status x o e
   told_asked (Some a) x o e = ap (λ (q : Option Op). told_inside f th a x q y) e
 
@@ -82,9 +82,9 @@ module _ {C : Type 0} where
 
 -- where the operation of a core's step leaves the thread, and whether it runs
 pub record Leaves (code : Code) (c : Configuration) (x : Effect Configuration) (r : Outcome) (o : Option (Attempt Saved)) (d : Configuration) (s : Status) : Type 0 where
-  pub stands : KeptBy code (record { configuration = d; core = record { attempt = o; asked = None; saved = saved_in c; read_room = 0; write_room = 0 }; trapping = false; text = []; status = s }) s
+  pub stands : ContextWith code (record { configuration = d; core = record { attempt = o; asked = None; saved = saved_in c; read_room = 0; write_room = 0 }; trapping = false; text = []; status = s }) s
   pub within : AreWithin d (begins_of o)
-  pub restored : AreRestored c d (begins_of o)
+  pub begin_configuration : AreRestored c d (begins_of o)
 
 module _ (code : Code) (law : BeginsStayOpen code) where
   module _ (c : Configuration) (ss : List Saved) (m : MayStand code c ss) where
@@ -105,15 +105,15 @@ module _ (code : Code) (law : BeginsStayOpen code) where
     module _ (s : Saved) (o : Op) (n : CoreStep Saved) (same : o ≡ op.Begin → s ≡ saved_in c) where
       -- where the operation goes on: by what came of it, and by the instruction that asked for it
       abbrev To : Effect Configuration → Configuration
-      To x = resume (effect code) x c n.outcome (if_some (restored c) n.back)
+      To x = resume (effect code) x c n.outcome (if_some (begin_configuration c) n.back)
 
       abbrev LeavesTo : Effect Configuration → Type 0
       LeavesTo x = Leaves code c x n.outcome n.attempt (To x) (status_after n.outcome x Running)
 
-      to_at : (x : Effect Configuration) (r : Outcome) (b : Option Saved) (d : Configuration) (st : Status) → n.outcome ≡ r → n.back ≡ b → resume (effect code) x c r (if_some (restored c) b) ≡ d → status_after r x Running ≡ st →
+      to_at : (x : Effect Configuration) (r : Outcome) (b : Option Saved) (d : Configuration) (st : Status) → n.outcome ≡ r → n.back ≡ b → resume (effect code) x c r (if_some (begin_configuration c) b) ≡ d → status_after r x Running ≡ st →
           Leaves code c x n.outcome n.attempt d st → LeavesTo x
       to_at x r b d st e f g h l =
-          let place : To x ≡ d = ap (λ (z : Outcome). resume (effect code) x c z (if_some (restored c) n.back)) e ∙ ap (λ (z : Option Saved). resume (effect code) x c r (if_some (restored c) z)) f ∙ g in
+          let place : To x ≡ d = ap (λ (z : Outcome). resume (effect code) x c z (if_some (begin_configuration c) n.back)) e ∙ ap (λ (z : Option Saved). resume (effect code) x c r (if_some (begin_configuration c) z)) f ∙ g in
           let status : status_after n.outcome x Running ≡ st = ap (λ (z : Outcome). status_after z x Running) e ∙ h in
           subst (λ z. Leaves code c x n.outcome n.attempt (To x) z) (sym status) (subst (λ z. Leaves code c x n.outcome n.attempt z st) (sym place) l)
 
@@ -140,7 +140,7 @@ module _ (code : Code) (law : BeginsStayOpen code) where
           let h = law.opens c d g ss m ex in
           let now : s ≡ saved_in c = same r in
           let all : begins_of n.attempt ≡ saved_in c ∷ ss = b ∙ ap (λ (z : Saved). z ∷ ss) now in
-          let back : AreRestored c d (saved_in c ∷ ss) = ap (λ (z : Configuration). z ∷ map (restored d) ss) (h.1 ∙ sym (restored_saved c)) ∙ ap (λ (zs : List Configuration). restored c (saved_in c) ∷ zs) h.2 in
+          let back : AreRestored c d (saved_in c ∷ ss) = ap (λ (z : Configuration). z ∷ map (begin_configuration d) ss) (h.1 ∙ sym (restored_saved c)) ∙ ap (λ (zs : List Configuration). begin_configuration c (saved_in c) ∷ zs) h.2 in
           to_at (Begin d g) outcome.Done None d Running e f refl refl
           (runs_at (Begin d g) n.outcome n.attempt d (subst (MayStand code d) (sym all) h.0) (subst (AreRestored c d) (sym all) back) w)
       beginning (Pure d) ex q r e f b w = absurd q
@@ -161,15 +161,15 @@ module _ (code : Code) (law : BeginsStayOpen code) where
 
       -- where a cancel of the begin that saved this goes on
       abbrev Back : Saved → Configuration
-      Back z = after_cancel (effect code (restored c z)) (restored c z)
+      Back z = after_cancel (effect code (begin_configuration c z)) (begin_configuration c z)
 
       -- back at a begin, which is this one
       back_at : (x : Effect Configuration) (z t : Saved) (rest : List Saved) → status_after outcome.Done x Running ≡ Running → MayStand code (Back z) rest → AreRestored c (Back z) rest → (z ≡ t) × (rest ≡ begins_of n.attempt)
           → n.outcome ≡ outcome.Done → n.back ≡ Some t → GivesWordsIf n.attempt → LeavesTo x
-      back_at x z t rest runs stands restored same e f w =
+      back_at x z t rest runs stands begin_configuration same e f w =
           to_at x outcome.Done (Some t) (Back t) Running e f refl runs
           (runs_at x n.outcome n.attempt (Back t) (subst (λ (y : Saved). MayStand code (Back y) (begins_of n.attempt)) same.0 (subst (MayStand code (Back z)) same.1 stands))
-          (subst (λ (y : Saved). AreRestored c (Back y) (begins_of n.attempt)) same.0 (subst (AreRestored c (Back z)) same.1 restored)) w)
+          (subst (λ (y : Saved). AreRestored c (Back y) (begins_of n.attempt)) same.0 (subst (AreRestored c (Back z)) same.1 begin_configuration)) w)
 
       cancelling : (x : Effect Configuration) (inner : List Saved) (t : Saved) → effect code c ≡ x → Matches x o → TakesAway o (length inner) (length ss) → n.outcome ≡ outcome.Done → n.back ≡ Some t → ss ≡ inner ++ t ∷ begins_of n.attempt → GivesWordsIf n.attempt
           → LeavesTo x
@@ -190,8 +190,8 @@ module _ (code : Code) (law : BeginsStayOpen code) where
       dropping : (x : Effect Configuration) (inner : List Saved) (t : Saved) → n.outcome ≡ outcome.Aborted → n.back ≡ Some t → ss ≡ inner ++ t ∷ [] → n.attempt ≡ None → LeavesTo x
       dropping x inner t e f b a =
           let h = law.goes_back c inner t [] (subst (MayStand code c) b m) in
-          to_at x outcome.Aborted (Some t) (restored c t) Running e f refl refl
-          (subst (λ (z : Option (Attempt Saved)). Leaves code c x n.outcome z (restored c t) Running) (sym a) (runs_at x n.outcome None (restored c t) h.0 refl tt))
+          to_at x outcome.Aborted (Some t) (begin_configuration c t) Running e f refl refl
+          (subst (λ (z : Option (Attempt Saved)). Leaves code c x n.outcome z (begin_configuration c t) Running) (sym a) (runs_at x n.outcome None (begin_configuration c t) h.0 refl tt))
 
       releasing : (x : Effect Configuration) → Matches x o → o ≡ op.Release → n.outcome ≡ outcome.Done → n.back ≡ None → n.attempt ≡ None → LeavesTo x
       releasing (Traps k) q r e f a = to_at (Traps k) outcome.Done None c (HasTrapped k) e f refl refl (subst (λ (z : Option (Attempt Saved)). Leaves code c (Traps k) n.outcome z c (HasTrapped k)) (sym a) (over_at (Traps k) n.outcome k))

@@ -4,7 +4,7 @@ use Rattle.std.specs.Prelude.{IfSome, IsSomeAnd}
 use Rattle.syntax.specs.declared.numbers.Status.TheVariants.{Running}
 use Rattle.nesting.specs.Begins.{Saved}
 use Rattle.bytecode.specs.Code.{Code, effect}
-use Rattle.frames.specs.Open.{CanRestore, restored, BeginsStayOpen}
+use Rattle.frames.specs.Open.{CanRestore, begin_configuration, BeginsStayOpen}
 use Rattle.norec_core.specs.declared.step.Access.{Access}
 use Rattle.norec_core.specs.declared.step.Access.TheVariants.{LoadLock}
 use Rattle.norec_core.specs.declared.step.Answer.{Answer}
@@ -17,9 +17,9 @@ use Rattle.norec_core.specs.Phases.{core_access, core_step, entry_access}
 use Rattle.norec_core.specs.Cores.{ComparesWith, CoreState, IsAskedAgain, IsDropped, IsWaiting}
 use Rattle.norec_core.proofs.Validating.{comparing_access, waiting_access}
 use Rattle.machine.specs.declared.event.Event.TheVariants as event
-use Rattle.machine.specs.Threads.{told}
+use Rattle.machine.specs.Threads.{step_with}
 use Rattle.machine.specs.States.{IsValidated, asks}
-use Rattle.machine.specs.inner.Kept.{Kept, Makes, RunsKept, shown}
+use Rattle.machine.specs.inner.Kept.{PlainContext, Makes, RunsInContext, machine_thread}
 use Rattle.machine.proofs.keeping.Makes.{core_makes, may_go_back}
 use Rattle.machine.proofs.keeping.Operations.{WritesWord}
 use Rattle.machine.proofs.keeping.Reading.{some_and}
@@ -39,9 +39,9 @@ writes op.Cancel v = tt
 writes (op.CancelOuter levels) v = tt
 writes op.Release v = tt
 
-module _ (code : Code) (law : BeginsStayOpen code) (k : Kept) (running : k.status ≡ Running) (runs : RunsKept code k) (operation : IsSomeAnd (asks (effect code) (shown k)) IsValidated) where
-  asked : (o : Op) × (asks (effect code) (shown k) ≡ Some o) × IsValidated o
-  asked = some_and IsValidated (asks (effect code) (shown k)) operation
+module _ (code : Code) (law : BeginsStayOpen code) (k : PlainContext) (running : k.status ≡ Running) (runs : RunsInContext code k) (operation : IsSomeAnd (asks (effect code) (machine_thread k)) IsValidated) where
+  asked : (o : Op) × (asks (effect code) (machine_thread k) ≡ Some o) × IsValidated o
+  asked = some_and IsValidated (asks (effect code) (machine_thread k)) operation
 
   abbrev o : Op
   o = asked.0
@@ -57,21 +57,21 @@ module _ (code : Code) (law : BeginsStayOpen code) (k : Kept) (running : k.statu
       ap (λ (z : Option (Attempt Saved)). core_access z o) u.1 ∙ comparing_access u.0 o time place entry u.2
 
   -- a step after which the operation goes on
-  module _ (y : Answer) (l : Kept) (step : (q : Op) → IsAskedAgain k.core y q l.core) (configuration : l.configuration ≡ k.configuration) (status : l.status ≡ k.status) (trapping : l.trapping ≡ false) (text : l.text ≡ k.text) where
-    goes : (x : Access) → core_access k.core.attempt o ≡ x → FitsRegister x y → Makes code (told (effect code) (shown k) y) l event.Quiet
+  module _ (y : Answer) (l : PlainContext) (step : (q : Op) → IsAskedAgain k.core y q l.core) (configuration : l.configuration ≡ k.configuration) (status : l.status ≡ k.status) (trapping : l.trapping ≡ false) (text : l.text ≡ k.text) where
+    goes : (x : Access) → core_access k.core.attempt o ≡ x → FitsRegister x y → Makes code (step_with (effect code) (machine_thread k) y) l event.Quiet
     goes x e word =
         let n = step o in
         core_makes code law k o y running runs asked.1 (λ h. no_begin o asked.2 h) (writes o asked.2) (subst (λ (z : Access). FitsRegister z y) (sym e) word) l outcome.Going event.Quiet
         (sym n.outcome) n.attempt (subst (λ (z : Option Saved). IfSome z (λ w. l.core.saved ≡ w)) (sym n.back) tt)
         (record { configuration = configuration; status = status; trapping = trapping; text = text; event = refl })
 
-    pub waits_makes : IsSomeAnd k.core.attempt (λ a. IsWaiting a) → Makes code (told (effect code) (shown k) y) l event.Quiet
+    pub waits_makes : IsSomeAnd k.core.attempt (λ a. IsWaiting a) → Makes code (step_with (effect code) (machine_thread k) y) l event.Quiet
     waits_makes w = goes LoadLock (core_waits w) tt
 
-    pub compares_makes : (time place : ℕ) (entry : ℕ × ℕ) → IsSomeAnd k.core.attempt (λ a. ComparesWith time place (Some entry) a) → FitsRegister (entry_access (Some entry)) y → Makes code (told (effect code) (shown k) y) l event.Quiet
+    pub compares_makes : (time place : ℕ) (entry : ℕ × ℕ) → IsSomeAnd k.core.attempt (λ a. ComparesWith time place (Some entry) a) → FitsRegister (entry_access (Some entry)) y → Makes code (step_with (effect code) (machine_thread k) y) l event.Quiet
     compares_makes time place entry w word = goes (entry_access (Some entry)) (core_compares time place (Some entry) w) word
 
-    pub validates_makes : (time place : ℕ) → IsSomeAnd k.core.attempt (λ a. ComparesWith time place None a) → Makes code (told (effect code) (shown k) y) l event.Quiet
+    pub validates_makes : (time place : ℕ) → IsSomeAnd k.core.attempt (λ a. ComparesWith time place None a) → Makes code (step_with (effect code) (machine_thread k) y) l event.Quiet
     validates_makes time place w = goes LoadLock (core_compares time place None w) tt
 
   -- a step that drops the attempt
@@ -87,7 +87,7 @@ module _ (code : Code) (law : BeginsStayOpen code) (k : Kept) (running : k.statu
         let n = step o in
         (may_go_back code law k o (Value word) running runs asked.1 (λ h. no_begin o asked.2 h) (writes o asked.2) drops_word outcome.Aborted d.saved (sym n.outcome) (stays d n)).0
 
-    pub drops_makes : (l : Kept) → ((q : Op) → IsDropped k.core (Value word) q l.core) → l.configuration ≡ restored k.configuration l.core.saved → l.status ≡ k.status → l.trapping ≡ false → l.text ≡ k.text → Makes code (told (effect code) (shown k) (Value word)) l event.Abort
+    pub drops_makes : (l : PlainContext) → ((q : Op) → IsDropped k.core (Value word) q l.core) → l.configuration ≡ begin_configuration k.configuration l.core.saved → l.status ≡ k.status → l.trapping ≡ false → l.text ≡ k.text → Makes code (step_with (effect code) (machine_thread k) (Value word)) l event.Abort
     drops_makes l step configuration status trapping text =
         let n = step o in
         core_makes code law k o (Value word) running runs asked.1 (λ h. no_begin o asked.2 h) (writes o asked.2) drops_word l outcome.Aborted event.Abort

@@ -1,7 +1,7 @@
 -- Memories stay memories under writes of words.
 use Rattle.std.proofs.Common.{◌≡◌, ◌<◌, ◌==◌, ℕ, zero, suc, Bool, true, false, cond, List, [], ◌∷◌, ◌++◌, Some, ap, subst, length, set, refl, slice_get, slice_index}
 use Rattle.syntax.specs.Behaviours.{IsMemory}
-use Rattle.write_log.specs.Overlay.{overlay, put}
+use Rattle.write_log.specs.Overlay.{overlay, with_write}
 use Rattle.machine.specs.inner.Invariant.{AreWords, IsLog}
 use Rattle.write_log.proofs.Overlay.{distinct-put}
 
@@ -23,15 +23,15 @@ pub memory-overlay : (bounds m : List ℕ) (ps : List (ℕ × ℕ)) → IsMemory
 memory-overlay bounds m [] is ws = is
 memory-overlay bounds m (p ∷ ps) is ws = memory-overlay bounds (set m p.0 p.1) ps (memory-set bounds m p.0 p.1 is ws.0) ws.1
 
-words-put : (bounds : List ℕ) (a v : ℕ) (ps : List (ℕ × ℕ)) → v < slice_index bounds a → AreWords bounds ps → AreWords bounds (put a v ps)
+words-put : (bounds : List ℕ) (a v : ℕ) (ps : List (ℕ × ℕ)) → v < slice_index bounds a → AreWords bounds ps → AreWords bounds (with_write a v ps)
 words-put bounds a v [] lt ws = (lt, tt)
 words-put bounds a v (p ∷ ps) lt ws = at (p.0 == a) (words-put bounds a v ps lt ws.1)
   where
-    at : (b : Bool) → AreWords bounds (put a v ps) → AreWords bounds (cond b ((a, v) ∷ ps) (p ∷ put a v ps))
+    at : (b : Bool) → AreWords bounds (with_write a v ps) → AreWords bounds (cond b ((a, v) ∷ ps) (p ∷ with_write a v ps))
     at true ih = (lt, ws.1)
     at false ih = (ws.0, ih)
 
-pub log-put : (bounds : List ℕ) (a v : ℕ) (ps : List (ℕ × ℕ)) → v < slice_index bounds a → IsLog bounds ps → IsLog bounds (put a v ps)
+pub log-put : (bounds : List ℕ) (a v : ℕ) (ps : List (ℕ × ℕ)) → v < slice_index bounds a → IsLog bounds ps → IsLog bounds (with_write a v ps)
 log-put bounds a v ps lt log = (distinct-put a v ps log.0, words-put bounds a v ps lt log.1)
 
 pub words-append : (bounds : List ℕ) (ps : List (ℕ × ℕ)) (q : ℕ × ℕ) → AreWords bounds ps → q.1 < slice_index bounds q.0 → AreWords bounds (ps ++ q ∷ [])

@@ -3,7 +3,7 @@ use Rattle.std.proofs.Common.{suc, ◌≡◌, ◌-◌, ◌≢◌, ◌<◌, ◌�
 use Rattle.std.specs.List.{AllByRecursion}
 use Rattle.std.proofs.lemmas.Bool.Decides.{eqb_tells}
 use Rattle.syntax.specs.Behaviours.{IsMemory}
-use Rattle.write_log.specs.Overlay.{written}
+use Rattle.write_log.specs.Overlay.{overlay_word}
 use Rattle.bytecode.specs.Effects.{Effect, FitsCells}
 use Rattle.bytecode.specs.Effects.Effect.{Print}
 use Rattle.norec_core.specs.Attempts.{Attempt, Checkpoint, Completed}
@@ -15,13 +15,13 @@ use Rattle.norec_core.specs.declared.step.Op.{Op}
 use Rattle.norec_core.specs.declared.step.Outcome.{Outcome}
 use Rattle.norec_core.specs.declared.step.Phase.{Phase}
 use Rattle.norec_core.specs.declared.step.Phase.TheVariants.{AtOperation, ReadsLock, Stores, ValidatesEntry, ValidatesTime}
-use Rattle.machine.specs.Drops.{DropsAreBounded, DropsComeAfterTakings, dropped_in, drops, gone, taken_by_others}
+use Rattle.machine.specs.Drops.{DropsAreBounded, DropsComeAfterTakings, dropped_in, drops, drop_count, taken_by_others}
 use Rattle.machine.specs.inner.Invariant.{History, Invariant, LeftIs, Now, RecordOk, StepOk}
 use Rattle.machine.specs.Explained.{IsFree, IsHeld}
 use Rattle.machine.specs.Merges.{Entry, count_takers, own}
 use Rattle.machine.specs.Serializable.{HasChanged, world_after}
-use Rattle.machine.specs.Threads.{Next, Thread, access, op_of, own_step, print_inside, told, told_inside, told_of}
-use Rattle.machine.specs.Worlds.{Part, Record, World, added, answer, lock_after, new_parts, new_world, part_after, record_of, recorded, run, step, step_of, words_after}
+use Rattle.machine.specs.Threads.{Next, Thread, access, op_of, own_step, print_inside, step_with, told_inside, told_of}
+use Rattle.machine.specs.Worlds.{Part, Record, World, with_record, answer, lock_after, new_parts, new_world, part_after, record_of, step_record, run, step, step_of, words_after}
 use Rattle.machine.proofs.parts.Frame.{lock_bounds}
 use Rattle.machine.proofs.parts.Part.{even_words}
 use Rattle.machine.proofs.runs.Order.{CompletedAt, SameFirst, StepGoes, fresh, goes}
@@ -73,7 +73,7 @@ module _ {C : Type 0} (now : C) (a : Attempt C) where
 
   operation : (o : Op) (ans : Answer) → Goes (core_operation now a o ans)
   operation op.Begin ans = (λ b e. refl)
-  operation (op.Read ad) ans = read (written ad a.writes) ans
+  operation (op.Read ad) ans = read (overlay_word ad a.writes) ans
   operation (op.Write ad v) ans = (λ b e. refl)
   operation op.Commit ans = commit a.inner a.kept a.writes ans
   operation op.Cancel ans = cancel a.inner a.kept
@@ -119,7 +119,7 @@ module _ {C : Type 0} (code : C → Effect C) (th : Thread C) (a : Attempt C) wh
   inside_goes x (Some o) ans b e = core_goes th.configuration a a.phase o ans b e
 
   -- where a step leaves an attempt there, nothing takes effect in it
-  stays : th.attempt ≡ Some a → (ans : Answer) (b : Attempt C) → (told code th ans).thread.attempt ≡ Some b → (told code th ans).completed ≡ None
+  stays : th.attempt ≡ Some a → (ans : Answer) (b : Attempt C) → (step_with code th ans).thread.attempt ≡ Some b → (step_with code th ans).completed ≡ None
   stays e ans = subst (λ (o : Option (Attempt C)). (b : Attempt C) → (told_of code th o (code th.configuration) ans).thread.attempt ≡ Some b → (told_of code th o (code th.configuration) ans).completed ≡ None) (sym e)
       (inside_goes (code th.configuration) (op_of (code th.configuration) a.kept th.trapping) ans)
 
@@ -199,13 +199,13 @@ module _ {C : Type 0} (code : C → Effect C) (init : ℕ → C) (bounds : List 
     x = access code p.thread
 
     abbrev n : Next C
-    n = told code p.thread (answer w.lock w.words x)
+    n = step_with code p.thread (answer w.lock w.words x)
 
     abbrev q : Part C
     q = part_after w.words p n
 
     moved : StepOk code bounds t (init t) h (lock_after w.lock x) (words_after w.words x) q
-    moved = subst (λ l. StepOk code bounds t (init t) h (lock_after l x) (words_after w.words x) (part_after w.words p (told code p.thread (answer l w.words x)))) (sym v.lock) (part_step code bounds t (init t) h w.words fits v.history p (v.parts t p here))
+    moved = subst (λ l. StepOk code bounds t (init t) h (lock_after l x) (words_after w.words x) (part_after w.words p (step_with code p.thread (answer l w.words x)))) (sym v.lock) (part_step code bounds t (init t) h w.words fits v.history p (v.parts t p here))
 
     grows : w.lock ≤ lock_after w.lock x
     grows = let a : h.lock ≤ moved.after.lock = moved.moves.lock in let b : lock_after w.lock x ≡ moved.after.lock = moved.same_lock in let c : w.lock ≡ h.lock = v.lock in omega (arith, a, b, c)
@@ -220,7 +220,7 @@ module _ {C : Type 0} (code : C → Effect C) (init : ℕ → C) (bounds : List 
     takes a r false since in_time is l = let g : w.lock ≤ lock_after w.lock x = grows in omega (arith, since, in_time, g)
 
     by : (o o' : Option (Attempt C)) (j : Option Completed) → p.thread.attempt ≡ o → n.thread.attempt ≡ o' → n.completed ≡ j → Now code bounds h t (init t) p.records p.base p.thread o → StepGoes o n → Holds d w.lock o p.records
-        → Holds (d + gone o o' j) (lock_after w.lock x) o' (added p.records (recorded p.base j))
+        → Holds (d + drop_count o o' j) (lock_after w.lock x) o' (with_record p.records (step_record p.base j))
     by None o' (Some y) ea eb ec now g b = absurd (let e : n.completed ≡ None = g.0 in let f : Some y ≡ None = sym ec ∙ e in cc)
     by None None None ea eb ec now g b = let r : w.lock + w.lock % 2 ≤ lock_after w.lock x + lock_after w.lock x % 2 = rounded w.lock (lock_after w.lock x) grows in omega (arith, r, b)
     by None (Some c) None ea eb ec now g b =
@@ -236,7 +236,7 @@ module _ {C : Type 0} (code : C → Effect C) (init : ℕ → C) (bounds : List 
         omega (arith, since, two, r, b)
     by (Some a) None (Some y) ea eb ec now g b =
         let r : Record = record_of p.base y in
-        let each : AllByRecursion (RecordOk moved.after t) (p.records ++ record_of p.base y ∷ []) = subst (λ j. AllByRecursion (RecordOk moved.after t) (added p.records (recorded p.base j))) ec moved.part.each in
+        let each : AllByRecursion (RecordOk moved.after t) (p.records ++ record_of p.base y ∷ []) = subst (λ j. AllByRecursion (RecordOk moved.after t) (with_record p.records (step_record p.base j))) ec moved.part.each in
         let is : y.snapshot ≡ a.snapshot = subst (CompletedAt a) ec g.1 in
         let up : a.snapshot ≤ h.top = now.steady.in_time in
         let top : h.top ≤ h.lock = (lock_bounds h h.holder v.history.lock).0 in
@@ -252,7 +252,7 @@ module _ {C : Type 0} (code : C → Effect C) (init : ℕ → C) (bounds : List 
         omega (arith, same, b)
     by (Some a) (Some c) (Some y) ea eb ec now g b = absurd (let e : n.completed ≡ None = stays code p.thread a ea (answer w.lock w.words x) c eb in let f : Some y ≡ None = sym ec ∙ e in cc)
 
-    mine : Holds d w.lock p.thread.attempt p.records → Holds (d + gone p.thread.attempt n.thread.attempt n.completed) (lock_after w.lock x) n.thread.attempt q.records
+    mine : Holds d w.lock p.thread.attempt p.records → Holds (d + drop_count p.thread.attempt n.thread.attempt n.completed) (lock_after w.lock x) n.thread.attempt q.records
     mine b = by p.thread.attempt n.thread.attempt n.completed refl refl refl (v.parts t p here).now (goes code p.thread (answer w.lock w.words x)) b
 
   one_step : (w : World C) (h : History) (t u d : ℕ) → Invariant code bounds init m0 h w → HoldsIf d w.lock (slice_get w.parts t)
@@ -271,20 +271,20 @@ module _ {C : Type 0} (code : C → Effect C) (init : ℕ → C) (bounds : List 
       at (Some p) e = by_number (eqb_tells u t)
         where
           r : Part C
-          r = part_after w.words p (told code p.thread (answer w.lock w.words (access code p.thread)))
+          r = part_after w.words p (step_with code p.thread (answer w.lock w.words (access code p.thread)))
 
           l : ℕ
           l = lock_after w.lock (access code p.thread)
 
-          by_number : ((u == t) ≡ true) × (u ≡ t) ⊎ ((u == t) ≡ false) × (u ≢ t) → HoldsIf (d + (if u == t then dropped_in code w (Some p) else 0)) (lock_after w.lock (access code p.thread)) (slice_get (set w.parts u (part_after w.words p (told code p.thread (answer w.lock w.words (access code p.thread))))) t)
+          by_number : ((u == t) ≡ true) × (u ≡ t) ⊎ ((u == t) ≡ false) × (u ≢ t) → HoldsIf (d + (if u == t then dropped_in code w (Some p) else 0)) (lock_after w.lock (access code p.thread)) (slice_get (set w.parts u (part_after w.words p (step_with code p.thread (answer w.lock w.words (access code p.thread))))) t)
           by_number (inl f) =
               let here : slice_get w.parts t ≡ Some p = ap (slice_get w.parts) (sym f.1) ∙ e in
-              let now : slice_get (set w.parts u (part_after w.words p (told code p.thread (answer w.lock w.words (access code p.thread))))) t ≡ Some (part_after w.words p (told code p.thread (answer w.lock w.words (access code p.thread)))) =
-              ap (slice_get (set w.parts u (part_after w.words p (told code p.thread (answer w.lock w.words (access code p.thread)))))) (sym f.1) ∙ get-set_same w.parts u _ p e in
+              let now : slice_get (set w.parts u (part_after w.words p (step_with code p.thread (answer w.lock w.words (access code p.thread))))) t ≡ Some (part_after w.words p (step_with code p.thread (answer w.lock w.words (access code p.thread)))) =
+              ap (slice_get (set w.parts u (part_after w.words p (step_with code p.thread (answer w.lock w.words (access code p.thread)))))) (sym f.1) ∙ get-set_same w.parts u _ p e in
               rw f.0 (rw now (mine w h t v d p here (subst (HoldsIf d w.lock) here b)))
           by_number (inr f) =
               let zero_more : d ≡ d + 0 = omega arith in
-              rw f.0 (rw (get-set_other w.parts u t (part_after w.words p (told code p.thread (answer w.lock w.words (access code p.thread)))) (λ k. f.1 (sym k)))
+              rw f.0 (rw (get-set_other w.parts u t (part_after w.words p (step_with code p.thread (answer w.lock w.words (access code p.thread)))) (λ k. f.1 (sym k)))
               (higher_if (d + 0) w.lock (lock_after w.lock (access code p.thread)) (slice_get w.parts t) (grows w h u v d p e) (same_count (d + 0) zero_more)))
 
   over : (us : List ℕ) (w : World C) (h : History) (t d : ℕ) → Invariant code bounds init m0 h w → HoldsIf d w.lock (slice_get w.parts t) → (q : Part C) → slice_get (run code us w).parts t ≡ Some q

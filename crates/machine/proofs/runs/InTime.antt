@@ -6,10 +6,10 @@ use Rattle.syntax.specs.Behaviours.{IsMemory, IsSubsequence}
 use Rattle.bytecode.specs.Effects.{Effect, FitsCells}
 use Rattle.norec_core.specs.Attempts.{Attempt, Completed}
 use Rattle.machine.specs.inner.Invariant.{History, Invariant, LeftIs, Now}
-use Rattle.machine.specs.Merges.{Entry, IsMerge, insert_made, key, key_of, made_of, merged}
+use Rattle.machine.specs.Merges.{Entry, IsMerge, insert_made, key, key_of, made_of, stable_merge}
 use Rattle.machine.specs.Serializable.{IsInTime, StandsAfter, attempt_of, seen_after, seen_at}
-use Rattle.machine.specs.Threads.{access, told}
-use Rattle.machine.specs.Worlds.{Part, Record, World, answer, new_world, part_after, record_of, recorded, run, step, step_of}
+use Rattle.machine.specs.Threads.{access, step_with}
+use Rattle.machine.specs.Worlds.{Part, Record, World, answer, new_world, part_after, record_of, step_record, run, step, step_of}
 use Rattle.machine.proofs.runs.Explained.{each_ok}
 use Rattle.machine.proofs.runs.Serializable.{merge_step, new_invariant, new_merge, start_of}
 use Rattle.machine.proofs.merges.Merge.{EntryOk}
@@ -30,7 +30,7 @@ pub key_top : (h : History) (t s : ℕ) (x : Record) (b : Bool) → LeftIs h t x
 key_top h t s x true k = let le = k.0 in omega arith
 key_top h t s x false k = let le = k.0 in omega arith
 
-pub recorded_at : {C : Type 0} (a : Attempt C) (base : List ℕ) (x : Record) (o : Option Completed) → CompletedAt a o → recorded base o ≡ Some x → x.snapshot ≡ a.snapshot
+pub recorded_at : {C : Type 0} (a : Attempt C) (base : List ℕ) (x : Record) (o : Option Completed) → CompletedAt a o → step_record base o ≡ Some x → x.snapshot ≡ a.snapshot
 recorded_at a base x None g e = absurd (cc)
 recorded_at a base x (Some y) g e = let r : record_of base y ≡ x = cc in ap (λ (z : Record). z.snapshot) (sym r) ∙ g
 
@@ -64,9 +64,9 @@ module _ {C : Type 0} (code : C → Effect C) (init : ℕ → C) (bounds : List 
           let top : h.lock ≡ h.top = (even_words bounds h w.words v.history even).0 in
           all_map (EntryOk h) (λ f. key f ≤ 2 * h.lock) es (λ f ok. let k = key_top h f.thread 0 f.item f.item.took_lock ok.left in omega arith) each
 
-      own : (p : Part C) → slice_get w.parts t ≡ Some p → LowFor (attempt_of (slice_get w.parts t)) seen → LowFor (told code p.thread (answer w.lock w.words (access code p.thread))).thread.attempt (seen_after (attempt_of (slice_get w.parts t)) (told code p.thread (answer w.lock w.words (access code p.thread))).thread.attempt es seen)
+      own : (p : Part C) → slice_get w.parts t ≡ Some p → LowFor (attempt_of (slice_get w.parts t)) seen → LowFor (step_with code p.thread (answer w.lock w.words (access code p.thread))).thread.attempt (seen_after (attempt_of (slice_get w.parts t)) (step_with code p.thread (answer w.lock w.words (access code p.thread))).thread.attempt es seen)
       own p e l =
-          let n = told code p.thread (answer w.lock w.words (access code p.thread)) in
+          let n = step_with code p.thread (answer w.lock w.words (access code p.thread)) in
           rw e (low_step p.thread.attempt n.thread.attempt es seen
           (of_goes p.thread.attempt n.thread.attempt n.completed (goes code p.thread (answer w.lock w.words (access code p.thread))))
           (λ none b some.
@@ -75,7 +75,7 @@ module _ {C : Type 0} (code : C → Effect C) (init : ℕ → C) (bounds : List 
           subst (λ k. AllByRecursion (λ (g : Entry). key g ≤ 2 * k) es) (sym is) (keys (ap (λ k. k % 2) (sym v.lock) ∙ f.0)))
           (rw e at l))
         where
-          of_goes : (o o' : Option (Attempt C)) (j : Option Completed) → StepGoes o (told code p.thread (answer w.lock w.words (access code p.thread))) → SameFirst o (told code p.thread (answer w.lock w.words (access code p.thread))).thread.attempt
+          of_goes : (o o' : Option (Attempt C)) (j : Option Completed) → StepGoes o (step_with code p.thread (answer w.lock w.words (access code p.thread))) → SameFirst o (step_with code p.thread (answer w.lock w.words (access code p.thread))).thread.attempt
           of_goes None o' j g = tt
           of_goes (Some a) o' j g = g.0
 
@@ -84,7 +84,7 @@ module _ {C : Type 0} (code : C → Effect C) (init : ℕ → C) (bounds : List 
       at (Some p) e = by (eqb_tells t u)
         where
           q : Part C
-          q = part_after w.words p (told code p.thread (answer w.lock w.words (access code p.thread)))
+          q = part_after w.words p (step_with code p.thread (answer w.lock w.words (access code p.thread)))
 
           by : ((t == u) ≡ true) × (t ≡ u) ⊎ ((t == u) ≡ false) × (t ≢ u) → LowFor (attempt_of (slice_get (set w.parts u q) t)) (seen_after (attempt_of (slice_get w.parts t)) (attempt_of (slice_get (set w.parts u q) t)) es seen)
           by (inl f) =
@@ -104,15 +104,15 @@ module _ {C : Type 0} (code : C → Effect C) (init : ℕ → C) (bounds : List 
       at None e l j' = absurd (cc)
       at (Some p) e l j' = by p.thread.attempt refl l (goes code p.thread (answer w.lock w.words (access code p.thread))) (v.parts t p e).now
         where
-          by : (o : Option (Attempt C)) → p.thread.attempt ≡ o → LowFor o seen → StepGoes o (told code p.thread (answer w.lock w.words (access code p.thread))) → Now code bounds h t (init t) p.records p.base p.thread o → StandsAfter (record { thread = t; item = x }) seen es
-          by None ea l' g n = absurd (let none : Some x ≡ None = sym j' ∙ ap (recorded p.base) g.0 in cc)
+          by : (o : Option (Attempt C)) → p.thread.attempt ≡ o → LowFor o seen → StepGoes o (step_with code p.thread (answer w.lock w.words (access code p.thread))) → Now code bounds h t (init t) p.records p.base p.thread o → StandsAfter (record { thread = t; item = x }) seen es
+          by None ea l' g n = absurd (let none : Some x ≡ None = sym j' ∙ ap (step_record p.base) g.0 in cc)
           by (Some a) ea l' g n =
               let same : x.snapshot ≡ a.snapshot = recorded_at a p.base x _ g.1 j' in
               let first = n.steady.since in
               let k = snap_key x.took_lock in
               placed (record { thread = t; item = x }) 0 es seen m.sorted in_es (all_map (λ f. key f ≤ 2 * a.first) (λ f. key f ≤ key_of x.snapshot x.took_lock) seen (λ f le. omega arith) l')
 
-  over : (ts : List ℕ) (w : World C) (h : History) (es seen : List Entry) → Invariant code bounds init m0 h w → IsMerge w.parts es → IsSubsequence seen es → LowFor (attempt_of (slice_get w.parts t)) seen → (x : Record) → made_of code (run code ts w) (slice_get (run code ts w).parts t) ≡ Some x → StandsAfter (record { thread = t; item = x }) (seen_at code t ts w es seen) (merged code ts w es)
+  over : (ts : List ℕ) (w : World C) (h : History) (es seen : List Entry) → Invariant code bounds init m0 h w → IsMerge w.parts es → IsSubsequence seen es → LowFor (attempt_of (slice_get w.parts t)) seen → (x : Record) → made_of code (run code ts w) (slice_get (run code ts w).parts t) ≡ Some x → StandsAfter (record { thread = t; item = x }) (seen_at code t ts w es seen) (stable_merge code ts w es)
   over [] w h es seen v m in_es low x j = joined_after w h es seen v m in_es low x j
   over (u ∷ us) w h es seen v m in_es low x j =
       let s = step_invariant code bounds init m0 fits w h u v in

@@ -6,11 +6,11 @@ use Rattle.bytecode.specs.Effects.{Effect, FitsCells}
 use Rattle.norec_core.specs.Attempts.{Attempt, Completed}
 use Rattle.machine.specs.Computes.{ComputesOn}
 use Rattle.machine.specs.inner.Invariant.{History, Invariant, Moves, Now, RecordOk}
-use Rattle.machine.specs.Merges.{Entry, IsMerge, IsSorted, insert, insert_made, key, key_of, made_of, merged}
-use Rattle.machine.specs.OneOrder.{IsInOneOrder, MayDropNow, WithIdle, attempted, ended, ended_before, ended_by, ended_in, idle_record}
+use Rattle.machine.specs.Merges.{Entry, IsMerge, IsSorted, insert, insert_made, key, key_of, made_of, stable_merge}
+use Rattle.machine.specs.OneOrder.{IsInOneOrder, MayDropNow, WithIdle, attempts_merge, end_record, ended_before, ended_by, ended_in, idle_record}
 use Rattle.machine.specs.Serializable.{StandsAfter, attempt_of, merge_after, world_after}
-use Rattle.machine.specs.Threads.{Next, access, told}
-use Rattle.machine.specs.Worlds.{Part, Record, World, added, answer, new_world, part_after, record_of, recorded, run, step, step_of}
+use Rattle.machine.specs.Threads.{Next, access, step_with}
+use Rattle.machine.specs.Worlds.{Part, Record, World, with_record, answer, new_world, part_after, record_of, step_record, run, step, step_of}
 use Rattle.machine.proofs.merges.Follow.{chained}
 use Rattle.machine.proofs.merges.Idle.{both_insert, follows_all, idle_from_first, idle_insert}
 use Rattle.machine.proofs.merges.Insert.{insert_all, insert_sorted}
@@ -35,17 +35,17 @@ record Good (h : History) (es all : List Entry) : Type 0 where
 frame_all : (u : ℕ) (h k : History) (all : List Entry) → Moves u h k → AllByRecursion (EntryOk h) all → AllByRecursion (EntryOk k) all
 frame_all u h k all m ok = all_map (EntryOk h) (EntryOk k) all (λ e is. (each_frame u e.thread h k (e.item ∷ []) m (is, tt)).0) ok
 
-same_snapshot : {C : Type 0} (base : List ℕ) (a : Attempt C) (x : Record) (j : Option Completed) (o : Option (Attempt C)) → CompletedAt a j → ended base j (Some a) o ≡ Some x → x.snapshot ≡ a.snapshot
+same_snapshot : {C : Type 0} (base : List ℕ) (a : Attempt C) (x : Record) (j : Option Completed) (o : Option (Attempt C)) → CompletedAt a j → end_record base j (Some a) o ≡ Some x → x.snapshot ≡ a.snapshot
 same_snapshot base a x (Some y) o g e = let r : record_of base y ≡ x = cc in ap (λ (z : Record). z.snapshot) (sym r) ∙ g
 same_snapshot base a x None None g e = let r : idle_record base a ≡ x = cc in ap (λ (z : Record). z.snapshot) (sym r)
 same_snapshot base a x None (Some b) g e = absurd (cc)
 
 module _ {C : Type 0} (code : C → Effect C) (init : ℕ → C) (bounds : List ℕ) (m0 : List ℕ) (is_memory : IsMemory bounds m0) (fits : FitsCells code bounds) where
-  attempted-append : (ts us : List ℕ) (w : World C) (es : List Entry) → attempted code (ts ++ us) w es ≡ attempted code us (run code ts w) (attempted code ts w es)
+  attempted-append : (ts us : List ℕ) (w : World C) (es : List Entry) → attempts_merge code (ts ++ us) w es ≡ attempts_merge code us (run code ts w) (attempts_merge code ts w es)
   attempted-append [] us w es = refl
   attempted-append (t ∷ ts) us w es = attempted-append ts us (step code w t) _
 
-  within_attempted : (seen : List Entry) (us : List ℕ) (w : World C) (all : List Entry) → IsSubsequence seen all → IsSubsequence seen (attempted code us w all)
+  within_attempted : (seen : List Entry) (us : List ℕ) (w : World C) (all : List Entry) → IsSubsequence seen all → IsSubsequence seen (attempts_merge code us w all)
   within_attempted seen [] w all i = i
   within_attempted seen (u ∷ us) w all i = within_attempted seen us (step code w u) _ (within_made code init bounds m0 is_memory fits u seen u (ended_in code w (slice_get w.parts u)) all i)
 
@@ -93,15 +93,15 @@ module _ {C : Type 0} (code : C → Effect C) (init : ℕ → C) (bounds : List 
         at (Some p) e after = by n.completed p.thread.attempt n.thread.attempt refl refl
           where
             n : Next C
-            n = told code p.thread (answer w.lock w.words (access code p.thread))
+            n = step_with code p.thread (answer w.lock w.words (access code p.thread))
 
             now : slice_get (step code w u).parts u ≡ Some (part_after w.words p n)
             now = ap (λ o'. slice_get (step_of code w u o').parts u) e ∙ get-set_same w.parts u (part_after w.words p n) p e
 
             last : (y : Completed) → n.completed ≡ Some y → RecordOk k u (record_of p.base y)
-            last y ec = last_of (RecordOk k u) p.records (record_of p.base y) (subst (λ j. AllByRecursion (RecordOk k u) (added p.records (recorded p.base j))) ec (after.parts u (part_after w.words p n) now).each)
+            last y ec = last_of (RecordOk k u) p.records (record_of p.base y) (subst (λ j. AllByRecursion (RecordOk k u) (with_record p.records (step_record p.base j))) ec (after.parts u (part_after w.words p n) now).each)
 
-            by : (j : Option Completed) (o o' : Option (Attempt C)) → n.completed ≡ j → p.thread.attempt ≡ o → Good k (insert_made u (recorded p.base j) es) (insert_made u (ended p.base j o o') all)
+            by : (j : Option Completed) (o o' : Option (Attempt C)) → n.completed ≡ j → p.thread.attempt ≡ o → Good k (insert_made u (step_record p.base j) es) (insert_made u (end_record p.base j o o') all)
             by (Some y) o o' ec ea = with_both (record_of p.base y) (last y ec)
             by None (Some a) None ec ea = with_idle p.base a (idle_ok h k u p a (subst (λ o. Now code bounds h u (init u) p.records p.base p.thread o) ea (v.parts u p e).now) m)
             by None (Some a) (Some b) ec ea = framed
@@ -115,7 +115,7 @@ module _ {C : Type 0} (code : C → Effect C) (init : ℕ → C) (bounds : List 
     pub among : IsSubsequence seen all
     pub low : LowFor (attempt_of (slice_get w.parts t)) seen
 
-  over : (us : List ℕ) (t : ℕ) (w : World C) (es all seen : List Entry) → GoodAfter t w es all seen → GoodAfter t (run code us w) (merged code us w es) (attempted code us w all) (ended_by code t us w all seen)
+  over : (us : List ℕ) (t : ℕ) (w : World C) (es all seen : List Entry) → GoodAfter t w es all seen → GoodAfter t (run code us w) (stable_merge code us w es) (attempts_merge code us w all) (ended_by code t us w all seen)
   over [] t w es all seen g = g
   over (u ∷ us) t w es all seen g =
       let s = step_moves code init bounds m0 fits w g.h u g.invariant in
@@ -128,7 +128,7 @@ module _ {C : Type 0} (code : C → Effect C) (init : ℕ → C) (bounds : List 
         low = low_of code init bounds m0 is_memory fits t w g.h u all seen g.invariant g.good.ok g.low;
       })
 
-  after : (threads : ℕ) (ts : List ℕ) (t : ℕ) → GoodAfter t (world_after code init m0 threads ts) (merge_after code init m0 threads ts) (attempted code ts (new_world init m0 threads) []) (ended_before code init m0 threads ts t)
+  after : (threads : ℕ) (ts : List ℕ) (t : ℕ) → GoodAfter t (world_after code init m0 threads ts) (merge_after code init m0 threads ts) (attempts_merge code ts (new_world init m0 threads) []) (ended_before code init m0 threads ts t)
   after threads ts t = over ts t (new_world init m0 threads) [] [] [] (record {
     h = start_of m0;
     invariant = new_invariant code init bounds m0 is_memory threads;
@@ -161,7 +161,7 @@ module _ {C : Type 0} (code : C → Effect C) (init : ℕ → C) (bounds : List 
         computes = computing;
         in_time = timed;
         live = living;
-        extended = λ us. subst (λ l. IsSubsequence (attempted code ts (new_world init m0 threads) []) l) (sym (attempted-append ts us (new_world init m0 threads) [])) (within_attempted _ us (world_after code init m0 threads ts) _ (within_self _));
+        extended = λ us. subst (λ l. IsSubsequence (attempts_merge code ts (new_world init m0 threads) []) l) (sym (attempted-append ts us (new_world init m0 threads) [])) (within_attempted _ us (world_after code init m0 threads ts) _ (within_self _));
       }
     where
       computing : (t : ℕ) (p : Part C) (a : Attempt C) → slice_get (world_after code init m0 threads ts).parts t ≡ Some p → p.thread.attempt ≡ Some a → (es : List Entry) → IsMerge (world_after code init m0 threads ts).parts es → ComputesOn code init es t p a p.base
@@ -170,29 +170,29 @@ module _ {C : Type 0} (code : C → Effect C) (init : ℕ → C) (bounds : List 
           let now = subst (λ o. Now code bounds g.h t (init t) p.records p.base p.thread o) has (g.invariant.parts t p e).now in
           subst (ComputesOn code init es t p a) (sym now.steady.based) (computes_of code init bounds m0 (world_after code init m0 threads ts) g.h g.invariant es m t p e a now)
 
-      timed : (t : ℕ) (x : Record) → ended_in code (world_after code init m0 threads ts) (slice_get (world_after code init m0 threads ts).parts t) ≡ Some x → StandsAfter (record { thread = t; item = x }) (ended_before code init m0 threads ts t) (attempted code ts (new_world init m0 threads) [])
+      timed : (t : ℕ) (x : Record) → ended_in code (world_after code init m0 threads ts) (slice_get (world_after code init m0 threads ts).parts t) ≡ Some x → StandsAfter (record { thread = t; item = x }) (ended_before code init m0 threads ts t) (attempts_merge code ts (new_world init m0 threads) [])
       timed t x j = at (slice_get (world_after code init m0 threads ts).parts t) refl (after threads ts t).low j
         where
-          at : (o : Option (Part C)) → slice_get (world_after code init m0 threads ts).parts t ≡ o → LowFor (attempt_of o) (ended_before code init m0 threads ts t) → ended_in code (world_after code init m0 threads ts) o ≡ Some x → StandsAfter (record { thread = t; item = x }) (ended_before code init m0 threads ts t) (attempted code ts (new_world init m0 threads) [])
+          at : (o : Option (Part C)) → slice_get (world_after code init m0 threads ts).parts t ≡ o → LowFor (attempt_of o) (ended_before code init m0 threads ts t) → ended_in code (world_after code init m0 threads ts) o ≡ Some x → StandsAfter (record { thread = t; item = x }) (ended_before code init m0 threads ts t) (attempts_merge code ts (new_world init m0 threads) [])
           at None e low j' = absurd (cc)
           at (Some p) e low j' = by p.thread.attempt n.thread.attempt refl low (goes code p.thread (answer (world_after code init m0 threads ts).lock (world_after code init m0 threads ts).words (access code p.thread))) j' ((after threads ts t).invariant.parts t p e).now
             where
               n : Next C
-              n = told code p.thread (answer (world_after code init m0 threads ts).lock (world_after code init m0 threads ts).words (access code p.thread))
+              n = step_with code p.thread (answer (world_after code init m0 threads ts).lock (world_after code init m0 threads ts).words (access code p.thread))
 
-              by : (o o' : Option (Attempt C)) → p.thread.attempt ≡ o → LowFor o (ended_before code init m0 threads ts t) → StepGoes o n → ended p.base n.completed o o' ≡ Some x → Now code bounds (after threads ts t).h t (init t) p.records p.base p.thread o → StandsAfter (record { thread = t; item = x }) (ended_before code init m0 threads ts t) (attempted code ts (new_world init m0 threads) [])
-              by None o' ea l g j'' now = absurd (let none : Some x ≡ None = sym j'' ∙ ap (λ c. ended {C = C} p.base c None o') g.0 in cc)
+              by : (o o' : Option (Attempt C)) → p.thread.attempt ≡ o → LowFor o (ended_before code init m0 threads ts t) → StepGoes o n → end_record p.base n.completed o o' ≡ Some x → Now code bounds (after threads ts t).h t (init t) p.records p.base p.thread o → StandsAfter (record { thread = t; item = x }) (ended_before code init m0 threads ts t) (attempts_merge code ts (new_world init m0 threads) [])
+              by None o' ea l g j'' now = absurd (let none : Some x ≡ None = sym j'' ∙ ap (λ c. end_record {C = C} p.base c None o') g.0 in cc)
               by (Some a) o' ea l g j'' now =
                   let gd = after threads ts t in
                   put t a x _ _ gd.good.sorted gd.among now.steady.since (same_snapshot p.base a x n.completed o' g.1 j'') l
 
-      living : (t : ℕ) (p : Part C) (a : Attempt C) → slice_get (world_after code init m0 threads ts).parts t ≡ Some p → p.thread.attempt ≡ Some a → MayDropNow m0 t p a (ended_before code init m0 threads ts t) (attempted code ts (new_world init m0 threads) [])
+      living : (t : ℕ) (p : Part C) (a : Attempt C) → slice_get (world_after code init m0 threads ts).parts t ≡ Some p → p.thread.attempt ≡ Some a → MayDropNow m0 t p a (ended_before code init m0 threads ts t) (attempts_merge code ts (new_world init m0 threads) [])
       living t p a e has =
           let g = after threads ts t in
           let merge = (serializable code init bounds m0 is_memory fits threads ts).is_merge in
           let now = subst (λ o. Now code bounds g.h t (init t) p.records p.base p.thread o) has (g.invariant.parts t p e).now in
           let ok = idle_ok g.h g.h t p a now (moves_refl t g.h) in
-          let good : Good g.h (merge_after code init m0 threads ts) (insert (record { thread = t; item = idle_record p.base a }) (attempted code ts (new_world init m0 threads) [])) = record {
+          let good : Good g.h (merge_after code init m0 threads ts) (insert (record { thread = t; item = idle_record p.base a }) (attempts_merge code ts (new_world init m0 threads) [])) = record {
             between = idle_insert (record { thread = t; item = idle_record p.base a }) _ _ (refl, refl) g.good.between;
             sorted = insert_sorted 0 (record { thread = t; item = idle_record p.base a }) _ (omega arith) g.good.sorted;
             ok = insert_all (EntryOk g.h) (record { thread = t; item = idle_record p.base a }) _ ok g.good.ok;

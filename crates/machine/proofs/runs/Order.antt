@@ -3,7 +3,7 @@ use Rattle.std.proofs.Common.{◌≡◌, ◌-◌, ◌==◌, ◌%◌, ℕ, Bool, 
 use Rattle.std.proofs.lemmas.Bool.{eqb-true}
 use Rattle.syntax.specs.declared.numbers.Status.{Status}
 use Rattle.syntax.specs.declared.numbers.Status.TheVariants.{Running, Ended as HasEnded, Trapped as HasTrapped}
-use Rattle.write_log.specs.Overlay.{written}
+use Rattle.write_log.specs.Overlay.{overlay_word}
 use Rattle.bytecode.specs.Effects.{Effect}
 use Rattle.bytecode.specs.Effects.Effect.{Begin, Cancel, CancelOuter, Commit, End, Irrevocable, Print, Pure, Read, Traps, Write}
 use Rattle.norec_core.specs.Attempts.{Attempt, Checkpoint, Completed}
@@ -14,7 +14,7 @@ use Rattle.norec_core.specs.declared.step.Op.{Op}
 use Rattle.norec_core.specs.declared.step.Outcome.{Outcome}
 use Rattle.norec_core.specs.declared.step.Phase.{Phase}
 use Rattle.norec_core.specs.declared.step.Phase.TheVariants.{AtOperation, ReadsLock, Stores, ValidatesEntry, ValidatesTime}
-use Rattle.machine.specs.Threads.{Next, Thread, access, access_of, op_of, outside_access, own_step, print_inside, told, told_inside, told_of, told_outside}
+use Rattle.machine.specs.Threads.{Next, Thread, access, access_of, op_of, outside_access, own_step, print_inside, step_with, told_inside, told_of, told_outside}
 use Rattle.machine.specs.Worlds.{answer}
 use Rattle.norec_core.specs.declared.step.Op.TheVariants as op
 use Rattle.norec_core.specs.declared.step.Outcome.TheVariants as outcome
@@ -68,7 +68,7 @@ module _ {C : Type 0} (now : C) (a : Attempt C) where
 
   operation : (o : Op) (ans : Answer) → Goes (core_operation now a o ans)
   operation op.Begin ans = (refl, tt)
-  operation (op.Read ad) ans = read (written ad a.writes) ans
+  operation (op.Read ad) ans = read (overlay_word ad a.writes) ans
   operation (op.Write ad v) ans = (refl, tt)
   operation op.Commit ans = commit a.inner a.kept a.writes ans
   operation op.Cancel ans = cancel a.inner a.kept
@@ -133,7 +133,7 @@ module _ {C : Type 0} (code : C → Effect C) where
     inside_goes x None ans = own_goes x
     inside_goes x (Some o) ans = core_goes th.configuration a a.phase o ans
 
-  pub goes : (th : Thread C) (ans : Answer) → StepGoes th.attempt (told code th ans)
+  pub goes : (th : Thread C) (ans : Answer) → StepGoes th.attempt (step_with code th ans)
   goes th ans = at th.attempt refl
     where
       at : (o : Option (Attempt C)) → th.attempt ≡ o → StepGoes o (told_of code th o (code th.configuration) ans)
@@ -145,7 +145,7 @@ module _ {C : Type 0} (code : C → Effect C) where
   begun_lock now l b true e = (refl, let r : record { saved = now; first = l; snapshot = l; reads = []; writes = []; inner = []; kept = false; phase = AtOperation } ≡ b = cc in sym (ap (λ (x : Attempt C). x.first) r))
   begun_lock now l b false e = absurd (cc)
 
-  pub fresh : (th : Thread C) (lock : ℕ) (words : List ℕ) (b : Attempt C) → th.attempt ≡ None → (told code th (answer lock words (access code th))).thread.attempt ≡ Some b → (lock % 2 ≡ 0) × (b.first ≡ lock)
+  pub fresh : (th : Thread C) (lock : ℕ) (words : List ℕ) (b : Attempt C) → th.attempt ≡ None → (step_with code th (answer lock words (access code th))).thread.attempt ≡ Some b → (lock % 2 ≡ 0) × (b.first ≡ lock)
   fresh th lock words b none e = status th.status (code th.configuration) (subst Goal none e)
     where
       Goal : Option (Attempt C) → Type 0

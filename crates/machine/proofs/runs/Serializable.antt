@@ -8,10 +8,10 @@ use Rattle.syntax.specs.Behaviours.{IsMemory}
 use Rattle.bytecode.specs.Effects.{Effect, FitsCells}
 use Rattle.bytecode.specs.Sequential.{meaning}
 use Rattle.machine.specs.inner.Invariant.{History, Invariant, Ordered, PartOk, bound_of}
-use Rattle.machine.specs.Merges.{Entry, IsMerge, insert, insert_made, key_of, made_of, merged, own}
+use Rattle.machine.specs.Merges.{Entry, IsMerge, insert, insert_made, key_of, made_of, stable_merge, own}
 use Rattle.machine.specs.Serializable.{IsSerializable}
-use Rattle.machine.specs.Threads.{Next, access, after, told}
-use Rattle.machine.specs.Worlds.{Part, Record, World, added, answer, new_part, new_parts, new_world, part_after, recorded, run, step, step_of}
+use Rattle.machine.specs.Threads.{Next, access, after, step_with}
+use Rattle.machine.specs.Worlds.{Part, Record, World, with_record, answer, new_part, new_parts, new_world, part_after, step_record, run, step, step_of}
 use Rattle.machine.proofs.runs.Explained.{explained}
 use Rattle.machine.proofs.merges.Insert.{insert_all, insert_sorted, keys_before, own-insert_other, own-insert_same}
 use Rattle.machine.proofs.steps.Worlds.{get-set_other, get-set_same, run_invariant, step_invariant}
@@ -66,7 +66,7 @@ module _ {C : Type 0} (code : C → Effect C) (init : ℕ → C) (bounds : List 
             ap (λ n. own n fs) f.1 ∙ mine ∙ ap (λ (x : Part C). x.records) is
         go (inr f) = others u f.1 ∙ m.own_records u r (sym (get-set_other w.parts t u q f.1) ∙ e)
 
-    merge_with : (o : Option Record) (bound : ℕ) → q.records ≡ added p.records o → Ordered 0 q.records bound → IsMerge (set w.parts t q) (insert_made t o es)
+    merge_with : (o : Option Record) (bound : ℕ) → q.records ≡ with_record p.records o → Ordered 0 q.records bound → IsMerge (set w.parts t q) (insert_made t o es)
     merge_with None bound is ord = record { sorted = m.sorted; below = below_after es m.below; own_records = own_after es (m.own_records t p here ∙ sym is) (λ u ne. refl) }
     merge_with (Some x) bound is ord =
         let e : Entry = record { thread = t; item = x } in
@@ -89,10 +89,10 @@ module _ {C : Type 0} (code : C → Effect C) (init : ℕ → C) (bounds : List 
 
       at : (o : Option (Part C)) → slice_get w.parts u ≡ o → (k : History) × Invariant code bounds init m0 k (step code w u) → (further : List Record) × (own t (insert_made u (made_of code w o) es) ≡ own t es ++ further)
       at None e later = none
-      at (Some p) e later = by (recorded p.base n.completed) (λ x is. subst (λ l. Ordered 0 l (bound_of later.0 n.thread.attempt)) (ap (added p.records) is) ok.ordered)
+      at (Some p) e later = by (step_record p.base n.completed) (λ x is. subst (λ l. Ordered 0 l (bound_of later.0 n.thread.attempt)) (ap (with_record p.records) is) ok.ordered)
         where
           n : Next C
-          n = told code p.thread (answer w.lock w.words (access code p.thread))
+          n = step_with code p.thread (answer w.lock w.words (access code p.thread))
 
           ok : PartOk code bounds later.0 u (init u) (part_after w.words p n)
           ok = later.1.parts u (part_after w.words p n) (ap (λ o'. slice_get (step_of code w u o').parts u) e ∙ get-set_same w.parts u (part_after w.words p n) p e)
@@ -119,12 +119,12 @@ module _ {C : Type 0} (code : C → Effect C) (init : ℕ → C) (bounds : List 
         at : (o : Option (Part C)) → slice_get w.parts t ≡ o → (k : History) × Invariant code bounds init m0 k (step code w t) → IsMerge (step_of code w t o).parts (insert_made t (made_of code w o) es)
         at None e after = m
         at (Some p) e after =
-            let n = told code p.thread (answer w.lock w.words (access code p.thread)) in
+            let n = step_with code p.thread (answer w.lock w.words (access code p.thread)) in
             let q : Part C = part_after w.words p n in
             let ok = after.1.parts t q (ap (λ o. slice_get (step_of code w t o).parts t) e ∙ get-set_same w.parts t q p e) in
-            merge_with w t es m p e q (recorded p.base n.completed) _ refl ok.ordered
+            merge_with w t es m p e q (step_record p.base n.completed) _ refl ok.ordered
 
-    run_merge : (ts : List ℕ) (w : World C) (h : History) (es : List Entry) → Invariant code bounds init m0 h w → IsMerge w.parts es → IsMerge (run code ts w).parts (merged code ts w es)
+    run_merge : (ts : List ℕ) (w : World C) (h : History) (es : List Entry) → Invariant code bounds init m0 h w → IsMerge w.parts es → IsMerge (run code ts w).parts (stable_merge code ts w es)
     run_merge [] w h es v m = m
     run_merge (t ∷ ts) w h es v m =
         let s = step_invariant code bounds init m0 fits w h t v in

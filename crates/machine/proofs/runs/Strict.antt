@@ -5,11 +5,11 @@ use Rattle.syntax.specs.Behaviours.{Behaviour, IsMemory}
 use Rattle.bytecode.specs.Effects.{Effect, FitsCells}
 use Rattle.norec_core.specs.Attempts.{Attempt}
 use Rattle.machine.specs.inner.Invariant.{History, Invariant, Now}
-use Rattle.machine.specs.Merges.{Entry, insert_made, key, key_of, made_of, merged}
+use Rattle.machine.specs.Merges.{Entry, insert_made, key, key_of, made_of, stable_merge}
 use Rattle.machine.specs.Serializable.{IsSerializable, attempt_of, merge_after, world_after}
 use Rattle.machine.specs.Strict.{IsStrictlySerializable, StandsBehind}
-use Rattle.machine.specs.Threads.{Next, access, told}
-use Rattle.machine.specs.Worlds.{Part, Record, World, answer, new_world, part_after, recorded, run, step, step_of}
+use Rattle.machine.specs.Threads.{Next, access, step_with}
+use Rattle.machine.specs.Worlds.{Part, Record, World, answer, new_world, part_after, step_record, run, step, step_of}
 use Rattle.machine.proofs.merges.Merge.{EntryOk}
 use Rattle.machine.proofs.merges.Splits.{SplitAt, split_insert}
 use Rattle.machine.proofs.merges.Within.{within_self}
@@ -44,15 +44,15 @@ module _ {C : Type 0} (code : C → Effect C) (init : ℕ → C) (bounds : List 
       at None e = late
       at (Some p) e = by (eqb_tells t u)
         where
-          by : ((t == u) ≡ true) × (t ≡ u) ⊎ ((t == u) ≡ false) × (t ≢ u) → LateFor (attempt_of (slice_get (set w.parts u (part_after w.words p (told code p.thread (answer w.lock w.words (access code p.thread))))) t))
+          by : ((t == u) ≡ true) × (t ≡ u) ⊎ ((t == u) ≡ false) × (t ≢ u) → LateFor (attempt_of (slice_get (set w.parts u (part_after w.words p (step_with code p.thread (answer w.lock w.words (access code p.thread))))) t))
           by (inl f) =
-              let q : Part C = part_after w.words p (told code p.thread (answer w.lock w.words (access code p.thread))) in
+              let q : Part C = part_after w.words p (step_with code p.thread (answer w.lock w.words (access code p.thread))) in
               let here : slice_get w.parts t ≡ Some p = ap (slice_get w.parts) f.1 ∙ e in
               let now : slice_get (set w.parts u q) t ≡ Some q = ap (slice_get (set w.parts u q)) f.1 ∙ get-set_same w.parts u q p e in
               rw now (late_step p.thread.attempt q.thread.attempt (of_goes p.thread.attempt _ (goes code p.thread (answer w.lock w.words (access code p.thread))))
               (λ none b some. let g = fresh code p.thread w.lock w.words b none some in let is : b.first ≡ w.lock = g.1 in omega (arith, is, up))
               (subst (λ o. LateFor (attempt_of o)) here late))
-          by (inr f) = rw (get-set_other w.parts u t (part_after w.words p (told code p.thread (answer w.lock w.words (access code p.thread)))) f.1) late
+          by (inr f) = rw (get-set_other w.parts u t (part_after w.words p (step_with code p.thread (answer w.lock w.words (access code p.thread)))) f.1) late
 
   -- what takes effect is late if it is thread t's
   late_made : (w : World C) (h : History) (u : ℕ) → Invariant code bounds init m0 h w → LateFor (attempt_of (slice_get w.parts t)) → (x : Record) → made_of code w (slice_get w.parts u) ≡ Some x → u ≡ t → 2 * top ≤ key_of x.snapshot x.took_lock
@@ -66,8 +66,8 @@ module _ {C : Type 0} (code : C → Effect C) (init : ℕ → C) (bounds : List 
       at None e j' = absurd (cc)
       at (Some p) e j' = by p.thread.attempt refl (subst (λ o. LateFor (attempt_of o)) (ap (slice_get w.parts) (sym same) ∙ e) late) (goes code p.thread (answer w.lock w.words (access code p.thread))) (v.parts u p e).now
         where
-          by : (o : Option (Attempt C)) → p.thread.attempt ≡ o → LateFor o → StepGoes o (told code p.thread (answer w.lock w.words (access code p.thread))) → Now code bounds h u (init u) p.records p.base p.thread o → 2 * top ≤ key_of x.snapshot x.took_lock
-          by None ea l g n = absurd (let none : Some x ≡ None = sym j' ∙ ap (recorded p.base) g.0 in cc)
+          by : (o : Option (Attempt C)) → p.thread.attempt ≡ o → LateFor o → StepGoes o (step_with code p.thread (answer w.lock w.words (access code p.thread))) → Now code bounds h u (init u) p.records p.base p.thread o → 2 * top ≤ key_of x.snapshot x.took_lock
+          by None ea l g n = absurd (let none : Some x ≡ None = sym j' ∙ ap (step_record p.base) g.0 in cc)
           by (Some a) ea l g n =
               let is : x.snapshot ≡ a.snapshot = recorded_at a p.base x _ g.1 j' in
               let since : a.first ≤ a.snapshot = n.steady.since in
@@ -81,7 +81,7 @@ module _ {C : Type 0} (code : C → Effect C) (init : ℕ → C) (bounds : List 
       at None l = s
       at (Some x) l = split_insert (2 * top) t seen es (record { thread = u; item = x }) s (l x refl)
 
-  over : (us : List ℕ) (w : World C) (h : History) (es : List Entry) → Invariant code bounds init m0 h w → top ≤ w.lock → LateFor (attempt_of (slice_get w.parts t)) → SplitAt (2 * top) t seen es → SplitAt (2 * top) t seen (merged code us w es)
+  over : (us : List ℕ) (w : World C) (h : History) (es : List Entry) → Invariant code bounds init m0 h w → top ≤ w.lock → LateFor (attempt_of (slice_get w.parts t)) → SplitAt (2 * top) t seen es → SplitAt (2 * top) t seen (stable_merge code us w es)
   over [] w h es v up late s = s
   over (u ∷ us) w h es v up late s =
       let k = step_invariant code bounds init m0 fits w h u v in
@@ -93,7 +93,7 @@ module _ {C : Type 0} (code : C → Effect C) (init : ℕ → C) (bounds : List 
   behind threads ts us t p here none =
       let w0 : World C = new_world init m0 threads in
       let w : World C = run code ts w0 in
-      let es : List Entry = merged code ts w0 [] in
+      let es : List Entry = stable_merge code ts w0 [] in
       let r = run_invariant code bounds init m0 fits ts w0 (start_of m0) (new_invariant code init bounds m0 is_memory threads) in
       let m = (serializable code init bounds m0 is_memory fits threads ts).is_merge in
       let h = r.0 in

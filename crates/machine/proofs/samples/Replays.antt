@@ -5,7 +5,7 @@ use Rattle.syntax.specs.declared.numbers.Status.{Status}
 use Rattle.norec_core.specs.Accesses.{cost}
 use Rattle.machine.specs.declared.event.Event.{Event}
 use Rattle.machine.specs.declared.event.Event.TheVariants.{Quiet}
-use Rattle.machine.specs.Threads.{access, told}
+use Rattle.machine.specs.Threads.{access, step_with}
 use Rattle.machine.specs.Worlds.{Part, World, answer, step, new_world}
 use Rattle.machine.proofs.samples.Samples.{Instruction, Configuration, effects_of, begins}
 
@@ -23,7 +23,7 @@ abbrev pub one_of : List Instruction → Replay → ℕ → Option (Part Configu
 one_of code r t None = r
 one_of code r t (Some p) =
     let a = access (effects_of code) p.thread in
-    let n = told (effects_of code) p.thread (answer r.world.lock r.world.words a) in
+    let n = step_with (effects_of code) p.thread (answer r.world.lock r.world.words a) in
     let count = r.count + cost a in
     record { world = step (effects_of code) r.world t; count = count; events = r.events ++ note count t n.event }
 

@@ -4,7 +4,7 @@ use Rattle.syntax.specs.Behaviours.{Memory}
 use Rattle.syntax.specs.declared.numbers.Status.TheVariants.{Running}
 use Rattle.bytecode.specs.Sequential.{Sequential, next, start}
 use Rattle.machine.specs.Alone.{zeros}
-use Rattle.machine.specs.Tallies.{BeginsFree, IsOpenAfter, IsOverAfter, IsUndisturbed, Tally, accesses, accesses_in, empty_tally, is_commit, tallied}
+use Rattle.machine.specs.Tallies.{BeginsFree, IsOpenAfter, IsOverAfter, IsUndisturbed, Tally, accesses, accesses_in, empty_tally, is_commit, tally_step}
 use Rattle.machine.specs.Serializable.{world_after}
 use Rattle.machine.specs.Worlds.{Part, World, new_world, run, step}
 use Rattle.machine.proofs.samples.Fits.{fits}
@@ -21,7 +21,7 @@ by_end (Some x) ended inside = inside
 abbrev tallied_in : List Instruction → ℕ → Sequential Configuration → Tally → ℕ
 tallied_in code zero s t = 0
 tallied_in code (suc n) s t = by_end (next (effects_of code) s).inside (accesses t (is_commit (effects_of code s.configuration)))
-    (tallied_in code n (next (effects_of code) s) (tallied t (effects_of code s.configuration)))
+    (tallied_in code n (next (effects_of code) s) (tally_step t (effects_of code s.configuration)))
 
 -- the code's first instruction is the begin
 abbrev meant : List Instruction → Memory → ℕ

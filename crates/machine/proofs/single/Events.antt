@@ -23,7 +23,7 @@ use Rattle.machine.specs.declared.event.Event.TheVariants as event
 use Rattle.machine.specs.Events.{Cancels, EventTells, EventsTell}
 use Rattle.machine.specs.inner.Invariant.{History, InHand, Invariant, Now, Validates}
 use Rattle.machine.specs.Serializable.{world_after}
-use Rattle.machine.specs.Threads.{Thread, done_event, event_of, op_of, print_inside, quiet, resumed, status_after, told, told_inside, told_of, told_outside, told_running}
+use Rattle.machine.specs.Threads.{Thread, done_event, event_of, op_of, print_inside, quiet, resume_next, status_after, step_with, told_inside, told_of, told_outside, told_running}
 use Rattle.machine.specs.Worlds.{new_world, run}
 use Rattle.machine.proofs.runs.Serializable.{new_invariant, start_of}
 use Rattle.machine.proofs.steps.Worlds.{run_invariant}
@@ -101,7 +101,7 @@ module _ {C : Type 0} where
 
   -- an instruction of a transaction, by what comes of it
   module _ (code : C → Effect C) (th : Thread C) (a : Attempt C) (here : th.attempt ≡ Some a) (running : th.status ≡ Running) (x : Effect C) where
-    resumes : (n : CoreStep C) → Comes n → (IsCancel x → n.outcome ≡ outcome.Done → Cancels x th.attempt) → (Cancels x th.attempt → IsCancel x × (n.outcome ≡ outcome.Done)) → EventTells x th (resumed code th x n)
+    resumes : (n : CoreStep C) → Comes n → (IsCancel x → n.outcome ≡ outcome.Done → Cancels x th.attempt) → (Cancels x th.attempt → IsCancel x × (n.outcome ≡ outcome.Done)) → EventTells x th (resume_next code th x n)
     resumes n k cancels stands = record {
       aborts = (λ e. dropped k (abort_from x n.outcome n.completed _ made e), λ r. ap (λ p. event_of {C = C} x p n.completed) (gone k r.1 r.2));
       commits = (λ e. commits_from x n.outcome n.completed _ made e, λ r. ap (λ y. event_of {C = C} y n.outcome n.completed) r.1.1 ∙ ap (λ p. event_of (Commit r.1.0) p n.completed) (done k r.0) ∙ is_commit r.1.0 n.completed r.0);
@@ -131,7 +131,7 @@ module _ {C : Type 0} where
         done (drops at none is) f = absurd (f none)
 
     -- any instruction but a cancel
-    plainly : (n : CoreStep C) → Comes n → (IsCancel x → ⊥) → (Cancels x th.attempt → ⊥) → EventTells x th (resumed code th x n)
+    plainly : (n : CoreStep C) → Comes n → (IsCancel x → ⊥) → (Cancels x th.attempt → ⊥) → EventTells x th (resume_next code th x n)
     plainly n k other still = resumes n k (λ e. absurd (other e)) (λ r. absurd (still r))
 
   -- a cancel
@@ -151,14 +151,14 @@ module _ {C : Type 0} where
       abbrev step : Op → CoreStep C
       step o = core_phase th.configuration a a.phase o y
 
-      at_cancel : a.phase ≡ AtOperation → EventTells Cancel th (resumed code th Cancel (step op.Cancel))
+      at_cancel : a.phase ≡ AtOperation → EventTells Cancel th (resume_next code th Cancel (step op.Cancel))
       at_cancel rests =
           let is : step op.Cancel ≡ core_cancel a a.inner a.kept = ap (λ (q : Phase). core_phase th.configuration a q op.Cancel y) rests in
           resumes code th a here running Cancel (step op.Cancel) (comes th.configuration a a.phase op.Cancel y)
           (λ e d. subst (Cancels Cancel) (sym here) (cancel_done a a.inner a.kept (ap (λ (n : CoreStep C). n.outcome) (sym is) ∙ d)))
           (λ r. (tt, ap (λ (n : CoreStep C). n.outcome) is ∙ done_cancel a a.inner a.kept (subst (Cancels Cancel) here r)))
 
-      at_outer_cancel : (levels : ℕ) → a.phase ≡ AtOperation → EventTells (CancelOuter levels) th (resumed code th (CancelOuter levels) (step (op.CancelOuter levels)))
+      at_outer_cancel : (levels : ℕ) → a.phase ≡ AtOperation → EventTells (CancelOuter levels) th (resume_next code th (CancelOuter levels) (step (op.CancelOuter levels)))
       at_outer_cancel levels rests =
           let left : List (Checkpoint C) = drop (levels - 1) a.inner in
           let is : step (op.CancelOuter levels) ≡ core_cancel a left a.kept = ap (λ (q : Phase). core_phase th.configuration a q (op.CancelOuter levels) y) rests in
@@ -198,7 +198,7 @@ module _ {C : Type 0} where
       still : (x : Effect C) → Cancels x th.attempt → ⊥
       still x r = no_cancel x (subst (Cancels x) none r)
 
-      begin_tells : (c d : C) (n : CoreStep C) → n.completed ≡ None → event_of (Begin c d) n.outcome n.completed ≡ event.Quiet → EventTells (Begin c d) th (resumed code th (Begin c d) n)
+      begin_tells : (c d : C) (n : CoreStep C) → n.completed ≡ None → event_of (Begin c d) n.outcome n.completed ≡ event.Quiet → EventTells (Begin c d) th (resume_next code th (Begin c d) n)
       begin_tells c d n co q = record {
         aborts = (λ e. absurd (let f = sym q ∙ e in cc), λ r. absurd (r.0 none));
         commits = (λ e. absurd (let f = sym q ∙ e in cc), λ r. absurd (r.0 co));
@@ -209,10 +209,10 @@ module _ {C : Type 0} where
       abbrev new : ℕ → Attempt C
       new lock = record { saved = th.configuration; first = lock; snapshot = lock; reads = []; writes = []; inner = []; kept = false; phase = AtOperation }
 
-      begins : (c d : C) (z : Answer) → EventTells (Begin c d) th (resumed code th (Begin c d) (core_begin th.configuration z))
+      begins : (c d : C) (z : Answer) → EventTells (Begin c d) th (resume_next code th (Begin c d) (core_begin th.configuration z))
       begins c d (Value lock) = at (lock % 2 == 0)
         where
-          at : (b : Bool) → EventTells (Begin c d) th (resumed code th (Begin c d) (cond b (on_snapshot (new lock) outcome.Done) idle))
+          at : (b : Bool) → EventTells (Begin c d) th (resume_next code th (Begin c d) (cond b (on_snapshot (new lock) outcome.Done) idle))
           at true = begin_tells c d (on_snapshot (new lock) outcome.Done) refl refl
           at false = begin_tells c d idle refl refl
       begins c d Done = begin_tells c d idle refl refl
@@ -242,7 +242,7 @@ module _ {C : Type 0} where
       outside_tells HasEnded s x = quietly x th _ refl (λ k e f. absurd (cc)) (still x)
       outside_tells (HasTrapped why) s x = quietly x th _ refl (λ k e f. absurd (cc)) (still x)
 
-    told_tells : ((a : Attempt C) → th.attempt ≡ Some a → (th.status ≡ Running) × (IsCancel (code th.configuration) → a.phase ≡ AtOperation)) → EventTells (code th.configuration) th (told code th y)
+    told_tells : ((a : Attempt C) → th.attempt ≡ Some a → (th.status ≡ Running) × (IsCancel (code th.configuration) → a.phase ≡ AtOperation)) → EventTells (code th.configuration) th (step_with code th y)
     told_tells ok = at th.attempt refl
       where
         at : (o : Option (Attempt C)) → th.attempt ≡ o → EventTells (code th.configuration) th (told_of code th o (code th.configuration) y)

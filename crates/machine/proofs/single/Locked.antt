@@ -2,7 +2,7 @@
 use Rattle.std.proofs.Common.{◌≡◌, ◌-◌, ◌≢◌, ◌==◌, ◌⊎◌, inl, inr, ℕ, suc, Bool, true, false, cond, List, [], ◌∷◌, ◌++◌, Option, None, Some, refl, sym, ◌∙◌, ap, subst, slice_get, drop, append_assoc}
 use Rattle.std.proofs.lemmas.Bool.Decides.{eqb_tells}
 use Rattle.syntax.specs.Behaviours.{IsMemory}
-use Rattle.write_log.specs.Overlay.{written}
+use Rattle.write_log.specs.Overlay.{overlay_word}
 use Rattle.bytecode.specs.Effects.{Effect, FitsCells}
 use Rattle.bytecode.specs.Effects.Effect.{Print}
 use Rattle.norec_core.specs.Attempts.{Attempt, Checkpoint, Completed}
@@ -18,8 +18,8 @@ use Rattle.machine.specs.Explained.{HasLock, has_lock}
 use Rattle.machine.specs.Holders.{HasLockStill, HasTakenEffect, HoldersNeverAbort}
 use Rattle.machine.specs.inner.Invariant.{History, InHand, Invariant, Now}
 use Rattle.machine.specs.Serializable.{world_after}
-use Rattle.machine.specs.Threads.{Next, Thread, access, op_of, own_step, print_inside, told, told_inside, told_of}
-use Rattle.machine.specs.Worlds.{Part, World, added, answer, new_world, part_after, record_of, recorded, run, step, step_of}
+use Rattle.machine.specs.Threads.{Next, Thread, access, op_of, own_step, print_inside, step_with, told_inside, told_of}
+use Rattle.machine.specs.Worlds.{Part, World, with_record, answer, new_world, part_after, record_of, step_record, run, step, step_of}
 use Rattle.machine.proofs.runs.Serializable.{new_invariant, start_of}
 use Rattle.machine.proofs.steps.Worlds.{get-set_other, get-set_same, run_invariant}
 
@@ -71,7 +71,7 @@ module _ {C : Type 0} (code : C → Effect C) (h : History) (th : Thread C) (a :
 
   operation : (o : Op) (y : Answer) → a.kept ≡ true → Locks (core_operation th.configuration a o y)
   operation op.Begin y k = (refl, has)
-  operation (op.Read ad) y k = read (written ad a.writes) y k
+  operation (op.Read ad) y k = read (overlay_word ad a.writes) y k
   operation (op.Write ad v) y k = (refl, has)
   operation op.Commit y k = commit a.inner a.kept k a.writes y
   operation op.Cancel y k = cancel a.inner a.kept k
@@ -109,7 +109,7 @@ module _ {C : Type 0} (code : C → Effect C) (h : History) (th : Thread C) (a :
   own x = still
 
   -- a step of a thread that has the lock
-  pub locks_on : InHand code h a th.configuration a.phase → (y : Answer) → LocksNext (told code th y)
+  pub locks_on : InHand code h a th.configuration a.phase → (y : Answer) → LocksNext (step_with code th y)
   locks_on hand y = subst (λ o. LocksNext (told_of code th o (code th.configuration) y)) (sym e) (at (op_of (code th.configuration) a.kept th.trapping))
     where
       at : (o : Option Op) → LocksNext (told_inside code th a (code th.configuration) o y)
@@ -121,7 +121,7 @@ module _ {C : Type 0} (code : C → Effect C) (init : ℕ → C) (bounds : List 
   Comes o = (q : Part C) × (o ≡ Some q) × (HasLockStill p a q ⊎ HasTakenEffect p a q)
 
   abbrev next_of : World C → Part C → Next C
-  next_of v q = told code q.thread (answer v.lock v.words (access code q.thread))
+  next_of v q = step_with code q.thread (answer v.lock v.words (access code q.thread))
 
   -- the part after its step: it has the lock still, or its transaction has taken effect just now
   lands : (words : List ℕ) (q : Part C) (b : Attempt C) (n : Next C) (o : Option (Attempt C)) (y : Option Completed) → n.thread.attempt ≡ o → n.completed ≡ y → b.snapshot ≡ a.snapshot → q.records ≡ p.records
@@ -130,12 +130,12 @@ module _ {C : Type 0} (code : C → Effect C) (init : ℕ → C) (bounds : List 
     attempt = c;
     has = (f, l.1);
     snapshot = l.0 ∙ s;
-    records = ap (λ z. added q.records (recorded q.base z)) g ∙ same;
+    records = ap (λ z. with_record q.records (step_record q.base z)) g ∙ same;
   })
   lands words q b n None (Some x) f g s same l = inr (record {
     made = record_of q.base x;
     later = [];
-    records = ap (λ z. added q.records (recorded q.base z)) g ∙ ap (λ rs. rs ++ record_of q.base x ∷ []) same;
+    records = ap (λ z. with_record q.records (step_record q.base z)) g ∙ ap (λ rs. rs ++ record_of q.base x ∷ []) same;
     snapshot = l.0 ∙ s;
     took_lock = l.1;
   })
@@ -144,11 +144,11 @@ module _ {C : Type 0} (code : C → Effect C) (init : ℕ → C) (bounds : List 
 
   -- what has taken effect stays
   later : (words : List ℕ) (q : Part C) (n : Next C) (y : Option Completed) → n.completed ≡ y → HasTakenEffect p a q → HasTakenEffect p a (part_after words q n)
-  later words q n None g r = record { made = r.made; later = r.later; records = ap (λ z. added q.records (recorded q.base z)) g ∙ r.records; snapshot = r.snapshot; took_lock = r.took_lock }
+  later words q n None g r = record { made = r.made; later = r.later; records = ap (λ z. with_record q.records (step_record q.base z)) g ∙ r.records; snapshot = r.snapshot; took_lock = r.took_lock }
   later words q n (Some x) g r = record {
     made = r.made;
     later = r.later ++ record_of q.base x ∷ [];
-    records = ap (λ z. added q.records (recorded q.base z)) g ∙ ap (λ rs. rs ++ record_of q.base x ∷ []) r.records ∙ append_assoc p.records (r.made ∷ r.later) (record_of q.base x ∷ []);
+    records = ap (λ z. with_record q.records (step_record q.base z)) g ∙ ap (λ rs. rs ++ record_of q.base x ∷ []) r.records ∙ append_assoc p.records (r.made ∷ r.later) (record_of q.base x ∷ []);
     snapshot = r.snapshot;
     took_lock = r.took_lock;
   }

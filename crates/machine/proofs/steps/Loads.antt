@@ -7,14 +7,14 @@ use Rattle.read_log.specs.Agreement.{AgreesBelow}
 use Rattle.bytecode.specs.Effects.{Effect}
 use Rattle.bytecode.specs.Effects.Effect.{Read}
 use Rattle.norec_core.specs.Attempts.{Attempt}
-use Rattle.norec_core.specs.Phases.{core_check, core_compare, core_time, core_word, dropped, on_snapshot}
+use Rattle.norec_core.specs.Phases.{core_check, core_compare, core_time, core_word, drop_step, on_snapshot}
 use Rattle.norec_core.specs.declared.step.Answer.{Answer}
 use Rattle.norec_core.specs.declared.step.Answer.TheVariants.{Value}
 use Rattle.norec_core.specs.declared.step.Phase.{Phase}
 use Rattle.norec_core.specs.declared.step.Phase.TheVariants.{AtOperation, ReadsLock, ValidatesEntry, ValidatesTime}
 use Rattle.machine.specs.Explained.{has_lock, stored_of}
 use Rattle.machine.specs.inner.Invariant.{AttemptOk, ComesTo, HasTaker, History, InHand, IsHistory, LockBy, Ordered, PartOk, RecordOk, Validates, inside, inside_of}
-use Rattle.machine.specs.Threads.{resumed}
+use Rattle.machine.specs.Threads.{resume_next}
 use Rattle.machine.specs.Worlds.{Part, part_after}
 use Rattle.write_log.proofs.Overlay.{overlay-other}
 use Rattle.read_log.proofs.Logs.{agrees_all, agrees_below_more, agrees_both, agrees_front, agrees_last}
@@ -45,7 +45,7 @@ module _ {C : Type 0} (code : C → Effect C) (bounds : List ℕ) (t : ℕ) (c0 
       validate_step free asks = let kept = free_kept a.kept a.phase free in phase_part ValidatesTime free (rw kept refl) (kept, asks)
 
       -- the word of a read
-      pub word_step : (ad : ℕ) (k : ℕ → C) (kept : Bool) → a.kept ≡ kept → a.phase ≡ AtOperation → code p.thread.configuration ≡ Read ad k → Lacks ad a.writes → PartOk code bounds h t c0 (part_after words p (resumed code p.thread (Read ad k) (core_word a kept (Value (slice_index words ad)))))
+      pub word_step : (ad : ℕ) (k : ℕ → C) (kept : Bool) → a.kept ≡ kept → a.phase ≡ AtOperation → code p.thread.configuration ≡ Read ad k → Lacks ad a.writes → PartOk code bounds h t c0 (part_after words p (resume_next code p.thread (Read ad k) (core_word a kept (Value (slice_index words ad)))))
       word_step ad k false free ph ex lacks = phase_part (ReadsLock (slice_index words ad)) (rw (ph, free) refl) (rw free refl) (
         ad,
         k,
@@ -96,7 +96,7 @@ module _ {C : Type 0} (code : C → Effect C) (bounds : List ℕ) (t : ℕ) (c0 
 
       -- the lock, for a read that has its word
       pub check_step : (v ad : ℕ) (k : ℕ → C) → has_lock a.kept a.phase ≡ false → code p.thread.configuration ≡ Read ad k → InHand code h a p.thread.configuration (ReadsLock v)
-          → PartOk code bounds h t c0 (part_after words p (resumed code p.thread (Read ad k) (core_check a (op.Read ad) v (Value h.lock))))
+          → PartOk code bounds h t c0 (part_after words p (resume_next code p.thread (Read ad k) (core_check a (op.Read ad) v (Value h.lock))))
       check_step v ad k free ex hand = at (eqb_tells h.lock a.snapshot)
         where
           both : Read hand.0 hand.1 ≡ Read ad k
@@ -105,14 +105,14 @@ module _ {C : Type 0} (code : C → Effect C) (bounds : List ℕ) (t : ℕ) (c0 
           same : hand.0 ≡ ad
           same = cc
 
-          at : ((h.lock == a.snapshot) ≡ true) × (h.lock ≡ a.snapshot) ⊎ ((h.lock == a.snapshot) ≡ false) × (h.lock ≢ a.snapshot) → PartOk code bounds h t c0 (part_after words p (resumed code p.thread (Read ad k) (core_check a (op.Read ad) v (Value h.lock))))
+          at : ((h.lock == a.snapshot) ≡ true) × (h.lock ≡ a.snapshot) ⊎ ((h.lock == a.snapshot) ≡ false) × (h.lock ≢ a.snapshot) → PartOk code bounds h t c0 (part_after words p (resume_next code p.thread (Read ad k) (core_check a (op.Read ad) v (Value h.lock))))
           at (inl f) = rw f.0 (logged v ad k ex (subst (λ z. Lacks z a.writes) same hand.3) free (ap (slice_index (h.mem a.snapshot)) (sym same) ∙ hand.5 f.1))
           at (inr f) = rw f.0 (validate_step free (rw ex tt))
 
-      pub time_step : (x : Effect C) → has_lock a.kept a.phase ≡ false → Validates (code p.thread.configuration) → PartOk code bounds h t c0 (part_after words p (resumed code p.thread x (core_time a (Value h.lock))))
+      pub time_step : (x : Effect C) → has_lock a.kept a.phase ≡ false → Validates (code p.thread.configuration) → PartOk code bounds h t c0 (part_after words p (resume_next code p.thread x (core_time a (Value h.lock))))
       time_step x free asks = at (eqb_tells (h.lock % 2) 0)
         where
-          at : (((h.lock % 2) == 0) ≡ true) × (h.lock % 2 ≡ 0) ⊎ (((h.lock % 2) == 0) ≡ false) × (h.lock % 2 ≢ 0) → PartOk code bounds h t c0 (part_after words p (resumed code p.thread x (core_time a (Value h.lock))))
+          at : (((h.lock % 2) == 0) ≡ true) × (h.lock % 2 ≡ 0) ⊎ (((h.lock % 2) == 0) ≡ false) × (h.lock % 2 ≢ 0) → PartOk code bounds h t c0 (part_after words p (resume_next code p.thread x (core_time a (Value h.lock))))
           at (inr f) = rw f.0 unmoved_step
           at (inl f) =
               let b = lock_bounds h h.holder i.lock in
@@ -121,14 +121,14 @@ module _ {C : Type 0} (code : C → Effect C) (bounds : List ℕ) (t : ℕ) (c0 
               rw f.0 (phase_part (ValidatesEntry h.lock 0) free (rw kept refl) (kept, f.1, omega arith, omega arith, (λ same j q lt g. absurd (omega arith)), asks))
 
       -- the attempt is dropped
-      pub abort_step : (x : Effect C) → has_lock a.kept a.phase ≡ false → PartOk code bounds h t c0 (part_after words p (resumed code p.thread x (dropped a)))
+      pub abort_step : (x : Effect C) → has_lock a.kept a.phase ≡ false → PartOk code bounds h t c0 (part_after words p (resume_next code p.thread x (drop_step a)))
       abort_step x free =
           outside_part code bounds t c0 h _ refl each (ordered_up 0 p.records a.snapshot h.top n.steady.in_time ord) comp
           (subst (λ x. ComesTo code c0 p.records a.saved x p.thread.status) (n.begun.same_text (free_kept a.kept a.phase free)) (subst (ComesTo code c0 p.records a.saved n.begun.text1) (sym n.steady.running) n.begun.comes_to))
           (not_holder h t a (has_lock a.kept a.phase) free n.holds)
 
       -- validation's last load finds the time
-      renewed : (x : Effect C) (time j : ℕ) → has_lock a.kept a.phase ≡ false → time % 2 ≡ 0 → a.snapshot ≤ time → time ≤ h.top → words ≡ h.mem time → AgreesBelow j (h.mem time) a.reads → slice_get a.reads j ≡ None → PartOk code bounds h t c0 (part_after words p (resumed code p.thread x (on_snapshot (record a { snapshot = time; phase = AtOperation }) outcome.Going)))
+      renewed : (x : Effect C) (time j : ℕ) → has_lock a.kept a.phase ≡ false → time % 2 ≡ 0 → a.snapshot ≤ time → time ≤ h.top → words ≡ h.mem time → AgreesBelow j (h.mem time) a.reads → slice_get a.reads j ≡ None → PartOk code bounds h t c0 (part_after words p (resume_next code p.thread x (on_snapshot (record a { snapshot = time; phase = AtOperation }) outcome.Going)))
       renewed x time j free even lo hi here below none =
           let b : Attempt C = record a { snapshot = time; phase = AtOperation } in
           let first = n.steady.since in
@@ -158,10 +158,10 @@ module _ {C : Type 0} (code : C → Effect C) (bounds : List ℕ) (t : ℕ) (c0 
       -- a word or the lock, in validation
       pub compare_step : (x : Effect C) (time j : ℕ) (o : Option (ℕ × ℕ)) (ans : Answer) → has_lock a.kept a.phase ≡ false → slice_get a.reads j ≡ o → InHand code h a p.thread.configuration (ValidatesEntry time j)
           → ((q : ℕ × ℕ) → o ≡ Some q → ans ≡ Value (slice_index words q.0)) → (o ≡ None → ans ≡ Value h.lock)
-          → PartOk code bounds h t c0 (part_after words p (resumed code p.thread x (core_compare a time j o ans)))
+          → PartOk code bounds h t c0 (part_after words p (resume_next code p.thread x (core_compare a time j o ans)))
       compare_step x time j (Some q) ans free g hand word lock = rw (word q refl) (at (eqb_tells (slice_index words q.0) q.1))
         where
-          at : ((slice_index words q.0 == q.1) ≡ true) × (slice_index words q.0 ≡ q.1) ⊎ ((slice_index words q.0 == q.1) ≡ false) × (slice_index words q.0 ≢ q.1) → PartOk code bounds h t c0 (part_after words p (resumed code p.thread x (core_compare a time j (Some q) (Value (slice_index words q.0)))))
+          at : ((slice_index words q.0 == q.1) ≡ true) × (slice_index words q.0 ≡ q.1) ⊎ ((slice_index words q.0 == q.1) ≡ false) × (slice_index words q.0 ≢ q.1) → PartOk code bounds h t c0 (part_after words p (resume_next code p.thread x (core_compare a time j (Some q) (Value (slice_index words q.0)))))
           at (inr f) = rw f.0 (abort_step x free)
           at (inl f) = rw f.0 (phase_part (ValidatesEntry time (suc j)) free (rw hand.0 refl) (
             hand.0,
@@ -176,7 +176,7 @@ module _ {C : Type 0} (code : C → Effect C) (bounds : List ℕ) (t : ℕ) (c0 
           ))
       compare_step x time j None ans free g hand word lock = rw (lock refl) (at (eqb_tells h.lock time))
         where
-          at : ((h.lock == time) ≡ true) × (h.lock ≡ time) ⊎ ((h.lock == time) ≡ false) × (h.lock ≢ time) → PartOk code bounds h t c0 (part_after words p (resumed code p.thread x (core_compare a time j None (Value h.lock))))
+          at : ((h.lock == time) ≡ true) × (h.lock ≡ time) ⊎ ((h.lock == time) ≡ false) × (h.lock ≢ time) → PartOk code bounds h t c0 (part_after words p (resume_next code p.thread x (core_compare a time j None (Value h.lock))))
           at (inr f) = rw f.0 (validate_step free hand.5)
           at (inl f) =
               let same = f.1 in

@@ -4,7 +4,7 @@ use Rattle.std.specs.List.{AllByRecursion}
 use Rattle.std.proofs.lemmas.Bool.Decides.{eqb_tells}
 use Rattle.syntax.specs.declared.numbers.Status.TheVariants.{Running, Trapped as HasTrapped}
 use Rattle.syntax.specs.declared.numbers.Trap.{Trap}
-use Rattle.write_log.specs.Overlay.{overlay, put, written}
+use Rattle.write_log.specs.Overlay.{overlay, with_write, overlay_word}
 use Rattle.bytecode.specs.Effects.{Effect, FitsCells, after_cancel}
 use Rattle.bytecode.specs.Effects.Effect.{Begin, Cancel, CancelOuter, Commit, End, Irrevocable, Print, Pure, Read, Traps, Write}
 use Rattle.bytecode.specs.Sequential.{inside_step, outside, outside_step}
@@ -107,12 +107,12 @@ module _ {C : Type 0} (code : C → Effect C) (bounds : List ℕ) (t : ℕ) (c0 
       pub inner_begin_step : (c d : C) → code p.thread.configuration ≡ Begin c d → PartOk code bounds h t c0 (part_after words p (go p.thread c (record a { inner = record { saved = p.thread.configuration; writes = a.writes } ∷ a.inner })))
       inner_begin_step c d ex = goes c a.writes (record { saved = p.thread.configuration; writes = a.writes } ∷ a.inner) (Begin c d) ex n.steady.log (n.steady.log, n.steady.marks) (λ m fs ls size ok. rw ex refl)
 
-      pub write_step : (ad v : ℕ) (c : C) → FitsCells code bounds → code p.thread.configuration ≡ Write ad v c → PartOk code bounds h t c0 (part_after words p (go p.thread c (record a { writes = put ad v a.writes })))
-      write_step ad v c fits ex = goes c (put ad v a.writes) a.inner (Write ad v c) ex (log-put bounds ad v a.writes (fits.writes p.thread.configuration c ad v ex).1 n.steady.log) n.steady.marks
+      pub write_step : (ad v : ℕ) (c : C) → FitsCells code bounds → code p.thread.configuration ≡ Write ad v c → PartOk code bounds h t c0 (part_after words p (go p.thread c (record a { writes = with_write ad v a.writes })))
+      write_step ad v c fits ex = goes c (with_write ad v a.writes) a.inner (Write ad v c) ex (log-put bounds ad v a.writes (fits.writes p.thread.configuration c ad v ex).1 n.steady.log) n.steady.marks
           (λ m fs ls size ok. ap (λ w. inside c (record { cancelled = after_cancel (code a.saved) a.saved; found = m; mem = w; inner = inners_of code m a.inner; kept = a.kept }) fs ls p.thread.text) (sym (overlay-put m ad v a.writes n.steady.log.0)))
 
       -- a read that the write log serves
-      pub served_step : (ad v : ℕ) (k : ℕ → C) → FitsCells code bounds → code p.thread.configuration ≡ Read ad k → written ad a.writes ≡ Some v → PartOk code bounds h t c0 (part_after words p (go p.thread (k v) a))
+      pub served_step : (ad v : ℕ) (k : ℕ → C) → FitsCells code bounds → code p.thread.configuration ≡ Read ad k → overlay_word ad a.writes ≡ Some v → PartOk code bounds h t c0 (part_after words p (go p.thread (k v) a))
       served_step ad v k fits ex w = goes (k v) a.writes a.inner (Read ad k) ex n.steady.log n.steady.marks
           (λ m fs ls size ok. ap (λ x. inside (k x) (inside_of code m a.saved a.writes a.inner a.kept) fs ls p.thread.text) (overlay-written m ad v a.writes n.steady.log.0 (let lt = fits.reads p.thread.configuration ad k ex in omega arith) w))
 

@@ -2,7 +2,7 @@
 use Rattle.std.proofs.Common.{◌≡◌, ◌≤◌, ℕ, List, Option, None, Some, refl, sym, subst, slice_get, arith}
 use Rattle.bytecode.specs.Effects.{Effect, FitsCells}
 use Rattle.machine.specs.inner.Invariant.{History, Invariant, Moves, StepOk}
-use Rattle.machine.specs.Threads.{access, told}
+use Rattle.machine.specs.Threads.{access, step_with}
 use Rattle.machine.specs.Worlds.{Part, World, answer, lock_after, part_after, step, step_of, words_after}
 use Rattle.machine.proofs.parts.Part.{moves_refl}
 use Rattle.machine.proofs.steps.PartSteps.{part_step}
@@ -17,8 +17,8 @@ module _ {C : Type 0} (code : C → Effect C) (init : ℕ → C) (bounds : List 
       at (Some p) e =
           let a = access code p.thread in
           let kept = part_step code bounds t (init t) h w.words fits v.history p (v.parts t p e) in
-          let moved = subst (λ l. StepOk code bounds t (init t) h (lock_after l a) (words_after w.words a) (part_after w.words p (told code p.thread (answer l w.words a)))) (sym v.lock) kept in
-          (moved.after, changed code bounds init m0 fits w h t p (part_after w.words p (told code p.thread (answer w.lock w.words a))) (lock_after w.lock a) (words_after w.words a) e v moved, moved.moves)
+          let moved = subst (λ l. StepOk code bounds t (init t) h (lock_after l a) (words_after w.words a) (part_after w.words p (step_with code p.thread (answer l w.words a)))) (sym v.lock) kept in
+          (moved.after, changed code bounds init m0 fits w h t p (part_after w.words p (step_with code p.thread (answer w.lock w.words a))) (lock_after w.lock a) (words_after w.words a) e v moved, moved.moves)
 
   -- the lock does not fall
   pub step_lock : w.lock ≤ (step code w t).lock

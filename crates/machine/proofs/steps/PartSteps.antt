@@ -3,7 +3,7 @@ use Rattle.std.proofs.Common.{◌≡◌, ◌≢◌, ℕ, Bool, true, false, cond
 use Rattle.syntax.specs.declared.numbers.Status.{Status}
 use Rattle.syntax.specs.declared.numbers.Status.TheVariants.{Running, Ended as HasEnded, Trapped as HasTrapped}
 use Rattle.syntax.specs.declared.numbers.Trap.{Trap}
-use Rattle.write_log.specs.Overlay.{overlay, written}
+use Rattle.write_log.specs.Overlay.{overlay, overlay_word}
 use Rattle.bytecode.specs.Effects.{Effect, FitsCells}
 use Rattle.bytecode.specs.Effects.Effect.{Begin, Cancel, CancelOuter, Commit, End, Irrevocable, Print, Pure, Read, Traps, Write}
 use Rattle.norec_core.specs.Attempts.{Attempt, Checkpoint}
@@ -17,7 +17,7 @@ use Rattle.norec_core.specs.declared.step.Phase.{Phase}
 use Rattle.norec_core.specs.declared.step.Phase.TheVariants.{AtOperation, ReadsLock, Stores, ValidatesEntry, ValidatesTime}
 use Rattle.machine.specs.Explained.{has_lock, stored_of}
 use Rattle.machine.specs.inner.Invariant.{AttemptOk, ComesTo, History, InHand, IsHistory, StepOk, LockBy, Now, Ordered, PartOk, Validates, bound_of}
-use Rattle.machine.specs.Threads.{Next, access, access_of, inside_access, op_of, outside_access, resumed, told, told_inside, told_of, told_outside}
+use Rattle.machine.specs.Threads.{Next, access, access_of, inside_access, op_of, outside_access, resume_next, step_with, told_inside, told_of, told_outside}
 use Rattle.machine.specs.Worlds.{Part, answer, lock_after, part_after, step, words_after}
 use Rattle.write_log.proofs.Overlay.{not_written}
 use Rattle.read_log.proofs.Logs.{take_whole}
@@ -66,7 +66,7 @@ module _ {C : Type 0} (code : C → Effect C) (bounds : List ℕ) (t : ℕ) (c0 
 
       -- what the core's step for the instruction x leaves
       abbrev Does : Effect C → Access → (Answer → CoreStep C) → Type 0
-      Does x access step = After p access (λ answer. resumed code p.thread x (step answer))
+      Does x access step = After p access (λ answer. resume_next code p.thread x (step answer))
 
       unmoved : Does End Local (λ answer. on a outcome.Going)
       unmoved = from _ (unmoved_step code bounds t c0 h words i p ok.each ok.complete a e ord n)
@@ -81,7 +81,7 @@ module _ {C : Type 0} (code : C → Effect C) (bounds : List ℕ) (t : ℕ) (c0 
           let k = holder_of h t a (has_lock a.kept a.phase) held n.holds in
           release_step code bounds t c0 h words i p ok.each ok.complete a ord n k.0 k.1 c p.thread.status a.writes (Commit c) (st ∙ take_whole a.writes j g) ex (λ m fs ls. rw (ei, n.steady.running) refl)
 
-      read_at : (ad : ℕ) (k : ℕ → C) (o : Option ℕ) → written ad a.writes ≡ o → a.phase ≡ AtOperation → code p.thread.configuration ≡ Read ad k → Does (Read ad k) (read_access ad o) (core_read a o)
+      read_at : (ad : ℕ) (k : ℕ → C) (o : Option ℕ) → overlay_word ad a.writes ≡ o → a.phase ≡ AtOperation → code p.thread.configuration ≡ Read ad k → Does (Read ad k) (read_access ad o) (core_read a o)
       read_at ad k (Some v) w ph ex = from _ (served_step code bounds t c0 h words p ok.each ok.complete a e ph ord n ad v k fits ex w)
       read_at ad k None w ph ex = from _ (word_step code bounds t c0 h words i p ok.each ok.complete a e ord n ad k a.kept refl ph ex (not_written ad a.writes w))
 
@@ -179,7 +179,7 @@ module _ {C : Type 0} (code : C → Effect C) (bounds : List ℕ) (t : ℕ) (c0 
           (λ v ph hand. other_read v (Begin c d) ex hand (λ ad k f. absurd (cc)))
           (λ j ph hand. other_commit j (Begin c d) ex hand (λ c' f. absurd (cc)))
       by_effect (Read ad k) ex = phases (Read ad k) (op.Read ad) a.phase refl n.in_hand
-          (λ ph. read_at ad k (written ad a.writes) refl ph ex)
+          (λ ph. read_at ad k (overlay_word ad a.writes) refl ph ex)
           (check_at ad k ex)
           (λ j ph hand. other_commit j (Read ad k) ex hand (λ c' f. absurd (cc)))
       by_effect (Write ad v c) ex = phases (Write ad v c) (op.Write ad v) a.phase refl n.in_hand
@@ -208,5 +208,5 @@ module _ {C : Type 0} (code : C → Effect C) (bounds : List ℕ) (t : ℕ) (c0 
     by_attempt (Some a) e ord now = by_effect a e ord now (code p.thread.configuration) refl
 
     -- one step of one part
-    pub part_step : After p (access code p.thread) (told code p.thread)
+    pub part_step : After p (access code p.thread) (step_with code p.thread)
     part_step = by_attempt p.thread.attempt refl ok.ordered ok.now

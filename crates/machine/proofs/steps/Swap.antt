@@ -11,7 +11,7 @@ use Rattle.norec_core.specs.declared.step.Answer.TheVariants.{Lost, Won}
 use Rattle.norec_core.specs.declared.step.Phase.TheVariants.{AtOperation, Stores, ValidatesTime}
 use Rattle.machine.specs.Explained.{stored_of}
 use Rattle.machine.specs.inner.Invariant.{AttemptOk, HasTaker, History, InHand, IsHistory, StepOk, LockIs, Moves, Ordered, PartOk, RecordOk, inside, inside_of}
-use Rattle.machine.specs.Threads.{resumed}
+use Rattle.machine.specs.Threads.{resume_next}
 use Rattle.machine.specs.Worlds.{Part, part_after}
 use Rattle.machine.proofs.parts.Forms.{go}
 use Rattle.machine.proofs.parts.Frame.{begun_frame, each_frame}
@@ -98,16 +98,16 @@ module _ {C : Type 0} (code : C → Effect C) (bounds : List ℕ) (t : ℕ) (c0 
               in_hand = subst (InHand code (taken t h) b c) (sym ph) tt;
             }))
 
-      pub commit_swap_step : (c : C) → a.inner ≡ [] → code p.thread.configuration ≡ Commit c → StepOk code bounds t c0 h (cond (h.lock == a.snapshot) (a.snapshot + 1) h.lock) words (part_after words p (resumed code p.thread (Commit c) (core_swap a (record a { phase = Stores 0 }) outcome.Going (cond (h.lock == a.snapshot) Won (Lost h.lock)))))
+      pub commit_swap_step : (c : C) → a.inner ≡ [] → code p.thread.configuration ≡ Commit c → StepOk code bounds t c0 h (cond (h.lock == a.snapshot) (a.snapshot + 1) h.lock) words (part_after words p (resume_next code p.thread (Commit c) (core_swap a (record a { phase = Stores 0 }) outcome.Going (cond (h.lock == a.snapshot) Won (Lost h.lock)))))
       commit_swap_step c ei ex = at (eqb_tells h.lock a.snapshot)
         where
-          at : ((h.lock == a.snapshot) ≡ true) × (h.lock ≡ a.snapshot) ⊎ ((h.lock == a.snapshot) ≡ false) × (h.lock ≢ a.snapshot) → StepOk code bounds t c0 h (cond (h.lock == a.snapshot) (a.snapshot + 1) h.lock) words (part_after words p (resumed code p.thread (Commit c) (core_swap a (record a { phase = Stores 0 }) outcome.Going (cond (h.lock == a.snapshot) Won (Lost h.lock)))))
+          at : ((h.lock == a.snapshot) ≡ true) × (h.lock ≡ a.snapshot) ⊎ ((h.lock == a.snapshot) ≡ false) × (h.lock ≢ a.snapshot) → StepOk code bounds t c0 h (cond (h.lock == a.snapshot) (a.snapshot + 1) h.lock) words (part_after words p (resume_next code p.thread (Commit c) (core_swap a (record a { phase = Stores 0 }) outcome.Going (cond (h.lock == a.snapshot) Won (Lost h.lock)))))
           at (inl f) = rw f.0 (commit_won f.1 c ei ex)
           at (inr f) = rw f.0 (still code bounds t c0 h h.lock words (part_after words p (go p.thread p.thread.configuration (record a { phase = ValidatesTime }))) refl i (validate_step code bounds t c0 h words i p each comp a e ord n (rw (ph, free) refl) (rw ex tt)))
 
-      pub irrevocable_step : (c : C) → code p.thread.configuration ≡ Irrevocable c → StepOk code bounds t c0 h (cond (h.lock == a.snapshot) (a.snapshot + 1) h.lock) words (part_after words p (resumed code p.thread (Irrevocable c) (core_swap a (record a { kept = true }) outcome.Done (cond (h.lock == a.snapshot) Won (Lost h.lock)))))
+      pub irrevocable_step : (c : C) → code p.thread.configuration ≡ Irrevocable c → StepOk code bounds t c0 h (cond (h.lock == a.snapshot) (a.snapshot + 1) h.lock) words (part_after words p (resume_next code p.thread (Irrevocable c) (core_swap a (record a { kept = true }) outcome.Done (cond (h.lock == a.snapshot) Won (Lost h.lock)))))
       irrevocable_step c ex = at (eqb_tells h.lock a.snapshot)
         where
-          at : ((h.lock == a.snapshot) ≡ true) × (h.lock ≡ a.snapshot) ⊎ ((h.lock == a.snapshot) ≡ false) × (h.lock ≢ a.snapshot) → StepOk code bounds t c0 h (cond (h.lock == a.snapshot) (a.snapshot + 1) h.lock) words (part_after words p (resumed code p.thread (Irrevocable c) (core_swap a (record a { kept = true }) outcome.Done (cond (h.lock == a.snapshot) Won (Lost h.lock)))))
+          at : ((h.lock == a.snapshot) ≡ true) × (h.lock ≡ a.snapshot) ⊎ ((h.lock == a.snapshot) ≡ false) × (h.lock ≢ a.snapshot) → StepOk code bounds t c0 h (cond (h.lock == a.snapshot) (a.snapshot + 1) h.lock) words (part_after words p (resume_next code p.thread (Irrevocable c) (core_swap a (record a { kept = true }) outcome.Done (cond (h.lock == a.snapshot) Won (Lost h.lock)))))
           at (inl f) = rw f.0 (irrevocable_won f.1 c ex)
           at (inr f) = rw f.0 (still code bounds t c0 h h.lock words (part_after words p (go p.thread p.thread.configuration (record a { phase = ValidatesTime }))) refl i (validate_step code bounds t c0 h words i p each comp a e ord n (rw (ph, free) refl) (rw ex tt)))

@@ -5,7 +5,7 @@ use Rattle.std.proofs.lemmas.Option.{slice_get_within}
 use Rattle.std.proofs.Math.ListN.{length-set}
 use Rattle.bytecode.specs.Effects.{Effect, FitsCells}
 use Rattle.machine.specs.inner.Invariant.{History, Invariant, StepOk, PartOk}
-use Rattle.machine.specs.Threads.{access, told}
+use Rattle.machine.specs.Threads.{access, step_with}
 use Rattle.machine.specs.Worlds.{Part, World, answer, lock_after, part_after, run, step, step_of, words_after}
 use Rattle.machine.proofs.parts.Frame.{frame}
 use Rattle.machine.proofs.steps.PartSteps.{part_step}
@@ -77,8 +77,8 @@ module _ {C : Type 0} (code : C → Effect C) (bounds : List ℕ) (init : ℕ �
       at (Some p) e =
           let a = access code p.thread in
           let kept = part_step code bounds t (init t) h w.words fits v.history p (v.parts t p e) in
-          let moved = subst (λ l. StepOk code bounds t (init t) h (lock_after l a) (words_after w.words a) (part_after w.words p (told code p.thread (answer l w.words a)))) (sym v.lock) kept in
-          (moved.after, changed w h t p (part_after w.words p (told code p.thread (answer w.lock w.words a))) (lock_after w.lock a) (words_after w.words a) e v moved)
+          let moved = subst (λ l. StepOk code bounds t (init t) h (lock_after l a) (words_after w.words a) (part_after w.words p (step_with code p.thread (answer l w.words a)))) (sym v.lock) kept in
+          (moved.after, changed w h t p (part_after w.words p (step_with code p.thread (answer w.lock w.words a))) (lock_after w.lock a) (words_after w.words a) e v moved)
 
   -- any list of steps
   pub run_invariant : (ts : List ℕ) (w : World C) (h : History) → Invariant code bounds init m0 h w → (k : History) × Invariant code bounds init m0 k (run code ts w)

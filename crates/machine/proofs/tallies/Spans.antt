@@ -16,8 +16,8 @@ use Rattle.norec_core.specs.Attempts.{Attempt, Completed}
 use Rattle.machine.specs.inner.Invariant.{History, inside}
 use Rattle.machine.specs.Serializable.{world_after}
 use Rattle.machine.specs.Tallies.{BeginsFree, CountsByMeaning, IsInside, IsOpenAfter, IsOverAfter, IsUndisturbed, Tally, accesses_in, cost_next, empty_tally}
-use Rattle.machine.specs.Threads.{Next, Thread, access, access_of, outside_access, told, told_of, told_outside, told_running}
-use Rattle.machine.specs.Worlds.{Part, Record, World, added, answer, lock_after, new_world, part_after, record_of, recorded, run, step, step_of, words_after}
+use Rattle.machine.specs.Threads.{Next, Thread, access, access_of, outside_access, step_with, told_of, told_outside, told_running}
+use Rattle.machine.specs.Worlds.{Part, Record, World, with_record, answer, lock_after, new_world, part_after, record_of, step_record, run, step, step_of, words_after}
 use Rattle.machine.proofs.parts.Memories.{sized}
 use Rattle.machine.proofs.runs.Serializable.{new_invariant, start_of}
 use Rattle.machine.proofs.steps.Worlds.{get-set_other, get-set_same, run_invariant}
@@ -54,7 +54,7 @@ module _ {C : Type 0} (code : C → Effect C) (lock : ℕ) (words : List ℕ) (f
     words_same = refl;
   }
 
-  begin_at : (th : Thread C) (c d : C) → th.attempt ≡ None → th.status ≡ Running → code th.configuration ≡ Begin c d → BeginsBy c th (access code th) (told code th)
+  begin_at : (th : Thread C) (c d : C) → th.attempt ≡ None → th.status ≡ Running → code th.configuration ≡ Begin c d → BeginsBy c th (access code th) (step_with code th)
   begin_at th c d none running is =
       subst (λ o. BeginsBy c th (access_of th o (code th.configuration)) (told_of code th o (code th.configuration))) (sym none)
       (subst (λ s. BeginsBy c th (outside_access s (code th.configuration)) (told_outside code th s (code th.configuration))) (sym running)
@@ -65,7 +65,7 @@ module _ {C : Type 0} (code : C → Effect C) (bounds : List ℕ) (fits : FitsCe
   begin = first.thread.configuration
 
   abbrev next_of : World C → Part C → Next C
-  next_of v p = told code p.thread (answer v.lock v.words (access code p.thread))
+  next_of v p = step_with code p.thread (answer v.lock v.words (access code p.thread))
 
   abbrev QuietAt : ℕ → List ℕ → ℕ → C → Attempt C → Type 0
   QuietAt lock words k c a = Quiet code bounds fits begin w.words size lock words k c a
@@ -81,10 +81,10 @@ module _ {C : Type 0} (code : C → Effect C) (bounds : List ℕ) (fits : FitsCe
   -- the part after its step
   lands : (k lock : ℕ) (words old : List ℕ) (p : Part C) (n : Next C) (o : Option (Attempt C)) (y : Option Completed) → n.thread.attempt ≡ o → n.completed ≡ y → p.records ≡ first.records
       → QuietAfter code bounds fits begin w.words size lock words k n.thread.configuration o y → StandsAt k lock words (Some (part_after old p n))
-  lands k lock words old p n (Some a) None e f same q = inside_it (part_after old p n) a refl e (ap (λ z. added p.records (recorded p.base z)) f ∙ same) q
+  lands k lock words old p n (Some a) None e f same q = inside_it (part_after old p n) a refl e (ap (λ z. with_record p.records (step_record p.base z)) f ∙ same) q
   lands k lock words old p n (Some a) (Some x) e f same q = absurd q
   lands k lock words old p n None None e f same q = absurd q
-  lands k lock words old p n None (Some x) e f same q = past_it (part_after old p n) (record_of p.base x) refl e (ap (λ z. added p.records (recorded p.base z)) f ∙ ap (λ rs. rs ++ record_of p.base x ∷ []) same) q
+  lands k lock words old p n None (Some x) e f same q = past_it (part_after old p n) (record_of p.base x) refl e (ap (λ z. with_record p.records (step_record p.base z)) f ∙ ap (λ rs. rs ++ record_of p.base x ∷ []) same) q
 
   -- its own step
   own_step : (k : ℕ) (v : World C) → Stands k v → IsInside v t → Stands (k + cost_next code (slice_get v.parts t)) (step code v t)

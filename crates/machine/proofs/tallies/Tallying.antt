@@ -7,7 +7,7 @@ use Rattle.std.proofs.lemmas.List.{drop-map, length-map}
 use Rattle.std.proofs.lemmas.Option.{slice_get_within}
 use Rattle.syntax.specs.Behaviours.{Memory}
 use Rattle.syntax.specs.declared.numbers.Trap.{Trap}
-use Rattle.write_log.specs.Overlay.{IsDistinct, overlay, put, written}
+use Rattle.write_log.specs.Overlay.{IsDistinct, overlay, with_write, overlay_word}
 use Rattle.write_log.proofs.Overlay.{distinct-put, not_written, overlay-other, overlay-put, overlay-written}
 use Rattle.bytecode.specs.Effects.{Effect, FitsCells, after_cancel}
 use Rattle.bytecode.specs.Effects.Effect.{Pure, Print, Begin, Read, Write, Commit, Cancel, CancelOuter, Irrevocable, Traps, End}
@@ -24,8 +24,8 @@ use Rattle.norec_core.specs.Accesses.{cost}
 use Rattle.norec_core.specs.Attempts.{Checkpoint, Attempt, Completed}
 use Rattle.norec_core.specs.Phases.{phase_access, read_access, commit_access, store_access, core_phase, core_read, core_word, core_commit, core_cancel, core_store, core_check, core_swap, on}
 use Rattle.machine.specs.inner.Invariant.{inners_of, inside, inside_of}
-use Rattle.machine.specs.Tallies.{Tally, accesses, accesses_at, accesses_so_far, commit_accesses, empty_tally, is_among, is_commit, tallied, tally_after, with_cancel, with_cell, with_commit, with_read}
-use Rattle.machine.specs.Threads.{Thread, Next, access, access_of, told, told_of, op_of, own_step, print_inside, resumed}
+use Rattle.machine.specs.Tallies.{Tally, accesses, accesses_at, accesses_so_far, commit_accesses, empty_tally, is_among, is_commit, tally_step, tally_after, with_cancel, with_cell, with_commit, with_read}
+use Rattle.machine.specs.Threads.{Thread, Next, access, access_of, step_with, told_of, op_of, own_step, print_inside, resume_next}
 use Rattle.machine.specs.Worlds.{answer, lock_after, words_after}
 use Rattle.machine.proofs.Levels.{all_left}
 use Rattle.machine.proofs.parts.Meaning.{outer_cancelled}
@@ -34,28 +34,28 @@ use Rattle.machine.proofs.parts.Meaning.{outer_cancelled}
 abbrev pub cells : List (ℕ × ℕ) → List ℕ
 cells ws = map (λ (p : ℕ × ℕ). p.0) ws
 
-among-written : (a v : ℕ) (ws : List (ℕ × ℕ)) → written a ws ≡ Some v → is_among a (cells ws) ≡ true
+among-written : (a v : ℕ) (ws : List (ℕ × ℕ)) → overlay_word a ws ≡ Some v → is_among a (cells ws) ≡ true
 among-written a v [] e = absurd (cc)
 among-written a v (p ∷ ws) e = at (p.0 == a) refl (among-written a v ws)
   where
-    at : (b : Bool) → (p.0 == a) ≡ b → (written a ws ≡ Some v → is_among a (cells ws) ≡ true) → cond (p.0 == a) true (is_among a (cells ws)) ≡ true
+    at : (b : Bool) → (p.0 == a) ≡ b → (overlay_word a ws ≡ Some v → is_among a (cells ws) ≡ true) → cond (p.0 == a) true (is_among a (cells ws)) ≡ true
     at true f ih = rw f refl
     at false f ih = let g = rw f at e in rw f (ih g)
 
-among-unwritten : (a : ℕ) (ws : List (ℕ × ℕ)) → written a ws ≡ None → is_among a (cells ws) ≡ false
+among-unwritten : (a : ℕ) (ws : List (ℕ × ℕ)) → overlay_word a ws ≡ None → is_among a (cells ws) ≡ false
 among-unwritten a [] e = refl
 among-unwritten a (p ∷ ws) e = at (p.0 == a) refl (among-unwritten a ws)
   where
-    at : (b : Bool) → (p.0 == a) ≡ b → (written a ws ≡ None → is_among a (cells ws) ≡ false) → cond (p.0 == a) true (is_among a (cells ws)) ≡ false
+    at : (b : Bool) → (p.0 == a) ≡ b → (overlay_word a ws ≡ None → is_among a (cells ws) ≡ false) → cond (p.0 == a) true (is_among a (cells ws)) ≡ false
     at true f ih = let g = rw f at e in absurd (cc)
     at false f ih = let g = rw f at e in rw f (ih g)
 
-cells-put : (a v : ℕ) (ws : List (ℕ × ℕ)) → with_cell a (cells ws) ≡ cells (put a v ws)
+cells-put : (a v : ℕ) (ws : List (ℕ × ℕ)) → with_cell a (cells ws) ≡ cells (with_write a v ws)
 cells-put a v [] = refl
 cells-put a v (p ∷ ws) = at (eqb_tells p.0 a) (is_among a (cells ws)) refl (cells-put a v ws)
   where
-    at : ((p.0 == a) ≡ true) × (p.0 ≡ a) ⊎ ((p.0 == a) ≡ false) × (p.0 ≢ a) → (b : Bool) → is_among a (cells ws) ≡ b → cond (is_among a (cells ws)) (cells ws) (cells ws ++ a ∷ []) ≡ cells (put a v ws)
-        → cond (cond (p.0 == a) true (is_among a (cells ws))) (p.0 ∷ cells ws) (p.0 ∷ cells ws ++ a ∷ []) ≡ cells (cond (p.0 == a) ((a, v) ∷ ws) (p ∷ put a v ws))
+    at : ((p.0 == a) ≡ true) × (p.0 ≡ a) ⊎ ((p.0 == a) ≡ false) × (p.0 ≢ a) → (b : Bool) → is_among a (cells ws) ≡ b → cond (is_among a (cells ws)) (cells ws) (cells ws ++ a ∷ []) ≡ cells (with_write a v ws)
+        → cond (cond (p.0 == a) true (is_among a (cells ws))) (p.0 ∷ cells ws) (p.0 ∷ cells ws ++ a ∷ []) ≡ cells (cond (p.0 == a) ((a, v) ∷ ws) (p ∷ with_write a v ws))
     at (inl e) b f ih = rw e.0 (ap (λ c. c ∷ cells ws) e.1)
     at (inr e) true f ih = let g = rw f at ih in rw (e.0, f) (ap (λ l. p.0 ∷ l) g)
     at (inr e) false f ih = let g = rw f at ih in rw (e.0, f) (ap (λ l. p.0 ∷ l) g)
@@ -82,7 +82,7 @@ module _ {C : Type 0} (code : C → Effect C) (bounds : List ℕ) (fits : FitsCe
 
   tally-add : (n m : ℕ) (s : Sequential C) (t : Tally) → tally_after code (n + m) s t ≡ tally_after code m (tally_after code n s t).0 (tally_after code n s t).1
   tally-add zero m s t = ap (λ k. tally_after code k s t) (zero-add m)
-  tally-add (suc n) m s t = ap (λ k. tally_after code k s t) (suc-add n m) ∙ tally-add n m (next code s) (tallied t (code s.configuration))
+  tally-add (suc n) m s t = ap (λ k. tally_after code k s t) (suc-add n m) ∙ tally-add n m (next code s) (tally_step t (code s.configuration))
 
   -- the tally of an attempt
   abbrev pub tally_of : ℕ → ℕ → Attempt C → Tally
@@ -100,14 +100,14 @@ module _ {C : Type 0} (code : C → Effect C) (bounds : List ℕ) (fits : FitsCe
 
   -- one more instruction
   advance : (r kr : ℕ) (c : C) (a : Attempt C) (x : Effect C) → code c ≡ x → Tells r kr c a → (r' kr' : ℕ) (c' : C) (b : Attempt C)
-      → ((text : List ℕ) → (text' : List ℕ) × (inside_step (meant c a text) (opened a) x ≡ meant c' b text')) → tallied (tally_of r kr a) x ≡ tally_of r' kr' b → Tells r' kr' c' b
+      → ((text : List ℕ) → (text' : List ℕ) × (inside_step (meant c a text) (opened a) x ≡ meant c' b text')) → tally_step (tally_of r kr a) x ≡ tally_of r' kr' b → Tells r' kr' c' b
   advance r kr c a x e s r' kr' c' b one tally =
       let m = one s.1 in (
         s.0 + 1,
         m.0,
         tally-add s.0 1 entered empty_tally
             ∙ ap (λ (p : Sequential C × Tally). tally_after code 1 p.0 p.1) s.2
-            ∙ ap (λ y. (inside_step (meant c a s.1) (opened a) y, tallied (tally_of r kr a) y)) e
+            ∙ ap (λ y. (inside_step (meant c a s.1) (opened a) y, tally_step (tally_of r kr a) y)) e
             ∙ (λ i. (m.1 i, tally i)),
       )
 
@@ -115,7 +115,7 @@ module _ {C : Type 0} (code : C → Effect C) (bounds : List ℕ) (fits : FitsCe
   abbrev AtPhase : ℕ → List ℕ → C → Attempt C → Phase → Type 0
   AtPhase lock words c a AtOperation = (words ≡ found) × (a.kept ≡ false → lock ≡ a.snapshot)
   AtPhase lock words c a (ReadsLock v) = (words ≡ found) × (a.kept ≡ false) × (lock ≡ a.snapshot)
-      × ((ad : ℕ) × (f : ℕ → C) × (code c ≡ Read ad f) × (written ad a.writes ≡ None) × (v ≡ slice_index found ad))
+      × ((ad : ℕ) × (f : ℕ → C) × (code c ≡ Read ad f) × (overlay_word ad a.writes ≡ None) × (v ≡ slice_index found ad))
   AtPhase lock words c a (Stores i) = (i ≤ length a.writes) × (0 < length a.writes) × (a.inner ≡ []) × ((d : C) × (code c ≡ Commit d))
   AtPhase lock words c a _ = ⊥
 
@@ -157,7 +157,7 @@ module _ {C : Type 0} (code : C → Effect C) (bounds : List ℕ) (fits : FitsCe
 
     abbrev told_in : Phase → Effect C → Option Op → Answer → Next C
     told_in q x None y = own_step th a x
-    told_in q x (Some o) y = resumed code th x (core_phase th.configuration a q o y)
+    told_in q x (Some o) y = resume_next code th x (core_phase th.configuration a q o y)
 
     abbrev here : C
     here = th.configuration
@@ -225,7 +225,7 @@ module _ {C : Type 0} (code : C → Effect C) (bounds : List ℕ) (fits : FitsCe
       unmoved : (c : C) → Tells r kr c a → QuietAfter lock words (k + 0) c th.attempt None
       unmoved c t = subst (λ o. QuietAfter lock words (k + 0) c o None) (sym e) (moves c t)
 
-      word : (ad : ℕ) (f : ℕ → C) → code here ≡ Read ad f → written ad a.writes ≡ None → (kept : Bool) → a.kept ≡ kept → After (access_.LoadWord ad) (λ y. resumed code th (Read ad f) (core_word a kept y))
+      word : (ad : ℕ) (f : ℕ → C) → code here ≡ Read ad f → overlay_word ad a.writes ≡ None → (kept : Bool) → a.kept ≡ kept → After (access_.LoadWord ad) (λ y. resume_next code th (Read ad f) (core_word a kept y))
       word ad f ex g true kp =
           let before = if_so a.kept (1 + kr) 0 kp in
           let after = if_so a.kept (1 + suc kr) 0 kp in
@@ -245,7 +245,7 @@ module _ {C : Type 0} (code : C → Effect C) (bounds : List ℕ) (fits : FitsCe
         at = (same, kp, free kp, (ad, f, ex, g, ap (λ m. slice_index m ad) same));
       }
 
-      read : (ad : ℕ) (f : ℕ → C) → code here ≡ Read ad f → (o : Option ℕ) → written ad a.writes ≡ o → After (read_access ad o) (λ y. resumed code th (Read ad f) (core_read a o y))
+      read : (ad : ℕ) (f : ℕ → C) → code here ≡ Read ad f → (o : Option ℕ) → overlay_word ad a.writes ≡ o → After (read_access ad o) (λ y. resume_next code th (Read ad f) (core_read a o y))
       read ad f ex (Some v) g =
           let lt = fits.reads here ad f ex in
           let le : ad < length found = omega (arith, sized) in
@@ -254,9 +254,9 @@ module _ {C : Type 0} (code : C → Effect C) (bounds : List ℕ) (fits : FitsCe
           (ap (λ own. with_read tally own a.kept) (among-written ad v a.writes g)))
       read ad f ex None g = word ad f ex g a.kept refl
 
-      write : (ad v : ℕ) (c : C) → code here ≡ Write ad v c → Quiet lock words (k + 0) c (record a { writes = put ad v a.writes })
-      write ad v c ex = rests lock (k + 0) c (record a { writes = put ad v a.writes }) r kr ph free
-          (advance r kr here a (Write ad v c) ex tells r kr c (record a { writes = put ad v a.writes })
+      write : (ad v : ℕ) (c : C) → code here ≡ Write ad v c → Quiet lock words (k + 0) c (record a { writes = with_write ad v a.writes })
+      write ad v c ex = rests lock (k + 0) c (record a { writes = with_write ad v a.writes }) r kr ph free
+          (advance r kr here a (Write ad v c) ex tells r kr c (record a { writes = with_write ad v a.writes })
           (λ text. (text, ap (λ m. inside c (record (opened a) { mem = m }) [] [] text) (sym (overlay-put found ad v a.writes distinct))))
           (ap (λ ws. record tally { written = ws }) (cells-put ad v a.writes)))
           unkept (omega arith) (distinct-put ad v a.writes distinct) marks
@@ -268,7 +268,7 @@ module _ {C : Type 0} (code : C → Effect C) (bounds : List ℕ) (fits : FitsCe
           refl)
           unkept (omega arith) distinct (distinct, marks)
 
-      commit_kept : (c : C) → code here ≡ Commit c → a.inner ≡ [] → a.kept ≡ true → (ws : List (ℕ × ℕ)) → a.writes ≡ ws → After (store_access a.snapshot (slice_get ws 0)) (λ y. resumed code th (Commit c) (core_store a 0 (slice_get ws 0)))
+      commit_kept : (c : C) → code here ≡ Commit c → a.inner ≡ [] → a.kept ≡ true → (ws : List (ℕ × ℕ)) → a.writes ≡ ws → After (store_access a.snapshot (slice_get ws 0)) (λ y. resume_next code th (Commit c) (core_store a 0 (slice_get ws 0)))
       commit_kept c ex g kp [] h =
           let own = if_so a.kept (length (cells a.writes) + 1) (commit_accesses (cells a.writes)) kp in
           let none : length (cells a.writes) ≡ 0 = ap (λ l. length (cells l)) h in
@@ -279,7 +279,7 @@ module _ {C : Type 0} (code : C → Effect C) (bounds : List ℕ) (fits : FitsCe
           storing (k + 1) 1 c _ _ ex g (omega arith) (omega arith) (omega arith)
 
       commit : (c : C) → code here ≡ Commit c → (inner : List (Checkpoint C)) → a.inner ≡ inner → (kept : Bool) → a.kept ≡ kept → (ws : List (ℕ × ℕ)) → a.writes ≡ ws
-          → After (commit_access a inner kept ws) (λ y. resumed code th (Commit c) (core_commit a inner kept ws y))
+          → After (commit_access a inner kept ws) (λ y. resume_next code th (Commit c) (core_commit a inner kept ws y))
       commit c ex [] g true kp ws h = commit_kept c ex g kp ws h
       commit c ex [] g false kp [] h =
           let own = if_not a.kept (length (cells a.writes) + 1) (commit_accesses (cells a.writes)) kp in
@@ -295,7 +295,7 @@ module _ {C : Type 0} (code : C → Effect C) (bounds : List ℕ) (fits : FitsCe
           (ap (λ ms. with_commit tally (map (λ (m : Checkpoint C). cells m.writes) ms)) g))
           unkept (omega arith) distinct (subst (AllByRecursion (λ (m : Checkpoint C). IsDistinct m.writes)) g marks).1
 
-      cancel : code here ≡ Cancel → (inner : List (Checkpoint C)) → a.inner ≡ inner → (kept : Bool) → a.kept ≡ kept → After access_.Local (λ y. resumed code th Cancel (core_cancel a inner kept))
+      cancel : code here ≡ Cancel → (inner : List (Checkpoint C)) → a.inner ≡ inner → (kept : Bool) → a.kept ≡ kept → After access_.Local (λ y. resume_next code th Cancel (core_cancel a inner kept))
       cancel ex [] g true kp = moves here tells
       cancel ex [] g false kp =
           let own = if_not a.kept 1 0 kp in
@@ -308,7 +308,7 @@ module _ {C : Type 0} (code : C → Effect C) (bounds : List ℕ) (fits : FitsCe
           (ap (λ ms. with_cancel tally (map (λ (m : Checkpoint C). cells m.writes) ms)) g))
           unkept (omega arith) (subst (AllByRecursion (λ (m : Checkpoint C). IsDistinct m.writes)) g marks).0 (subst (AllByRecursion (λ (m : Checkpoint C). IsDistinct m.writes)) g marks).1
 
-      outer_cancel : (levels : ℕ) → code here ≡ CancelOuter levels → (inner : List (Checkpoint C)) → drop (levels - 1) a.inner ≡ inner → (kept : Bool) → a.kept ≡ kept → After access_.Local (λ y. resumed code th (CancelOuter levels) (core_cancel a inner kept))
+      outer_cancel : (levels : ℕ) → code here ≡ CancelOuter levels → (inner : List (Checkpoint C)) → drop (levels - 1) a.inner ≡ inner → (kept : Bool) → a.kept ≡ kept → After access_.Local (λ y. resume_next code th (CancelOuter levels) (core_cancel a inner kept))
       outer_cancel levels ex [] g true kp = moves here tells
       outer_cancel levels ex [] g false kp =
           let own = if_not a.kept 1 0 kp in
@@ -330,7 +330,7 @@ module _ {C : Type 0} (code : C → Effect C) (bounds : List ℕ) (fits : FitsCe
       print piece c ex false kp = unmoved here tells
 
       irrevocable : (c : C) → code here ≡ Irrevocable c → (kept : Bool) → a.kept ≡ kept
-          → After (cond kept access_.Local (access_.Swap a.snapshot)) (λ y. resumed code th (Irrevocable c) (cond kept (on a outcome.Done) (core_swap a (record a { kept = true }) outcome.Done y)))
+          → After (cond kept access_.Local (access_.Swap a.snapshot)) (λ y. resume_next code th (Irrevocable c) (cond kept (on a outcome.Done) (core_swap a (record a { kept = true }) outcome.Done y)))
       irrevocable c ex true kp = moves c
           (advance r kr here a (Irrevocable c) ex tells r kr c a
           (λ text. (text, ap (λ b. inside c (record (opened a) { kept = b }) [] [] text) (sym kp)))
@@ -363,7 +363,7 @@ module _ {C : Type 0} (code : C → Effect C) (bounds : List ℕ) (fits : FitsCe
       at_step (Pure c) ex = unmoved c (advance r kr here a (Pure c) ex tells r kr c a (λ text. (text, refl)) refl)
       at_step (Print piece c) ex = print piece c ex a.kept refl
       at_step (Begin c d) ex = begin_inner c d ex
-      at_step (Read ad f) ex = read ad f ex (written ad a.writes) refl
+      at_step (Read ad f) ex = read ad f ex (overlay_word ad a.writes) refl
       at_step (Write ad v c) ex = write ad v c ex
       at_step (Commit c) ex = commit c ex a.inner refl a.kept refl a.writes refl
       at_step Cancel ex = cancel ex a.inner refl a.kept refl
@@ -373,8 +373,8 @@ module _ {C : Type 0} (code : C → Effect C) (bounds : List ℕ) (fits : FitsCe
       at_step End ex = unmoved here tells
 
     -- a read's word is logged
-    check : (ad : ℕ) (f : ℕ → C) (v : ℕ) → code here ≡ Read ad f → words ≡ found → a.kept ≡ false → lock ≡ a.snapshot → written ad a.writes ≡ None → v ≡ slice_index found ad → k ≡ so_far + 1
-        → After access_.LoadLock (λ y. resumed code th (Read ad f) (core_check a (op.Read ad) v y))
+    check : (ad : ℕ) (f : ℕ → C) (v : ℕ) → code here ≡ Read ad f → words ≡ found → a.kept ≡ false → lock ≡ a.snapshot → overlay_word ad a.writes ≡ None → v ≡ slice_index found ad → k ≡ so_far + 1
+        → After access_.LoadLock (λ y. resume_next code th (Read ad f) (core_check a (op.Read ad) v y))
     check ad f v ex same kp lk none is count = rw (eq-eqb lock a.snapshot lk) (record {
       reads = suc r;
       kept_reads = kr;
@@ -389,7 +389,7 @@ module _ {C : Type 0} (code : C → Effect C) (bounds : List ℕ) (fits : FitsCe
     })
 
     store : (c : C) → code here ≡ Commit c → (i : ℕ) (o : Option (ℕ × ℕ)) → slice_get a.writes i ≡ o → i ≤ length a.writes → 0 < length a.writes → a.inner ≡ [] → k ≡ so_far + (if a.kept then i else suc i)
-        → After (store_access a.snapshot o) (λ y. resumed code th (Commit c) (core_store a i o))
+        → After (store_access a.snapshot o) (λ y. resume_next code th (Commit c) (core_store a i o))
     store c ex i None g le some inner count =
         let past = none_past a.writes i g in
         let last : i ≡ length a.writes = omega arith in
@@ -420,8 +420,8 @@ module _ {C : Type 0} (code : C → Effect C) (bounds : List ℕ) (fits : FitsCe
 
   -- one undisturbed step
   pub quiet_step : (th : Thread C) (a : Attempt C) (lock : ℕ) (words : List ℕ) (k : ℕ) → th.attempt ≡ Some a → Quiet lock words k th.configuration a
-      → QuietAfter (lock_after lock (access code th)) (words_after words (access code th)) (k + cost (access code th)) (told code th (answer lock words (access code th))).thread.configuration
-      (told code th (answer lock words (access code th))).thread.attempt (told code th (answer lock words (access code th))).completed
+      → QuietAfter (lock_after lock (access code th)) (words_after words (access code th)) (k + cost (access code th)) (step_with code th (answer lock words (access code th))).thread.configuration
+      (step_with code th (answer lock words (access code th))).thread.attempt (step_with code th (answer lock words (access code th))).completed
   quiet_step th a lock words k e q =
       subst (λ o. After th a lock words e k q.reads q.kept_reads q.tells q.unkept q.distinct q.marks (access_of th o (code th.configuration)) (told_of code th o (code th.configuration))) (sym e)
       (by_phase th a lock words e k q.reads q.kept_reads q.tells q.unkept q.distinct q.marks a.phase (code th.configuration) refl refl q.at q.count)

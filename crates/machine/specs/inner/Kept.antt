@@ -10,7 +10,7 @@ use Rattle.bytecode.specs.Effects.Effect.{Commit, Cancel, CancelOuter, Traps}
 use Rattle.bytecode.specs.Code.{Code, Configuration, effect}
 use Rattle.frames.specs.declared.doing.Doing.{Doing}
 use Rattle.frames.specs.declared.doing.Doing.TheVariants as doing
-use Rattle.frames.specs.Open.{MayStand, IsConfigurationOf, CanRestore, restored}
+use Rattle.frames.specs.Open.{MayStand, IsConfigurationOf, CanRestore, begin_configuration}
 use Rattle.norec_core.specs.declared.step.Access.{Access}
 use Rattle.norec_core.specs.Accesses.{cost}
 use Rattle.norec_core.specs.declared.step.Op.{Op}
@@ -28,7 +28,7 @@ use Rattle.machine.specs.Standing.{begins_of, GivesWordsIf}
 use Rattle.machine.specs.States.{Ready}
 use Rattle.machine.specs.declared.kept.KeptThread.{KeptThread}
 
-pub record Kept : Type 0 where
+pub record PlainContext : Type 0 where
   pub configuration : Configuration
   pub core : CoreState
   pub trapping : Bool
@@ -36,7 +36,7 @@ pub record Kept : Type 0 where
   pub status : Status
 
 -- what a thread of the program's own types keeps, and what is ready for its step
-abbrev pub kept : {A : Type 0} → KeptThread A → Kept
+abbrev pub kept : {A : Type 0} → KeptThread A → PlainContext
 kept t = record {
   configuration = t.frames.configuration;
   core = t.core;
@@ -61,11 +61,11 @@ cost_if (Some x) = cost x
 
 -- an attempt, seen from a configuration
 abbrev pub shown_from : Configuration → Option (Attempt Saved) → Option (Attempt Configuration)
-shown_from c o = if_some (attempt_as (restored c)) o
+shown_from c o = if_some (attempt_as (begin_configuration c)) o
 
 -- the machine's thread that it is
-abbrev pub shown : Kept → Thread Configuration
-shown k = record {
+abbrev pub machine_thread : PlainContext → Thread Configuration
+machine_thread k = record {
   configuration = k.configuration;
   attempt = shown_from k.configuration k.core.attempt;
   trapping = k.trapping;
@@ -78,17 +78,17 @@ abbrev pub AreWithin : Configuration → List Saved → Type 0
 AreWithin c ss = AllByRecursion (λ (s : Saved). (0 < s.frames) × (s.frames ≤ suc (length c.frames))) ss
 
 -- a thread that runs, and one that is over
-pub record RunsKept (code : Code) (k : Kept) : Type 0 where
+pub record RunsInContext (code : Code) (k : PlainContext) : Type 0 where
   pub stands : MayStand code k.configuration (begins_of k.core.attempt)
   pub words : GivesWordsIf k.core.attempt
 
-abbrev pub KeptBy : Code → Kept → Status → Type 0
-KeptBy code k Running = RunsKept code k
-KeptBy code k HasEnded = k.core.attempt ≡ None
-KeptBy code k (HasTrapped cause) = k.core.attempt ≡ None
+abbrev pub ContextWith : Code → PlainContext → Status → Type 0
+ContextWith code k Running = RunsInContext code k
+ContextWith code k HasEnded = k.core.attempt ≡ None
+ContextWith code k (HasTrapped cause) = k.core.attempt ≡ None
 
-abbrev pub IsKeptOf : Code → Kept → Type 0
-IsKeptOf code k = KeptBy code k k.status
+abbrev pub IsContextOf : Code → PlainContext → Type 0
+IsContextOf code k = ContextWith code k k.status
 
 -- what is to be done, asked of the core
 abbrev pub op_by : Doing → (kept trapping : Bool) → Option Op
@@ -126,7 +126,7 @@ back_by x _ c = None
 -- where it does, what was saved can be restored, and the thread may stand there
 abbrev pub MayGoBack : Code → Configuration → Saved → Option Configuration → Type 0
 MayGoBack code c s None = Unit {0}
-MayGoBack code c s (Some b) = CanRestore c s × IsConfigurationOf code (restored c s)
+MayGoBack code c s (Some b) = CanRestore c s × IsConfigurationOf code (begin_configuration c s)
 
 -- the event of an operation, by what is left of the attempt
 abbrev pub commit_told : Option (Attempt Saved) → Event
@@ -146,14 +146,14 @@ event_by x outcome.Aborted o = event.Abort
 event_by x _ o = event.Quiet
 
 -- a step of the thread has this event, and leaves the thread that the machine's step does
-pub record Makes (code : Code) (n : Next Configuration) (k : Kept) (e : Event) : Type 0 where
-  pub thread : shown k ≡ n.thread
+pub record Makes (code : Code) (n : Next Configuration) (k : PlainContext) (e : Event) : Type 0 where
+  pub thread : machine_thread k ≡ n.thread
   pub event : e ≡ n.event
-  pub of : IsKeptOf code k
+  pub of : IsContextOf code k
   pub within : AreWithin k.configuration (begins_of k.core.attempt)
 
 -- so many local steps lead the thread there
-pub record Advances (code : Code) (k : Kept) (n : ℕ) (l : Kept) : Type 0 where
-  pub steps : StepsHearing (effect code) (shown k) n [] (shown l)
-  pub of : IsKeptOf code l
+pub record Advances (code : Code) (k : PlainContext) (n : ℕ) (l : PlainContext) : Type 0 where
+  pub steps : StepsHearing (effect code) (machine_thread k) n [] (machine_thread l)
+  pub of : IsContextOf code l
   pub within : AreWithin l.configuration (begins_of l.core.attempt)

@@ -1,14 +1,14 @@
 use Rattle.std.proofs.Common.{◌≡◌, ◌∙◌, ◌+◌, ◌-◌, ◌++◌, ◌∷◌, [], None, Err, suc, refl, sym, ap, map, option_map, take, drop, length, Bool, arith}
 use Rattle.std.specs.Prelude.{if◌then◌else◌, true, false}
 use Rattle.syntax.specs.Numbers as numbers
-use Rattle.syntax.specs.Numbers.{converted, is_zero}
+use Rattle.syntax.specs.Numbers.{value_in_type, is_zero}
 use Rattle.syntax.specs.Tree as tree
 use Rattle.syntax.specs.Views.{declarator_of, expr_of, exprs_of, simple_of, start_of, stmt_of, stmts_of}
 use Rattle.syntax.specs.Depth.{block_depth, deepest_value, expr_depth, optional_depth, optional_simple_depth, simple_depth, start_depth, stmt_depth}
 use Rattle.syntax.specs.Actions as act
 use Rattle.syntax.specs.Actions.{Gives, go_on}
 use Rattle.syntax.specs.Meaning as meaning
-use Rattle.syntax.specs.Meaning.{expr, exprs, stmt, simple, declare, scoped, turns}
+use Rattle.syntax.specs.Meaning.{expr, exprs, stmt, simple, declare, in_scope, turns}
 use Rattle.meaning.specs.inner.Calls.{begun_in}
 use Rattle.meaning.specs.Outcomes.{memories_in}
 use Rattle.meaning.specs.inner.Machine.{context_in, end_of, items_in, local_in, program_in, spot_of, state_in}
@@ -123,14 +123,14 @@ expr::eval-returns-in_err-at-in-Element g t c =
 pub expr::eval-returns-in_ok-v-in-Cast : goal.expr::eval-returns-in_ok-v-in-Cast
 expr::eval-returns-in_ok-v-in-Cast g t c done =
     ap (λ x. expr (program_in c.args.source.now) (called c.args.source.now c.args.frames) x (state_in c.args.m.now)) (cast_is c.args.e.now c.in-Cast.t c.in-Cast.e c.get-in-Cast.result.now c.in-Cast.field-2 c.in-Cast.is c.get-in-Cast.ensures)
-    ∙ after (expr (program_in c.args.source.now) (called c.args.source.now c.args.frames) (expr_of c.get-in-Cast.result.now) (state_in c.args.m.now)) (λ v. act.pure (converted c.in-Cast.t v)) _ (state_in c.eval-in-Cast.new.m) (c.in_ok-v-in-Cast.ensures tt) ∙ ap (λ w. Gives w (state_in c.eval-in-Cast.new.m)) (sym c.convert_word.ensures)
+    ∙ after (expr (program_in c.args.source.now) (called c.args.source.now c.args.frames) (expr_of c.get-in-Cast.result.now) (state_in c.args.m.now)) (λ v. act.pure (value_in_type c.in-Cast.t v)) _ (state_in c.eval-in-Cast.new.m) (c.in_ok-v-in-Cast.ensures tt) ∙ ap (λ w. Gives w (state_in c.eval-in-Cast.new.m)) (sym c.convert_word.ensures)
 
 pub expr::eval-returns-in_err-v-in-Cast : goal.expr::eval-returns-in_err-v-in-Cast
 expr::eval-returns-in_err-v-in-Cast g t c =
     let is : c.from_residual-in_err-v-in-Cast.result ≡ Err c.in_err-v-in-Cast.field-0.0 = err_of c.from_residual-in_err-v-in-Cast.result c.in_err-v-in-Cast.field-0.0 c.from_residual-in_err-v-in-Cast.ensures.1 in
     stops_as value_of c.from_residual-in_err-v-in-Cast.result c.in_err-v-in-Cast.field-0.0 _ c.eval-in-Cast.new.m is
     (λ d. ap (λ x. expr (program_in c.args.source.now) (called c.args.source.now c.args.frames) x (state_in c.args.m.now)) (cast_is c.args.e.now c.in-Cast.t c.in-Cast.e c.get-in-Cast.result.now c.in-Cast.field-2 c.in-Cast.is c.get-in-Cast.ensures)
-    ∙ halts (expr (program_in c.args.source.now) (called c.args.source.now c.args.frames) (expr_of c.get-in-Cast.result.now) (state_in c.args.m.now)) (λ v. act.pure (converted c.in-Cast.t v)) _ (state_in c.eval-in-Cast.new.m) (c.in_err-v-in-Cast.ensures d))
+    ∙ halts (expr (program_in c.args.source.now) (called c.args.source.now c.args.frames) (expr_of c.get-in-Cast.result.now) (state_in c.args.m.now)) (λ v. act.pure (value_in_type c.in-Cast.t v)) _ (state_in c.eval-in-Cast.new.m) (c.in_err-v-in-Cast.ensures d))
 
 pub expr::eval-returns-in_ok-v-in-Unary : goal.expr::eval-returns-in_ok-v-in-Unary
 expr::eval-returns-in_ok-v-in-Unary g t c done =
@@ -286,7 +286,7 @@ stmt::stmt-returns-in-Return g t c done =
 
 pub stmt::stmt-returns-in-Block : goal.stmt::stmt-returns-in-Block
 stmt::stmt-returns-in-Block g t c done =
-    ticks_then (program_in c.args.source.now) (called c.args.source.now c.args.frames) (stmt_of c.args.s.now) (tree.Block (stmts_of c.as_slice-in-Block.result.now)) (scoped (does_stmts c.args.source.now c.args.frames c.as_slice-in-Block.result.now)) (state_in c.args.m.now) (state_in c.tick.new.m) _ (block_is c.args.s.now c.in-Block.ss c.as_slice-in-Block.result.now c.in-Block.is c.as_slice-in-Block.ensures) refl (c.in_ok-tick.ensures tt) (c.block.ensures done)
+    ticks_then (program_in c.args.source.now) (called c.args.source.now c.args.frames) (stmt_of c.args.s.now) (tree.Block (stmts_of c.as_slice-in-Block.result.now)) (in_scope (does_stmts c.args.source.now c.args.frames c.as_slice-in-Block.result.now)) (state_in c.args.m.now) (state_in c.tick.new.m) _ (block_is c.args.s.now c.in-Block.ss c.as_slice-in-Block.result.now c.in-Block.is c.as_slice-in-Block.ensures) refl (c.in_ok-tick.ensures tt) (c.block.ensures done)
 
 pub stmt::stmt-returns-in-Declare : goal.stmt::stmt-returns-in-Declare
 stmt::stmt-returns-in-Declare g t c done =
@@ -298,11 +298,11 @@ stmt::stmt-returns-in-DoWhile g t c done =
 
 pub stmt::stmt-returns-in-For : goal.stmt::stmt-returns-in-For
 stmt::stmt-returns-in-For g t c done =
-    ticks_then (program_in c.args.source.now) (called c.args.source.now c.args.frames) (stmt_of c.args.s.now) (tree.For (start_of c.get-in-For.result.now.start) (option_map expr_of c.get-in-For.result.now.condition) (option_map simple_of c.get-in-For.result.now.step) (stmt_of c.get-in-For-2.result.now)) (scoped (for_all (program_in c.args.source.now) (called c.args.source.now c.args.frames) (start_of c.get-in-For.result.now.start) (option_map expr_of c.get-in-For.result.now.condition) (option_map simple_of c.get-in-For.result.now.step) (stmt_of c.get-in-For-2.result.now))) (state_in c.args.m.now) (state_in c.tick.new.m) _ (for_is c.args.s.now c.in-For.head c.get-in-For.result.now c.in-For.a c.get-in-For-2.result.now c.in-For.is c.get-in-For.ensures c.get-in-For-2.ensures) refl (c.in_ok-tick.ensures tt) (c.for_scoped.ensures done)
+    ticks_then (program_in c.args.source.now) (called c.args.source.now c.args.frames) (stmt_of c.args.s.now) (tree.For (start_of c.get-in-For.result.now.start) (option_map expr_of c.get-in-For.result.now.condition) (option_map simple_of c.get-in-For.result.now.step) (stmt_of c.get-in-For-2.result.now)) (in_scope (for_all (program_in c.args.source.now) (called c.args.source.now c.args.frames) (start_of c.get-in-For.result.now.start) (option_map expr_of c.get-in-For.result.now.condition) (option_map simple_of c.get-in-For.result.now.step) (stmt_of c.get-in-For-2.result.now))) (state_in c.args.m.now) (state_in c.tick.new.m) _ (for_is c.args.s.now c.in-For.head c.get-in-For.result.now c.in-For.a c.get-in-For-2.result.now c.in-For.is c.get-in-For.ensures c.get-in-For-2.ensures) refl (c.in_ok-tick.ensures tt) (c.for_scoped.ensures done)
 
 pub stmt::stmt-returns-in-Transaction : goal.stmt::stmt-returns-in-Transaction
 stmt::stmt-returns-in-Transaction g t c done =
-    ticks_then (program_in c.args.source.now) (called c.args.source.now c.args.frames) (stmt_of c.args.s.now) (tree.Transaction c.in-Transaction.kind (stmts_of c.as_slice-in-Transaction.result.now) c.in-Transaction.field-2) (meaning.transaction c.in-Transaction.kind (scoped (does_stmts c.args.source.now c.args.frames c.as_slice-in-Transaction.result.now))) (state_in c.args.m.now) (state_in c.tick.new.m) _ (transaction_is c.args.s.now c.in-Transaction.kind c.in-Transaction.ss c.as_slice-in-Transaction.result.now c.in-Transaction.field-2 c.in-Transaction.is c.as_slice-in-Transaction.ensures) refl (c.in_ok-tick.ensures tt) (c.transaction.ensures done)
+    ticks_then (program_in c.args.source.now) (called c.args.source.now c.args.frames) (stmt_of c.args.s.now) (tree.Transaction c.in-Transaction.kind (stmts_of c.as_slice-in-Transaction.result.now) c.in-Transaction.field-2) (meaning.transaction c.in-Transaction.kind (in_scope (does_stmts c.args.source.now c.args.frames c.as_slice-in-Transaction.result.now))) (state_in c.args.m.now) (state_in c.tick.new.m) _ (transaction_is c.args.s.now c.in-Transaction.kind c.in-Transaction.ss c.as_slice-in-Transaction.result.now c.in-Transaction.field-2 c.in-Transaction.is c.as_slice-in-Transaction.ensures) refl (c.in_ok-tick.ensures tt) (c.transaction.ensures done)
 
 pub stmt::stmt-returns-in-While : goal.stmt::stmt-returns-in-While
 stmt::stmt-returns-in-While g t c done =

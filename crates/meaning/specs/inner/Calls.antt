@@ -5,7 +5,7 @@ use Rattle.syntax.specs.declared.numbers.Value.{Value}
 use Rattle.syntax.specs.Names.{Local, definition_of}
 use Rattle.syntax.specs.Views.{stmts_of}
 use Rattle.syntax.specs.Actions.{Action, pure, or_astray, ◌>>=◌}
-use Rattle.syntax.specs.Meaning.{entered}
+use Rattle.syntax.specs.Meaning.{call_locals}
 use Rattle.meaning.specs.declared.calls.Begun.{Begun as OwnBegun}
 use Rattle.meaning.specs.inner.Machine.{items_in}
 
@@ -15,10 +15,10 @@ pub record Begins : Type 0 where
   pub body : Stmts
   pub mine : List Local
 
-abbrev pub begun : Program → List ℕ → List Value → Action Begins
-begun p x vs = do
+abbrev pub begin_call : Program → List ℕ → List Value → Action Begins
+begin_call p x vs = do
   f ← or_astray (definition_of p x)
-  mine ← or_astray (entered f.0.parameters vs)
+  mine ← or_astray (call_locals f.0.parameters vs)
   pure (record { of = f.0.result; body = f.1; mine = mine })
 
 module _ {A : Type 0} where

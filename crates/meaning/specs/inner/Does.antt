@@ -13,7 +13,7 @@ use Rattle.syntax.specs.Depth.{program_depth, expr_depth, stmt_depth, block_dept
 use Rattle.syntax.specs.Depth.{optional_simple_depth}
 use Rattle.syntax.specs.Views.{start_of}
 use Rattle.syntax.specs.Actions.{Action, Gives, pure, locals, put_locals, ◌>>=◌, ◌>>◌}
-use Rattle.syntax.specs.Meaning.{Caller, End, Next, calls, expr, stmt, stmts, scoped, after_body, holds, stepped}
+use Rattle.syntax.specs.Meaning.{Caller, End, Next, calls, expr, stmt, stmts, in_scope, after_body, holds, stepped}
 use Rattle.syntax.specs.Meaning.{first_value, InLocal, start_with, loop, Returns}
 use Rattle.meaning.specs.declared.machine.End.{End as OwnEnd}
 use Rattle.meaning.specs.declared.program.Source.{Source}
@@ -37,19 +37,19 @@ left_or go (Some e) s = Gives (Some (end_of e)) s
 -- one turn of a loop
 abbrev pub while_turn : Program → Caller → Expr → Stmt → Action (Option End)
 while_turn p call c a =
-    do v ← expr p call c; if is_zero v then pure (Some Next) else (scoped (stmt p call a) >>= after_body (pure None))
+    do v ← expr p call c; if is_zero v then pure (Some Next) else (in_scope (stmt p call a) >>= after_body (pure None))
 
-abbrev pub tested : Program → Caller → Expr → Action (Option End)
-tested p call c = do v ← expr p call c; pure (if is_zero v then Some Next else None)
+abbrev pub loop_condition : Program → Caller → Expr → Action (Option End)
+loop_condition p call c = do v ← expr p call c; pure (if is_zero v then Some Next else None)
 
 abbrev pub do_turn : Program → Caller → Stmt → Expr → Action (Option End)
-do_turn p call a c = scoped (stmt p call a) >>= after_body (tested p call c)
+do_turn p call a c = in_scope (stmt p call a) >>= after_body (loop_condition p call c)
 
 abbrev pub for_turn : Program → Caller → Option Expr → Option Simple → Stmt → Action (Option End)
 for_turn p call c step a =
     do
       more ← holds p call c
-      if more then (scoped (stmt p call a) >>= after_body (stepped p call step)) else pure (Some Next)
+      if more then (in_scope (stmt p call a) >>= after_body (stepped p call step)) else pure (Some Next)
 
 -- what a `for` begins with, and then its turns
 abbrev pub for_all : Program → Caller → Start → Option Expr → Option Simple → Stmt → Action End
@@ -94,7 +94,7 @@ module _ {A : Type 0} where
 
   -- what a transaction does: its statements have names of their own, and an operand's value is its end
   abbrev pub does_body : Source A → ℕ → Body A → Action End
-  does_body source frames (body.Block ss) = scoped (does_stmts source frames ss.now)
+  does_body source frames (body.Block ss) = in_scope (does_stmts source frames ss.now)
   does_body source frames (body.Value e) = do v ← does_expr source frames e.now; pure (Returns v)
 
   abbrev pub depth_within : Body A → ℕ

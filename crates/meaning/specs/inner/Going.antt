@@ -9,11 +9,11 @@ use Rattle.syntax.specs.Numbers.{is_zero}
 use Rattle.syntax.specs.Tree.{Scalar, Program, Expr, Exprs, Stmt, Stmts, Start, While, DoWhile, For}
 use Rattle.syntax.specs.Names as Names
 use Rattle.syntax.specs.Actions.{State, Gives, Action, pure, stop, tick, trap, locals, put_locals, go_on, ◌>>=◌, ◌>>◌}
-use Rattle.syntax.specs.Meaning.{Caller, End, Next, expr, exprs, stmt, stmts, scoped, on_next, after_body, after_turn}
+use Rattle.syntax.specs.Meaning.{Caller, End, Next, expr, exprs, stmt, stmts, in_scope, on_next, after_body, after_turn}
 use Rattle.syntax.specs.Meaning.{turns, holds, stepped, start_with, result_of, calls}
 use Rattle.meaning.specs.Frames.{IsFramed}
-use Rattle.meaning.specs.inner.Calls.{Begins, begun}
-use Rattle.meaning.specs.inner.Does.{do_turn, for_turn, tested, while_turn}
+use Rattle.meaning.specs.inner.Calls.{Begins, begin_call}
+use Rattle.meaning.specs.inner.Does.{do_turn, for_turn, loop_condition, while_turn}
 
 -- how a thread goes on after a step: with this end, with this run, or with a run and then, by its end, with another
 pub data Follow : Type 0 where
@@ -31,8 +31,8 @@ abbrev pub ticks_left : Action ℕ
 ticks_left s = Gives s.ticks s
 
 -- the names behind so many are gone
-abbrev pub cut : ℕ → End → Action End
-cut n end = do all ← locals; put_locals (take n all); pure end
+abbrev pub drop_names : ℕ → End → Action End
+drop_names n end = do all ← locals; put_locals (take n all); pure end
 
 -- a function is left: its caller's names are back, and its value counts no more
 abbrev pub call_left : Option Scalar → List Names.Local → End → Action End
@@ -45,7 +45,7 @@ when_next run end = pure (Ends end)
 
 -- names of a run's own stand behind those that there are
 abbrev pub scope_begun : Action End → Action Follow
-scope_begun run = do outer ← locals; pure (Nests (cut (length outer)) run)
+scope_begun run = do outer ← locals; pure (Nests (drop_names (length outer)) run)
 
 -- as many turns as there are ticks
 abbrev pub loop_begun : Action (Option End) → Action Follow
@@ -55,9 +55,9 @@ loop_begun turn = do n ← ticks_left; pure (Goes (turns n turn))
 abbrev pub body_left : Action (Option End) → Action End → End → Action End
 body_left behind rest end = after_body behind end >>= after_turn rest
 
-abbrev pub turned : Action End → Option End → Follow
-turned rest None = Goes rest
-turned rest (Some end) = Ends end
+abbrev pub follow_turn : Action End → Option End → Follow
+follow_turn rest None = Goes rest
+follow_turn rest (Some end) = Ends end
 
 module _ (p : Program) (call : Caller) where
   -- one turn of a statement that is a loop: what it tests before its body, the body, and what follows where the loop
@@ -75,13 +75,13 @@ module _ (p : Program) (call : Caller) where
   test_of s = pure false
 
   abbrev pub body_of : Stmt → Action End
-  body_of (While c a) = scoped (stmt p call a)
-  body_of (DoWhile a c) = scoped (stmt p call a)
-  body_of (For start c step a) = scoped (stmt p call a)
+  body_of (While c a) = in_scope (stmt p call a)
+  body_of (DoWhile a c) = in_scope (stmt p call a)
+  body_of (For start c step a) = in_scope (stmt p call a)
   body_of s = pure Next
 
   abbrev pub behind_of : Stmt → Action (Option End)
-  behind_of (DoWhile a c) = tested p call c
+  behind_of (DoWhile a c) = loop_condition p call c
   behind_of (For start c step a) = stepped p call step
   behind_of s = pure None
 
@@ -103,17 +103,17 @@ module _ (p : Program) (call : Caller) where
   -- one of two statements, or of one and nothing
   abbrev pub otherwise : Option Stmt → Follow
   otherwise None = Ends Next
-  otherwise (Some s) = Goes (scoped (stmt p call s))
+  otherwise (Some s) = Goes (in_scope (stmt p call s))
 
   abbrev pub either_begun : Expr → Stmt → Option Stmt → Action Follow
-  either_begun c a b = do v ← expr p call c; pure (if is_zero v then otherwise b else Goes (scoped (stmt p call a)))
+  either_begun c a b = do v ← expr p call c; pure (if is_zero v then otherwise b else Goes (in_scope (stmt p call a)))
 
   abbrev pub for_begun : Start → Action (Option End) → Action Follow
   for_begun start turn = do
     outer ← locals
     start_with p call start
     n ← ticks_left
-    pure (Nests (cut (length outer)) (turns n turn))
+    pure (Nests (drop_names (length outer)) (turns n turn))
 
 -- what a call does, and a statement that is nothing but a call
 abbrev pub call_of : Program → Caller → List ℕ → Exprs → Action Value
@@ -132,7 +132,7 @@ frame_at p k b = do
 -- a function is entered, where so many frames may come to live
 abbrev pub frame_begun : Program → ℕ → List ℕ → List Value → Action Follow
 frame_begun p zero x vs = trap Frames
-frame_begun p (suc k) x vs = begun p x vs >>= frame_at p k
+frame_begun p (suc k) x vs = begin_call p x vs >>= frame_at p k
 
 -- the first step of a statement that is nothing but a call: its arguments, the call's tick, and then the function
 abbrev pub call_begun : Program → ℕ → List ℕ → Exprs → Action Follow

@@ -4,7 +4,7 @@ use Rattle.syntax.specs.declared.tree.Stmt.{Stmt as OwnStmt}
 use Rattle.syntax.specs.Tree.{Stmt, Block, While, DoWhile, For}
 use Rattle.syntax.specs.Views.{expr_of, simple_of, start_of, stmt_of, stmts_of}
 use Rattle.syntax.specs.Actions.{Answer, Action, pure, tick, ◌>>=◌, ◌>>◌}
-use Rattle.syntax.specs.Meaning.{End, stmt, scoped, on_next, after_body, turns}
+use Rattle.syntax.specs.Meaning.{End, stmt, in_scope, on_next, after_body, turns}
 use Rattle.meaning.specs.declared.left.Way.{Way}
 use Rattle.meaning.specs.declared.left.Way.TheVariants as way
 use Rattle.meaning.specs.declared.left.Task.{Task}
@@ -22,8 +22,8 @@ use Rattle.meaning.specs.declared.machine.Machine.{Machine}
 use Rattle.meaning.specs.declared.program.Source.{Source}
 use Rattle.meaning.specs.inner.Machine.{MeansAs, end_of, items_in, program_in}
 use Rattle.meaning.specs.inner.Does.{called, does_stmts, if_of}
-use Rattle.meaning.specs.inner.Going.{Follow, Ends, Goes, Nests, cut, call_left, when_next, scope_begun, loop_begun}
-use Rattle.meaning.specs.inner.Going.{turn_of, behind_of, turns_begun, body_left, turned, apart_begun, either_begun}
+use Rattle.meaning.specs.inner.Going.{Follow, Ends, Goes, Nests, drop_names, call_left, when_next, scope_begun, loop_begun}
+use Rattle.meaning.specs.inner.Going.{turn_of, behind_of, turns_begun, body_left, follow_turn, apart_begun, either_begun}
 use Rattle.meaning.specs.inner.Going.{for_begun, gone_on}
 
 module _ {A : Type 0} where
@@ -49,7 +49,7 @@ module _ {A : Type 0} (source : Source A) where
   -- what a statement does in a way, and its first step
   abbrev pub does_by : Way → ℕ → Stmt → Action End
   does_by way.Whole frames s = stmt (program_in source) (called source frames) s
-  does_by way.Scoped frames s = scoped (stmt (program_in source) (called source frames) s)
+  does_by way.Scoped frames s = in_scope (stmt (program_in source) (called source frames) s)
   does_by (way.Turns n) frames s = turns n (turn_of (program_in source) (called source frames) s)
 
   abbrev pub begun_by : Way → ℕ → Stmt → Action Follow
@@ -94,7 +94,7 @@ module _ {A : Type 0} (source : Source A) where
   abbrev pub resumed : Left A → End → Action End
   resumed (left.Next t) = on_next (does_task t)
   resumed (left.Body frames s n) = body_rest frames (stmt_of s.now) n
-  resumed (left.Scope n) = cut n
+  resumed (left.Scope n) = drop_names n
   resumed (left.Call of outer) = call_left of (items_in outer)
 
   -- what is left, the innermost piece at the list's end
@@ -112,11 +112,11 @@ module _ {A : Type 0} (source : Source A) where
   abbrev pub body_step : ℕ → Stmt → ℕ → End → Action Follow
   body_step frames s n end =
       after_body (behind_of (program_in source) (called source frames) s) end
-      >>= (λ next. pure (turned (turns_in frames s n) next))
+      >>= (λ next. pure (follow_turn (turns_in frames s n) next))
 
   -- one step, by the end of what was done before
   abbrev pub step_of : Left A → End → Action Follow
   step_of (left.Next t) = when_next (begun t)
   step_of (left.Body frames s n) = body_step frames (stmt_of s.now) n
-  step_of (left.Scope n) = λ end. do then_ ← cut n end; pure (Ends then_)
+  step_of (left.Scope n) = λ end. do then_ ← drop_names n end; pure (Ends then_)
   step_of (left.Call of outer) = λ end. do then_ ← call_left of (items_in outer) end; pure (Ends then_)

@@ -10,9 +10,9 @@ use Rattle.syntax.specs.Formats.{Piece, Literal}
 use Rattle.syntax.specs.Meaning.{print_pieces}
 
 -- one byte of a literal piece, which is open already or begins with it
-abbrev pub pushed : Bool → ℕ → Action (Unit {0})
-pushed true c = write (c ∷ [])
-pushed false c = tick >> write (c ∷ [])
+abbrev pub push_byte : Bool → ℕ → Action (Unit {0})
+push_byte true c = write (c ∷ [])
+push_byte false c = tick >> write (c ∷ [])
 
 -- the first value, as a number of this type
 abbrev pub figure : Scalar → List Value → Action (Unit {0})
@@ -20,7 +20,7 @@ figure t [] = stop Astray
 figure t (v ∷ vs) = print_piece (signed_decimal (number t v.word))
 
 -- pieces of which the first, where it is literal, may be open already
-abbrev pub continued : Bool → List Piece → List Value → Action (Unit {0})
-continued true (Literal cs ∷ ps) vs = write cs >> print_pieces ps vs
-continued true ps vs = print_pieces ps vs
-continued false ps vs = print_pieces ps vs
+abbrev pub print_from : Bool → List Piece → List Value → Action (Unit {0})
+print_from true (Literal cs ∷ ps) vs = write cs >> print_pieces ps vs
+print_from true ps vs = print_pieces ps vs
+print_from false ps vs = print_pieces ps vs

@@ -13,7 +13,7 @@ use Rattle.meaning.specs.declared.standing.Gone.{Gone}
 use Rattle.meaning.specs.declared.standing.Gone.TheVariants as gone
 use Rattle.meaning.specs.declared.program.Source.{Source}
 use Rattle.meaning.specs.inner.Machine.{end_of, items_in}
-use Rattle.meaning.specs.Frames.{StateExtension, framed}
+use Rattle.meaning.specs.Frames.{StateExtension, extended_state}
 use Rattle.meaning.specs.inner.Going.{Follow}
 use Rattle.meaning.specs.inner.Left.{follow_of, left_gone_on}
 
@@ -54,7 +54,7 @@ module _ {A : Type 0} where
   abbrev pub rest : Source A → Thread A → List Memory → Answer (Unit {0})
   rest source thread founds =
       go_on (left_gone_on source thread.left.items (end_of thread.end)
-      (framed (frame_of founds thread.shown) (bare thread.at)))
+      (extended_state (frame_of founds thread.shown) (bare thread.at)))
       (λ _. tick)
 
   -- what is seen of a thread that goes no further

@@ -1,7 +1,7 @@
 -- The attempt of a core as the code of its steps sees it, and what that code keeps true.
 use Rattle.std.specs.Prelude.{◌≡◌, ◌+◌, ◌^◌, ◌%◌, ◌<◌, ◌≤◌, ℕ, Bool, true, false, Option, None, Some, IfSome}
 use Rattle.std.specs.Prelude.{if◌then◌else◌}
-use Rattle.write_log.specs.Overlay.{written}
+use Rattle.write_log.specs.Overlay.{overlay_word}
 use Rattle.nesting.specs.Begins.{Saved}
 use Rattle.nesting.specs.Nests.{Nest}
 use Rattle.norec_core.specs.declared.step.Op.{Op}
@@ -78,7 +78,7 @@ IsPrepared (Some op) r = HasRoom op r × (stops (core_access (attempt_of r) op) 
 -- the attempt stands at an operation, and has written this word to the cell
 pub record IsWritten (a : Attempt Saved) (cell word : ℕ) : Type 0 where
   pub phase : a.phase ≡ AtOperation
-  pub has : written cell a.writes ≡ Some word
+  pub has : overlay_word cell a.writes ≡ Some word
 
 -- the lock, kept or taken, has a value left for its release
 abbrev pub CanRelease : ℕ → Type 0

@@ -6,6 +6,6 @@ use Rattle.syntax.specs.declared.numbers.Trap.TheVariants.{OutOfRange}
 use Rattle.syntax.specs.Numbers.{word_of}
 
 -- the word of a `long long`, or a trap where there is none
-abbrev pub checked : Option ℤ → Result ℕ Trap
-checked None = Err OutOfRange
-checked (Some z) = Ok (word_of LongLong z)
+abbrev pub word_or_trap : Option ℤ → Result ℕ Trap
+word_or_trap None = Err OutOfRange
+word_or_trap (Some z) = Ok (word_of LongLong z)

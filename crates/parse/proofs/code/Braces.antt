@@ -4,8 +4,8 @@ use Rattle.lex.specs.declared.token.Fixed.{Fixed}
 use Rattle.lex.specs.declared.token.Fixed.TheVariants.{Punctuator}
 use Rattle.lex.specs.declared.token.Punctuator.TheVariants as punct
 use Rattle.lex.specs.Tokens.{Tok}
-use Rattle.parse.specs.inner.Reading.{Fault, wrong, ◌>>=◌, Parser, head, expect, is_next, is_other, many_until, behind, before, listed}
-use Rattle.parse.specs.inner.Statements.{braced}
+use Rattle.parse.specs.inner.Reading.{Fault, wrong, ◌>>=◌, Parser, head, expect, is_next, is_other, many_until, behind, before, comma_list}
+use Rattle.parse.specs.inner.Statements.{block_items}
 use Rattle.parse.proofs.code.Turns.{onward, joined}
 
 pub expect_not : (k : Fixed) (ts : List Tok) → is_next k (head ts) ≡ false → expect k ts ≡ Err (wrong ts)
@@ -24,7 +24,7 @@ behind_is {A} k P ts inner e = rw e (same (P inner))
     same (Ok x) = refl
     same (Err f) = refl
 
-pub braced_is : {A : Type 0} (P : Parser A) (ts inner : List Tok) → expect (Punctuator punct.OpenBrace) ts ≡ Ok (tt, inner) → braced P ts ≡ ended (Punctuator punct.CloseBrace) (many_until (is_next (Punctuator punct.CloseBrace)) P inner)
+pub braced_is : {A : Type 0} (P : Parser A) (ts inner : List Tok) → expect (Punctuator punct.OpenBrace) ts ≡ Ok (tt, inner) → block_items P ts ≡ ended (Punctuator punct.CloseBrace) (many_until (is_next (Punctuator punct.CloseBrace)) P inner)
 braced_is P ts inner e = behind_is (Punctuator punct.OpenBrace) (before (Punctuator punct.CloseBrace) (many_until (is_next (Punctuator punct.CloseBrace)) P)) ts inner e
 
 -- ---- a first one, and then the others
@@ -39,5 +39,5 @@ pub first_is : {A : Type 0} (x : A) (read : Result (List A × List Tok) Fault) �
 first_is x (Ok y) = refl
 first_is x (Err f) = refl
 
-pub listed_is : {A : Type 0} (P : Parser A) (ts inner : List Tok) (x : A) → P ts ≡ Ok (x, inner) → listed P ts ≡ onward (x ∷ []) (many_until (is_other (Punctuator punct.Comma)) (behind (Punctuator punct.Comma) P) inner)
+pub listed_is : {A : Type 0} (P : Parser A) (ts inner : List Tok) (x : A) → P ts ≡ Ok (x, inner) → comma_list P ts ≡ onward (x ∷ []) (many_until (is_other (Punctuator punct.Comma)) (behind (Punctuator punct.Comma) P) inner)
 listed_is P ts inner x e = rw e (first_is x (many_until (is_other (Punctuator punct.Comma)) (behind (Punctuator punct.Comma) P) inner))

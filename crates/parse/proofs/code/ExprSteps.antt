@@ -14,12 +14,12 @@ use Rattle.syntax.specs.Views.{exprs_from}
 use Rattle.syntax.specs.Grammar.{the_name}
 use Rattle.parse.specs.declared.lead.Infix.{Infix}
 use Rattle.parse.specs.declared.lead.Infix.TheVariants.{Computing, Choosing}
-use Rattle.parse.specs.inner.Reading.{Fault, deep, ◌>>=◌, Parser, across, behind, chained, climb_loop, either, expect, give, head, is_next, mapped, in_front, seq, spot, sunk, take}
+use Rattle.parse.specs.inner.Reading.{Fault, deep, ◌>>=◌, Parser, across, behind, bind, climb_loop, either, expect, give, head, is_next, map_parser, in_front, seq, spot, too_deep_at, take}
 use Rattle.parse.specs.inner.Expressions.{call_from, cast_from, conditional_at, element_from, expr_at, group_from, infix_node, named, named_from, opened, operand, operators, outcomes, scalar, starts_expr, starts_type, whole_at}
 
 -- ---- levels
 
-pub none_left : (d min : ℕ) (ts : List Tok) → d ≡ 0 → expr_at d min ts ≡ sunk starts_expr ts
+pub none_left : (d min : ℕ) (ts : List Tok) → d ≡ 0 → expr_at d min ts ≡ too_deep_at starts_expr ts
 unfolding expr_at
 none_left d min ts z = rw z refl
 
@@ -34,7 +34,7 @@ climb_start (suc d) b (suc min) ts e low =
     let s : d ≡ b = omega (arith, e) in
     rw s (climb_from b min ts)
 
-whole_from : (b : ℕ) (ts : List Tok) → whole_at (suc b) ts ≡ mapped (λ x. x.1) (chained (expr_at (suc b) 1) (conditional_at (whole_at b) b)) ts
+whole_from : (b : ℕ) (ts : List Tok) → whole_at (suc b) ts ≡ map_parser (λ x. x.1) (bind (expr_at (suc b) 1) (conditional_at (whole_at b) b)) ts
 unfolding expr_at
 whole_from b ts = refl
 
@@ -77,12 +77,12 @@ module _ (W : Parser Expr) (d : ℕ) (c : Expr) (ts : List Tok) where
 
 -- ---- arguments
 
-listed_with : (x : Expr) (r : Result (List Expr × List Tok) Fault) → mapped in_front (seq (give x) (λ ts. r)) [] ≡ mapped (λ es. (x ∷ []) ++ es) (λ ts. r) []
+listed_with : (x : Expr) (r : Result (List Expr × List Tok) Fault) → map_parser in_front (seq (give x) (λ ts. r)) [] ≡ map_parser (λ es. (x ∷ []) ++ es) (λ ts. r) []
 listed_with x (Ok y) = refl
 listed_with x (Err f) = refl
 
 -- one and then further ones
-pub listed_goes : (P : Parser Expr) (M : Parser (List Expr)) (ts rest : List Tok) (x : Expr) → P ts ≡ Ok (x, rest) → mapped in_front (seq P M) ts ≡ mapped (λ es. (x ∷ []) ++ es) M rest
+pub listed_goes : (P : Parser Expr) (M : Parser (List Expr)) (ts rest : List Tok) (x : Expr) → P ts ≡ Ok (x, rest) → map_parser in_front (seq P M) ts ≡ map_parser (λ es. (x ∷ []) ++ es) M rest
 listed_goes P M ts rest x h = rw h (listed_with x (M rest))
 
 -- behind a punctuator
@@ -111,11 +111,11 @@ deepest_push [] e = omega arith
 deepest_push (x ∷ es) e = let rest = deepest_push es e in omega (arith, rest)
 
 -- between two punctuators, the last of which is missing
-pub unclosed : {A B : Type 0} (first last : Fixed) (P : Parser A) (make : A × Span → B) (ts r s : List Tok) (x : A) (f : Fault) → expect first ts ≡ Ok (tt, r) → P r ≡ Ok (x, s) → spot last s ≡ Err f → mapped make (behind first (seq P (spot last))) ts ≡ Err f
+pub unclosed : {A B : Type 0} (first last : Fixed) (P : Parser A) (make : A × Span → B) (ts r s : List Tok) (x : A) (f : Fault) → expect first ts ≡ Ok (tt, r) → P r ≡ Ok (x, s) → spot last s ≡ Err f → map_parser make (behind first (seq P (spot last))) ts ≡ Err f
 unclosed first last P make ts r s x f e a k = rw (e, a, k) refl
 
 -- where the first part is missing
-pub unread : {A B : Type 0} (first last : Fixed) (P : Parser A) (make : A × Span → B) (ts r : List Tok) (f : Fault) → expect first ts ≡ Ok (tt, r) → P r ≡ Err f → mapped make (behind first (seq P (spot last))) ts ≡ Err f
+pub unread : {A B : Type 0} (first last : Fixed) (P : Parser A) (make : A × Span → B) (ts r : List Tok) (f : Fault) → expect first ts ≡ Ok (tt, r) → P r ≡ Err f → map_parser make (behind first (seq P (spot last))) ts ≡ Err f
 unread first last P make ts r f e a = rw (e, a) refl
 
 -- ---- parentheses

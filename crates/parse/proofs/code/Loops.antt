@@ -10,9 +10,9 @@ use Rattle.lex.specs.Tokens.{Tok, tok, toks}
 use Rattle.lex.specs.declared.token.Scalar.{Scalar}
 use Rattle.syntax.specs.Tree.{Name, Global, Shares}
 use Rattle.syntax.specs.declared.tree.Attribute.{Attribute}
-use Rattle.syntax.specs.Grammar.{joined}
-use Rattle.parse.specs.inner.Reading.{Fault, wrong, ◌>>=◌, Parser, head, seq, expect, is_next, is_other, many, many_until, mapped, behind, before, trailing, in_front, finished}
-use Rattle.parse.specs.inner.Items.{Header, at_end, Size, global_tree, sized, global, several, globals_from, function_at, header, item_at, item_from, shared_from}
+use Rattle.syntax.specs.Grammar.{attributes_of}
+use Rattle.parse.specs.inner.Reading.{Fault, wrong, ◌>>=◌, Parser, head, seq, expect, is_next, is_other, many, many_until, map_parser, behind, before, trailing, in_front, whole_input}
+use Rattle.parse.specs.inner.Items.{Header, at_end, Size, global_tree, global_tail, global, several, globals_from, function_at, header, item_at, item_from, shared_from}
 use Rattle.parse.proofs.code.Turns.{onward}
 
 -- as many turns as there are tokens
@@ -24,12 +24,12 @@ pub ended : (rest : List Token) (b : Bool) → (length rest == 0) ≡ b → at_e
 ended [] b h = h
 ended (t ∷ rest) b h = sym (eqb-suc-zero (length rest)) ∙ h
 
-pub ended_at : {A : Type 0} (rest : List Token) (all : A) → (length rest == 0) ≡ true → finished (all, toks rest) ≡ Ok all
+pub ended_at : {A : Type 0} (rest : List Token) (all : A) → (length rest == 0) ≡ true → whole_input (all, toks rest) ≡ Ok all
 ended_at [] all h = refl
 ended_at (t ∷ rest) all h = let none : false ≡ true = sym (eqb-suc-zero (length rest)) ∙ h in absurd cc
 
 -- a global was read whose name stood before, and others follow
-pub several_is : (t : Scalar) (x : Name) (size : Size) (ts rest : List Tok) → sized ts ≡ Ok (size, rest)
+pub several_is : (t : Scalar) (x : Name) (size : Size) (ts rest : List Tok) → global_tail ts ≡ Ok (size, rest)
     → several t x ts ≡ onward (global_tree t x size ∷ []) (many_until (is_other (Punctuator punct.Comma)) (behind (Punctuator punct.Comma) (global t)) rest)
 several_is t x size ts rest e = rw e (same (many_until (is_other (Punctuator punct.Comma)) (behind (Punctuator punct.Comma) (global t)) rest))
   where
@@ -38,19 +38,19 @@ several_is t x size ts rest e = rw e (same (many_until (is_other (Punctuator pun
     same (Err f) = refl
 
 -- another value, before or behind a fixed token
-before_mapped : {A B C : Type 0} (k : Fixed) (g : A → B) (h : B → C) (P : Parser A) (ts : List Tok) → mapped (λ x. h (g x)) (before k P) ts ≡ mapped h (before k (mapped g P)) ts
+before_mapped : {A B C : Type 0} (k : Fixed) (g : A → B) (h : B → C) (P : Parser A) (ts : List Tok) → map_parser (λ x. h (g x)) (before k P) ts ≡ map_parser h (before k (map_parser g P)) ts
 before_mapped {A} {B} {C} k g h P ts = go (P ts)
   where
-    ends : (y : A × List Tok) (e : Result (Unit {0} × List Tok) Fault) → mapped {A = A} {B = C} (λ x. h (g x)) (mapped {A = A × Unit {0}} {B = A} (λ x. x.0) (λ inner. e >>= λ w. Ok ((y.0, w.0), w.1))) ts ≡ mapped {A = B} {B = C} h (mapped {A = B × Unit {0}} {B = B} (λ x. x.0) (λ inner. e >>= λ w. Ok ((g y.0, w.0), w.1))) ts
+    ends : (y : A × List Tok) (e : Result (Unit {0} × List Tok) Fault) → map_parser {A = A} {B = C} (λ x. h (g x)) (map_parser {A = A × Unit {0}} {B = A} (λ x. x.0) (λ inner. e >>= λ w. Ok ((y.0, w.0), w.1))) ts ≡ map_parser {A = B} {B = C} h (map_parser {A = B × Unit {0}} {B = B} (λ x. x.0) (λ inner. e >>= λ w. Ok ((g y.0, w.0), w.1))) ts
     ends y (Ok w) = refl
     ends y (Err f) = refl
 
-    go : (r : Result (A × List Tok) Fault) → mapped {A = A} {B = C} (λ x. h (g x)) (before {A = A} k (λ inner. r)) ts ≡ mapped {A = B} {B = C} h (before {A = B} k (mapped {A = A} {B = B} g (λ inner. r))) ts
+    go : (r : Result (A × List Tok) Fault) → map_parser {A = A} {B = C} (λ x. h (g x)) (before {A = A} k (λ inner. r)) ts ≡ map_parser {A = B} {B = C} h (before {A = B} k (map_parser {A = A} {B = B} g (λ inner. r))) ts
     go (Ok y) = ends y (expect k y.1)
     go (Err f) = refl
 
-pub globals_are : (t : Scalar) (x : Name) (ts : List Tok) → globals_from t x ts ≡ mapped Shares (before (Punctuator punct.Semicolon) (several t x)) ts
-globals_are t x ts = before_mapped (Punctuator punct.Semicolon) (λ y. global_tree t x y.0 ∷ y.1) Shares (seq sized (many_until (is_other (Punctuator punct.Comma)) (behind (Punctuator punct.Comma) (global t)))) ts
+pub globals_are : (t : Scalar) (x : Name) (ts : List Tok) → globals_from t x ts ≡ map_parser Shares (before (Punctuator punct.Semicolon) (several t x)) ts
+globals_are t x ts = before_mapped (Punctuator punct.Semicolon) (λ y. global_tree t x y.0 ∷ y.1) Shares (seq global_tail (many_until (is_other (Punctuator punct.Comma)) (behind (Punctuator punct.Comma) (global t)))) ts
 
 -- an item whose header was read is what follows it
 goes_on_alone : {A B : Type 0} (x : A) (r : Result (B × List Tok) Fault) → ((r >>= λ (y : B × List Tok). Ok ((x, y.0), y.1)) >>= λ (z : (A × B) × List Tok). Ok (z.0.1, z.1)) ≡ r
@@ -71,14 +71,14 @@ module _ (d : ℕ) (ts rest : List Tok) (h : Header) (read : header ts ≡ Ok (h
 
 -- what was read before, and what the lists say that are still read
 abbrev pub poured : List Attribute → Result (List (List Attribute) × List Tok) Fault → Result (List Attribute × List Tok) Fault
-poured front read = read >>= λ x. Ok (front ++ joined x.0, x.1)
+poured front read = read >>= λ x. Ok (front ++ attributes_of x.0, x.1)
 
 module _ (stop : Option Tok → Bool) (P : Parser (List Attribute)) where
-  pub pours_begin : (front : List Attribute) (rest : List Token) → front ≡ [] → poured front (many stop (length rest - 0) P (toks rest)) ≡ mapped joined (many_until stop P) (toks rest)
+  pub pours_begin : (front : List Attribute) (rest : List Token) → front ≡ [] → poured front (many stop (length rest - 0) P (toks rest)) ≡ map_parser attributes_of (many_until stop P) (toks rest)
   pours_begin front rest none = rw (none, all_turns rest) refl
 
   regroup : (front x : List Attribute) (read : Result (List (List Attribute) × List Tok) Fault) → poured front (read >>= λ (y : List (List Attribute) × List Tok). Ok (x ∷ y.0, y.1)) ≡ poured (front ++ x) read
-  regroup front x (Ok y) = ap (λ (xs : List Attribute). Ok (xs, y.1)) (sym (append_assoc front x (joined y.0)))
+  regroup front x (Ok y) = ap (λ (xs : List Attribute). Ok (xs, y.1)) (sym (append_assoc front x (attributes_of y.0)))
   regroup front x (Err f) = refl
 
   pub pours_on : (front : List Attribute) (len i : ℕ) (ts after : List Tok) (x : List Attribute) (total : Result (List Attribute × List Tok) Fault) → i < len → stop (head ts) ≡ false → P ts ≡ Ok (x, after)
@@ -105,7 +105,7 @@ module _ (stop : Option Tok → Bool) (P : Parser (List Attribute)) where
 -- ---- values with commas between, and perhaps a comma behind the last one
 
 pub trails_begin : {A : Type 0} (P : Parser A) (front : List A) (x : A) (ts : List Tok) (rest : List Token) → front ≡ x ∷ [] → P ts ≡ Ok (x, toks rest)
-    → onward front (trailing (length rest - 0) P (toks rest)) ≡ mapped in_front (seq P (λ inner. trailing (length inner) P inner)) ts
+    → onward front (trailing (length rest - 0) P (toks rest)) ≡ map_parser in_front (seq P (λ inner. trailing (length inner) P inner)) ts
 trails_begin {A} P front x ts rest one e = rw (one, all_turns rest, e) (same (trailing (length (toks rest)) P (toks rest)))
   where
     same : (r : Result (List A × List Tok) Fault) → onward (x ∷ []) r ≡ ((r >>= λ (y : List A × List Tok). Ok ((x, y.0), y.1)) >>= λ (z : (A × List A) × List Tok). Ok (z.0.0 ∷ z.0.1, z.1))

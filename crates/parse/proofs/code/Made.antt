@@ -6,7 +6,7 @@ use Rattle.lex.specs.declared.token.Token.{Token}
 use Rattle.lex.specs.Tokens.{Tok, toks}
 use Rattle.parse.specs.declared.fault.Failure.{Failure}
 use Rattle.parse.specs.declared.fault.Failure.TheVariants as failure
-use Rattle.parse.specs.inner.Reading.{Fault, ◌>>=◌, Fails, Gives, GivesBefore, Parser, before, behind, expect, mapped, seq}
+use Rattle.parse.specs.inner.Reading.{Fault, ◌>>=◌, Fails, Gives, GivesBefore, Parser, before, behind, expect, map_parser, seq}
 use Rattle.parse.proofs.code.Climbing.{fails_along}
 
 module _ {X U V : Type 0} (view : X → U) (make : U → V) (one : Result (X × Bor (List Token)) Failure) where
@@ -57,5 +57,5 @@ module _ {A B C : Type 0} (k : Fixed) (P : Parser A) (Q : Parser B) (make : A ×
   last x (Ok y) = refl
   last x (Err f) = refl
 
-  pub second_is_left : (ts r s : List Tok) (x : A) → expect k ts ≡ Ok (tt, r) → P r ≡ Ok (x, s) → mapped make (behind k (seq P Q)) ts ≡ ◌>>=◌ {B = C × List Tok} (Q s) (λ y. Ok (make (x, y.0), y.1))
+  pub second_is_left : (ts r s : List Tok) (x : A) → expect k ts ≡ Ok (tt, r) → P r ≡ Ok (x, s) → map_parser make (behind k (seq P Q)) ts ≡ ◌>>=◌ {B = C × List Tok} (Q s) (λ y. Ok (make (x, y.0), y.1))
   second_is_left ts r s x e a = rw (e, a) (last x (Q s))

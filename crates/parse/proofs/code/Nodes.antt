@@ -15,7 +15,7 @@ use Rattle.syntax.specs.Views.{exprs_from, stmts_from, expr_of, stmt_of}
 use Rattle.syntax.specs.Grammar.{the_text, mode_keyword}
 use Rattle.syntax.specs.Phrases.{place_of}
 use Rattle.syntax.proofs.Seen as seen
-use Rattle.parse.specs.inner.Reading.{Fault, deep, ◌>>=◌, head, is_next, mapped, take, expect, spot, perhaps, behind, before, unless}
+use Rattle.parse.specs.inner.Reading.{Fault, deep, ◌>>=◌, head, is_next, map_parser, take, expect, spot, perhaps, behind, before, unless}
 use Rattle.parse.specs.inner.Expressions.{whole_at, starts_type}
 use Rattle.parse.specs.inner.Statements as read
 use Rattle.parse.proofs.combinators.Exact.{taken_ok}
@@ -108,7 +108,7 @@ module _ (d : ℕ) (ts t1 t2 : List Tok) where
   while_stmt_left c e a = second_is_left (Keyword key.While) (read.in_parens (whole_at d)) (read.stmt_at d) (λ x. While x.0 x.1) ts t1 t2 c e a
 
   pub do_stmt_left : (s : Stmt) → expect (Keyword key.Do) ts ≡ Ok (tt, t1) → read.stmt_at d t1 ≡ Ok (s, t2)
-      → read.do_stmt d (read.stmt_at d) (read.block_at d) ts ≡ mapped (DoWhile s) (read.end_of_do d) t2
+      → read.do_stmt d (read.stmt_at d) (read.block_at d) ts ≡ map_parser (DoWhile s) (read.end_of_do d) t2
   do_stmt_left s e a = second_is_left (Keyword key.Do) (read.stmt_at d) (read.end_of_do d) (λ x. DoWhile x.0 x.1) ts t1 t2 s e a
 
   pub for_stmt_left : (h : Start × (Option Expr × Option Simple)) → expect (Keyword key.For) ts ≡ Ok (tt, t1) → read.head_of_for d t1 ≡ Ok (h, t2)
@@ -133,7 +133,7 @@ module _ (d : ℕ) (mode : Mode) (ts t1 : List Tok) (at : Span) (keyword : spot 
     pub value_stmt_deep : d ≡ 0 → transaction ≡ Err (deep t1)
     value_stmt_deep z = transaction_goes ∙ rw (here, z) refl
 
-    pub value_stmt_is : (b : ℕ) → b + 1 ≡ d → transaction ≡ mapped Do (before (Punctuator punct.Semicolon) (read.simple_at (d + 1))) ts
+    pub value_stmt_is : (b : ℕ) → b + 1 ≡ d → transaction ≡ map_parser Do (before (Punctuator punct.Semicolon) (read.simple_at (d + 1))) ts
     value_stmt_is b e =
         let n : d ≡ suc b = omega (arith, e) in
         let m : d + 1 ≡ suc (suc b) = omega (arith, e) in

@@ -8,9 +8,9 @@ use Rattle.syntax.specs.Tree.{Declaration, Stmt, Declare, Do, Block}
 use Rattle.syntax.specs.Views.{stmts_from}
 use Rattle.syntax.specs.Phrases.{is_fixed}
 use Rattle.parse.specs.declared.lead.Lead.{Lead}
-use Rattle.parse.specs.inner.Reading.{Fault, wrong, deep, head, taken, expect, mapped, before, is_next}
+use Rattle.parse.specs.inner.Reading.{Fault, wrong, deep, head, take_value, expect, map_parser, before, is_next}
 use Rattle.parse.specs.inner.Expressions.{starts_type, whole_at}
-use Rattle.parse.specs.inner.Statements.{simple, simple_at, declaration, declaration_at, lead_at, starts_stmt, braced, entry, simple_stmt, block_stmt, stmt_of, stmt_at, block_at}
+use Rattle.parse.specs.inner.Statements.{simple, simple_at, declaration, declaration_at, lead_at, starts_stmt, block_items, entry, simple_stmt, block_stmt, stmt_of, stmt_at, block_at}
 
 pub simple_start : (d b : ℕ) (ts : List Tok) → b + 1 ≡ d → simple_at d ts ≡ simple (whole_at b) ts
 simple_start d b ts e =
@@ -44,7 +44,7 @@ expected : (k : Fixed) (ts inner : List Tok) → expect k ts ≡ Ok (tt, inner) 
 expected k [] inner e = absurd cc
 expected k (t ∷ ts) inner e = go (is_fixed k t.terminal) e
   where
-    go : (b : Bool) → taken {A = Unit {0}} (cond b (Some tt) None) t ts ≡ Ok (tt, inner) → b ≡ true
+    go : (b : Bool) → take_value {A = Unit {0}} (cond b (Some tt) None) t ts ≡ Ok (tt, inner) → b ≡ true
     go true h = refl
     go false h = absurd cc
 
@@ -52,7 +52,7 @@ missing : (k : Fixed) (ts : List Tok) (f : Fault) → expect k ts ≡ Err f → 
 missing k [] f e = (refl, cc)
 missing k (t ∷ ts) f e = go (is_fixed k t.terminal) e
   where
-    go : (b : Bool) → taken {A = Unit {0}} (cond b (Some tt) None) t ts ≡ Err f → (b ≡ false) × (wrong (t ∷ ts) ≡ f)
+    go : (b : Bool) → take_value {A = Unit {0}} (cond b (Some tt) None) t ts ≡ Err f → (b ≡ false) × (wrong (t ∷ ts) ≡ f)
     go true h = absurd cc
     go false h = (refl, cc)
 
@@ -65,7 +65,7 @@ pub block_deep : (d : ℕ) (ts inner : List Tok) → d ≡ 0 → expect (Punctua
 unfolding block_at
 block_deep d ts inner z e = rw (z, expected (Punctuator punct.OpenBrace) ts inner e) refl
 
-pub block_start : (d b : ℕ) (ts : List Tok) → b + 1 ≡ d → block_at d ts ≡ braced (entry b (stmt_at b)) ts
+pub block_start : (d b : ℕ) (ts : List Tok) → b + 1 ≡ d → block_at d ts ≡ block_items (entry b (stmt_at b)) ts
 unfolding block_at
 block_start d b ts e =
     let s : d ≡ suc b = omega arith in
@@ -74,16 +74,16 @@ block_start d b ts e =
 -- a block as a statement has the depth of the statement
 pub block_stmt_is : (d b : ℕ) (ts r : List Tok) (ss : List Stmt) → b + 1 ≡ d → block_at d ts ≡ Ok (ss, r) → block_stmt b (stmt_at b) (block_at b) ts ≡ Ok (Block (stmts_from ss), r)
 block_stmt_is d b ts r ss e h =
-    let inner : braced (entry b (stmt_at b)) ts ≡ Ok (ss, r) = sym (block_start d b ts e) ∙ h in
+    let inner : block_items (entry b (stmt_at b)) ts ≡ Ok (ss, r) = sym (block_start d b ts e) ∙ h in
     rw inner refl
 
 pub block_stmt_fails : (d b : ℕ) (ts : List Tok) (f : Fault) → b + 1 ≡ d → block_at d ts ≡ Err f → block_stmt b (stmt_at b) (block_at b) ts ≡ Err f
 block_stmt_fails d b ts f e h =
-    let inner : braced (entry b (stmt_at b)) ts ≡ Err f = sym (block_start d b ts e) ∙ h in
+    let inner : block_items (entry b (stmt_at b)) ts ≡ Err f = sym (block_start d b ts e) ∙ h in
     rw inner refl
 
 -- and so have an assignment, a step or a value
-pub simple_stmt_is : (d b : ℕ) (ts : List Tok) → b + 1 ≡ d → simple_stmt b ts ≡ mapped Do (before (Punctuator punct.Semicolon) (simple_at d)) ts
+pub simple_stmt_is : (d b : ℕ) (ts : List Tok) → b + 1 ≡ d → simple_stmt b ts ≡ map_parser Do (before (Punctuator punct.Semicolon) (simple_at d)) ts
 simple_stmt_is d b ts e =
     let s : d ≡ suc b = omega arith in
     rw s refl

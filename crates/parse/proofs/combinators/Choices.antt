@@ -5,7 +5,7 @@ use Rattle.lex.specs.declared.token.Fixed.{Fixed}
 use Rattle.lex.specs.Tokens.{Tok}
 use Rattle.syntax.specs.Phrases.{Phrase, Begins}
 use Rattle.syntax.specs.Grammar.{optional}
-use Rattle.parse.specs.inner.Reading.{Fault, wrong, deep, Parser, head, none, mapped, choice, either, is_next, unless}
+use Rattle.parse.specs.inner.Reading.{Fault, wrong, deep, Parser, head, none, map_parser, choice, either, is_next, unless}
 use Rattle.parse.proofs.combinators.Exact.{head_append, Reads, Refuses, Sinks, Exact, Comes, Empty, err_is, give_exact, choice_exact, value_of, restated}
 use Rattle.parse.proofs.combinators.Parts.{MaybeW, BranchC}
 
@@ -249,7 +249,7 @@ SomeL L (Some x) p = L x p
 module _ {A : Type 0} (P : ℕ → Parser A) (L : A → Phrase) (W : ℕ → A → Type 0) (S C : A → Option Tok → Type 0) (d : ℕ) (k : Fixed)
     (E : Exact P L W S C d)
     (other : (x : A) (p q : List Tok) → L x p → is_next k (head (p ++ q)) ≡ false) where
-  some : Exact (λ D. mapped Some (P D)) (SomeL L) (MaybeW W) (UnlessS k S) (BranchC C) d
+  some : Exact (λ D. map_parser Some (P D)) (SomeL L) (MaybeW W) (UnlessS k S) (BranchC C) d
   some = value_of Some (SomeL L) (MaybeW W) (UnlessS k S) (BranchC C) E comes (λ x p l. l) (λ x w. w) (λ x h c. c)
     where
       comes : (y : Option A) (p : List Tok) → SomeL L y p → Comes Some L (W d) (MaybeW W d) S (UnlessS k S) y p

@@ -2,7 +2,7 @@
 use Rattle.std.proofs.Common.{◌≡◌, ℕ, ◌≤◌, List, [], ◌∷◌, ◌++◌, Option, Some, None, Result, Ok, Err, refl, sym, ap, subst, ◌∙◌, append_assoc, arith, ◌⊎◌, inl, inr}
 use Rattle.lex.specs.Tokens.{Tok}
 use Rattle.syntax.specs.Phrases.{Phrase, Seq, One, Begins}
-use Rattle.parse.specs.inner.Reading.{Fault, wrong, deep, ◌>>=◌, Parser, head, none, give, chained, seq, mapped, choice, taken, take}
+use Rattle.parse.specs.inner.Reading.{Fault, wrong, deep, ◌>>=◌, Parser, head, none, give, bind, seq, map_parser, choice, take_value, take}
 
 pub head_append : (p r s : List Tok) → head r ≡ head s → head (p ++ r) ≡ head (p ++ s)
 head_append [] r s e = e
@@ -85,19 +85,19 @@ module _ {A B : Type 0} (P : ℕ → Parser A) (Q : A → ℕ → Parser B) (L :
     (follow : (a : A) (b : B) (p q : List Tok) → M a b p → J a b → S2 a b (head q) → S1 a (head (p ++ q)))
     (joins : (a : A) (b : B) (p r : List Tok) → M a b p → C1 a (head (p ++ r)) → J a b)
     (ends : (a : A) → Ends (M a) (J a)) where
-  chained_again : (x : A × B) (p q : List Tok) → ChainL L M J x p → WP d x.0 × WQ x.0 d x.1 → S2 x.0 x.1 (head q) → chained (P d) (λ a. Q a d) (p ++ q) ≡ Ok (x, q)
+  chained_again : (x : A × B) (p q : List Tok) → ChainL L M J x p → WP d x.0 × WQ x.0 d x.1 → S2 x.0 x.1 (head q) → bind (P d) (λ a. Q a d) (p ++ q) ≡ Ok (x, q)
   chained_again x p q s w h =
       let eP = EP.again x.0 s.0.front (s.0.back ++ q) s.0.first w.0 (follow x.0 x.1 s.0.back q s.0.second s.1 h) in
       let eQ = (EQ x.0).again x.1 s.0.back q s.0.second w.1 h in
       rw (s.0.whole, append_assoc s.0.front s.0.back q, eP, eQ) refl
 
   -- the front of a whole that goes on as the second part goes on
-  chained_go : (ts r1 r : List Tok) (a : A) (RP : Reads P L WP C1 d ts a r1) (fq : List Tok) → r1 ≡ fq ++ r → (D : ℕ) (s : List Tok) → d ≤ D → head r ≡ head s → chained (P D) (λ a. Q a D) ((RP.front ++ fq) ++ s) ≡ (Q a D (fq ++ s) >>= λ y. Ok ((a, y.0), y.1))
+  chained_go : (ts r1 r : List Tok) (a : A) (RP : Reads P L WP C1 d ts a r1) (fq : List Tok) → r1 ≡ fq ++ r → (D : ℕ) (s : List Tok) → d ≤ D → head r ≡ head s → bind (P D) (λ a. Q a D) ((RP.front ++ fq) ++ s) ≡ (Q a D (fq ++ s) >>= λ y. Ok ((a, y.0), y.1))
   chained_go ts r1 r a RP fq e D s le same =
       let eP = RP.stable D (fq ++ s) le (ap head e ∙ head_append fq r s same) in
       rw (append_assoc RP.front fq s, eP) refl
 
-  chained_ok_parts : (ts r1 r : List Tok) (a : A) (b : B) → P d ts ≡ Ok (a, r1) → Q a d r1 ≡ Ok (b, r) → Reads (λ D. chained (P D) (λ a. Q a D)) (ChainL L M J) (λ D x. WP D x.0 × WQ x.0 D x.1) (λ x h. C2 x.0 x.1 h) d ts (a, b) r
+  chained_ok_parts : (ts r1 r : List Tok) (a : A) (b : B) → P d ts ≡ Ok (a, r1) → Q a d r1 ≡ Ok (b, r) → Reads (λ D. bind (P D) (λ a. Q a D)) (ChainL L M J) (λ D x. WP D x.0 × WQ x.0 D x.1) (λ x h. C2 x.0 x.1 h) d ts (a, b) r
   chained_ok_parts ts r1 r a b p q =
       let RP = EP.ok ts a r1 p in
       let RQ = (EQ a).ok r1 b r q in
@@ -110,12 +110,12 @@ module _ {A B : Type 0} (P : ℕ → Parser A) (Q : A → ℕ → Parser B) (L :
         stable = λ D s le same. chained_go ts r1 r a RP RQ.front RQ.whole D s le same ∙ rw (RQ.stable D s le same) refl;
       }
 
-  chained_ok : (ts : List Tok) (x : A × B) (r : List Tok) → chained (P d) (λ a. Q a d) ts ≡ Ok (x, r) → Reads (λ D. chained (P D) (λ a. Q a D)) (ChainL L M J) (λ D x. WP D x.0 × WQ x.0 D x.1) (λ x h. C2 x.0 x.1 h) d ts x r
+  chained_ok : (ts : List Tok) (x : A × B) (r : List Tok) → bind (P d) (λ a. Q a d) ts ≡ Ok (x, r) → Reads (λ D. bind (P D) (λ a. Q a D)) (ChainL L M J) (λ D x. WP D x.0 × WQ x.0 D x.1) (λ x h. C2 x.0 x.1 h) d ts x r
   chained_ok ts x r e =
       let b1 = bind_ok (P d ts) (λ (x : A × List Tok). Q x.0 d x.1 >>= λ (y : B × List Tok). Ok ((x.0, y.0), y.1)) (x, r) e in
       let b2 = bind_ok (Q (b1.0).0 d (b1.0).1) (λ (y : B × List Tok). Ok (((b1.0).0, y.0), y.1)) (x, r) b1.2 in
       let same = ok_pair ((b1.0).0, (b2.0).0) x (b2.0).1 r _ refl b2.2 in
-      subst (λ (y : A × B). Reads (λ D. chained (P D) (λ a. Q a D)) (ChainL L M J) (λ D x. WP D x.0 × WQ x.0 D x.1) (λ x h. C2 x.0 x.1 h) d ts y r) same.0
+      subst (λ (y : A × B). Reads (λ D. bind (P D) (λ a. Q a D)) (ChainL L M J) (λ D x. WP D x.0 × WQ x.0 D x.1) (λ x h. C2 x.0 x.1 h) d ts y r) same.0
       (chained_ok_parts ts (b1.0).1 r (b1.0).0 (b2.0).0 b1.1 (b2.1 ∙ ap (λ (t : List Tok). Ok ((b2.0).0, t)) same.1))
 
   -- a beginning of the first part, ended
@@ -136,7 +136,7 @@ module _ {A B : Type 0} (P : ℕ → Parser A) (Q : A → ℕ → Parser B) (L :
     spelled = (record { front = RP.front; back = (t ∷ p) ++ b.more; first = RP.spelled; second = b.spelled; whole = append_assoc RP.front (t ∷ p) b.more }, joins a b.value ((t ∷ p) ++ b.more) [] b.spelled (subst (λ (h : Option Tok). C1 a h) (ap head e) RP.closed));
   }
 
-  chained_wrong_second : (ts r1 r : List Tok) (a : A) → P d ts ≡ Ok (a, r1) → Q a d r1 ≡ Err (wrong r) → Refuses (λ D. chained (P D) (λ a. Q a D)) (ChainL L M J) (λ D x. WP D x.0 × WQ x.0 D x.1) (λ x h. C2 x.0 x.1 h) d ts r
+  chained_wrong_second : (ts r1 r : List Tok) (a : A) → P d ts ≡ Ok (a, r1) → Q a d r1 ≡ Err (wrong r) → Refuses (λ D. bind (P D) (λ a. Q a D)) (ChainL L M J) (λ D x. WP D x.0 × WQ x.0 D x.1) (λ x h. C2 x.0 x.1 h) d ts r
   chained_wrong_second ts r1 r a p q =
       let RP = EP.ok ts a r1 p in
       let RQ = (EQ a).wrong r1 r q in
@@ -157,7 +157,7 @@ module _ {A B : Type 0} (P : ℕ → Parser A) (Q : A → ℕ → Parser B) (L :
           }
       begun RP (t ∷ fq) e b = chained_second ts r1 a RP t fq r e (b tt)
 
-  chained_wrong : (ts r : List Tok) → chained (P d) (λ a. Q a d) ts ≡ Err (wrong r) → Refuses (λ D. chained (P D) (λ a. Q a D)) (ChainL L M J) (λ D x. WP D x.0 × WQ x.0 D x.1) (λ x h. C2 x.0 x.1 h) d ts r
+  chained_wrong : (ts r : List Tok) → bind (P d) (λ a. Q a d) ts ≡ Err (wrong r) → Refuses (λ D. bind (P D) (λ a. Q a D)) (ChainL L M J) (λ D x. WP D x.0 × WQ x.0 D x.1) (λ x h. C2 x.0 x.1 h) d ts r
   chained_wrong ts r e =
       elim (bind_err (P d ts) (λ (x : A × List Tok). Q x.0 d x.1 >>= λ (y : B × List Tok). Ok ((x.0, y.0), y.1)) (wrong r) e) [
         | inl p ↦
@@ -178,7 +178,7 @@ module _ {A B : Type 0} (P : ℕ → Parser A) (Q : A → ℕ → Parser B) (L :
       ok_no_err : {X : Type 0} {x : X} → Ok x ≡ Err (wrong r) → ⊥
       ok_no_err h = cc
 
-  chained_deep_second : (ts r1 r : List Tok) (a : A) → P d ts ≡ Ok (a, r1) → Q a d r1 ≡ Err (deep r) → Sinks (λ D. chained (P D) (λ a. Q a D)) (ChainL L M J) (λ D x. WP D x.0 × WQ x.0 D x.1) (λ x h. C2 x.0 x.1 h) d ts r
+  chained_deep_second : (ts r1 r : List Tok) (a : A) → P d ts ≡ Ok (a, r1) → Q a d r1 ≡ Err (deep r) → Sinks (λ D. bind (P D) (λ a. Q a D)) (ChainL L M J) (λ D x. WP D x.0 × WQ x.0 D x.1) (λ x h. C2 x.0 x.1 h) d ts r
   chained_deep_second ts r1 r a p q =
       let RP = EP.ok ts a r1 p in
       let RQ = (EQ a).deep r1 r q in
@@ -196,7 +196,7 @@ module _ {A B : Type 0} (P : ℕ → Parser A) (Q : A → ℕ → Parser B) (L :
       begun RP [] t after e b = chained_second ts r1 a RP t [] after e b
       begun RP (u ∷ fq) t after e b = chained_second ts r1 a RP u (fq ++ t ∷ []) after (e ∙ ap (λ (x : List Tok). u ∷ x) (sym (append_assoc fq (t ∷ []) after))) b
 
-  chained_deep : (ts r : List Tok) → chained (P d) (λ a. Q a d) ts ≡ Err (deep r) → Sinks (λ D. chained (P D) (λ a. Q a D)) (ChainL L M J) (λ D x. WP D x.0 × WQ x.0 D x.1) (λ x h. C2 x.0 x.1 h) d ts r
+  chained_deep : (ts r : List Tok) → bind (P d) (λ a. Q a d) ts ≡ Err (deep r) → Sinks (λ D. bind (P D) (λ a. Q a D)) (ChainL L M J) (λ D x. WP D x.0 × WQ x.0 D x.1) (λ x h. C2 x.0 x.1 h) d ts r
   chained_deep ts r e =
       elim (bind_err (P d ts) (λ (x : A × List Tok). Q x.0 d x.1 >>= λ (y : B × List Tok). Ok ((x.0, y.0), y.1)) (deep r) e) [
         | inl p ↦
@@ -221,7 +221,7 @@ module _ {A B : Type 0} (P : ℕ → Parser A) (Q : A → ℕ → Parser B) (L :
       ok_no_err h = cc
 
   -- Two exact parsers, one after the other.
-  pub chained_exact : Exact (λ D. chained (P D) (λ a. Q a D)) (ChainL L M J) (λ D x. WP D x.0 × WQ x.0 D x.1) (λ x h. S2 x.0 x.1 h) (λ x h. C2 x.0 x.1 h) d
+  pub chained_exact : Exact (λ D. bind (P D) (λ a. Q a D)) (ChainL L M J) (λ D x. WP D x.0 × WQ x.0 D x.1) (λ x h. S2 x.0 x.1 h) (λ x h. C2 x.0 x.1 h) d
   chained_exact = record { again = chained_again; ok = chained_ok; wrong = chained_wrong; deep = chained_deep }
 
 -- one after the other, where the second does not depend on the first
@@ -270,9 +270,9 @@ module _ {A B : Type 0} (P : ℕ → Parser A) (Q : A → ℕ → Parser B) (L :
     (EP : Exact P L WP S1 C1 d) (EQ : (a : A) → Exact (Q a) (M a) (WQ a) (S2 a) (C2 a) d)
     (follow : (a : A) (b : B) (p q : List Tok) → M a b p → S2 a b (head q) → S1 a (head (p ++ q)))
     (ends : (a : A) → Begins (M a) []) where
-  pub dep_exact : Exact (λ D. chained (P D) (λ a. Q a D)) (Dep L M) (λ D x. WP D x.0 × WQ x.0 D x.1) (λ x h. S2 x.0 x.1 h) (λ x h. C2 x.0 x.1 h) d
+  pub dep_exact : Exact (λ D. bind (P D) (λ a. Q a D)) (Dep L M) (λ D x. WP D x.0 × WQ x.0 D x.1) (λ x h. S2 x.0 x.1 h) (λ x h. C2 x.0 x.1 h) d
   dep_exact =
-      relabel (λ D. chained (P D) (λ a. Q a D)) (ChainL L M (λ a b. Unit {0})) (Dep L M) (λ D x. WP D x.0 × WQ x.0 D x.1) (λ D x. WP D x.0 × WQ x.0 D x.1) (λ x h. S2 x.0 x.1 h) (λ x h. S2 x.0 x.1 h) (λ x h. C2 x.0 x.1 h) (λ x h. C2 x.0 x.1 h) d
+      relabel (λ D. bind (P D) (λ a. Q a D)) (ChainL L M (λ a b. Unit {0})) (Dep L M) (λ D x. WP D x.0 × WQ x.0 D x.1) (λ D x. WP D x.0 × WQ x.0 D x.1) (λ x h. S2 x.0 x.1 h) (λ x h. S2 x.0 x.1 h) (λ x h. C2 x.0 x.1 h) (λ x h. C2 x.0 x.1 h) d
       (chained_exact P Q L M (λ a b. Unit {0}) WP WQ S1 C1 S2 C2 d EP EQ (λ a b p q m j h. follow a b p q m h) (λ a b p r m h. tt) (λ a. record { value = (ends a).value; text = (ends a).more; spelled = (ends a).spelled; joined = tt }))
       (λ x p l. l.0) (λ x p l. (l, tt)) (λ x p l w. w) (λ x w. w) (λ x h s. s) (λ x h c. c)
 
@@ -300,7 +300,7 @@ module _ {A B : Type 0} (f : A → B) (P : ℕ → Parser A) (L : A → Phrase) 
     (goes : (x : A) (p : List Tok) → L x p → M (f x) p)
     (deepens : (x : A) → W d x → W' d (f x))
     (closes : (x : A) (h : Option Tok) → C x h → C' (f x) h) where
-  map_again : (y : B) (p q : List Tok) → M y p → W' d y → S' y (head q) → mapped f (P d) (p ++ q) ≡ Ok (y, q)
+  map_again : (y : B) (p q : List Tok) → M y p → W' d y → S' y (head q) → map_parser f (P d) (p ++ q) ≡ Ok (y, q)
   map_again y p q m w h =
       let c = comes y p m in
       let e = EP.again c.value p q c.spelled (c.within w) (c.stops (head q) h) in
@@ -309,12 +309,12 @@ module _ {A B : Type 0} (f : A → B) (P : ℕ → Parser A) (L : A → Phrase) 
   map_begins : (p : List Tok) → Begins L p → Begins M p
   map_begins p b = record { value = f b.value; more = b.more; spelled = goes b.value (p ++ b.more) b.spelled }
 
-  map_ok : (ts : List Tok) (y : B) (r : List Tok) → mapped f (P d) ts ≡ Ok (y, r) → Reads (λ D. mapped f (P D)) M W' C' d ts y r
+  map_ok : (ts : List Tok) (y : B) (r : List Tok) → map_parser f (P d) ts ≡ Ok (y, r) → Reads (λ D. map_parser f (P D)) M W' C' d ts y r
   map_ok ts y r e =
       let b = bind_ok (P d ts) (λ (x : A × List Tok). Ok (f x.0, x.1)) (y, r) e in
       let same = ok_pair (f (b.0).0) y (b.0).1 r _ refl b.2 in
       let R = EP.ok ts (b.0).0 r (b.1 ∙ ap (λ (t : List Tok). Ok ((b.0).0, t)) same.1) in
-      subst (λ (y : B). Reads (λ D. mapped f (P D)) M W' C' d ts y r) same.0 (record {
+      subst (λ (y : B). Reads (λ D. map_parser f (P D)) M W' C' d ts y r) same.0 (record {
         front = R.front;
         whole = R.whole;
         spelled = goes (b.0).0 R.front R.spelled;
@@ -323,7 +323,7 @@ module _ {A B : Type 0} (f : A → B) (P : ℕ → Parser A) (L : A → Phrase) 
         stable = λ D s le h. rw (R.stable D s le h) refl;
       })
 
-  map_wrong : (ts r : List Tok) → mapped f (P d) ts ≡ Err (wrong r) → Refuses (λ D. mapped f (P D)) M W' C' d ts r
+  map_wrong : (ts r : List Tok) → map_parser f (P d) ts ≡ Err (wrong r) → Refuses (λ D. map_parser f (P D)) M W' C' d ts r
   map_wrong ts r e =
       elim (bind_err (P d ts) (λ (x : A × List Tok). Ok (f x.0, x.1)) (wrong r) e) [
         | inl p ↦
@@ -335,7 +335,7 @@ module _ {A B : Type 0} (f : A → B) (P : ℕ → Parser A) (L : A → Phrase) 
       ok_no_err : {X : Type 0} {x : X} → Ok x ≡ Err (wrong r) → ⊥
       ok_no_err h = cc
 
-  map_deep : (ts r : List Tok) → mapped f (P d) ts ≡ Err (deep r) → Sinks (λ D. mapped f (P D)) M W' C' d ts r
+  map_deep : (ts r : List Tok) → map_parser f (P d) ts ≡ Err (deep r) → Sinks (λ D. map_parser f (P D)) M W' C' d ts r
   map_deep ts r e =
       elim (bind_err (P d ts) (λ (x : A × List Tok). Ok (f x.0, x.1)) (deep r) e) [
         | inl p ↦
@@ -347,7 +347,7 @@ module _ {A B : Type 0} (f : A → B) (P : ℕ → Parser A) (L : A → Phrase) 
       ok_no_err : {X : Type 0} {x : X} → Ok x ≡ Err (deep r) → ⊥
       ok_no_err h = cc
 
-  pub map_exact : Exact (λ D. mapped f (P D)) M W' S' C' d
+  pub map_exact : Exact (λ D. map_parser f (P D)) M W' S' C' d
   map_exact = record { again = map_again; ok = map_ok; wrong = map_wrong; deep = map_deep }
 
 -- ---- one token
@@ -358,15 +358,15 @@ Always x h = Unit {0}
 abbrev pub Shallow : {A : Type 0} → ℕ → A → Type 0
 Shallow d x = Unit {0}
 
-pub taken_ok : {A : Type 0} (o : Option A) (t : Tok) (ts : List Tok) (x : A) (r : List Tok) → taken o t ts ≡ Ok (x, r) → (o ≡ Some x) × (ts ≡ r)
+pub taken_ok : {A : Type 0} (o : Option A) (t : Tok) (ts : List Tok) (x : A) (r : List Tok) → take_value o t ts ≡ Ok (x, r) → (o ≡ Some x) × (ts ≡ r)
 taken_ok (Some a) t ts x r e = let s = ok_pair a x ts r _ refl e in (ap Some s.0, s.1)
 taken_ok None t ts x r e = absurd cc
 
-taken_wrong : {A : Type 0} (o : Option A) (t : Tok) (ts : List Tok) (r : List Tok) → taken o t ts ≡ Err (wrong r) → (o ≡ None) × (t ∷ ts ≡ r)
+taken_wrong : {A : Type 0} (o : Option A) (t : Tok) (ts : List Tok) (r : List Tok) → take_value o t ts ≡ Err (wrong r) → (o ≡ None) × (t ∷ ts ≡ r)
 taken_wrong (Some a) t ts r e = absurd cc
 taken_wrong None t ts r e = (refl, cc)
 
-taken_deep : {A : Type 0} (o : Option A) (t : Tok) (ts : List Tok) (r : List Tok) → taken o t ts ≡ Err (deep r) → ⊥
+taken_deep : {A : Type 0} (o : Option A) (t : Tok) (ts : List Tok) (r : List Tok) → take_value o t ts ≡ Err (deep r) → ⊥
 taken_deep (Some a) t ts r e = cc
 taken_deep None t ts r e = cc
 
@@ -507,7 +507,7 @@ pub chained_one : {A B : Type 0} {P : ℕ → Parser A} {Q : A → ℕ → Parse
     → Exact P L WP S1 C1 d → ((a : A) → Exact (Q a) (M a) (WQ a) (S2 a) (C2 a) d)
     → ((a : A) (b : B) (p q : List Tok) → M a b p → S2 a b (head q) → S1 a (head (p ++ q)))
     → ((a : A) → Begins (M a) [])
-    → Exact (λ D. chained (P D) (λ a. Q a D)) (Dep L M) (λ D x. WP D x.0 × WQ x.0 D x.1) (λ x h. S2 x.0 x.1 h) (λ x h. C2 x.0 x.1 h) d
+    → Exact (λ D. bind (P D) (λ a. Q a D)) (Dep L M) (λ D x. WP D x.0 × WQ x.0 D x.1) (λ x h. S2 x.0 x.1 h) (λ x h. C2 x.0 x.1 h) d
 chained_one {P = P} {Q = Q} {L = L} {M = M} {WP = WP} {WQ = WQ} {S1 = S1} {C1 = C1} {S2 = S2} {C2 = C2} {d = d} EP EQ follow ends =
     dep_exact P Q L M WP WQ S1 C1 S2 C2 d EP EQ follow ends
 
@@ -525,7 +525,7 @@ pub value_of : {A B : Type 0} (f : A → B) {P : ℕ → Parser A} {L : A → Li
     → ((x : A) (p : List Tok) → L x p → M (f x) p)
     → ((x : A) → W d x → W' d (f x))
     → ((x : A) (h : Option Tok) → C x h → C' (f x) h)
-    → Exact (λ D. mapped f (P D)) M W' S' C' d
+    → Exact (λ D. map_parser f (P D)) M W' S' C' d
 value_of f {P = P} {L = L} M {W = W} W' {S = S} {C = C} S' C' {d = d} EP comes goes deepens closes =
     map_exact f P L M W W' S C S' C' d EP comes goes deepens closes
 

@@ -4,7 +4,7 @@ use Rattle.lex.specs.declared.token.Fixed.TheVariants.{Punctuator}
 use Rattle.lex.specs.declared.token.Punctuator.TheVariants as punct
 use Rattle.lex.specs.Tokens.{fixed, Tok}
 use Rattle.syntax.specs.Phrases.{Phrase, Seq, Is, Begins, Many, Listed}
-use Rattle.parse.specs.inner.Reading.{Parser, head, many_until, behind, is_other, in_front, listed}
+use Rattle.parse.specs.inner.Reading.{Parser, head, many_until, behind, is_other, in_front, comma_list}
 use Rattle.parse.proofs.combinators.Exact.{Nonempty, Exact, Comes, Two, two, value_of}
 use Rattle.parse.proofs.combinators.Many.{ManyFit, many_exact}
 use Rattle.parse.proofs.combinators.FixedTokens.{fixed_is, seq_head}
@@ -42,7 +42,7 @@ module _ {A : Type 0} (P : ℕ → Parser A) (L : A → Phrase) (W : ℕ → A �
   comes [] p l = absurd l
   comes (x ∷ xs) p l = record { value = (x, xs); same = refl; spelled = l; within = λ w. w; stops = λ h s. s }
 
-  pub listed_is : Exact (λ D. listed (P D)) (Listed L) (ManyFit W) LastS LastC d
+  pub listed_is : Exact (λ D. comma_list (P D)) (Listed L) (ManyFit W) LastS LastC d
   listed_is = value_of in_front (Listed L) (ManyFit W) LastS LastC
       (two E further_is follow (record { value = []; more = []; spelled = refl }))
       comes (λ x p l. l) (λ x w. w) (λ x h c. c)
@@ -58,7 +58,7 @@ pub listed_exact : {A : Type 0} {P : ℕ → Parser A} {L : A → List Tok → T
     → Exact P L W S C d → Begins L []
     → ((x : A) (h : Option Tok) → is_other (Punctuator punct.Comma) h ≡ true → T h → S x h)
     → ((x : A) (t : Tok) → t.terminal ≡ fixed (Punctuator punct.Comma) → S x (Some t))
-    → Exact (λ D. listed (P D)) (Listed L) (ManyFit W) (λ xs h. (is_other (Punctuator punct.Comma) h ≡ true) × T h) (λ xs h. is_other (Punctuator punct.Comma) h ≡ true) d
+    → Exact (λ D. comma_list (P D)) (Listed L) (ManyFit W) (λ xs h. (is_other (Punctuator punct.Comma) h ≡ true) × T h) (λ xs h. is_other (Punctuator punct.Comma) h ≡ true) d
 listed_exact {P = P} {L = L} {W = W} {S = S} {C = C} {d = d} T E begins follows comma = listed_is P L W S C d T E begins follows comma
 
 -- something is spelled

@@ -4,21 +4,21 @@ use Rattle.std.proofs.lemmas.Bool.{cases_lt}
 use Rattle.std.proofs.lemmas.List.{append-nil}
 use Rattle.lex.specs.Tokens.{Tok}
 use Rattle.syntax.specs.Phrases.{Phrase, Begins, IsUnexpected, IsTooDeep}
-use Rattle.parse.specs.inner.Reading.{Fault, wrong, deep, ◌>>=◌, Parser, head, finished}
+use Rattle.parse.specs.inner.Reading.{Fault, wrong, deep, ◌>>=◌, Parser, head, whole_input}
 use Rattle.parse.proofs.combinators.Exact.{Nonempty, Exact, Always, bind_ok, bind_err}
 
 no_both : {A : Type 0} (r : Result A Fault) (x : A) (f : Fault) → r ≡ Ok x → r ≡ Err f → ⊥
 no_both r x f p q = cc
 
-finished_ok : {A : Type 0} (x : A × List Tok) (e : A) → finished x ≡ Ok e → (x.0 ≡ e) × (x.1 ≡ [])
+finished_ok : {A : Type 0} (x : A × List Tok) (e : A) → whole_input x ≡ Ok e → (x.0 ≡ e) × (x.1 ≡ [])
 finished_ok (x, []) e h = (cc, refl)
 finished_ok (x, t ∷ ts) e h = absurd cc
 
-finished_wrong : {A : Type 0} (x : A × List Tok) (r : List Tok) → finished x ≡ Err (wrong r) → (x.1 ≡ r) × Nonempty r
+finished_wrong : {A : Type 0} (x : A × List Tok) (r : List Tok) → whole_input x ≡ Err (wrong r) → (x.1 ≡ r) × Nonempty r
 finished_wrong (x, []) r h = absurd cc
 finished_wrong (x, t ∷ ts) r h = let same : wrong (t ∷ ts) ≡ wrong r = cc in let eq : t ∷ ts ≡ r = cc in (eq, subst Nonempty eq tt)
 
-finished_deep : {A : Type 0} (x : A × List Tok) (r : List Tok) → finished x ≡ Err (deep r) → ⊥
+finished_deep : {A : Type 0} (x : A × List Tok) (r : List Tok) → whole_input x ≡ Err (deep r) → ⊥
 finished_deep (x, []) r h = cc
 finished_deep (x, t ∷ ts) r h = cc
 
@@ -27,7 +27,7 @@ module _ {A : Type 0} (P : ℕ → Parser A) (L : A → Phrase) (depth : A → �
     (E : (d : ℕ) → Exact P L (λ D x. depth x ≤ D) (λ x h. h ≡ None) Always d) (some : Begins L []) where
   -- something that the tokens spell to their end
   abbrev pub whole : ℕ → List Tok → Result A Fault
-  whole d ts = P d ts >>= finished
+  whole d ts = P d ts >>= whole_input
 
   -- what is spelled is read, within its depth
   pub whole_again : (d : ℕ) (e : A) (ts : List Tok) → L e ts → depth e ≤ d → whole d ts ≡ Ok e
@@ -48,7 +48,7 @@ module _ {A : Type 0} (P : ℕ → Parser A) (L : A → Phrase) (depth : A → �
   -- what is read is spelled so
   pub whole_found : (d : ℕ) (ts : List Tok) (e : A) → whole d ts ≡ Ok e → L e ts × (depth e ≤ d)
   whole_found d ts e h =
-      let b = bind_ok (P d ts) finished e h in
+      let b = bind_ok (P d ts) whole_input e h in
       let f = finished_ok b.0 e b.2 in
       let R = (E d).ok ts (b.0).0 (b.0).1 b.1 in
       let whole : ts ≡ R.front = R.whole ∙ ap (λ (z : List Tok). R.front ++ z) f.1 ∙ append-nil R.front in
@@ -70,7 +70,7 @@ module _ {A : Type 0} (P : ℕ → Parser A) (L : A → Phrase) (depth : A → �
 
   pub whole_wrong : (d : ℕ) (ts r : List Tok) → whole d ts ≡ Err (wrong r) → Blocked d ts r
   whole_wrong d ts r h =
-      elim (bind_err (P d ts) finished (wrong r) h) [
+      elim (bind_err (P d ts) whole_input (wrong r) h) [
         | inl p ↦
             let R = (E d).wrong ts r p in
             record { front = R.front; parts = R.whole; begun = begun_any R.front R.begins; stable = λ D s le same. rw (R.stable D s le same) refl }
@@ -118,7 +118,7 @@ module _ {A : Type 0} (P : ℕ → Parser A) (L : A → Phrase) (depth : A → �
 
   pub too_deep : (ts : List Tok) (t : Tok) (after : List Tok) (d : ℕ) → whole d ts ≡ Err (deep (t ∷ after)) → IsTooDeep L depth d ts t.span
   too_deep ts t after d h =
-      elim (bind_err (P d ts) finished (deep (t ∷ after)) h) [
+      elim (bind_err (P d ts) whole_input (deep (t ∷ after)) h) [
         | inl p ↦
             let R = (E d).deep ts (t ∷ after) p in
             let same : t ≡ R.at = first_same R.here in
@@ -142,7 +142,7 @@ module _ {A : Type 0} (P : ℕ → Parser A) (L : A → Phrase) (depth : A → �
 
   pub no_deep_end : (ts : List Tok) (d : ℕ) → whole d ts ≡ Err (deep []) → ⊥
   no_deep_end ts d h =
-      elim (bind_err (P d ts) finished (deep []) h) [
+      elim (bind_err (P d ts) whole_input (deep []) h) [
         | inl p ↦ (let R = (E d).deep ts [] p in empty_not R.here)
         | inr b ↦ finished_deep b.0 [] b.2
       ]

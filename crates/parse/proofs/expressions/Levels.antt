@@ -19,7 +19,7 @@ use Rattle.parse.specs.declared.lead.Infix.{Infix}
 use Rattle.parse.specs.declared.lead.Infix.TheVariants.{Computing, Choosing}
 use Rattle.parse.specs.declared.lead.Operand.{Operand}
 use Rattle.parse.specs.declared.lead.Operand.TheVariants as kind
-use Rattle.parse.specs.inner.Reading.{wrong, deep, ◌>>=◌, Parser, head, none, chained, mapped, either, is_next, at_least, op_at, climb_loop, across}
+use Rattle.parse.specs.inner.Reading.{wrong, deep, ◌>>=◌, Parser, head, none, bind, map_parser, either, is_next, at_least, op_at, climb_loop, across}
 use Rattle.parse.specs.inner.Expressions.{infix_of, the_infix, infix_precedence, infix_node, operators, operand_of, operand_at, operand, is_operand, starts_expr, chain, conditional_from, within, conditional_at, expr_at, whole_at}
 use Rattle.parse.proofs.combinators.Exact.{Exact, Comes, Two, Dep, Empty, bind_ok, ok_pair, give_exact, chained_one, two, value_of, restated}
 use Rattle.parse.proofs.combinators.FixedTokens.{that_fixed, fixed_is, fixed_has, a_fixed, seq_head}
@@ -182,7 +182,7 @@ chain_start D b k ts le e =
 
 -- a conditional stands above the operators
 abbrev upper : ℕ → Parser Expr
-upper d = mapped (λ x. x.1) (chained (chain (expr_at d) d 1) (conditional_at (expr_at d 0) d))
+upper d = map_parser (λ x. x.1) (bind (chain (expr_at d) d 1) (conditional_at (expr_at d 0) d))
 
 upper_start : (D b : ℕ) (ts : List Tok) → b + 1 ≡ D → expr_at D 0 ts ≡ upper b ts
 unfolding expr_at
@@ -211,10 +211,10 @@ module _ {A B : Type 0} (P : ℕ → Parser A) (Q : A → ℕ → Parser B) (L :
     (follow : (a : A) (b : B) (p q : List Tok) → M a b p → S2 a b (head q) → S1 a (head (p ++ q)))
     (ends : (a : A) → Begins (M a) [])
     (after : (a : A) (b : B) (p r : List Tok) → M a b p → C1 a (head (p ++ r)) → C2 a b (head r) → C a b (head r)) where
-  both : Exact (λ D. chained (P D) (λ a. Q a D)) (Dep L M) (λ D x. WP D x.0 × WQ x.0 D x.1) (λ x h. S2 x.0 x.1 h) (λ x h. C2 x.0 x.1 h) d
+  both : Exact (λ D. bind (P D) (λ a. Q a D)) (Dep L M) (λ D x. WP D x.0 × WQ x.0 D x.1) (λ x h. S2 x.0 x.1 h) (λ x h. C2 x.0 x.1 h) d
   both = chained_one EP EQ follow ends
 
-  closed : (ts : List Tok) (x : A × B) (r : List Tok) → chained (P d) (λ a. Q a d) ts ≡ Ok (x, r) → C x.0 x.1 (head r)
+  closed : (ts : List Tok) (x : A × B) (r : List Tok) → bind (P d) (λ a. Q a d) ts ≡ Ok (x, r) → C x.0 x.1 (head r)
   closed ts x r e =
       let b1 = bind_ok (P d ts) (λ (x : A × List Tok). Q x.0 d x.1 >>= λ (y : B × List Tok). Ok ((x.0, y.0), y.1)) (x, r) e in
       let b2 = bind_ok (Q (b1.0).0 d (b1.0).1) (λ (y : B × List Tok). Ok (((b1.0).0, y.0), y.1)) (x, r) b1.2 in
@@ -224,7 +224,7 @@ module _ {A B : Type 0} (P : ℕ → Parser A) (Q : A → ℕ → Parser B) (L :
       let here : C (b1.0).0 (b2.0).0 (head (b2.0).1) = after (b1.0).0 (b2.0).0 RQ.front (b2.0).1 RQ.spelled (subst (λ (t : List Tok). C1 (b1.0).0 (head t)) RQ.whole RP.closed) RQ.closed in
       subst (λ (y : A × B). C y.0 y.1 (head r)) same.0 (subst (λ (t : List Tok). C (b1.0).0 (b2.0).0 (head t)) same.1 here)
 
-  pub both_closed : Exact (λ D. chained (P D) (λ a. Q a D)) (Dep L M) (λ D x. WP D x.0 × WQ x.0 D x.1) (λ x h. S2 x.0 x.1 h) (λ x h. C x.0 x.1 h) d
+  pub both_closed : Exact (λ D. bind (P D) (λ a. Q a D)) (Dep L M) (λ D x. WP D x.0 × WQ x.0 D x.1) (λ x h. S2 x.0 x.1 h) (λ x h. C x.0 x.1 h) d
   both_closed = record {
     again = both.again;
     ok = λ ts x r e. let R = both.ok ts x r e in record { front = R.front; whole = R.whole; spelled = R.spelled; within = R.within; closed = closed ts x r e; stable = R.stable };

@@ -25,8 +25,8 @@ use Rattle.parse.specs.declared.lead.Infix.{Infix}
 use Rattle.parse.specs.declared.lead.Infix.TheVariants.{Computing, Choosing}
 use Rattle.parse.specs.declared.lead.Operand.{Operand}
 use Rattle.parse.specs.declared.lead.Operand.TheVariants as kind
-use Rattle.parse.specs.inner.Reading.{Parser, head, give, mapped, either, take, is_next, is_other, at_least, op_at, across}
-use Rattle.parse.specs.inner.Expressions.{starts_type, the_infix, operators, placed, the_prefix, constant_in, the_constant, prefixed, cast_from, group_from, opened, transaction, arguments, element_from, call_from, named_from, named, operand_of, operand_at, operand}
+use Rattle.parse.specs.inner.Reading.{Parser, head, give, map_parser, either, take, is_next, is_other, at_least, op_at, across}
+use Rattle.parse.specs.inner.Expressions.{starts_type, the_infix, operators, with_span, the_prefix, constant_in, the_constant, prefixed, cast_from, group_from, opened, transaction, arguments, element_from, call_from, named_from, named, operand_of, operand_at, operand}
 use Rattle.parse.proofs.combinators.Exact.{Exact, Always, Nothing, Comes, Two, Dep, Empty, take_exact, give_exact, none_exact, chained_one, two, value_of, restated}
 use Rattle.parse.proofs.combinators.Many.{ManyFit}
 use Rattle.parse.proofs.combinators.FixedTokens.{that_fixed, fixed_is, fixed_has, a_fixed, one_head}
@@ -48,7 +48,7 @@ pub imaged : {A B : Type 0} (f : A → B) {P : ℕ → Parser A} {L : A → List
     → ((x : A) → W d x → W' d (f x))
     → ((x : A) (h : Option Tok) → S' (f x) h → S x h)
     → ((x : A) (h : Option Tok) → C x h → C' (f x) h)
-    → Exact (λ D. mapped f (P D)) (Image f L) W' S' C' d
+    → Exact (λ D. map_parser f (P D)) (Image f L) W' S' C' d
 imaged {A = A} {B = B} f {L = L} {W = W} W' {S = S} S' C' {d = d} E w_from w_to s_from c_to =
     value_of f (Image f L) W' S' C' E comes (λ x p l. (x, refl, l)) w_to c_to
   where
@@ -249,7 +249,7 @@ constant_exact d =
 
 -- ---- operators before their operand
 
-placed_is : (at : Span) (o : Option UnaryOp) (op : UnaryOp) (v : Span) → placed at o ≡ Some (op, v) → (o ≡ Some op) × (at ≡ v)
+placed_is : (at : Span) (o : Option UnaryOp) (op : UnaryOp) (v : Span) → with_span at o ≡ Some (op, v) → (o ≡ Some op) × (at ≡ v)
 placed_is at None op v h = absurd cc
 placed_is at (Some x) op v h = let same : ◌≡◌ {A = UnaryOp × Span} (x, at) (op, v) = cc in (ap (λ (z : UnaryOp × Span). Some z.0) same, ap (λ (z : UnaryOp × Span). z.1) same)
 
@@ -275,7 +275,7 @@ prefix_comes (Unary op e at) p l =
     let o = s.first in (
       ((op, o.token.span), e),
       ap (Unary op e) (span_is at o.token.span (span_of e) p s.front [] s.back s.whole l.1.0 (one_covers o) (expr_covers e s.back s.second)),
-      record { front = s.front; back = s.back; first = record { token = o.token; has = ap (placed o.token.span) o.has; whole = o.whole }; second = (s.second, l.0); whole = s.whole },
+      record { front = s.front; back = s.back; first = record { token = o.token; has = ap (with_span o.token.span) o.has; whole = o.whole }; second = (s.second, l.0); whole = s.whole },
     )
 prefix_comes _ p l = absurd l
 

@@ -13,7 +13,7 @@ use Rattle.syntax.specs.Depth.{block_depth, body_depth, item_depth}
 use Rattle.syntax.specs.Views.{stmts_from}
 use Rattle.syntax.specs.Phrases.{Phrase, Seq, One, Is, Nil, Begins, Listed, is_fixed}
 use Rattle.syntax.specs.Grammar.{name_in, the_name, optional, block, attributes, parameter, parameters, AreNamed, body}
-use Rattle.parse.specs.inner.Reading.{head, none, mapped, either, listed, expect, is_next}
+use Rattle.parse.specs.inner.Reading.{head, none, map_parser, either, comma_list, expect, is_next}
 use Rattle.parse.specs.inner.Expressions.{says, type_of_fixed}
 use Rattle.parse.specs.inner.Items.{parameter_tree, parameter_list, maybe_name, is_plain, are_named, defined_at, body_at, Header, function_tree, function_at}
 use Rattle.parse.specs.inner.Items as read
@@ -82,7 +82,7 @@ parameter_exact d =
 parameter_begins : Begins parameter []
 parameter_begins = let b = scalar_begins in record { value = record { of = b.value; name = None }; more = b.more; spelled = record { front = b.more; back = []; first = b.spelled; second = refl; whole = sym (append-nil b.more) } }
 
-listed_parameters : (d : ℕ) → Exact (λ D. listed read.parameter) (Listed parameter) (λ D. Shallow D) (λ x. Next (Punctuator punct.CloseParen) x) Always d
+listed_parameters : (d : ℕ) → Exact (λ D. comma_list read.parameter) (Listed parameter) (λ D. Shallow D) (λ x. Next (Punctuator punct.CloseParen) x) Always d
 listed_parameters d =
     restated (Listed parameter) (λ D. Shallow D) (λ x. Next (Punctuator punct.CloseParen) x) Always
     (listed_exact (λ h. is_next (Punctuator punct.CloseParen) h ≡ true) (parameter_exact d) parameter_begins (λ x h o e. inr e) (λ x t is. inl (rw is refl)))
@@ -95,7 +95,7 @@ parameter_not j apart (x ∷ xs) p q l =
     let inner = front_head l.front (l.back ++ q) l.first in
     ap (is_next j) (outer ∙ inner) ∙ scalar_not j apart x.of l.first.front (l.first.back ++ (l.back ++ q)) l.first.first
 
-written_exact : (d : ℕ) → Exact (λ D. either (is_next (Keyword key.Void)) (mapped (λ x. []) (expect (Keyword key.Void))) (listed read.parameter)) WrittenL (λ D. Shallow D) (λ x. Next (Punctuator punct.CloseParen) x) Always d
+written_exact : (d : ℕ) → Exact (λ D. either (is_next (Keyword key.Void)) (map_parser (λ x. []) (expect (Keyword key.Void))) (comma_list read.parameter)) WrittenL (λ D. Shallow D) (λ x. Next (Punctuator punct.CloseParen) x) Always d
 written_exact d =
     one_of (is_next (Keyword key.Void)) WrittenL (sign_exact (Keyword key.Void) [] (λ D. Shallow D) (λ x. Next (Punctuator punct.CloseParen) x) d tt) (listed_parameters d)
     (λ x p q l h. is_here (Keyword key.Void) p q l.1) (λ x p q l h. parameter_not (Keyword key.Void) refl x p q l) (λ x p l. inl l) (λ x p l. inr l) (λ x p l. l)

@@ -10,8 +10,8 @@ use Rattle.syntax.specs.declared.tree.Attribute.{Attribute}
 use Rattle.syntax.specs.declared.tree.Attribute.TheVariants.{Safe}
 use Rattle.syntax.specs.Tree.{Name}
 use Rattle.syntax.specs.Phrases.{Phrase, Seq, One, Is, never, Begins, Many, Listed, is_fixed, the_fixed}
-use Rattle.syntax.specs.Grammar.{the_name, the_attribute, attribute_list, attributes, joined, scalar, result}
-use Rattle.parse.specs.inner.Reading.{Parser, head, mapped, either, expect, is_next, is_other}
+use Rattle.syntax.specs.Grammar.{the_name, the_attribute, attribute_list, attributes, attributes_of, scalar, result}
+use Rattle.parse.specs.inner.Reading.{Parser, head, map_parser, either, expect, is_next, is_other}
 use Rattle.parse.specs.inner.Expressions.{type_of_fixed}
 use Rattle.parse.specs.inner.Items.{is_plain, Header}
 use Rattle.parse.specs.inner.Items as read
@@ -77,7 +77,7 @@ SomeL L (Some x) = L x
 
 pub some_exact : {A : Type 0} {P : ℕ → Parser A} {L : A → List Tok → Type 0} {S : A → Option Tok → Type 0} {d : ℕ} (S' : Option A → Option Tok → Type 0)
     → Exact P L (λ D. Shallow D) S Always d → ((x : A) (h : Option Tok) → S' (Some x) h → S x h)
-    → Exact (λ D. mapped Some (P D)) (SomeL L) (λ D. Shallow D) S' Always d
+    → Exact (λ D. map_parser Some (P D)) (SomeL L) (λ D. Shallow D) S' Always d
 some_exact {A = A} {L = L} {S = S} S' E stops = value_of Some (SomeL L) (λ D. Shallow D) S' Always E comes (λ x p l. l) (λ x w. w) (λ x h c. c)
   where
     comes : (y : Option A) (p : List Tok) → SomeL L y p → Comes Some L (λ x. Unit {0}) (λ x. Unit {0}) S S' y p
@@ -85,7 +85,7 @@ some_exact {A = A} {L = L} {S = S} S' E stops = value_of Some (SomeL L) (λ D. S
     comes (Some x) p l = record { value = x; same = refl; spelled = l; within = λ w. w; stops = stops x }
 
 -- a fixed token that stands for something
-pub sign_exact : {A : Type 0} (k : Fixed) (x : A) (W : ℕ → A → Type 0) (S : A → Option Tok → Type 0) (d : ℕ) → W d x → Exact (λ D. mapped (λ u. x) (expect k)) (λ y p. (y ≡ x) × Is k p) W S Always d
+pub sign_exact : {A : Type 0} (k : Fixed) (x : A) (W : ℕ → A → Type 0) (S : A → Option Tok → Type 0) (d : ℕ) → W d x → Exact (λ D. map_parser (λ u. x) (expect k)) (λ y p. (y ≡ x) × Is k p) W S Always d
 sign_exact {A = A} k x W S d w = value_of (λ u. x) (λ y p. (y ≡ x) × Is k p) W S Always (take_exact (the_fixed k) d) comes (λ u p l. (refl, l)) (λ u v. w) (λ u h c. tt)
   where
     comes : (y : A) (p : List Tok) → (y ≡ x) × Is k p → Comes (λ (u : Unit {0}). x) (One (the_fixed k)) (λ u. Unit {0}) (W d) (λ u h. Unit {0}) S y p
@@ -121,13 +121,13 @@ BracketsL x = Seq (Is (Punctuator punct.OpenBracket)) (Seq (Is (Punctuator punct
 abbrev ParensL : List Attribute → Phrase
 ParensL x = Seq (Is (Keyword key.Attribute)) (Seq (Is (Punctuator punct.OpenParen)) (Seq (Is (Punctuator punct.OpenParen)) (Closed (Punctuator punct.CloseParen) x)))
 
-bracketed_exact : (d : ℕ) → Exact (λ D. read.bracketed) BracketsL (λ D. Shallow D) Always Always d
+bracketed_exact : (d : ℕ) → Exact (λ D. read.bracket_attributes) BracketsL (λ D. Shallow D) Always Always d
 bracketed_exact d =
     let closed = before_exact (Punctuator punct.CloseBracket) (before_exact (Punctuator punct.CloseBracket) (words_exact d) (λ a t is. rw is refl)) (λ a t is. tt) in
     let inner = behind_exact (Punctuator punct.OpenBracket) closed (closed_begins (Punctuator punct.CloseBracket)) in
     behind_exact (Punctuator punct.OpenBracket) inner (head_begins (Punctuator punct.OpenBracket) (Closed (Punctuator punct.CloseBracket)) (closed_begins (Punctuator punct.CloseBracket)))
 
-parenthesized_exact : (d : ℕ) → Exact (λ D. read.parenthesized) ParensL (λ D. Shallow D) Always Always d
+parenthesized_exact : (d : ℕ) → Exact (λ D. read.gnu_attributes) ParensL (λ D. Shallow D) Always Always d
 parenthesized_exact d =
     let closed = before_exact (Punctuator punct.CloseParen) (before_exact (Punctuator punct.CloseParen) (words_exact d) (λ a t is. rw is refl)) (λ a t is. tt) in
     let inner = behind_exact (Punctuator punct.OpenParen) closed (closed_begins (Punctuator punct.CloseParen)) in
@@ -167,11 +167,11 @@ list_first x p q (inr l) =
 
 pub attributes_exact : (d : ℕ) → Exact (λ D. read.attributes) attributes (λ D. Shallow D) Plain Always d
 attributes_exact d =
-    value_of joined attributes (λ D. Shallow D) Plain Always
+    value_of attributes_of attributes (λ D. Shallow D) Plain Always
     (many_exact (λ D. read.attribute_list) attribute_list (λ D. Shallow D) Always Always d (list_exact d) is_plain (λ h. Unit {0}) list_solid list_first (λ x h s t. tt) (λ x y p q l. tt))
     comes (λ x p l. (x, refl, l)) (λ x w. tt) (λ x h c. tt)
   where
-    comes : (y : List Attribute) (p : List Tok) → attributes y p → Comes joined (Many attribute_list) (λ x. ManyFit (λ D. Shallow D) d x) (λ x. Unit {0}) (λ x h. (is_plain h ≡ true) × Unit {0}) Plain y p
+    comes : (y : List Attribute) (p : List Tok) → attributes y p → Comes attributes_of (Many attribute_list) (λ x. ManyFit (λ D. Shallow D) d x) (λ x. Unit {0}) (λ x h. (is_plain h ≡ true) × Unit {0}) Plain y p
     comes y p l = record { value = l.0; same = l.1; spelled = l.2; within = λ w. all_shallow d l.0; stops = λ h e. (e, tt) }
 
 pub no_words : attributes [] []
@@ -181,14 +181,14 @@ no_words = ([], refl, refl)
 pub no_attributes : (p : List Tok) → attributes [] p → p ≡ []
 no_attributes p a = go a.0 a.1 a.2
   where
-    go : (lists : List (List Attribute)) → [] ≡ joined lists → Many attribute_list lists p → p ≡ []
+    go : (lists : List (List Attribute)) → [] ≡ attributes_of lists → Many attribute_list lists p → p ≡ []
     go [] is l = l
     go ([] ∷ rest) is l = absurd (none l.first)
       where
         none : attribute_list [] l.front → ⊥
         none (inl s) = s.second.second.first
         none (inr s) = s.second.second.second.first
-    go ((w ∷ ws) ∷ rest) is l = absurd (let h : [] ≡ w ∷ (ws ++ joined rest) = is in cc)
+    go ((w ∷ ws) ∷ rest) is l = absurd (let h : [] ≡ w ∷ (ws ++ attributes_of rest) = is in cc)
 
 -- ---- results and headers
 

@@ -11,9 +11,9 @@ use Rattle.lex.specs.Tokens.{Terminal, name, constant, string_literal, fixed, re
 use Rattle.syntax.specs.declared.tree.First.{First}
 use Rattle.syntax.specs.Tree.{Name, Global, Item}
 use Rattle.syntax.specs.Phrases.{Phrase, Seq, One, Is, Begins, Many, Covers, is_fixed, place_of}
-use Rattle.syntax.specs.Grammar.{the_name, the_value, the_length, minus, initialiser, first_value, first_values, optional, sized, global}
+use Rattle.syntax.specs.Grammar.{the_name, the_value, the_length, minus, initialiser, first_value, first_values, optional, global_phrase, global}
 use Rattle.syntax.specs.Grammar as grammar
-use Rattle.parse.specs.inner.Reading.{head, take, is_next, is_other, across, mapped, seq, many_until, behind, before, in_front}
+use Rattle.parse.specs.inner.Reading.{head, take, is_next, is_other, across, map_parser, seq, many_until, behind, before, in_front}
 use Rattle.parse.specs.inner.Items.{value_in, the_placed_value, first_tree, one_first, further_values, Size, array_tree, variable_tree, global_tree, globals_tree, globals_from}
 use Rattle.parse.specs.inner.Items as read
 use Rattle.parse.proofs.combinators.Exact.{Exact, Always, Shallow, Comes, Two, Empty, take_exact, give_exact, restated, two, value_of}
@@ -177,7 +177,7 @@ abbrev ListL : List First → Phrase
 ListL [] p = ⊥
 ListL (i ∷ is) p = Seq (initialiser i) (FurtherL is) p
 
-list_exact : (d : ℕ) → Exact (λ D. mapped in_front (seq read.initialiser further_values)) ListL (λ D. Shallow D) (λ x. Next (Punctuator punct.CloseBrace) x) Always d
+list_exact : (d : ℕ) → Exact (λ D. map_parser in_front (seq read.initialiser further_values)) ListL (λ D. Shallow D) (λ x. Next (Punctuator punct.CloseBrace) x) Always d
 list_exact d =
     value_of in_front ListL (λ D. Shallow D) (λ x. Next (Punctuator punct.CloseBrace) x) Always
     (two (first_exact d) (further_exact d) (λ a b p q l h. tt) (record { value = []; more = []; spelled = record { front = []; back = []; first = refl; second = inl refl; whole = refl } }))
@@ -219,7 +219,7 @@ values_exact d =
 -- ---- what stands behind a global's name
 
 abbrev pub SizedL : Size → Phrase
-SizedL x = sized x.0 x.1
+SizedL x = global_phrase x.0 x.1
 
 abbrev ArrayL : Size → Phrase
 ArrayL (None, is) p = ⊥
@@ -232,7 +232,7 @@ VariableL (Some n, is) p = ⊥
 abbrev length_begins : Begins (One the_length) []
 length_begins = record { value = (0, record { start = 0; «end» = 0 }); more = some_constant ∷ []; spelled = record { token = some_constant; has = refl; whole = refl } }
 
-array_exact : (d : ℕ) → Exact (λ D. mapped array_tree (seq (behind (Punctuator punct.OpenBracket) (before (Punctuator punct.CloseBracket) (take the_length))) read.first_values)) ArrayL (λ D. Shallow D) (λ x. Parted (Punctuator punct.Semicolon) x) Always d
+array_exact : (d : ℕ) → Exact (λ D. map_parser array_tree (seq (behind (Punctuator punct.OpenBracket) (before (Punctuator punct.CloseBracket) (take the_length))) read.first_values)) ArrayL (λ D. Shallow D) (λ x. Parted (Punctuator punct.Semicolon) x) Always d
 array_exact d =
     value_of array_tree ArrayL (λ D. Shallow D) (λ x. Parted (Punctuator punct.Semicolon) x) Always
     (two (behind_exact (Punctuator punct.OpenBracket) (before_exact (Punctuator punct.CloseBracket) (take_exact the_length d) (λ a t is. tt)) (tail_begins (Punctuator punct.CloseBracket) (One the_length) length_begins)) (values_exact d) (λ a b p q l h. tt) (record { value = []; more = []; spelled = refl }))
@@ -242,14 +242,14 @@ array_exact d =
     comes (None, is) p l = absurd l
     comes (Some n, is) p l = record { value = (n, is); same = refl; spelled = l; within = λ w. (tt, tt); stops = λ h s. s }
 
-variable_exact : (d : ℕ) → Exact (λ D. mapped variable_tree read.first_value) VariableL (λ D. Shallow D) (λ x. Parted (Punctuator punct.Semicolon) x) Always d
+variable_exact : (d : ℕ) → Exact (λ D. map_parser variable_tree read.first_value) VariableL (λ D. Shallow D) (λ x. Parted (Punctuator punct.Semicolon) x) Always d
 variable_exact d = value_of variable_tree VariableL (λ D. Shallow D) (λ x. Parted (Punctuator punct.Semicolon) x) Always (value_exact d) comes (λ x p l. l) (λ x w. tt) (λ x h c. tt)
   where
     comes : (y : Size) (p : List Tok) → VariableL y p → Comes variable_tree first_value (λ x. Unit {0}) (λ x. Unit {0}) (λ x. Parted (Punctuator punct.Semicolon) x) (λ x. Parted (Punctuator punct.Semicolon) x) y p
     comes (None, is) p l = record { value = is; same = refl; spelled = l; within = λ w. tt; stops = λ h s. s }
     comes (Some n, is) p l = absurd l
 
-pub sized_exact : (d : ℕ) → Exact (λ D. read.sized) SizedL (λ D. Shallow D) (λ x. Parted (Punctuator punct.Semicolon) x) Always d
+pub sized_exact : (d : ℕ) → Exact (λ D. read.global_tail) SizedL (λ D. Shallow D) (λ x. Parted (Punctuator punct.Semicolon) x) Always d
 sized_exact d = one_of (is_next (Punctuator punct.OpenBracket)) SizedL (array_exact d) (variable_exact d) array_here variable_here array_is variable_is from
   where
     array_here : (x : Size) (p q : List Tok) → ArrayL x p → Parted (Punctuator punct.Semicolon) x (head q) → is_next (Punctuator punct.OpenBracket) (head (p ++ q)) ≡ true

@@ -9,7 +9,7 @@ use Rattle.syntax.specs.Depth.{expr_depth, optional_depth, deepest_value, declar
 use Rattle.syntax.specs.Phrases.{Phrase, Seq, One, Is, Begins, Listed, the_fixed}
 use Rattle.syntax.specs.Grammar.{the_name, optional, expr, simple}
 use Rattle.syntax.specs.Grammar as Grammar
-use Rattle.parse.specs.inner.Reading.{wrong, head, mapped, expect, is_next, is_other, before}
+use Rattle.parse.specs.inner.Reading.{wrong, head, map_parser, expect, is_next, is_other, before}
 use Rattle.parse.specs.inner.Expressions.{starts_type, whole_at}
 use Rattle.parse.specs.inner.Statements.{starts_simple, declarator_tree, declarator, declaration_tree, declaration, simple_at, declaration_at, start}
 use Rattle.parse.proofs.combinators.Exact.{Exact, Always, Comes, Two, take_exact, relabel, two, value_of}
@@ -163,7 +163,7 @@ DoesL (Does s) p = Seq (simple s) (Is (Punctuator punct.Semicolon)) p
 abbrev StartW : ℕ → Start → Type 0
 StartW d x = start_depth x ≤ d
 
-nothing_exact : (d : ℕ) → Exact (λ D. mapped (λ x. Nothing) (expect (Punctuator punct.Semicolon))) NothingL StartW Always Always d
+nothing_exact : (d : ℕ) → Exact (λ D. map_parser (λ x. Nothing) (expect (Punctuator punct.Semicolon))) NothingL StartW Always Always d
 nothing_exact d = value_of (λ x. Nothing) NothingL StartW Always Always (take_exact (the_fixed (Punctuator punct.Semicolon)) d) comes (λ x p l. l) (λ x w. omega arith) (λ x h c. tt)
   where
     comes : (y : Start) (p : List Tok) → NothingL y p → Comes (λ (x : Unit {0}). Nothing) (One (the_fixed (Punctuator punct.Semicolon))) (λ x. Unit {0}) (StartW d) Always Always y p
@@ -171,7 +171,7 @@ nothing_exact d = value_of (λ x. Nothing) NothingL StartW Always Always (take_e
     comes (Declares x) p l = absurd l
     comes (Does s) p l = absurd l
 
-declares_exact : (d : ℕ) → Exact (λ D. mapped Declares (declaration_at D)) DeclaresL StartW Always Always d
+declares_exact : (d : ℕ) → Exact (λ D. map_parser Declares (declaration_at D)) DeclaresL StartW Always Always d
 declares_exact d = value_of Declares DeclaresL StartW Always Always (declaration_exact d) comes (λ x p l. l) (λ x w. w) (λ x h c. tt)
   where
     comes : (y : Start) (p : List Tok) → DeclaresL y p → Comes Declares Grammar.declaration (λ x. declaration_depth x ≤ d) (StartW d) Always Always y p
@@ -179,7 +179,7 @@ declares_exact d = value_of Declares DeclaresL StartW Always Always (declaration
     comes Nothing p l = absurd l
     comes (Does s) p l = absurd l
 
-does_exact : (d : ℕ) → Exact (λ D. mapped Does (before (Punctuator punct.Semicolon) (simple_at D))) DoesL StartW Always Always d
+does_exact : (d : ℕ) → Exact (λ D. map_parser Does (before (Punctuator punct.Semicolon) (simple_at D))) DoesL StartW Always Always d
 does_exact d = value_of Does DoesL StartW Always Always (before_exact (Punctuator punct.Semicolon) (simple_exact d) semicolon_ends) comes (λ x p l. l) (λ x w. w) (λ x h c. tt)
   where
     comes : (y : Start) (p : List Tok) → DoesL y p → Comes Does (λ s. Seq (simple s) (Is (Punctuator punct.Semicolon))) (λ s. simple_depth s ≤ d) (StartW d) Always Always y p

@@ -10,9 +10,9 @@ use Rattle.syntax.specs.Depth.{declaration_depth, stmt_depth, block_depth}
 use Rattle.syntax.specs.Views.{stmts_from}
 use Rattle.syntax.specs.Phrases.{Phrase, Seq, Is, Begins, Many}
 use Rattle.syntax.specs.Grammar.{declaration, stmt, stmts, block}
-use Rattle.parse.specs.inner.Reading.{Parser, head, is_next, mapped}
+use Rattle.parse.specs.inner.Reading.{Parser, head, is_next, map_parser}
 use Rattle.parse.specs.inner.Expressions.{starts_type}
-use Rattle.parse.specs.inner.Statements.{declaration_at, entry, braced}
+use Rattle.parse.specs.inner.Statements.{declaration_at, entry, block_items}
 use Rattle.parse.proofs.combinators.Exact.{Exact, Always, Comes, relabel, value_of, Nonempty}
 use Rattle.parse.proofs.combinators.Many.{ManyFit, many_exact}
 use Rattle.parse.proofs.combinators.Parts.{seq_map, head_begins, tail_begins, behind_exact, before_exact}
@@ -44,7 +44,7 @@ declared_type : (s : Stmt) (p q : List Tok) → DeclareL s p → starts_type (he
 declared_type (Declare x) p q l = declaration_first x p q l
 declared_type _ p q l = absurd l
 
-declare_exact : (d : ℕ) → Exact (λ D. mapped Declare (declaration_at D)) DeclareL Within OpenS OpenS d
+declare_exact : (d : ℕ) → Exact (λ D. map_parser Declare (declaration_at D)) DeclareL Within OpenS OpenS d
 declare_exact d = value_of Declare DeclareL Within OpenS OpenS (declaration_exact d) comes (λ x p l. l) (λ x w. w) (λ x h c e. absurd cc)
   where
     comes : (s : Stmt) (p : List Tok) → DeclareL s p → Comes Declare declaration (λ x. declaration_depth x ≤ d) (Within d) Always OpenS s p
@@ -151,9 +151,9 @@ pub block_begins : Begins BlockL []
 block_begins = head_begins (Punctuator punct.OpenBrace) InnerL inner_begins
 
 -- statements in braces, where what stands in them is read exactly
-pub braced_exact : (P : ℕ → Parser Stmt) (d : ℕ) → Exact P EntryL Within OpenS OpenS d → Exact (λ D. braced (P D)) BlockL (λ D. BlockW (suc D)) Always Always d
+pub braced_exact : (P : ℕ → Parser Stmt) (d : ℕ) → Exact P EntryL Within OpenS OpenS d → Exact (λ D. block_items (P D)) BlockL (λ D. BlockW (suc D)) Always Always d
 braced_exact P d E =
-    relabel (λ D. braced (P D)) (λ xs. Seq (Is (Punctuator punct.OpenBrace)) (Seq (Many EntryL xs) (Is (Punctuator punct.CloseBrace)))) BlockL (ManyFit Within) (λ D. BlockW (suc D)) Always Always Always Always d
+    relabel (λ D. block_items (P D)) (λ xs. Seq (Is (Punctuator punct.OpenBrace)) (Seq (Many EntryL xs) (Is (Punctuator punct.CloseBrace)))) BlockL (ManyFit Within) (λ D. BlockW (suc D)) Always Always Always Always d
     (behind_exact (Punctuator punct.OpenBrace)
     (before_exact (Punctuator punct.CloseBrace)
     (many_exact P EntryL Within OpenS OpenS d E (is_next (Punctuator punct.CloseBrace)) (λ h. Unit {0}) entry_solid entry_not_closing (λ s h e t o. closing_no_else h e) (λ x y p q l o. entry_not_else y p q l))

@@ -13,7 +13,7 @@ use Rattle.syntax.specs.Phrases.{Phrase, Seq, One, Is, Begins, is_fixed}
 use Rattle.syntax.specs.Grammar as Grammar
 use Rattle.syntax.specs.Grammar.{the_outer}
 use Rattle.parse.specs.inner.Reading.{head, is_next}
-use Rattle.parse.specs.inner.Statements.{is_marked, enclosed_outer, outer_mark, marked, atomic_kind, kind}
+use Rattle.parse.specs.inner.Statements.{begins_outer_attribute, enclosed_outer, outer_attribute, outer_attribute_if_any, atomic_kind, kind}
 use Rattle.parse.proofs.combinators.Exact.{Exact, Always, Shallow, Comes, Empty, take_exact, give_exact, value_of, restated}
 use Rattle.parse.proofs.combinators.Parts.{seq_map, seq_left, seq_right, seq_here, seq_not_here, head_begins, tail_begins, behind_exact, before_exact}
 use Rattle.parse.proofs.combinators.Choices.{either_exact}
@@ -53,17 +53,17 @@ abbrev ParensL : Unit {0} → Phrase
 ParensL x = Seq (Is (Keyword key.Attribute)) (EnclosedL (Punctuator punct.OpenParen) (Punctuator punct.CloseParen) x)
 
 abbrev pub MarkL : Unit {0} → Phrase
-MarkL x = Grammar.outer_mark
+MarkL x = Grammar.outer_phrase
 
-mark_goes : (x : Unit {0}) (p : List Tok) → BracketsL x p ⊎ ParensL x p → Grammar.outer_mark p
+mark_goes : (x : Unit {0}) (p : List Tok) → BracketsL x p ⊎ ParensL x p → Grammar.outer_phrase p
 mark_goes x p (inl l) = inl (seq_map l (λ q o. o) (λ q a. seq_map a (λ r o. o) (λ r b. seq_right b)))
 mark_goes x p (inr l) = inr (seq_map l (λ q o. o) (λ q a. seq_map a (λ r o. o) (λ r b. seq_map b (λ u o. o) (λ u c. seq_right c))))
 
-mark_comes : (x : Unit {0}) (p : List Tok) → Grammar.outer_mark p → BracketsL x p ⊎ ParensL x p
+mark_comes : (x : Unit {0}) (p : List Tok) → Grammar.outer_phrase p → BracketsL x p ⊎ ParensL x p
 mark_comes x p (inl l) = inl (seq_map l (λ q o. o) (λ q a. seq_map a (λ r o. o) (λ r b. seq_left b)))
 mark_comes x p (inr l) = inr (seq_map l (λ q o. o) (λ q a. seq_map a (λ r o. o) (λ r b. seq_map b (λ u o. o) (λ u c. seq_left c))))
 
-mark_exact : (d : ℕ) → Exact (λ D. outer_mark) MarkL (λ D. Shallow D) Always Always d
+mark_exact : (d : ℕ) → Exact (λ D. outer_attribute) MarkL (λ D. Shallow D) Always Always d
 mark_exact d =
     restated MarkL (λ D. Shallow D) Always Always
     (either_exact (is_next (Punctuator punct.OpenBracket)) Always
@@ -73,51 +73,51 @@ mark_exact d =
     (λ x p r l e c. tt) (λ x p r l e c. tt))
     mark_goes mark_comes (λ x p l w. tt) (λ x p l w. tt) (λ x p h l s. tt) (λ x p h l c. tt)
 
-mark_here : (p q : List Tok) → Grammar.outer_mark p → is_marked (head (p ++ q)) ≡ true
+mark_here : (p q : List Tok) → Grammar.outer_phrase p → begins_outer_attribute (head (p ++ q)) ≡ true
 mark_here p q (inl l) = ap (λ (b : Bool). if b then true else is_next (Keyword key.Attribute) (head (p ++ q))) (seq_here (Punctuator punct.OpenBracket) _ p q l)
 mark_here p q (inr l) =
     ap (λ (b : Bool). if b then true else is_next (Keyword key.Attribute) (head (p ++ q))) (seq_not_here (Keyword key.Attribute) (Punctuator punct.OpenBracket) _ p q refl l)
     ∙ seq_here (Keyword key.Attribute) _ p q l
 
 -- a mark begins with no other fixed token
-pub mark_not_here : (k : Fixed) → is_fixed k (fixed (Punctuator punct.OpenBracket)) ≡ false → is_fixed k (fixed (Keyword key.Attribute)) ≡ false → (p q : List Tok) → Grammar.outer_mark p → is_next k (head (p ++ q)) ≡ false
+pub mark_not_here : (k : Fixed) → is_fixed k (fixed (Punctuator punct.OpenBracket)) ≡ false → is_fixed k (fixed (Keyword key.Attribute)) ≡ false → (p q : List Tok) → Grammar.outer_phrase p → is_next k (head (p ++ q)) ≡ false
 mark_not_here k a b p q (inl l) = seq_not_here (Punctuator punct.OpenBracket) k _ p q a l
 mark_not_here k a b p q (inr l) = seq_not_here (Keyword key.Attribute) k _ p q b l
 
 -- where neither of its first tokens is, no mark begins
-pub not_marked : (h : Option Tok) → is_next (Punctuator punct.OpenBracket) h ≡ false → is_next (Keyword key.Attribute) h ≡ false → is_marked h ≡ false
+pub not_marked : (h : Option Tok) → is_next (Punctuator punct.OpenBracket) h ≡ false → is_next (Keyword key.Attribute) h ≡ false → begins_outer_attribute h ≡ false
 not_marked h b a = ap (λ (c : Bool). if c then true else is_next (Keyword key.Attribute) h) b ∙ a
 
 -- ---- with or without it
 
 abbrev pub MarkedL : Bool → Phrase
-MarkedL true p = Grammar.outer_mark p
+MarkedL true p = Grammar.outer_phrase p
 MarkedL false p = p ≡ []
 
 -- nothing is read where a mark stands
 abbrev pub MarkedS : Bool → Option Tok → Type 0
 MarkedS true h = Unit {0}
-MarkedS false h = is_marked h ≡ false
+MarkedS false h = begins_outer_attribute h ≡ false
 
 abbrev OuterL : Bool → Phrase
-OuterL b p = (b ≡ true) × Grammar.outer_mark p
+OuterL b p = (b ≡ true) × Grammar.outer_phrase p
 
 pub marked_begins : Begins MarkedL []
 marked_begins = record { value = false; more = []; spelled = refl }
 
-pub marked_exact : (d : ℕ) → Exact (λ D. marked) MarkedL (λ D. Shallow D) MarkedS Always d
+pub marked_exact : (d : ℕ) → Exact (λ D. outer_attribute_if_any) MarkedL (λ D. Shallow D) MarkedS Always d
 marked_exact d =
     restated MarkedL (λ D. Shallow D) MarkedS Always
-    (either_exact is_marked Always
+    (either_exact begins_outer_attribute Always
     (value_of (λ (x : Unit {0}). true) OuterL (λ D. Shallow D) MarkedS Always (mark_exact d) (λ b p l. record { value = tt; same = l.0; spelled = l.1; within = λ w. tt; stops = λ h s. tt }) (λ x p l. (refl, l)) (λ x w. tt) (λ x h c. tt))
     (give_exact false (λ D. Shallow D) MarkedS Always d tt (λ h. tt))
     (λ b p q l s. mark_here p q l.1) none (λ b p r l e c. tt) (λ b p r l e c. tt))
     goes comes (λ b p l w. tt) (λ b p l w. tt) (λ b p h l s. s) (λ b p h l c. tt)
   where
-    none : (b : Bool) (p q : List Tok) → Empty false b p → MarkedS b (head q) → is_marked (head (p ++ q)) ≡ false
+    none : (b : Bool) (p q : List Tok) → Empty false b p → MarkedS b (head q) → begins_outer_attribute (head (p ++ q)) ≡ false
     none b p q l s =
         let s' : MarkedS false (head q) = subst (λ (z : Bool). MarkedS z (head q)) l.0 s in
-        ap (λ (z : List Tok). is_marked (head (z ++ q))) l.1 ∙ s'
+        ap (λ (z : List Tok). begins_outer_attribute (head (z ++ q))) l.1 ∙ s'
 
     goes : (b : Bool) (p : List Tok) → OuterL b p ⊎ Empty false b p → MarkedL b p
     goes true p (inl l) = l.1
@@ -134,16 +134,16 @@ marked_exact d =
 -- behind the keyword of this mode
 abbrev pub KindL : Mode → Kind → Phrase
 KindL mode (Plain of) p = (of ≡ mode) × (p ≡ [])
-KindL Atomic Outer p = Grammar.outer_mark p
+KindL Atomic Outer p = Grammar.outer_phrase p
 KindL Relaxed Outer p = ⊥
 
 abbrev pub KindS : Kind → Option Tok → Type 0
-KindS k h = is_marked h ≡ false
+KindS k h = begins_outer_attribute h ≡ false
 
 pub kind_exact : (mode : Mode) (d : ℕ) → Exact (λ D. kind mode) (KindL mode) (λ D. Shallow D) KindS Always d
 kind_exact Atomic d = value_of atomic_kind (KindL Atomic) (λ D. Shallow D) KindS Always (marked_exact d) comes goes (λ x w. tt) (λ x h c. tt)
   where
-    stops : (b : Bool) (h : Option Tok) → is_marked h ≡ false → MarkedS b h
+    stops : (b : Bool) (h : Option Tok) → begins_outer_attribute h ≡ false → MarkedS b h
     stops true h s = tt
     stops false h s = s
 

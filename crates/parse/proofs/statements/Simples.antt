@@ -11,7 +11,7 @@ use Rattle.syntax.specs.Tree.{Expr, Simple, Evaluate, Assign, Adjust}
 use Rattle.syntax.specs.Depth.{expr_depth, simple_depth}
 use Rattle.syntax.specs.Phrases.{Phrase, Seq, One, Begins, is_fixed}
 use Rattle.syntax.specs.Grammar.{by_fixed, expr, assigning_of, the_assigning, step_of, the_step, simple}
-use Rattle.parse.specs.inner.Reading.{wrong, head, chained, mapped, is_next}
+use Rattle.parse.specs.inner.Reading.{wrong, head, bind, map_parser, is_next}
 use Rattle.parse.specs.inner.Expressions.{type_of_fixed, says, starts_type, is_operand, operand_terminal, starts_expr, whole_at}
 use Rattle.parse.specs.inner.Statements.{assigned_from, changed_from, simple_from, stepped, starts_simple, simple_at}
 use Rattle.parse.specs.inner.Statements as S
@@ -183,7 +183,7 @@ stepped_exact d =
     deepens : (x : IncDec × Expr) → Unit {0} × (expr_depth x.1 ≤ d) → expr_depth x.1 + 1 ≤ suc d
     deepens x w = let h : expr_depth x.1 ≤ d = w.1 in omega arith
 
-rest_exact : (d : ℕ) → Exact (λ D. mapped (λ x. x.1) (chained (whole_at D) (simple_from (whole_at D)))) RestL PartW EndS Always d
+rest_exact : (d : ℕ) → Exact (λ D. map_parser (λ x. x.1) (bind (whole_at D) (simple_from (whole_at D)))) RestL PartW EndS Always d
 rest_exact d =
     value_of (λ (x : Expr × Simple). x.1) RestL PartW EndS Always
     (chained_one (whole_exact d) (λ to. tail_exact to d) follow tail_begins)

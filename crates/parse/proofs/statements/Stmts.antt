@@ -18,7 +18,7 @@ use Rattle.syntax.specs.Grammar.{optional, expr, further, the_text, stmt, ends_o
 use Rattle.parse.specs.declared.lead.Lead.{Lead}
 use Rattle.parse.specs.declared.lead.Lead.TheVariants as lead
 use Rattle.parse.specs.inner.Reading.{wrong, deep, Parser, head, is_next}
-use Rattle.parse.specs.inner.Statements.{for_tree, starts_simple, lead_at, starts_stmt, entry, stmt_of, any_stmt, braced, stmt_at, block_at}
+use Rattle.parse.specs.inner.Statements.{for_tree, starts_simple, lead_at, starts_stmt, entry, stmt_of, any_stmt, block_items, stmt_at, block_at}
 use Rattle.parse.proofs.combinators.Exact.{Exact, Always, Two, restated}
 use Rattle.parse.proofs.combinators.FixedTokens.{that_fixed, fixed_has, one_begins}
 use Rattle.parse.proofs.combinators.Parts.{fixed_place, head_begins}
@@ -284,7 +284,7 @@ stmt_step d E EB =
 block_step : (d : ℕ) → Exact stmt_at stmt Within OpenS OpenS d → Exact block_at BlockL BlockW Always Always (suc d)
 unfolding block_at
 block_step d E =
-    knot_exact block_at (λ b. braced (entry b (stmt_at b))) BlockL BlockW Always Always
+    knot_exact block_at (λ b. block_items (entry b (stmt_at b))) BlockL BlockW Always Always
     (λ D b ts e. let n : D ≡ suc b = omega arith in ap (λ (n : ℕ). block_at n ts) n)
     d (braced_exact (λ D. entry D (stmt_at D)) d (entry_exact stmt_at d E))
 

@@ -15,7 +15,7 @@ use Rattle.syntax.specs.Views.{stmts_from}
 use Rattle.syntax.specs.Meaning.{mode_of}
 use Rattle.syntax.specs.Phrases.{Phrase, Seq, One, IsAt, Begins, place_of}
 use Rattle.syntax.specs.Grammar.{the_step, mode_keyword, stmt, block, ends_open}
-use Rattle.parse.specs.inner.Reading.{Fault, wrong, Parser, head, none, seq, mapped, either, spot, is_next}
+use Rattle.parse.specs.inner.Reading.{Fault, wrong, Parser, head, none, seq, map_parser, either, spot, is_next}
 use Rattle.parse.specs.inner.Expressions.{says, expr_at, whole_at, operand, transaction}
 use Rattle.parse.specs.inner.Statements.{kind, simple_stmt, mode_token, value_stmt, transaction_from, transaction_stmt}
 use Rattle.parse.proofs.combinators.Exact.{Exact, Always, Comes, Two, Dep, take_exact, two, chained_one, value_of, restated}
@@ -200,7 +200,7 @@ module _ (mode : Mode) (at : Span) where
       record { value = block_tree (Plain mode, b.value); more = b.more; spelled = inr ((Plain mode, b.value), refl, record { front = []; back = b.more; first = no_mark; second = b.spelled; whole = refl }) }
 
   module _ (P : ℕ → Parser Stmt) (B : ℕ → Parser (List Stmt)) (d : ℕ) (E : Exact B BlockL BlockW Always Always d) where
-    block_exact : Exact (λ D. mapped block_tree (seq (kind mode) (B D))) (Image block_tree MarkedBlockL) Below Always Always d
+    block_exact : Exact (λ D. map_parser block_tree (seq (kind mode) (B D))) (Image block_tree MarkedBlockL) Below Always Always d
     block_exact = imaged block_tree Below Always Always (two (kind_exact mode d) E no_mark_follows block_begins) shallower deepens (λ x h s. tt) (λ x h c. tt)
       where
         no_mark_follows : (k : Kind) (ss : List Stmt) (p q : List Tok) → BlockL ss p → Unit {0} → KindS k (head (p ++ q))

@@ -27,8 +27,8 @@ use Rattle.parse.specs.declared.lead.Operand.{Operand}
 use Rattle.parse.specs.declared.lead.Operand.TheVariants as kind
 use Rattle.parse.specs.declared.scalar.TypeWord.{TypeWord}
 use Rattle.parse.specs.declared.scalar.TypeWord.TheVariants as word
-use Rattle.parse.specs.inner.Reading.{deep, ◌>>=◌, Parser, none, give, chained, seq, mapped, choice, either, sunk}
-use Rattle.parse.specs.inner.Reading.{listed, take, expect, spot, is_next, perhaps, behind, before, Operators}
+use Rattle.parse.specs.inner.Reading.{deep, ◌>>=◌, Parser, none, give, bind, seq, map_parser, choice, either, too_deep_at}
+use Rattle.parse.specs.inner.Reading.{comma_list, take, expect, spot, is_next, perhaps, behind, before, Operators}
 use Rattle.parse.specs.inner.Reading.{climb_loop, across}
 
 -- ---- types
@@ -54,7 +54,7 @@ starts_type = says the_type_word
 
 -- a type, behind which `int` may stand
 abbrev pub longer : Scalar → Parser Scalar
-longer of = mapped (λ x. of) (perhaps (Keyword key.Int) (expect (Keyword key.Int)))
+longer of = map_parser (λ x. of) (perhaps (Keyword key.Int) (expect (Keyword key.Int)))
 
 -- behind a first `long`
 abbrev pub long_long : Parser Scalar
@@ -68,7 +68,7 @@ type_from word.Unsigned = longer Unsigned
 type_from word.Long = long_long
 
 abbrev pub scalar : Parser Scalar
-scalar = mapped (λ x. x.1) (chained (take the_type_word) type_from)
+scalar = map_parser (λ x. x.1) (bind (take the_type_word) type_from)
 
 -- ---- operators
 
@@ -94,12 +94,12 @@ operators = record { the = the_infix; precedence = infix_precedence; node = infi
 -- ---- operands
 
 -- an operator before its operand, and its place
-abbrev pub placed : {A : Type 0} → Span → Option A → Option (A × Span)
-placed at None = None
-placed at (Some x) = Some (x, at)
+abbrev pub with_span : {A : Type 0} → Span → Option A → Option (A × Span)
+with_span at None = None
+with_span at (Some x) = Some (x, at)
 
 abbrev pub the_prefix : Tok → Option (UnaryOp × Span)
-the_prefix t = placed t.span (the_unary t)
+the_prefix t = with_span t.span (the_unary t)
 
 abbrev pub constant_in : Terminal → Span → Option Expr
 constant_in (name s) at = None
@@ -114,39 +114,39 @@ the_constant t = constant_in t.terminal t.span
 -- whole: any expression; tight: an operand
 module _ (whole tight : Parser Expr) where
   abbrev pub prefixed : Parser Expr
-  prefixed = mapped (λ x. Unary x.0.0 x.1 (across x.0.1 (span_of x.1))) (seq (take the_prefix) tight)
+  prefixed = map_parser (λ x. Unary x.0.0 x.1 (across x.0.1 (span_of x.1))) (seq (take the_prefix) tight)
 
   -- behind `(`, which stands at a place
   abbrev pub cast_from : Span → Parser Expr
   cast_from at =
-      mapped (λ x. Cast x.0 x.1 (across at (span_of x.1))) (seq (before (Punctuator punct.CloseParen) scalar) tight)
+      map_parser (λ x. Cast x.0 x.1 (across at (span_of x.1))) (seq (before (Punctuator punct.CloseParen) scalar) tight)
 
   abbrev pub group_from : Span → Parser Expr
-  group_from at = mapped (λ x. Parenthesized x.0 (across at x.1)) (seq whole (spot (Punctuator punct.CloseParen)))
+  group_from at = map_parser (λ x. Parenthesized x.0 (across at x.1)) (seq whole (spot (Punctuator punct.CloseParen)))
 
   abbrev pub opened : Parser Expr
   opened =
-      mapped (λ x. x.1)
-      (chained (spot (Punctuator punct.OpenParen)) (λ at. either starts_type (cast_from at) (group_from at)))
+      map_parser (λ x. x.1)
+      (bind (spot (Punctuator punct.OpenParen)) (λ at. either starts_type (cast_from at) (group_from at)))
 
   abbrev pub transaction : Mode → Parser Expr
   transaction mode =
-      mapped (λ x. InTransaction mode x.0 x.1.0 (across x.0 x.1.1))
+      map_parser (λ x. InTransaction mode x.0 x.1.0 (across x.0 x.1.1))
       (seq (spot (mode_keyword mode))
       (seq (behind (Punctuator punct.OpenParen) whole) (spot (Punctuator punct.CloseParen))))
 
   abbrev pub arguments : Parser (List Expr)
-  arguments = either (is_next (Punctuator punct.CloseParen)) (give []) (listed whole)
+  arguments = either (is_next (Punctuator punct.CloseParen)) (give []) (comma_list whole)
 
   -- behind a name
   abbrev pub element_from : Name → Parser Expr
   element_from x =
-      mapped (λ y. Element x y.0 (across x.at y.1))
+      map_parser (λ y. Element x y.0 (across x.at y.1))
       (behind (Punctuator punct.OpenBracket) (seq whole (spot (Punctuator punct.CloseBracket))))
 
   abbrev pub call_from : Name → Parser Expr
   call_from x =
-      mapped (λ y. Call x (exprs_from y.0) (across x.at y.1))
+      map_parser (λ y. Call x (exprs_from y.0) (across x.at y.1))
       (behind (Punctuator punct.OpenParen) (seq arguments (spot (Punctuator punct.CloseParen))))
 
   abbrev pub named_from : Name → Parser Expr
@@ -155,7 +155,7 @@ module _ (whole tight : Parser Expr) where
       (either (is_next (Punctuator punct.OpenParen)) (call_from x) (give (Variable x)))
 
   abbrev pub named : Parser Expr
-  named = mapped (λ x. x.1) (chained (take the_name) named_from)
+  named = map_parser (λ x. x.1) (bind (take the_name) named_from)
 
   abbrev pub operand_of : Operand → Parser Expr
   operand_of kind.Name = named
@@ -210,7 +210,7 @@ outcomes whole = behind (Punctuator punct.Question) (seq whole (behind (Punctuat
 
 -- behind the condition c
 abbrev pub conditional_from : Parser Expr → Expr → Parser Expr
-conditional_from whole c = mapped (λ x. Conditional c x.0 x.1 (across (span_of c) (span_of x.1))) (outcomes whole)
+conditional_from whole c = map_parser (λ x. Conditional c x.0 x.1 (across (span_of c) (span_of x.1))) (outcomes whole)
 
 -- what is read within this depth
 abbrev pub within : {A : Type 0} → ℕ → Expr → Parser A → Parser A
@@ -221,8 +221,8 @@ conditional_at whole d c = either (is_next (Punctuator punct.Question)) (within 
 
 -- within this depth: at level 0 any expression, at others operators that bind at least so tightly
 unfoldable pub expr_at : ℕ → ℕ → Parser Expr
-expr_at zero min ts = sunk starts_expr ts
-expr_at (suc d) zero ts = mapped (λ x. x.1) (chained (chain (expr_at d) d 1) (conditional_at (expr_at d 0) d)) ts
+expr_at zero min ts = too_deep_at starts_expr ts
+expr_at (suc d) zero ts = map_parser (λ x. x.1) (bind (chain (expr_at d) d 1) (conditional_at (expr_at d 0) d)) ts
 expr_at (suc d) (suc min) ts = chain (expr_at d) d (suc min) ts
 
 -- any expression within this depth

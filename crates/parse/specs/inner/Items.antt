@@ -11,61 +11,61 @@ use Rattle.syntax.specs.declared.tree.Attribute.{Attribute}
 use Rattle.syntax.specs.declared.tree.First.{First}
 use Rattle.syntax.specs.Tree.{Name, Stmts, Parameter, Global, Item, Defines, Shares, Program}
 use Rattle.syntax.specs.Views.{stmts_from}
-use Rattle.syntax.specs.Grammar.{the_name, the_attribute, the_length, joined}
-use Rattle.parse.specs.inner.Reading.{Fault, ◌>>=◌, Parser, none, give, chained, seq, mapped, either, many_until}
-use Rattle.parse.specs.inner.Reading.{in_front, trailing, listed, take, expect, spot, is_next, is_other, perhaps}
-use Rattle.parse.specs.inner.Reading.{behind, before, across, finished}
+use Rattle.syntax.specs.Grammar.{the_name, the_attribute, the_length, attributes_of}
+use Rattle.parse.specs.inner.Reading.{Fault, ◌>>=◌, Parser, none, give, bind, seq, map_parser, either, many_until}
+use Rattle.parse.specs.inner.Reading.{in_front, trailing, comma_list, take, expect, spot, is_next, is_other, perhaps}
+use Rattle.parse.specs.inner.Reading.{behind, before, across, whole_input}
 use Rattle.parse.specs.inner.Expressions.{says, scalar}
 use Rattle.parse.specs.inner.Statements.{block_at}
 
 -- ---- attributes
 
 abbrev pub words : Parser (List Attribute)
-words = listed (take the_attribute)
+words = comma_list (take the_attribute)
 
 -- `[[ .. ]]`
-abbrev pub bracketed : Parser (List Attribute)
-bracketed =
+abbrev pub bracket_attributes : Parser (List Attribute)
+bracket_attributes =
     behind (Punctuator punct.OpenBracket)
     (behind (Punctuator punct.OpenBracket)
     (before (Punctuator punct.CloseBracket) (before (Punctuator punct.CloseBracket) words)))
 
 -- `__attribute__((..))`
-abbrev pub parenthesized : Parser (List Attribute)
-parenthesized =
+abbrev pub gnu_attributes : Parser (List Attribute)
+gnu_attributes =
     behind (Keyword key.Attribute)
     (behind (Punctuator punct.OpenParen)
     (behind (Punctuator punct.OpenParen)
     (before (Punctuator punct.CloseParen) (before (Punctuator punct.CloseParen) words))))
 
 abbrev pub attribute_list : Parser (List Attribute)
-attribute_list = either (is_next (Punctuator punct.OpenBracket)) bracketed parenthesized
+attribute_list = either (is_next (Punctuator punct.OpenBracket)) bracket_attributes gnu_attributes
 
 abbrev pub is_plain : Option Tok → Bool
 is_plain h = if is_next (Punctuator punct.OpenBracket) h then false else is_other (Keyword key.Attribute) h
 
 abbrev pub attributes : Parser (List Attribute)
-attributes = mapped joined (many_until is_plain attribute_list)
+attributes = map_parser attributes_of (many_until is_plain attribute_list)
 
 -- ---- functions
 
 abbrev pub result : Parser (Option Scalar)
-result = either (is_next (Keyword key.Void)) (mapped (λ x. None) (expect (Keyword key.Void))) (mapped Some scalar)
+result = either (is_next (Keyword key.Void)) (map_parser (λ x. None) (expect (Keyword key.Void))) (map_parser Some scalar)
 
 abbrev pub parameter_tree : Scalar × Option Name → Parameter
 parameter_tree x = record { of = x.0; name = x.1 }
 
 abbrev pub maybe_name : Parser (Option Name)
-maybe_name = either (says the_name) (mapped Some (take the_name)) (give None)
+maybe_name = either (says the_name) (map_parser Some (take the_name)) (give None)
 
 abbrev pub parameter : Parser Parameter
-parameter = mapped parameter_tree (seq scalar maybe_name)
+parameter = map_parser parameter_tree (seq scalar maybe_name)
 
 -- nothing, `void`, or parameters
 abbrev pub parameter_list : Parser (List Parameter)
 parameter_list =
     either (is_next (Punctuator punct.CloseParen)) (give [])
-    (either (is_next (Keyword key.Void)) (mapped (λ x. []) (expect (Keyword key.Void))) (listed parameter))
+    (either (is_next (Keyword key.Void)) (map_parser (λ x. []) (expect (Keyword key.Void))) (comma_list parameter))
 
 abbrev pub parameters : Parser (List Parameter)
 parameters = behind (Punctuator punct.OpenParen) (before (Punctuator punct.CloseParen) parameter_list)
@@ -77,13 +77,13 @@ are_named (q ∷ qs) = if is_some q.name then are_named qs else false
 
 -- a function's body, if its parameters allow one, or a prototype's end
 abbrev pub defined_at : ℕ → Bool → Parser (Option Stmts)
-defined_at d true = mapped (λ ss. Some (stmts_from ss)) (block_at d)
+defined_at d true = map_parser (λ ss. Some (stmts_from ss)) (block_at d)
 defined_at d false = none
 
 abbrev pub body_at : ℕ → List Parameter → Parser (Option Stmts)
 body_at d qs =
     either (is_next (Punctuator punct.OpenBrace)) (defined_at d (are_named qs))
-    (mapped (λ x. None) (expect (Punctuator punct.Semicolon)))
+    (map_parser (λ x. None) (expect (Punctuator punct.Semicolon)))
 
 -- what stands before a function's parameters or behind the first global's name
 abbrev pub Header : Type 0
@@ -97,7 +97,7 @@ function_tree h x =
     Defines (record { attributes = h.0 ++ x.0.1; result = h.1.0; name = h.1.1; parameters = x.0.0; body = x.1 })
 
 abbrev pub function_at : ℕ → Header → Parser Item
-function_at d h = mapped (function_tree h) (chained (seq parameters attributes) (λ x. body_at d x.0))
+function_at d h = map_parser (function_tree h) (bind (seq parameters attributes) (λ x. body_at d x.0))
 
 -- ---- globals
 
@@ -118,7 +118,7 @@ first_tree (Some at, x) = record { negative = true; value = x.0.0; of = x.0.1; s
 
 abbrev pub initialiser : Parser First
 initialiser =
-    mapped first_tree (seq (perhaps (Punctuator punct.Minus) (spot (Punctuator punct.Minus))) (take the_placed_value))
+    map_parser first_tree (seq (perhaps (Punctuator punct.Minus) (spot (Punctuator punct.Minus))) (take the_placed_value))
 
 abbrev pub one_first : First → List First
 one_first i = i ∷ []
@@ -126,7 +126,7 @@ one_first i = i ∷ []
 -- the first value of a variable
 abbrev pub first_value : Parser (List First)
 first_value =
-    either (is_next (Punctuator punct.Assign)) (mapped one_first (behind (Punctuator punct.Assign) initialiser))
+    either (is_next (Punctuator punct.Assign)) (map_parser one_first (behind (Punctuator punct.Assign) initialiser))
     (give [])
 
 -- further ones up to the closing brace: as many as there are tokens suffice
@@ -135,7 +135,7 @@ further_values ts = trailing (length ts) initialiser ts
 
 -- those between an array's braces
 abbrev pub value_list : Parser (List First)
-value_list = mapped in_front (seq initialiser further_values)
+value_list = map_parser in_front (seq initialiser further_values)
 
 -- those of an array
 abbrev pub first_values : Parser (List First)
@@ -155,34 +155,34 @@ abbrev pub variable_tree : List First → Size
 variable_tree is = (None, is)
 
 -- what stands behind a global's name
-abbrev pub sized : Parser Size
-sized =
+abbrev pub global_tail : Parser Size
+global_tail =
     either (is_next (Punctuator punct.OpenBracket))
-    (mapped array_tree
+    (map_parser array_tree
     (seq (behind (Punctuator punct.OpenBracket) (before (Punctuator punct.CloseBracket) (take the_length)))
     first_values))
-    (mapped variable_tree first_value)
+    (map_parser variable_tree first_value)
 
 abbrev pub global_tree : Scalar → Name → Size → Global
 global_tree t x size = record { of = t; name = x; length = size.0; first = size.1 }
 
 abbrev pub global : Scalar → Parser Global
-global t = mapped (λ x. global_tree t x.0 x.1) (seq (take the_name) sized)
+global t = map_parser (λ x. global_tree t x.0 x.1) (seq (take the_name) global_tail)
 
 -- the globals of one declaration, behind the first one's name
 abbrev pub several : Scalar → Name → Parser (List Global)
 several t x =
-    mapped (λ y. global_tree t x y.0 ∷ y.1)
-    (seq sized (many_until (is_other (Punctuator punct.Comma)) (behind (Punctuator punct.Comma) (global t))))
+    map_parser (λ y. global_tree t x y.0 ∷ y.1)
+    (seq global_tail (many_until (is_other (Punctuator punct.Comma)) (behind (Punctuator punct.Comma) (global t))))
 
 abbrev pub globals_tree : Scalar → Name → Size × List Global → Item
 globals_tree t x y = Shares (global_tree t x y.0 ∷ y.1)
 
 abbrev pub globals_from : Scalar → Name → Parser Item
 globals_from t x =
-    mapped (globals_tree t x)
+    map_parser (globals_tree t x)
     (before (Punctuator punct.Semicolon)
-    (seq sized (many_until (is_other (Punctuator punct.Comma)) (behind (Punctuator punct.Comma) (global t)))))
+    (seq global_tail (many_until (is_other (Punctuator punct.Comma)) (behind (Punctuator punct.Comma) (global t)))))
 
 -- ---- items
 
@@ -197,7 +197,7 @@ item_from d h = either (is_next (Punctuator punct.OpenParen)) (function_at d h) 
 
 -- an item within this depth
 abbrev pub item_at : ℕ → Parser Item
-item_at d = mapped (λ x. x.1) (chained header (item_from d))
+item_at d = map_parser (λ x. x.1) (bind header (item_from d))
 
 abbrev pub at_end : Option Tok → Bool
 at_end None = true
@@ -209,4 +209,4 @@ program_at d = many_until at_end (item_at d)
 
 -- a program, and no token after it
 abbrev pub whole_program : ℕ → List Tok → Result Program Fault
-whole_program d ts = program_at d ts >>= finished
+whole_program d ts = program_at d ts >>= whole_input

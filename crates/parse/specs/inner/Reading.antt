@@ -56,15 +56,15 @@ abbrev pub give : {A : Type 0} → A → Parser A
 give x ts = Ok (x, ts)
 
 -- one thing, and then another that depends on it
-abbrev pub chained : {A B : Type 0} → Parser A → (A → Parser B) → Parser (A × B)
-chained P Q ts = P ts >>= λ x. Q x.0 x.1 >>= λ y. Ok ((x.0, y.0), y.1)
+abbrev pub bind : {A B : Type 0} → Parser A → (A → Parser B) → Parser (A × B)
+bind P Q ts = P ts >>= λ x. Q x.0 x.1 >>= λ y. Ok ((x.0, y.0), y.1)
 
 abbrev pub seq : {A B : Type 0} → Parser A → Parser B → Parser (A × B)
-seq P Q = chained P (λ x. Q)
+seq P Q = bind P (λ x. Q)
 
 -- another value
-abbrev pub mapped : {A B : Type 0} → (A → B) → Parser A → Parser B
-mapped f P ts = P ts >>= λ x. Ok (f x.0, x.1)
+abbrev pub map_parser : {A B : Type 0} → (A → B) → Parser A → Parser B
+map_parser f P ts = P ts >>= λ x. Ok (f x.0, x.1)
 
 -- as the first token says
 abbrev pub choice : {A : Type 0} → (Option Tok → Parser A) → Parser A
@@ -75,8 +75,8 @@ abbrev pub either : {A : Type 0} → (Option Tok → Bool) → Parser A → Pars
 either test P Q ts = if test (head ts) then P ts else Q ts
 
 -- too deep, where something begins
-abbrev pub sunk : {A : Type 0} → (Option Tok → Bool) → Parser A
-sunk starts ts = if starts (head ts) then Err (deep ts) else Err (wrong ts)
+abbrev pub too_deep_at : {A : Type 0} → (Option Tok → Bool) → Parser A
+too_deep_at starts ts = if starts (head ts) then Err (deep ts) else Err (wrong ts)
 
 -- too deep, where no depth is left
 abbrev pub unless_sunk : {A : Type 0} → ℕ → Parser A → Parser A
@@ -93,13 +93,13 @@ abbrev pub many_until : {A : Type 0} → (Option Tok → Bool) → Parser A → 
 many_until stop P ts = many stop (length ts) P ts
 
 -- one token that has a value
-abbrev pub taken : {A : Type 0} → Option A → Tok → List Tok → Result (A × List Tok) Fault
-taken (Some x) t ts = Ok (x, ts)
-taken None t ts = Err (wrong (t ∷ ts))
+abbrev pub take_value : {A : Type 0} → Option A → Tok → List Tok → Result (A × List Tok) Fault
+take_value (Some x) t ts = Ok (x, ts)
+take_value None t ts = Err (wrong (t ∷ ts))
 
 abbrev pub take : {A : Type 0} → (Tok → Option A) → Parser A
 take f [] = Err (wrong [])
-take f (t ∷ ts) = taken (f t) t ts
+take f (t ∷ ts) = take_value (f t) t ts
 
 abbrev pub expect : Fixed → Parser (Unit {0})
 expect m = take (the_fixed m)
@@ -130,7 +130,7 @@ GivesBehind k ts None = is_next k (head ts) ≡ false
 GivesBehind k ts (Some rest) = (is_next k (head ts) ≡ true) × (expect k ts ≡ Ok (tt, toks rest.now))
 
 abbrev pub if_there : {A : Type 0} → Bool → Parser A → Parser (Option A)
-if_there true P = mapped Some P
+if_there true P = map_parser Some P
 if_there false P = give None
 
 -- something that begins with this fixed token, if that is next
@@ -139,22 +139,22 @@ perhaps k P = choice (λ h. if_there (is_next k h) P)
 
 -- behind a fixed token
 abbrev pub behind : {A : Type 0} → Fixed → Parser A → Parser A
-behind k P = mapped (λ x. x.1) (seq (expect k) P)
+behind k P = map_parser (λ x. x.1) (seq (expect k) P)
 
 -- up to a fixed token
 abbrev pub before : {A : Type 0} → Fixed → Parser A → Parser A
-before k P = mapped (λ x. x.0) (seq P (expect k))
+before k P = map_parser (λ x. x.0) (seq P (expect k))
 
 -- nothing, where the next token is this fixed token
 abbrev pub unless : {A : Type 0} → Fixed → Parser A → Parser (Option A)
-unless k P = either (is_next k) (give None) (mapped Some P)
+unless k P = either (is_next k) (give None) (map_parser Some P)
 
 abbrev pub in_front : {A : Type 0} → A × List A → List A
 in_front x = x.0 ∷ x.1
 
 -- one or more, with commas between
-abbrev pub listed : {A : Type 0} → Parser A → Parser (List A)
-listed P = mapped in_front (seq P (many_until (is_other (Punctuator punct.Comma)) (behind (Punctuator punct.Comma) P)))
+abbrev pub comma_list : {A : Type 0} → Parser A → Parser (List A)
+comma_list P = map_parser in_front (seq P (many_until (is_other (Punctuator punct.Comma)) (behind (Punctuator punct.Comma) P)))
 
 -- further ones, each behind a comma, and perhaps a comma behind the last, up to a brace; at most n
 abbrev pub trailing : {A : Type 0} → ℕ → Parser A → Parser (List A)
@@ -215,6 +215,6 @@ GivesOp (Some x) read = read ≡ Some (x.0, toks (x.1).now)
 abbrev pub across : Span → Span → Span
 across a b = record { start = a.start; «end» = b.«end» }
 
-abbrev pub finished : {A : Type 0} → A × List Tok → Result A Fault
-finished (x, []) = Ok x
-finished (x, t ∷ ts) = Err (wrong (t ∷ ts))
+abbrev pub whole_input : {A : Type 0} → A × List Tok → Result A Fault
+whole_input (x, []) = Ok x
+whole_input (x, t ∷ ts) = Err (wrong (t ∷ ts))

@@ -20,8 +20,8 @@ use Rattle.syntax.specs.Views.{exprs_from, stmts_from}
 use Rattle.syntax.specs.Grammar.{the_name, the_text, the_outer, the_assigning, the_step, mode_keyword}
 use Rattle.parse.specs.declared.lead.Lead.{Lead}
 use Rattle.parse.specs.declared.lead.Lead.TheVariants as lead
-use Rattle.parse.specs.inner.Reading.{Parser, head, give, chained, seq, mapped, choice, either, sunk, unless_sunk}
-use Rattle.parse.specs.inner.Reading.{many_until, unless, listed, take, expect, spot, is_next, is_other, perhaps}
+use Rattle.parse.specs.inner.Reading.{Parser, head, give, bind, seq, map_parser, choice, either, too_deep_at, unless_sunk}
+use Rattle.parse.specs.inner.Reading.{many_until, unless, comma_list, take, expect, spot, is_next, is_other, perhaps}
 use Rattle.parse.specs.inner.Reading.{behind, before}
 use Rattle.parse.specs.inner.Expressions.{says, starts_type, scalar, starts_expr, whole_at}
 
@@ -35,28 +35,28 @@ GivesToken f ts (Some x) = (says f (head ts) ≡ true) × (take f ts ≡ Ok (x.0
 module _ (whole : Parser Expr) where
   -- `++e` and `--e`
   abbrev pub stepped : Parser Simple
-  stepped = mapped (λ x. Adjust x.1 x.0) (seq (take the_step) whole)
+  stepped = map_parser (λ x. Adjust x.1 x.0) (seq (take the_step) whole)
 
   -- behind an expression
   abbrev pub assigned_from : Expr → Parser Simple
-  assigned_from to = mapped (λ x. Assign to x.0 x.1) (seq (take the_assigning) whole)
+  assigned_from to = map_parser (λ x. Assign to x.0 x.1) (seq (take the_assigning) whole)
 
   abbrev pub changed_from : Expr → Parser Simple
-  changed_from to = mapped (Adjust to) (take the_step)
+  changed_from to = map_parser (Adjust to) (take the_step)
 
   abbrev pub simple_from : Expr → Parser Simple
   simple_from to =
       either (says the_assigning) (assigned_from to) (either (says the_step) (changed_from to) (give (Evaluate to)))
 
   abbrev pub simple : Parser Simple
-  simple = either (says the_step) stepped (mapped (λ x. x.1) (chained whole simple_from))
+  simple = either (says the_step) stepped (map_parser (λ x. x.1) (bind whole simple_from))
 
 abbrev pub starts_simple : Option Tok → Bool
 starts_simple h = if says the_step h then true else starts_expr h
 
 -- what stands with a semicolon behind it, within this depth
 abbrev pub simple_at : ℕ → Parser Simple
-simple_at zero = sunk starts_simple
+simple_at zero = too_deep_at starts_simple
 simple_at (suc d) = simple (whole_at d)
 
 -- ---- declarations
@@ -70,14 +70,14 @@ declaration_tree x = record { of = x.0; declarators = x.1 }
 module _ (whole : Parser Expr) where
   abbrev pub declarator : Parser Declarator
   declarator =
-      mapped declarator_tree
+      map_parser declarator_tree
       (seq (take the_name) (perhaps (Punctuator punct.Assign) (behind (Punctuator punct.Assign) whole)))
 
   abbrev pub declaration : Parser Declaration
-  declaration = mapped declaration_tree (seq scalar (before (Punctuator punct.Semicolon) (listed declarator)))
+  declaration = map_parser declaration_tree (seq scalar (before (Punctuator punct.Semicolon) (comma_list declarator)))
 
 abbrev pub declaration_at : ℕ → Parser Declaration
-declaration_at zero = sunk starts_type
+declaration_at zero = too_deep_at starts_type
 declaration_at (suc d) = declaration (whole_at d)
 
 -- ---- what statements begin with
@@ -119,21 +119,21 @@ starts_stmt h = is_lead (lead_at h) h
 
 -- ---- the mark of an outer transaction, and of what cancels it
 
-abbrev pub is_marked : Option Tok → Bool
-is_marked h = if is_next (Punctuator punct.OpenBracket) h then true else is_next (Keyword key.Attribute) h
+abbrev pub begins_outer_attribute : Option Tok → Bool
+begins_outer_attribute h = if is_next (Punctuator punct.OpenBracket) h then true else is_next (Keyword key.Attribute) h
 
 abbrev pub enclosed_outer : Fixed → Fixed → Parser (Unit {0})
 enclosed_outer opening closing = behind opening (behind opening (before closing (before closing (take the_outer))))
 
-abbrev pub outer_mark : Parser (Unit {0})
-outer_mark =
+abbrev pub outer_attribute : Parser (Unit {0})
+outer_attribute =
     either (is_next (Punctuator punct.OpenBracket))
     (enclosed_outer (Punctuator punct.OpenBracket) (Punctuator punct.CloseBracket))
     (behind (Keyword key.Attribute) (enclosed_outer (Punctuator punct.OpenParen) (Punctuator punct.CloseParen)))
 
 -- whether the mark stands here
-abbrev pub marked : Parser Bool
-marked = either is_marked (mapped (λ x. true) outer_mark) (give false)
+abbrev pub outer_attribute_if_any : Parser Bool
+outer_attribute_if_any = either begins_outer_attribute (map_parser (λ x. true) outer_attribute) (give false)
 
 abbrev pub atomic_kind : Bool → Kind
 atomic_kind true = Outer
@@ -141,7 +141,7 @@ atomic_kind false = Plain Atomic
 
 -- behind the keyword of a transaction: what kind it is
 abbrev pub kind : Mode → Parser Kind
-kind Atomic = mapped atomic_kind marked
+kind Atomic = map_parser atomic_kind outer_attribute_if_any
 kind Relaxed = give (Plain Relaxed)
 
 abbrev pub cancel_tree : Span × Bool → Stmt
@@ -149,7 +149,7 @@ cancel_tree (at, true) = CancelOuter at
 cancel_tree (at, false) = Cancel at
 
 abbrev pub cancel_stmt : Parser Stmt
-cancel_stmt = mapped cancel_tree (seq (spot (Keyword key.Cancel)) (before (Punctuator punct.Semicolon) marked))
+cancel_stmt = map_parser cancel_tree (seq (spot (Keyword key.Cancel)) (before (Punctuator punct.Semicolon) outer_attribute_if_any))
 
 -- ---- statements
 
@@ -167,8 +167,8 @@ abbrev pub in_parens : {A : Type 0} → Parser A → Parser A
 in_parens P = behind (Punctuator punct.OpenParen) (before (Punctuator punct.CloseParen) P)
 
 -- up to the closing brace
-abbrev pub braced : {A : Type 0} → Parser A → Parser (List A)
-braced P =
+abbrev pub block_items : {A : Type 0} → Parser A → Parser (List A)
+block_items P =
     behind (Punctuator punct.OpenBrace)
     (before (Punctuator punct.CloseBrace) (many_until (is_next (Punctuator punct.CloseBrace)) P))
 
@@ -184,10 +184,10 @@ mode_token mode at = record { terminal = fixed (mode_keyword mode); span = at }
 module _ (d : ℕ) where
   -- what stands in a block; stmt: a statement
   abbrev pub entry : Parser Stmt → Parser Stmt
-  entry stmt = either starts_type (mapped Declare (declaration_at d)) stmt
+  entry stmt = either starts_type (map_parser Declare (declaration_at d)) stmt
 
   abbrev pub empty_stmt : Parser Stmt
-  empty_stmt = mapped (λ x. Empty) (expect (Punctuator punct.Semicolon))
+  empty_stmt = map_parser (λ x. Empty) (expect (Punctuator punct.Semicolon))
 
   -- what follows the format
   abbrev pub printed : Parser (List Expr)
@@ -198,14 +198,14 @@ module _ (d : ℕ) where
 
   abbrev pub print_stmt : Parser Stmt
   print_stmt =
-      mapped print_tree
+      map_parser print_tree
       (seq (spot (Keyword key.Printf)) (behind (Punctuator punct.OpenParen) (seq (take the_text) printed)))
 
   abbrev pub start : Parser Start
   start =
-      either (is_next (Punctuator punct.Semicolon)) (mapped (λ x. Nothing) (expect (Punctuator punct.Semicolon)))
-      (either starts_type (mapped Declares (declaration_at d))
-      (mapped Does (before (Punctuator punct.Semicolon) (simple_at d))))
+      either (is_next (Punctuator punct.Semicolon)) (map_parser (λ x. Nothing) (expect (Punctuator punct.Semicolon)))
+      (either starts_type (map_parser Declares (declaration_at d))
+      (map_parser Does (before (Punctuator punct.Semicolon) (simple_at d))))
 
   -- the condition and the step of a for
   abbrev pub rest_of_head : Parser (Option Expr × Option Simple)
@@ -221,16 +221,16 @@ module _ (d : ℕ) where
   end_of_do = behind (Keyword key.While) (before (Punctuator punct.Semicolon) (in_parens (whole_at d)))
 
   abbrev pub alone_stmt : Fixed → (Span → Stmt) → Parser Stmt
-  alone_stmt k tree = mapped tree (before (Punctuator punct.Semicolon) (spot k))
+  alone_stmt k tree = map_parser tree (before (Punctuator punct.Semicolon) (spot k))
 
   abbrev pub return_stmt : Parser Stmt
   return_stmt =
-      mapped (λ x. Return x.1 x.0)
+      map_parser (λ x. Return x.1 x.0)
       (seq (spot (Keyword key.Return))
       (before (Punctuator punct.Semicolon) (unless (Punctuator punct.Semicolon) (whole_at d))))
 
   abbrev pub simple_stmt : Parser Stmt
-  simple_stmt = mapped Do (before (Punctuator punct.Semicolon) (simple_at (suc d)))
+  simple_stmt = map_parser Do (before (Punctuator punct.Semicolon) (simple_at (suc d)))
 
   -- behind the keyword of a transaction, which stands at a place: an expression begins with it
   abbrev pub value_stmt : Mode → Span → Parser Stmt
@@ -239,28 +239,28 @@ module _ (d : ℕ) where
   -- stmt: a statement; block: statements in braces
   module _ (stmt : Parser Stmt) (block : Parser (List Stmt)) where
     abbrev pub if_stmt : Parser Stmt
-    if_stmt = mapped if_tree (behind (Keyword key.If) (seq (in_parens (whole_at d)) (branches stmt)))
+    if_stmt = map_parser if_tree (behind (Keyword key.If) (seq (in_parens (whole_at d)) (branches stmt)))
 
     abbrev pub while_stmt : Parser Stmt
-    while_stmt = mapped (λ x. While x.0 x.1) (behind (Keyword key.While) (seq (in_parens (whole_at d)) stmt))
+    while_stmt = map_parser (λ x. While x.0 x.1) (behind (Keyword key.While) (seq (in_parens (whole_at d)) stmt))
 
     abbrev pub do_stmt : Parser Stmt
-    do_stmt = mapped (λ x. DoWhile x.0 x.1) (behind (Keyword key.Do) (seq stmt end_of_do))
+    do_stmt = map_parser (λ x. DoWhile x.0 x.1) (behind (Keyword key.Do) (seq stmt end_of_do))
 
     abbrev pub for_stmt : Parser Stmt
-    for_stmt = mapped for_tree (behind (Keyword key.For) (seq head_of_for stmt))
+    for_stmt = map_parser for_tree (behind (Keyword key.For) (seq head_of_for stmt))
 
     -- behind the keyword, which stands at a place
     abbrev pub transaction_from : Mode → Span → Parser Stmt
     transaction_from mode at =
         either (is_next (Punctuator punct.OpenParen)) (value_stmt mode at)
-        (mapped (λ x. Transaction x.0 (stmts_from x.1) at) (seq (kind mode) block))
+        (map_parser (λ x. Transaction x.0 (stmts_from x.1) at) (seq (kind mode) block))
 
     abbrev pub transaction_stmt : Mode → Parser Stmt
-    transaction_stmt mode = mapped (λ x. x.1) (chained (spot (mode_keyword mode)) (transaction_from mode))
+    transaction_stmt mode = map_parser (λ x. x.1) (bind (spot (mode_keyword mode)) (transaction_from mode))
 
     abbrev pub block_stmt : Parser Stmt
-    block_stmt = mapped (λ x. Block (stmts_from x)) (braced (entry stmt))
+    block_stmt = map_parser (λ x. Block (stmts_from x)) (block_items (entry stmt))
 
     abbrev pub stmt_of : Lead → Parser Stmt
     stmt_of lead.Empty = empty_stmt
@@ -283,10 +283,10 @@ module _ (d : ℕ) where
 unfoldable mutual
   -- a statement within this depth
   pub stmt_at : ℕ → Parser Stmt
-  stmt_at zero ts = sunk starts_stmt ts
+  stmt_at zero ts = too_deep_at starts_stmt ts
   stmt_at (suc d) ts = any_stmt d (stmt_at d) (block_at d) ts
 
   -- statements and declarations in braces, within this depth
   pub block_at : ℕ → Parser (List Stmt)
-  block_at zero ts = sunk (is_next (Punctuator punct.OpenBrace)) ts
-  block_at (suc d) ts = braced (entry d (stmt_at d)) ts
+  block_at zero ts = too_deep_at (is_next (Punctuator punct.OpenBrace)) ts
+  block_at (suc d) ts = block_items (entry d (stmt_at d)) ts

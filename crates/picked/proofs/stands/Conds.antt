@@ -16,9 +16,9 @@ use Rattle.bytecode.specs.Code.{Code}
 use Rattle.bytecode.specs.Views.{instr_of}
 use Rattle.lowered.specs.Expressions.{Coded, Layout, Branching, InstructionAt, LeadsTo, MayTake, Branches, BothHold, EitherHolds, IsNought, ComparedWithZero, TruthCode, ConditionalCode}
 use Rattle.picked.specs.declared.draft.Draft.TheVariants as draft
-use Rattle.picked.specs.Lists.{Lists, used}
-use Rattle.picked.specs.Conditions.{Condition, test_in, jump_if, jump_if_not, completed, going_on, going_back, turned, by_value, opposite, first_of, joined, is_nought, zero_test, zero_tested}
-use Rattle.picked.specs.Expressions.{Emitted, answered, chosen, tested}
+use Rattle.picked.specs.Lists.{Lists, with_register}
+use Rattle.picked.specs.Conditions.{Condition, test_in, jump_if, jump_if_not, instruction_of_draft, going_on, going_back, opposite_draft, by_value, opposite, first_of, logical_condition, is_nought, zero_test, zero_tested}
+use Rattle.picked.specs.Expressions.{Emitted, condition_value, conditional_value, condition_of}
 use Rattle.picked.proofs.Drafted.{opposite_if, opposite_if_not, whole_are, turned_are, first_and, first_or, completed_length, on_length, back_length, first_length}
 use Rattle.picked.proofs.stands.Standing.{Stand, front, behind, Grows, grows_same, grows_further, grows_used, Fits, fits_before, is_register, given}
 use Rattle.picked.proofs.stands.Emitting.{Emits}
@@ -32,9 +32,9 @@ module _ (code : Code) (arguments : List ℕ) (layout : Layout) where
   pub record Decides (T : Branching) (from free : ℕ) (l : Lists) (c : Condition) : Type 0 where
     pub to_is : c.to ≡ from + length c.code
     pub grows : Grows l c.lists
-    pub holds : Fits code arguments layout c.lists → (there on : ℕ) → Stand code arguments from (map (completed there on) c.code) →
+    pub holds : Fits code arguments layout c.lists → (there on : ℕ) → Stand code arguments from (map (instruction_of_draft there on) c.code) →
         InstructionAt code c.to (instr_of arguments (jump_if c.at_zero c.register there)) → LeadsTo code (suc c.to) on → T from there on free
-    pub fails : Fits code arguments layout c.lists → (there on : ℕ) → Stand code arguments from (map (completed on there) c.code) →
+    pub fails : Fits code arguments layout c.lists → (there on : ℕ) → Stand code arguments from (map (instruction_of_draft on there) c.code) →
         InstructionAt code c.to (instr_of arguments (jump_if_not c.at_zero c.register there)) → LeadsTo code (suc c.to) on → T from on there free
 
   value_decides : (A : Coded) (B : Branching) (from free : ℕ) (l : Lists) (e : Emitted) → Emits code arguments layout A from free l e → Decides (Branches code layout A B) from free l (by_value e.code e.lists e.held)
@@ -56,7 +56,7 @@ module _ (code : Code) (arguments : List ℕ) (layout : Layout) where
 
   pub opposite_decides : (T U : Branching) (from free : ℕ) (l : Lists) (c : Condition) → ((met unmet : ℕ) → T from unmet met free → U from met unmet free) → Decides T from free l c → Decides U from free l (opposite c)
   opposite_decides T U from free l c make h = record {
-    to_is = let x = h.to_is in let y : length (map turned c.code) ≡ length c.code = length-map c.code turned in omega (arith, x, y);
+    to_is = let x = h.to_is in let y : length (map opposite_draft c.code) ≡ length c.code = length-map c.code opposite_draft in omega (arith, x, y);
     grows = h.grows;
     holds = λ f there on st at leads. make there on
         (h.fails f there on (subst (Stand code arguments from) (turned_are there on c.code) st) (subst (λ i. InstructionAt code c.to (instr_of arguments i)) (opposite_if c.at_zero c.register there) at) leads);
@@ -66,7 +66,7 @@ module _ (code : Code) (arguments : List ℕ) (layout : Layout) where
 
   -- a condition with its jump
   module _ (T : Branching) (from free : ℕ) (l : Lists) (c : Condition) (h : Decides T from free l c) where
-    at_jump : (m u : ℕ) → c.to ≡ from + length (map (completed m u) c.code)
+    at_jump : (m u : ℕ) → c.to ≡ from + length (map (instruction_of_draft m u) c.code)
     at_jump m u = let x = h.to_is in let y = completed_length m u c.code in omega (arith, x, y)
 
     pub on_is : (unmet : ℕ) → c.to + 1 ≡ from + length (going_on c.code (test_in c) unmet)
@@ -77,13 +77,13 @@ module _ (code : Code) (arguments : List ℕ) (layout : Layout) where
 
     pub goes_on : Fits code arguments layout c.lists → (unmet : ℕ) → Stand code arguments from (going_on c.code (test_in c) unmet) → T from (c.to + 1) unmet free
     goes_on f unmet st =
-        let own_code : List Instr = map (completed (c.to + 1) unmet) c.code in
+        let own_code : List Instr = map (instruction_of_draft (c.to + 1) unmet) c.code in
         let jump : Instr = jump_if_not c.at_zero c.register unmet in
         h.fails f unmet (c.to + 1) (front code arguments from own_code (jump ∷ []) st) (behind code arguments from c.to own_code (jump ∷ []) (at_jump (c.to + 1) unmet) st).0 (inl (omega arith))
 
     pub goes_back : Fits code arguments layout c.lists → (met : ℕ) → Stand code arguments from (going_back c.code (test_in c) met) → T from met (c.to + 1) free
     goes_back f met st =
-        let own_code : List Instr = map (completed met (c.to + 1)) c.code in
+        let own_code : List Instr = map (instruction_of_draft met (c.to + 1)) c.code in
         let jump : Instr = jump_if c.at_zero c.register met in
         h.holds f met (c.to + 1) (front code arguments from own_code (jump ∷ []) st) (behind code arguments from c.to own_code (jump ∷ []) (at_jump met (c.to + 1)) st).0 (inl (omega arith))
 
@@ -98,21 +98,21 @@ module _ (code : Code) (arguments : List ℕ) (layout : Layout) where
     abbrev first_fits : Fits code arguments layout b.lists → Fits code arguments layout a.lists
     first_fits f = fits_before code arguments layout a.lists b.lists g.grows f
 
-    and_parts : (m u : ℕ) → Stand code arguments from (map (completed m u) (first_of AndThen a ++ b.code)) → Stand code arguments from (going_on a.code (test_in a) u) × Stand code arguments (a.to + 1) (map (completed m u) b.code)
+    and_parts : (m u : ℕ) → Stand code arguments from (map (instruction_of_draft m u) (first_of AndThen a ++ b.code)) → Stand code arguments from (going_on a.code (test_in a) u) × Stand code arguments (a.to + 1) (map (instruction_of_draft m u) b.code)
     and_parts m u st =
         let one : List Instr = going_on a.code (test_in a) u in
-        let two : List Instr = map (completed m u) b.code in
-        let both = subst (Stand code arguments from) (map-append (completed m u) (first_of AndThen a) b.code ∙ (λ j. first_and m u a j ++ two)) st in
+        let two : List Instr = map (instruction_of_draft m u) b.code in
+        let both = subst (Stand code arguments from) (map-append (instruction_of_draft m u) (first_of AndThen a) b.code ∙ (λ j. first_and m u a j ++ two)) st in
         (front code arguments from one two both, behind code arguments from (a.to + 1) one two (on_is A from free l a h u) both)
 
-    or_parts : (m u : ℕ) → Stand code arguments from (map (completed m u) (first_of OrElse a ++ b.code)) → Stand code arguments from (going_back a.code (test_in a) m) × Stand code arguments (a.to + 1) (map (completed m u) b.code)
+    or_parts : (m u : ℕ) → Stand code arguments from (map (instruction_of_draft m u) (first_of OrElse a ++ b.code)) → Stand code arguments from (going_back a.code (test_in a) m) × Stand code arguments (a.to + 1) (map (instruction_of_draft m u) b.code)
     or_parts m u st =
         let one : List Instr = going_back a.code (test_in a) m in
-        let two : List Instr = map (completed m u) b.code in
-        let both = subst (Stand code arguments from) (map-append (completed m u) (first_of OrElse a) b.code ∙ (λ j. first_or m u a j ++ two)) st in
+        let two : List Instr = map (instruction_of_draft m u) b.code in
+        let both = subst (Stand code arguments from) (map-append (instruction_of_draft m u) (first_of OrElse a) b.code ∙ (λ j. first_or m u a j ++ two)) st in
         (front code arguments from one two both, behind code arguments from (a.to + 1) one two (back_is A from free l a h m) both)
 
-    pub and_decides : Decides (BothHold code layout A B) from free l (joined AndThen a b)
+    pub and_decides : Decides (BothHold code layout A B) from free l (logical_condition AndThen a b)
     and_decides = record {
       to_is = joined_to_is AndThen;
       grows = grows_further l a.lists b.lists h.grows g.grows;
@@ -124,7 +124,7 @@ module _ (code : Code) (arguments : List ℕ) (layout : Layout) where
           record { mid = a.to + 1; first = goes_on A from free l a h (first_fits f) there parts.0; second = g.fails f there on parts.1 at leads };
     }
 
-    pub or_decides : Decides (EitherHolds code layout A B) from free l (joined OrElse a b)
+    pub or_decides : Decides (EitherHolds code layout A B) from free l (logical_condition OrElse a b)
     or_decides = record {
       to_is = joined_to_is OrElse;
       grows = grows_further l a.lists b.lists h.grows g.grows;
@@ -138,7 +138,7 @@ module _ (code : Code) (arguments : List ℕ) (layout : Layout) where
 
   -- a condition by its operator, or else by its value
   pub tested_decides : (A : Coded) (B : Branching) (from free : ℕ) (l : Lists) (o : Option Condition) (e : Emitted) → IfSome o (Decides B from free l) → Emits code arguments layout A from free l e →
-      Decides (Branches code layout A B) from free l (tested o e)
+      Decides (Branches code layout A B) from free l (condition_of o e)
   tested_decides A B from free l None e h g = value_decides A B from free l e g
   tested_decides A B from free l (Some c) e h g = same_decides B (Branches code layout A B) from free l c (λ met unmet t. inr (inr t)) h
 
@@ -158,7 +158,7 @@ module _ (code : Code) (arguments : List ℕ) (layout : Layout) where
   zero_decides op b A T from free l other h make = tt
 
   -- a condition, and the answers behind it
-  pub answered_emits : (home : Option ℕ) (T : Branching) (from free into : ℕ) (l : Lists) (c : Condition) → Decides T from free l c → MayTake home free into → Emits code arguments layout (TruthCode code layout home T) from free l (answered c into)
+  pub answered_emits : (home : Option ℕ) (T : Branching) (from free into : ℕ) (l : Lists) (c : Condition) → Decides T from free l c → MayTake home free into → Emits code arguments layout (TruthCode code layout home T) from free l (condition_value c into)
   answered_emits home T from free into l c h m =
       let head : List Instr = going_on c.code (test_in c) (c.to + 3) in
       let long : Instr = own.Constant into 1 in
@@ -176,7 +176,7 @@ module _ (code : Code) (arguments : List ℕ) (layout : Layout) where
             record {
               met = c.to + 1;
               unmet = c.to + 3;
-              decides = goes_on T from free l c h (fits_before code arguments layout c.lists (used into c.lists) (grows_used c.lists c.lists into (grows_same c.lists)) f) (c.to + 3) first;
+              decides = goes_on T from free l c h (fits_before code arguments layout c.lists (with_register into c.lists) (grows_used c.lists c.lists into (grows_same c.lists)) f) (c.to + 3) first;
               gives_one = given code arguments layout home long Int (c.to + 1) (suc (c.to + 1)) free into refl m register rest.0;
               one_leads = inr rest.1.0;
               gives_zero = given code arguments layout home short Int (c.to + 3) (suc (c.to + 3)) free into refl m register (subst (λ q. InstructionAt code q (instr_of arguments short)) (omega arith) rest.1.1.0);
@@ -188,7 +188,7 @@ module _ (code : Code) (arguments : List ℕ) (layout : Layout) where
   pub chosen_emits : (home : Option ℕ) (T : Branching) (A B : Coded) (t : Scalar) (from into free : ℕ) (l : Lists) (c : Condition) (a b : Emitted) →
       Decides T from free l c → Emits code arguments layout (λ from to free r x. A from to free into t) (c.to + 1) free c.lists a
       → Emits code arguments layout (λ from to free r x. B from to free into t) (a.held.to + 1) free a.lists b →
-      Emits code arguments layout (ConditionalCode code layout home T A B) from free l (chosen t c a b into)
+      Emits code arguments layout (ConditionalCode code layout home T A B) from free l (conditional_value t c a b into)
   chosen_emits home T A B t from into free l c a b h g k =
       let test : List Instr = going_on c.code (test_in c) (a.held.to + 1) in
       let skip : Instr = own.Jump b.held.to in

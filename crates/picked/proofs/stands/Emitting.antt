@@ -16,8 +16,8 @@ use Rattle.bytecode.specs.Code.{Code, Instr as Plain}
 use Rattle.bytecode.specs.Views.{instr_of}
 use Rattle.lowered.specs.Expressions as Lowered
 use Rattle.lowered.specs.Expressions.{Coded, Due, Layout, MayTake, constant_in, GivenBy, Converts, ConvertedCode, DueCode, TypedCode, LocalIs, WordCode, OperandCode, VariableCode, ElementCode, CastCode, ValueTransactionCode, UnaryCode, NotCode, BinaryCode, MovedCode, BranchCode, HandedCode}
-use Rattle.picked.specs.Lists.{Lists, used}
-use Rattle.picked.specs.Expressions.{computing, negating, complementing, Emitted, above, one, then_one, constant, ready_from, ready, constant_ready, ready_or, in_local, converting, converted_by, in_type, in_first_type, in_own_transaction, negated, complemented, compared, both, settled}
+use Rattle.picked.specs.Lists.{Lists, with_register}
+use Rattle.picked.specs.Expressions.{computing, negating, complementing, Emitted, above, one, then_one, constant, ready_from, ready, constant_ready, ready_or, in_local, converting, converted_by, in_type, in_first_type, in_own_transaction, negation, complement, logical_negation, both, value_into}
 use Rattle.picked.proofs.stands.Standing.{Stand, front, behind, Grows, grows_same, grows_further, grows_used, max_left, max_right, Fits, fits_before, is_register, given}
 
 -- operators have the instructions of the relation
@@ -84,7 +84,7 @@ module _ (code : Code) (arguments : List ℕ) (layout : Layout) where
     grows = grows_used l e.lists into h.grows;
     stands = λ f st.
         let at = (behind code arguments from e.held.to e.code (i ∷ []) h.to_is st).0 in
-        make (h.stands (fits_before code arguments layout e.lists (used into e.lists) (grows_used e.lists e.lists into (grows_same e.lists)) f) (front code arguments from e.code (i ∷ []) st))
+        make (h.stands (fits_before code arguments layout e.lists (with_register into e.lists) (grows_used e.lists e.lists into (grows_same e.lists)) f) (front code arguments from e.code (i ∷ []) st))
         (given code arguments layout home i t e.held.to (e.held.to + 1) free into (omega arith) m (is_register code arguments layout e.lists into f) at);
   }
 
@@ -180,7 +180,7 @@ module _ (code : Code) (arguments : List ℕ) (layout : Layout) where
       }
 
   pub negated_emits : (home : Option ℕ) (A : Coded) (from free into : ℕ) (l : Lists) (e : Emitted) → Emits A from free l e → MayTake home free into →
-      Emits (λ from to free r t. UnaryCode code layout home (λ ta ra. Plain.Negate ta r ra) A from to free r t) from free l (negated e into)
+      Emits (λ from to free r t. UnaryCode code layout home (λ ta ra. Plain.Negate ta r ra) A from to free r t) from free l (negation e into)
   negated_emits home A from free into l e h m =
       then_emits A (λ from to free r t. UnaryCode code layout home (λ ta ra. Plain.Negate ta r ra) A from to free r t) home (negating e.held.of into e.held.register) e.held.of from free into l e h m
       (λ a b. record {
@@ -192,7 +192,7 @@ module _ (code : Code) (arguments : List ℕ) (layout : Layout) where
       })
 
   pub complemented_emits : (home : Option ℕ) (A : Coded) (from free into : ℕ) (l : Lists) (e : Emitted) → Emits A from free l e → MayTake home free into →
-      Emits (λ from to free r t. UnaryCode code layout home (λ ta ra. Lowered.complementing ta r ra) A from to free r t) from free l (complemented e into)
+      Emits (λ from to free r t. UnaryCode code layout home (λ ta ra. Lowered.complementing ta r ra) A from to free r t) from free l (complement e into)
   complemented_emits home A from free into l e h m =
       then_emits A (λ from to free r t. UnaryCode code layout home (λ ta ra. Lowered.complementing ta r ra) A from to free r t) home (complementing e.held.of into e.held.register) e.held.of from free into l e h m
       (λ a b. record {
@@ -204,18 +204,18 @@ module _ (code : Code) (arguments : List ℕ) (layout : Layout) where
       })
 
   pub compared_emits : (home : Option ℕ) (A : Coded) (from free into : ℕ) (l : Lists) (e : Emitted) → Emits A from free l e → MayTake home free into →
-      Emits (NotCode code layout home A) from free l (compared e into free)
+      Emits (NotCode code layout home A) from free l (logical_negation e into free)
   compared_emits home A from free into l e h m =
       let rz : ℕ = above free e.held.register in
       let zero : Instr = own.Constant rz 0 in
       let equal : Instr = own.Equal into e.held.register rz in
-      let lists : Lists = used rz e.lists in
+      let lists : Lists = with_register rz e.lists in
       record {
         to_is = let a = h.to_is in let b : length (e.code ++ zero ∷ equal ∷ []) ≡ length e.code + 2 = length-append e.code (zero ∷ equal ∷ []) in omega (arith, a, b);
         grows = grows_used l lists into (grows_used l e.lists rz h.grows);
         stands = λ f st.
             let both = behind code arguments from e.held.to e.code (zero ∷ equal ∷ []) h.to_is st in
-            let inner = fits_before code arguments layout lists (used into lists) (grows_used lists lists into (grows_same lists)) f in
+            let inner = fits_before code arguments layout lists (with_register into lists) (grows_used lists lists into (grows_same lists)) f in
             record {
               mid = e.held.to;
               ra = e.held.register;
@@ -273,7 +273,7 @@ module _ (code : Code) (arguments : List ℕ) (layout : Layout) where
         stands = λ f st.
             let first = front code arguments from (a.code ++ b.code) (i ∷ []) st in
             let last = behind code arguments from b.held.to (a.code ++ b.code) (i ∷ []) last_is st in
-            let inner = fits_before code arguments layout b.lists (used into b.lists) (grows_used b.lists b.lists into (grows_same b.lists)) f in
+            let inner = fits_before code arguments layout b.lists (with_register into b.lists) (grows_used b.lists b.lists into (grows_same b.lists)) f in
             record {
               mid = a.held.to;
               last = b.held.to;
@@ -294,7 +294,7 @@ module _ (code : Code) (arguments : List ℕ) (layout : Layout) where
   -- a value in this very register: it came there, or it is moved
   pub settled_emits : (home : Option ℕ) (e' : Expr) (A : Option ℕ → Coded) (t : Scalar) (from into free : ℕ) (l : Lists) (e : Emitted) → Emits (λ from to free r x. TypedCode code layout home e' (A home) t from to free r) from free l e →
       (Emits (λ from to free r x. TypedCode code layout None e' (A None) t from to free r) from free l e ⊎ (e.held.register ≡ into)) → MayTake home free into →
-      Emits (λ from to free r x. BranchCode code layout home e' A from to free into t) from free l (settled into e)
+      Emits (λ from to free r x. BranchCode code layout home e' A from to free into t) from free l (value_into into e)
   settled_emits home e' A t from into free l e h o m = by (e.held.register == into) refl
     where
       there : e.held.register ≡ into → Emits (λ from to free r x. BranchCode code layout home e' A from to free into t) from free l e

@@ -24,11 +24,11 @@ use Rattle.bytecode.specs.declared.instr.Instr.{Instr}
 use Rattle.bytecode.specs.declared.instr.Instr.TheVariants as own
 use Rattle.bytecode.specs.Code.{Code, FunctionCode, Instr as Plain}
 use Rattle.bytecode.specs.Views.{args_of, instr_of}
-use Rattle.lowered.specs.Expressions.{LocalScope, Layout, IsLike, Coded, Branching, MayTake, GivenBy, TypedCode, BranchCode, VariableCode, ElementAt, BothHold, EitherHolds, CallCode, arranged, types_left, OperandCode, ExprCode, OwnTests, ArgsCode, CondCode}
-use Rattle.picked.specs.Lists.{Lists, used, holding}
+use Rattle.lowered.specs.Expressions.{LocalScope, Layout, IsLike, Coded, Branching, MayTake, GivenBy, TypedCode, BranchCode, VariableCode, ElementAt, BothHold, EitherHolds, CallCode, argument_order, types_left, OperandCode, ExprCode, OwnTests, ArgsCode, CondCode}
+use Rattle.picked.specs.Lists.{Lists, with_register, holding}
 use Rattle.picked.specs.Names.{Callee, callee_at, callee_of}
-use Rattle.picked.specs.Conditions.{Condition, joined}
-use Rattle.picked.specs.Expressions.{Emitted, AllEmitted, above, variable, element, called, settled, converting, where_same, in_type, in_first_type, variable_type, element_type, called_type, taken_types, emitted_type, emitted, due, operand, own_condition, condition, all_emitted}
+use Rattle.picked.specs.Conditions.{Condition, logical_condition}
+use Rattle.picked.specs.Expressions.{Emitted, AllEmitted, above, variable, element, call_code, value_into, converting, where_same, in_type, in_first_type, variable_type, element_type, called_type, taken_types, emitted_type, emitted, due, operand, own_condition, condition, all_emitted}
 use Rattle.picked.proofs.stands.Standing.{Stand, front, behind, front_same, front_more, max_left, Grows, grows_same, grows_further, grows_used, Fits, fits_before, is_register, given}
 use Rattle.picked.proofs.stands.Named.{VariableFound, variable_found, array_found, function_found, known_number, known_array, known_callable}
 use Rattle.picked.proofs.stands.Kinds.{in_type_of, emitted_is}
@@ -71,7 +71,7 @@ taken_of : (o : Option Callee) (n : ℕ) (f : Function) → o ≡ Some (callee_a
 taken_of None n f e = absurd (cc)
 taken_of (Some d) n f e = let same : d ≡ callee_at n f = ap (λ o. unwrap_or o d) e in ap (λ (x : Callee). map (λ q. q.of) x.parameters) same
 
-called_into : (o : Option Callee) (args : AllEmitted) (from into : ℕ) (l : Lists) → (called o args from into l).held.register ≡ into
+called_into : (o : Option Callee) (args : AllEmitted) (from into : ℕ) (l : Lists) → (call_code o args from into l).held.register ≡ into
 called_into None args from into l = refl
 called_into (Some d) args from into l = refl
 
@@ -167,24 +167,24 @@ module _ (p : Program) (code : Code) (arguments : List ℕ) (layout : Layout) (t
     own_is e = tt
 
     call_emits : (home : Option ℕ) (x : List ℕ) (A : List Scalar → (from to free : ℕ) → List ℕ → Type 0) (c : Calls x) (o : Option Callee) → o ≡ Some (callee_at c.number c.definition.0) → (from into free : ℕ) (l : Lists) (args : AllEmitted) → AllEmits (A (map (λ q. q.of) c.definition.0.parameters)) from free l args → MayTake home free into →
-        Emits code arguments layout (CallCode code layout home p x A) from free l (called o args from into l)
+        Emits code arguments layout (CallCode code layout home p x A) from free l (call_code o args from into l)
     call_emits home x A c None e from into free l args h m = absurd (cc)
-    call_emits home x A c (Some d) e from into free l args h m = subst (λ k. Emits code arguments layout (CallCode code layout home p x A) from free l (called (Some k) args from into l)) (sym (ap (λ o. unwrap_or o d) e)) whole
+    call_emits home x A c (Some d) e from into free l args h m = subst (λ k. Emits code arguments layout (CallCode code layout home p x A) from free l (call_code (Some k) args from into l)) (sym (ap (λ o. unwrap_or o d) e)) whole
       where
-        whole : Emits code arguments layout (CallCode code layout home p x A) from free l (called (Some (callee_at c.number c.definition.0)) args from into l)
+        whole : Emits code arguments layout (CallCode code layout home p x A) from free l (call_code (Some (callee_at c.number c.definition.0)) args from into l)
         whole =
             let f : Function = c.definition.0 in
             let made : List ℕ = args.lists.arguments in
-            let handed : List ℕ = arranged f.parameters args.registers in
+            let handed : List ℕ = argument_order f.parameters args.registers in
             let i : Instr = own.Call into (length handed) c.number (length made) in
             let more : Lists = record args.lists { arguments = made ++ handed } in
             let lists : Lists = holding (length handed) more in
             let grows_more : Grows args.lists more = record { arguments = front_more made handed; texts = front_same args.lists.texts; registers = omega arith; layout = refl } in
             let grows_lists : Grows more lists = record { arguments = front_same (made ++ handed); texts = front_same args.lists.texts; registers = max_left args.lists.registers (length handed); layout = refl } in
-            let all : Grows args.lists (used into lists) = grows_used args.lists lists into (grows_further args.lists more lists grows_more grows_lists) in
+            let all : Grows args.lists (with_register into lists) = grows_used args.lists lists into (grows_further args.lists more lists grows_more grows_lists) in
             record {
               to_is = let a = h.to_is in let b : length (args.code ++ i ∷ []) ≡ length args.code + 1 = length-append args.code (i ∷ []) in omega (arith, a, b);
-              grows = grows_further l args.lists (used into lists) h.grows all;
+              grows = grows_further l args.lists (with_register into lists) h.grows all;
               stands = λ g st.
                   let at = (behind code arguments from args.to args.code (i ∷ []) h.to_is st).0 in
                   let same : instr_of arguments i ≡ Plain.Call c.number into handed = ap (λ xs. Plain.Call c.number into xs) (handed_over arguments made handed g.arguments.0 g.arguments.1) in
@@ -196,7 +196,7 @@ module _ (p : Program) (code : Code) (arguments : List ℕ) (layout : Layout) (t
                     f = f;
                     body = c.definition.1;
                     registers_of = args.registers;
-                    gives_args = h.stands (fits_before code arguments layout args.lists (used into lists) all g) (front code arguments from args.code (i ∷ []) st);
+                    gives_args = h.stands (fits_before code arguments layout args.lists (with_register into lists) all g) (front code arguments from args.code (i ∷ []) st);
                     calls = subst (λ j. GivenBy code layout home j (unwrap_or f.result Int) args.to (args.to + 1) free into (unwrap_or f.result Int)) same own_one;
                     known = c.stands;
                     named = c.named;
@@ -295,14 +295,14 @@ module _ (p : Program) (code : Code) (arguments : List ℕ) (layout : Layout) (t
       expr_emits home (Logical AndThen a b at) h from into free l m =
           let first = condition p scope a from free l in
           let second = condition p scope b (first.to + 1) free first.lists in
-          answered_emits code arguments layout home (BothHold code layout (Tests a) (Tests b)) from free into l (joined AndThen first second)
+          answered_emits code arguments layout home (BothHold code layout (Tests a) (Tests b)) from free into l (logical_condition AndThen first second)
           (and_decides code arguments layout (Tests a) (Tests b) from free l first second
           (by_parts a from free l (own_decides a h.0 from free l) (expr_emits None a h.0 from free free l (omega arith)))
           (by_parts b (first.to + 1) free first.lists (own_decides b h.1 (first.to + 1) free first.lists) (expr_emits None b h.1 (first.to + 1) free free first.lists (omega arith)))) m
       expr_emits home (Logical OrElse a b at) h from into free l m =
           let first = condition p scope a from free l in
           let second = condition p scope b (first.to + 1) free first.lists in
-          answered_emits code arguments layout home (EitherHolds code layout (Tests a) (Tests b)) from free into l (joined OrElse first second)
+          answered_emits code arguments layout home (EitherHolds code layout (Tests a) (Tests b)) from free into l (logical_condition OrElse first second)
           (or_decides code arguments layout (Tests a) (Tests b) from free l first second
           (by_parts a from free l (own_decides a h.0 from free l) (expr_emits None a h.0 from free free l (omega arith)))
           (by_parts b (first.to + 1) free first.lists (own_decides b h.1 (first.to + 1) free first.lists) (expr_emits None b h.1 (first.to + 1) free free first.lists (omega arith)))) m
@@ -313,10 +313,10 @@ module _ (p : Program) (code : Code) (arguments : List ℕ) (layout : Layout) (t
           let t : Scalar = common ta tb in
           let x = emitted p scope a (test.to + 1) into free test.lists in
           let x1 = in_type ta t a x (test.to + 1) into test.lists in
-          let first = settled into x1 in
+          let first = value_into into x1 in
           let y = emitted p scope b (first.held.to + 1) into free first.lists in
           let y1 = in_type tb t b y (first.held.to + 1) into first.lists in
-          let second = settled into y1 in
+          let second = value_into into y1 in
           let A : Option ℕ → Coded = λ k. ExprCode code layout p k scope a in
           let B : Option ℕ → Coded = λ k. ExprCode code layout p k scope b in
           let left = typed_emits code arguments layout home a (A home) ta t (test.to + 1) free test.lists x1

@@ -7,7 +7,7 @@ use Rattle.lex.specs.declared.token.Scalar.{Scalar}
 use Rattle.lex.specs.declared.token.Scalar.TheVariants.{Int}
 use Rattle.syntax.specs.Tree.{Name, Stmts, Parameter, Function, Defines, Shares, Program}
 use Rattle.syntax.specs.declared.numbers.Value.{Value}
-use Rattle.syntax.specs.Names.{defined, definition_of}
+use Rattle.syntax.specs.Names.{definition_or, definition_of}
 use Rattle.syntax.specs.Types.{Scope, Callable, Number, Array, Unknown, Known, file_scope, running_scope}
 use Rattle.syntax.specs.Typing.{demand, may_be_function, has_name, defined_names, parameter_names, agrees, is_worker, AreDefined, AreDistinct, AreTypedItems, IsTypedBody, IsTypedFunction, IsTypedProgram}
 use Rattle.syntax.specs.Laws.{shape}
@@ -52,7 +52,7 @@ defined_is_callee n (Defines g ∷ items) x f body e = by g.body (λ h. defined_
     by_name b false others h = others h
 
     by : (o : Option Stmts) → (definition_of items x ≡ Some (f, body) → (m : ℕ) × (callee_from n items x ≡ Some (callee_at m f))) → (definition_of items x ≡ Some (f, body) → (m : ℕ) × (callee_from (suc n) items x ≡ Some (callee_at m f))) →
-        defined g x o (definition_of items x) ≡ Some (f, body) → (m : ℕ) × (callee_first n g o (λ m. callee_from m items x) x ≡ Some (callee_at m f))
+        definition_or g x o (definition_of items x) ≡ Some (f, body) → (m : ℕ) × (callee_first n g o (λ m. callee_from m items x) x ≡ Some (callee_at m f))
     by None here others h = here h
     by (Some b) here others h = by_name b (bytes_eq g.name.text x) others h
 
@@ -272,7 +272,7 @@ module _ (p : Program) (typed : IsTypedProgram p) (cancels : CancelsAreFit p) wh
   past : (f : Function) (items : Program) (x : List ℕ) → has_name (defined_names (Defines f ∷ [])) x ≡ false → definition_of (Defines f ∷ items) x ≡ definition_of items x
   past f items x h = by f.body h
     where
-      by : (o : Option Stmts) → has_name (unwrap_or (option_map (λ c. f.name.text ∷ []) o) []) x ≡ false → defined f x o (definition_of items x) ≡ definition_of items x
+      by : (o : Option Stmts) → has_name (unwrap_or (option_map (λ c. f.name.text ∷ []) o) []) x ≡ false → definition_or f x o (definition_of items x) ≡ definition_of items x
       by None g = refl
       by (Some b) g = ap (λ y. if y then Some (f, b) else definition_of items x) (or_false (bytes_eq f.name.text x) false g).0
 
@@ -287,7 +287,7 @@ module _ (p : Program) (typed : IsTypedProgram p) (cancels : CancelsAreFit p) wh
   firsts_from earlier (Shares gs ∷ items) h g =
       firsts_from (earlier ++ Shares gs ∷ []) items (rest_met earlier (Shares gs) items h) (λ x n. g x (names_apart earlier (Shares gs ∷ []) x n).0)
   firsts_from earlier (Defines f ∷ items) h g = (
-    λ body e. g f.name.text (own_first f body (may_be_function (file_scope earlier f.name.text)) (has_name (defined_names earlier) f.name.text) e own) ∙ ap (λ o. defined f f.name.text o (definition_of items f.name.text)) e ∙ ap (λ y. if y then Some (f, body) else definition_of items f.name.text) ((bytes_eq-Decides f.name.text f.name.text).1 refl),
+    λ body e. g f.name.text (own_first f body (may_be_function (file_scope earlier f.name.text)) (has_name (defined_names earlier) f.name.text) e own) ∙ ap (λ o. definition_or f f.name.text o (definition_of items f.name.text)) e ∙ ap (λ y. if y then Some (f, body) else definition_of items f.name.text) ((bytes_eq-Decides f.name.text f.name.text).1 refl),
     firsts_from (earlier ++ Defines f ∷ []) items (rest_met earlier (Defines f) items h)
         (λ x n. let a = names_apart earlier (Defines f ∷ []) x n in g x a.0 ∙ past f items x a.1),
   )

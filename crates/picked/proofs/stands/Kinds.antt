@@ -8,7 +8,7 @@ use Rattle.bytecode.specs.declared.instr.Instr.{Instr}
 use Rattle.lowered.specs.Expressions.{LocalScope}
 use Rattle.picked.specs.Lists.{Lists}
 use Rattle.picked.specs.Names.{Callee, callee_of}
-use Rattle.picked.specs.Expressions.{Emitted, AllEmitted, converting, converted_by, in_type, variable, element, called, variable_type, element_type, called_type, taken_types, emitted_type, emitted, all_emitted}
+use Rattle.picked.specs.Expressions.{Emitted, AllEmitted, converting, converted_by, in_type, variable, element, call_code, variable_type, element_type, called_type, taken_types, emitted_type, emitted, all_emitted}
 
 pub converted_of : (o : Option (ℕ → ℕ → Instr)) (u : Scalar) (e : Emitted) (into : ℕ) → (converted_by o u e into).held.of ≡ u
 converted_of None u e into = refl
@@ -27,7 +27,7 @@ element_is : (g : Option GlobalCells) (e : Emitted) (from into : ℕ) (l : Lists
 element_is None e from into l = refl
 element_is (Some g) e from into l = refl
 
-called_is : (o : Option Callee) (args : AllEmitted) (from into : ℕ) (l : Lists) → (called o args from into l).held.of ≡ called_type o
+called_is : (o : Option Callee) (args : AllEmitted) (from into : ℕ) (l : Lists) → (call_code o args from into l).held.of ≡ called_type o
 called_is None args from into l = refl
 called_is (Some f) args from into l = refl
 

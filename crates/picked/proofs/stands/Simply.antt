@@ -22,9 +22,9 @@ use Rattle.bytecode.specs.Code.{Code}
 use Rattle.lowered.specs.Expressions.{LocalScope, Coded, Due, Layout, ConvertedCode, BinaryCode, ExprCode}
 use Rattle.lowered.specs.Statements.{Target, LocalAt, CellAt, ElementOf, home_of, with_local, with_declared, locals_of_start, VariableTarget, CheckedAt, UncheckedAt, TargetCode, ReadTarget, FetchCode, ExprStored, AssignCode, ChangeCode, Operating, OneCode, SimpleCode, FirstValueCode, DeclareCode, StartCode}
 use Rattle.picked.specs.declared.held.Target.{Target as OwnTarget}
-use Rattle.picked.specs.Lists.{Lists, used}
+use Rattle.picked.specs.Lists.{Lists, with_register}
 use Rattle.picked.specs.Expressions.{Emitted, above, converting, converted_by, both, emitted_type, emitted}
-use Rattle.picked.specs.Simples.{Written, Aimed, variable_target, element_target, above_target, fetched, home_or, type_at, expr_fitting, then_stored, behind as aimed_then, aimed, value_or_one, type_or_int, changed, assigned, adjusted, simple_written, first_written, declared_written, start_written}
+use Rattle.picked.specs.Simples.{Written, Aimed, variable_target, element_target, above_target, target_value, home_or, type_at, expr_fitting, then_stored, behind as aimed_then, aimed, value_or_one, type_or_int, changed, assigned, adjusted, simple_written, first_written, declared_written, start_written}
 use Rattle.picked.proofs.stands.Standing.{Stand, front, behind, Grows, grows_same, grows_further, grows_used, Fits, fits_before, is_register}
 use Rattle.picked.proofs.stands.Named.{VariableFound, variable_found, array_found, known_number, known_array}
 use Rattle.picked.proofs.stands.Kinds.{emitted_is}
@@ -179,7 +179,7 @@ module _ (p : Program) (code : Code) (arguments : List ℕ) (layout : Layout) (t
     abbrev RightEmits : Option Expr → Due → Type 0
     RightEmits by B = (u : Scalar) (from free : ℕ) (l : Lists) → Emits code arguments layout (λ from to free r x. B u from to free r (type_or_int p scope by)) from free l (value_or_one p scope u by from free l)
 
-    fetched_of : (t : Target) (from free : ℕ) (l : Lists) → (fetched (own_of t) from free l).held.of ≡ type_at (own_of t)
+    fetched_of : (t : Target) (from free : ℕ) (l : Lists) → (target_value (own_of t) from free l).held.of ≡ type_at (own_of t)
     fetched_of (LocalAt x) from free l = refl
     fetched_of (CellAt g) from free l = refl
     fetched_of (ElementOf g ri) from free l = refl
@@ -191,7 +191,7 @@ module _ (p : Program) (code : Code) (arguments : List ℕ) (layout : Layout) (t
         let s : Scalar = type_at (own_of goal) in
         let t : Scalar = type_or_int p scope by in
         let u : Scalar = operand_type op s t in
-        let first = fetched (own_of goal) from free l in
+        let first = target_value (own_of goal) from free l in
         let old = converted_by (converting s u) u first free in
         let v = value_or_one p scope (operand_type op t s) by old.held.to (above free old.held.register) old.lists in
         let home : ℕ = home_or (own_of goal) free in
@@ -280,22 +280,22 @@ module _ (p : Program) (code : Code) (arguments : List ℕ) (layout : Layout) (t
       let x : List ℕ = d.name.text in
       let inner = with_local scope x t in
       let ahead = one_more_agrees p known scope x t agrees in
-      let first = first_written p inner i t d.first (from + 1) (used i l) in
+      let first = first_written p inner i t d.first (from + 1) (with_register i l) in
       let rest = declared_written p t ds inner first.to first.lists in
-      let f = first_writes (with_number x t known) inner ahead i t d.first (one_longer scope x t) h.0 (from + 1) (used i l) in
+      let f = first_writes (with_number x t known) inner ahead i t d.first (one_longer scope x t) h.0 (from + 1) (with_register i l) in
       let r = declared_writes t ds (with_number x t known) inner ahead h.1 first.to first.lists in
       let zero : Instr = own.Constant i 0 in
-      let own_growth : Grows l (used i l) = grows_used l l i (grows_same l) in
-      let all : Grows (used i l) rest.lists = grows_further (used i l) first.lists rest.lists f.grows r.grows in
+      let own_growth : Grows l (with_register i l) = grows_used l l i (grows_same l) in
+      let all : Grows (with_register i l) rest.lists = grows_further (with_register i l) first.lists rest.lists f.grows r.grows in
       let first_is : first.to ≡ from + length (zero ∷ first.code) = (let a = f.to_is in omega (arith, a)) in
       record {
         to_is = let b = r.to_is in let u : length (zero ∷ first.code ++ rest.code) ≡ length (zero ∷ first.code) + length rest.code = length-append (zero ∷ first.code) rest.code in omega (arith, first_is, b, u);
-        grows = grows_further l (used i l) rest.lists own_growth all;
+        grows = grows_further l (with_register i l) rest.lists own_growth all;
         stands = λ k st.
             let head = front code arguments from (zero ∷ first.code) rest.code st in
             let kf = fits_before code arguments layout first.lists rest.lists r.grows k in
             record {
-              below = is_register code arguments layout l i (fits_before code arguments layout (used i l) rest.lists all k);
+              below = is_register code arguments layout l i (fits_before code arguments layout (with_register i l) rest.lists all k);
               zeroes = head.0;
               mid = first.to;
               value = subst (λ q. FirstValueCode code layout p inner (i, t) d.first q first.to) (omega arith) (f.stands kf (subst (λ q. Stand code arguments q first.code) (omega arith) head.1));

@@ -7,7 +7,7 @@ use Rattle.bytecode.specs.Code.{Code}
 use Rattle.bytecode.specs.Views.{instr_of}
 use Rattle.bytecode.specs.declared.limits.TheConstants.{MOST_REGISTERS}
 use Rattle.lowered.specs.Expressions.{Layout, InstructionAt, MayTake, GivenBy}
-use Rattle.picked.specs.Lists.{Lists, used}
+use Rattle.picked.specs.Lists.{Lists, with_register}
 use Rattle.picked.specs.Expressions.{ready_from}
 use Rattle.picked.specs.Programs.{nothing_ready}
 
@@ -62,7 +62,7 @@ max_left a b = grind arith
 pub max_right : (a b : ℕ) → b ≤ max a b
 max_right a b = grind arith
 
-pub grows_used : (l m : Lists) (r : ℕ) → Grows l m → Grows l (used r m)
+pub grows_used : (l m : Lists) (r : ℕ) → Grows l m → Grows l (with_register r m)
 grows_used l m r h = record {
   arguments = h.arguments;
   texts = h.texts;
@@ -112,7 +112,7 @@ module _ (code : Code) (arguments : List ℕ) (layout : Layout) where
     ready = subst (IsReadyIn layout) h.layout g.ready;
   }
 
-  pub is_register : (l : Lists) (r : ℕ) → Fits code arguments layout (used r l) → r < layout.writable
+  pub is_register : (l : Lists) (r : ℕ) → Fits code arguments layout (with_register r l) → r < layout.writable
   is_register l r h = let a = h.registers in let b = max_right l.registers (suc r) in omega (arith, a, b)
 
   -- one instruction that gives a value

@@ -28,9 +28,9 @@ use Rattle.picked.specs.declared.held.Exits.{Exits as OwnExits}
 use Rattle.picked.specs.Lists.{Lists}
 use Rattle.picked.specs.Expressions.{above, in_first_type, emitted_type, emitted, due, all_emitted, condition}
 use Rattle.picked.specs.Conditions.{Condition, test_in, going_on}
-use Rattle.picked.specs.Simples.{Written, one_written, evaluated, start_written}
+use Rattle.picked.specs.Simples.{Written, one_written, code_of_value, start_written}
 use Rattle.picked.specs.Statements as Own
-use Rattle.picked.specs.Statements.{left_by, branched, branched_twice, tested_back, while_written, do_written, for_written, transacted, returned, printing, pieces_written, print_written, for_test, for_step, written, all_written}
+use Rattle.picked.specs.Statements.{left_by, if_code, branched_twice, tested_back, while_written, do_written, for_written, transaction_code, return_code, printing, pieces_written, print_written, for_test, for_step, written, all_written}
 use Rattle.picked.proofs.stands.Standing.{Stand, front, behind, front_same, front_more, Grows, grows_same, grows_further, Fits, fits_before}
 use Rattle.picked.proofs.stands.Exprs.{CalleesStand, DefinedAreCallees, all_emits, due_emits, cond_decides}
 use Rattle.picked.proofs.stands.Conds.{Decides, on_is, goes_on, back_is, goes_back}
@@ -230,7 +230,7 @@ module _ (p : Program) (code : Code) (arguments : List ℕ) (layout : Layout) (t
     forward_rest there rest st = behind code arguments from (k.to + 1) (going_on k.code (test_in k) there) rest (on_is code arguments layout (CondCode code layout p scope c) from (length scope) l k d there) st
 
     if_writes : (A : ℕ → ℕ → Type 0) (a : Written) → Writes p code arguments layout A (k.to + 1) k.lists a →
-        Writes p code arguments layout (λ from to. IfCode code layout p scope (CondCode code layout p scope c) A from to) from l (branched k a)
+        Writes p code arguments layout (λ from to. IfCode code layout p scope (CondCode code layout p scope c) A from to) from l (if_code k a)
     if_writes A a g = record {
       to_is = head_is a.to a.code a.to g.to_is;
       grows = grows_further l k.lists a.lists d.grows g.grows;
@@ -391,13 +391,13 @@ module _ (p : Program) (code : Code) (arguments : List ℕ) (layout : Layout) (t
 
   return_writes : (known : Scope) (scope : LocalScope) → IsSubscope known (running_scope p scope) → (e : Expr) → TypedExpr known e → (u v : Scalar) (n m from : ℕ) → u ≡ v → m ≡ n → (l : Lists) →
       Writes p code arguments layout (λ from to. (mid : ℕ) × (r : ℕ) × ResultCode code layout p scope u e from mid r × Leaves code layout p mid m (Plain.Return (Some r))) from l
-      (returned n (due p scope v e from (length scope) (length scope) l))
+      (return_code n (due p scope v e from (length scope) (length scope) l))
   return_writes known scope agrees e h u v n m from gives same l =
       let x = due p scope v e from (length scope) (length scope) l in
       let i : Instr = own.ReturnValue x.held.register in
       let A : Coded = λ from to free r t. TypedCode code layout None e (ExprCode code layout p None scope e) v from to free r in
       then_writes p code arguments layout (λ from to. A from to (length scope) x.held.register x.held.of) (λ from to. Leaves code layout p from n (Plain.Return (Some x.held.register)))
-      (λ from to. (mid : ℕ) × (r : ℕ) × ResultCode code layout p scope u e from mid r × Leaves code layout p mid m (Plain.Return (Some r))) from l (evaluated x) (left_by n i x.held.to x.lists)
+      (λ from to. (mid : ℕ) × (r : ℕ) × ResultCode code layout p scope u e from mid r × Leaves code layout p mid m (Plain.Return (Some r))) from l (code_of_value x) (left_by n i x.held.to x.lists)
       (evaluated_writes p code arguments layout A from (length scope) l x (due_emits p code arguments layout typed stand defined known scope agrees None v e h from (length scope) (length scope) l (omega arith)))
       (left_writes p code arguments layout n i x.held.to x.lists)
       (λ a b. (x.held.to, x.held.register, record { free = length scope; room = omega arith; computes = subst (λ t. TypedCode code layout None e (ExprCode code layout p None scope e) t from x.held.to (length scope) x.held.register) (sym gives) a }, subst (λ k. Leaves code layout p x.held.to k (Plain.Return (Some x.held.register))) (sym same) b))
@@ -431,7 +431,7 @@ module _ (p : Program) (code : Code) (arguments : List ℕ) (layout : Layout) (t
       }
 
   transaction_writes : (kind : Kind) (x : Exits) (A : Exits → ℕ → ℕ → Type 0) (from : ℕ) (l : Lists) (a : Written) → Writes p code arguments layout (A (in_transaction kind x)) (from + 1) l a →
-      Writes p code arguments layout (λ from to. TransactionCode code layout p kind x A from to) from l (transacted a)
+      Writes p code arguments layout (λ from to. TransactionCode code layout p kind x A from to) from l (transaction_code a)
   transaction_writes kind x A from l a g =
       let begins : List Instr = own.Begin (a.to + 1) ∷ a.code in
       let last_is : a.to ≡ from + length begins = (let y = g.to_is in omega (arith, y)) in

@@ -16,7 +16,7 @@ use Rattle.picked.specs.declared.held.Target.{Target as OwnTarget}
 use Rattle.picked.specs.declared.held.Target.TheVariants as target
 use Rattle.picked.specs.Lists.{Lists}
 use Rattle.picked.specs.Expressions.{Emitted, constant, converted_by}
-use Rattle.picked.specs.Simples.{Written, nothing_written, above_target, fetched, home_or, one_written, stored, widening, fitting, expr_fitting, and_then, evaluated, then_stored}
+use Rattle.picked.specs.Simples.{Written, nothing_written, above_target, target_value, home_or, one_written, target_store, widening, fitting, expr_fitting, and_then, code_of_value, then_stored}
 use Rattle.picked.proofs.stands.Standing.{Stand, front, behind, Grows, grows_same, grows_further, Fits, fits_before}
 use Rattle.picked.proofs.stands.Emitting.{above_free, above_it, Emits, one_emits, then_emits, converted_emits, in_local_emits}
 
@@ -68,10 +68,10 @@ module _ (p : Program) (code : Code) (arguments : List ℕ) (layout : Layout) wh
   }
 
   pub evaluated_writes : (A : Coded) (from free : ℕ) (l : Lists) (e : Emitted) → Emits code arguments layout A from free l e →
-      Writes (λ from to. A from to free e.held.register e.held.of) from l (evaluated e)
+      Writes (λ from to. A from to free e.held.register e.held.of) from l (code_of_value e)
   evaluated_writes A from free l e h = record { to_is = h.to_is; grows = h.grows; stands = h.stands }
 
-  pub fetched_emits : (t : Target) (from free : ℕ) (l : Lists) → Emits code arguments layout (FetchCode code layout p t) from free l (fetched (own_of t) from free l)
+  pub fetched_emits : (t : Target) (from free : ℕ) (l : Lists) → Emits code arguments layout (FetchCode code layout p t) from free l (target_value (own_of t) from free l)
   fetched_emits (LocalAt x) from free l =
       let h = in_local_emits code arguments layout (suc x.0) x.0 x.1 from free l (omega arith) in
       record { to_is = h.to_is; grows = h.grows; stands = λ f st. (refl, refl, refl) }
@@ -79,7 +79,7 @@ module _ (p : Program) (code : Code) (arguments : List ℕ) (layout : Layout) wh
   fetched_emits (ElementOf g ri) from free l =
       one_emits code arguments layout None (λ r. Plain.ReadAt r g.cell (cells g.global) ri) (own.ReadAt free ri g.cell (cells g.global)) g.global.of from free free l refl (omega arith)
 
-  pub stored_writes : (t : Target) (r from : ℕ) (l : Lists) → Writes (λ from to. StoreCode code layout p t r from to) from l (stored (own_of t) r from l)
+  pub stored_writes : (t : Target) (r from : ℕ) (l : Lists) → Writes (λ from to. StoreCode code layout p t r from to) from l (target_store (own_of t) r from l)
   stored_writes (LocalAt x) r from l = by (r == x.0) refl
     where
       by : (b : Bool) → (r == x.0) ≡ b → Writes (λ from to. StoreCode code layout p (LocalAt x) r from to) from l (if b then nothing_written from l else one_written (own.Move x.0 r) from l)
@@ -99,7 +99,7 @@ module _ (p : Program) (code : Code) (arguments : List ℕ) (layout : Layout) wh
 
   pub then_stored_writes : (A : Coded) (t : Target) (from free : ℕ) (l : Lists) (e : Emitted) → Emits code arguments layout A from free l e → Writes (ValueStored A free t) from l (then_stored (own_of t) e)
   then_stored_writes A t from free l e h =
-      then_writes (λ from to. A from to free e.held.register e.held.of) (λ from to. StoreCode code layout p t e.held.register from to) (ValueStored A free t) from l (evaluated e) (stored (own_of t) e.held.register e.held.to e.lists)
+      then_writes (λ from to. A from to free e.held.register e.held.of) (λ from to. StoreCode code layout p t e.held.register from to) (ValueStored A free t) from l (code_of_value e) (target_store (own_of t) e.held.register e.held.to e.lists)
       (evaluated_writes A from free l e h) (stored_writes t e.held.register e.held.to e.lists)
       (λ v s. record { mid = e.held.to; r = e.held.register; of = e.held.of; value = v; stores = s })
 

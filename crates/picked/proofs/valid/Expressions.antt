@@ -20,8 +20,8 @@ use Rattle.bytecode.specs.Valid.{cells_of, Takes}
 use Rattle.lowered.specs.Expressions.{LocalScope, types_left}
 use Rattle.picked.specs.Lists.{Lists}
 use Rattle.picked.specs.Names.{Callee, callee_at, callee_of}
-use Rattle.picked.specs.Expressions.{Emitted, AllEmitted, above, converting, where_same, in_type, in_first_type, variable, element, called, settled, taken_types, emitted_type, emitted, due, operand, own_condition, condition, all_emitted}
-use Rattle.picked.specs.Conditions.{Condition, joined, zero_test}
+use Rattle.picked.specs.Expressions.{Emitted, AllEmitted, above, converting, where_same, in_type, in_first_type, variable, element, call_code, value_into, taken_types, emitted_type, emitted, due, operand, own_condition, condition, all_emitted}
+use Rattle.picked.specs.Conditions.{Condition, logical_condition, zero_test}
 use Rattle.picked.proofs.stands.Standing.{grows_same}
 use Rattle.picked.proofs.stands.Named.{known_number, known_callable, function_found}
 use Rattle.picked.proofs.stands.Exprs.{DefinedAreCallees}
@@ -71,7 +71,7 @@ module _ (p : Program) (code : Code) (arguments : List ℕ) (f : FunctionCode) (
         let same : callee_at at.0 d.0.0 ≡ c = ap (λ o. unwrap_or o (callee_at at.0 d.0.0)) (sym at.1 ∙ e) in
         number ∙ sym as_many ∙ mapped ∙ ap (λ (y : Callee). length y.parameters) same
 
-    call_sound : (o : Option Callee) → (x : List ℕ) → callee_of p x ≡ o → (from into : ℕ) (l : Lists) (args : AllEmitted) → AllSound code arguments f end from l args → ((c : Callee) → o ≡ Some c → length args.registers ≡ length c.parameters) → Sound code arguments f end from l (called o args from into l)
+    call_sound : (o : Option Callee) → (x : List ℕ) → callee_of p x ≡ o → (from into : ℕ) (l : Lists) (args : AllEmitted) → AllSound code arguments f end from l args → ((c : Callee) → o ≡ Some c → length args.registers ≡ length c.parameters) → Sound code arguments f end from l (call_code o args from into l)
     call_sound None x e from into l args h many = one_sound code arguments f end (own.Constant into 0) from into Int l (λ q bs. (refl, tt)) (λ r s. (r, omega arith))
     call_sound (Some c) x e from into l args h many = called_sound code arguments f end c into from l args h (many c refl) (takes x c e)
 
@@ -115,7 +115,7 @@ module _ (p : Program) (code : Code) (arguments : List ℕ) (f : FunctionCode) (
       expr_sound (Logical op a b at) h from into free l =
           let first = condition p scope a from free l in
           let second = condition p scope b (first.to + 1) free first.lists in
-          answered_sound code arguments f end into from l (joined op first second)
+          answered_sound code arguments f end into from l (logical_condition op first second)
           (joined_sound code arguments f end op from l first second
           (by_parts a from free l (own_sound a h.0 from free l) (expr_sound a h.0 from free free l))
           (by_parts b (first.to + 1) free first.lists (own_sound b h.1 (first.to + 1) free first.lists) (expr_sound b h.1 (first.to + 1) free free first.lists)))
@@ -126,10 +126,10 @@ module _ (p : Program) (code : Code) (arguments : List ℕ) (f : FunctionCode) (
           let t = common ta tb in
           let x = emitted p scope a (test.to + 1) into free test.lists in
           let x1 = in_type ta t a x (test.to + 1) into test.lists in
-          let first = settled into x1 in
+          let first = value_into into x1 in
           let y = emitted p scope b (first.held.to + 1) into free first.lists in
           let y1 = in_type tb t b y (first.held.to + 1) into first.lists in
-          chosen_sound code arguments f end t into from l test first (settled into y1)
+          chosen_sound code arguments f end t into from l test first (value_into into y1)
           (by_parts c from free l (own_sound c h.0 from free l) (expr_sound c h.0 from free free l))
           (settled_sound code arguments f end into (test.to + 1) test.lists x1 (in_type_sound code arguments f end ta t a x (test.to + 1) into test.lists (expr_sound a h.1 (test.to + 1) into free test.lists)))
           (settled_sound code arguments f end into (first.held.to + 1) first.lists y1 (in_type_sound code arguments f end tb t b y (first.held.to + 1) into first.lists (expr_sound b h.3 (first.held.to + 1) into free first.lists))) (settled_into into y1)

@@ -3,7 +3,7 @@ use Rattle.std.proofs.Common.{◌≡◌, subst, ℕ, suc, ◌+◌, ◌≤◌, �
 use Rattle.std.proofs.lemmas.Option.{slice_get_within}
 use Rattle.bytecode.specs.Code.{Code}
 use Rattle.lowered.specs.Expressions.{Layout}
-use Rattle.picked.specs.Lists.{Lists, used}
+use Rattle.picked.specs.Lists.{Lists, with_register}
 use Rattle.picked.specs.Expressions.{ready_from}
 use Rattle.picked.specs.Programs.{nothing_ready}
 use Rattle.picked.proofs.stands.Standing.{IsFront, front_front, Grows, max_right, all_are_found}
@@ -37,5 +37,5 @@ module _ (code : Code) (arguments : List ℕ) (size : ℕ) where
     ready = subst (AreFoundBelow size) h.layout g.ready;
   }
 
-  pub is_register : (l : Lists) (r : ℕ) → Fits code arguments size (used r l) → r < size
+  pub is_register : (l : Lists) (r : ℕ) → Fits code arguments size (with_register r l) → r < size
   is_register l r h = let a = h.registers in let b = max_right l.registers (suc r) in omega (arith, a, b)

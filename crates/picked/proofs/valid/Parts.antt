@@ -15,7 +15,7 @@ use Rattle.lowered.specs.Statements.{with_level}
 use Rattle.picked.specs.declared.held.Exits.{Exits}
 use Rattle.picked.specs.Lists.{Lists}
 use Rattle.picked.specs.Simples.{Written, one_written, and_then}
-use Rattle.picked.specs.Statements.{in_transaction, level_in, cancelling, left_by, transacted}
+use Rattle.picked.specs.Statements.{in_transaction, level_in, cancelling, left_by, transaction_code}
 use Rattle.picked.proofs.stands.Standing.{Stand, front, behind, Grows, grows_same, grows_further}
 use Rattle.picked.proofs.stands.Statements.{Enclosing, enclosed_in, IsInOuter, level_of, level_inside}
 use Rattle.picked.proofs.valid.Fitting.{Fits, fits_before}
@@ -195,7 +195,7 @@ module _ (code : Code) (arguments : List ℕ) (f : FunctionCode) (end : ℕ) whe
   outer_inside o (kinds.Plain mode) (Some n) b bs here there = let low = there.0 in (omega (arith, low), there.1)
 
   -- a transaction
-  pub transaction_part : (bs : List ℕ) (x : Exits) (loops : Bool) (m : Enclosing) (kind : Kind) (from : ℕ) (l : Lists) (a : Written) → Part (Exiting (from ∷ bs) (in_transaction kind x) loops (enclosed_in kind m)) (from ∷ bs) (from + 1) l a → Part (Exiting bs x loops m) bs from l (transacted a)
+  pub transaction_part : (bs : List ℕ) (x : Exits) (loops : Bool) (m : Enclosing) (kind : Kind) (from : ℕ) (l : Lists) (a : Written) → Part (Exiting (from ∷ bs) (in_transaction kind x) loops (enclosed_in kind m)) (from ∷ bs) (from + 1) l a → Part (Exiting bs x loops m) bs from l (transaction_code a)
   transaction_part bs x loops m kind from l a h =
       let begin : Instr = own.Begin (a.to + 1) in
       let last_begins : List (List ℕ) = (from ∷ bs) ∷ [] in

@@ -23,9 +23,9 @@ use Rattle.lowered.specs.Expressions.{LocalScope}
 use Rattle.lowered.specs.Statements.{with_local}
 use Rattle.picked.specs.declared.held.Target.{Target}
 use Rattle.picked.specs.declared.held.Target.TheVariants as target
-use Rattle.picked.specs.Lists.{Lists, used}
+use Rattle.picked.specs.Lists.{Lists, with_register}
 use Rattle.picked.specs.Expressions.{Emitted, above, constant, converting, converted_by, both, emitted_type, emitted}
-use Rattle.picked.specs.Simples.{Written, Aimed, aimed_at, variable_target, element_target, above_target, fetched, home_or, one_written, stored, type_at, fitting, expr_fitting, and_then, evaluated, then_stored, behind as aimed_then, aimed, value_or_one, type_or_int, changed, adjusted, simple_written, nothing_written, first_written, declarator_written, declared_written, start_written}
+use Rattle.picked.specs.Simples.{Written, Aimed, aimed_at, variable_target, element_target, above_target, target_value, home_or, one_written, target_store, type_at, fitting, expr_fitting, and_then, code_of_value, then_stored, behind as aimed_then, aimed, value_or_one, type_or_int, changed, adjusted, simple_written, nothing_written, first_written, declarator_written, declared_written, start_written}
 use Rattle.picked.proofs.stands.Standing.{Grows, grows_same, grows_further, grows_used, max_right}
 use Rattle.picked.proofs.stands.Named.{known_number}
 use Rattle.picked.proofs.stands.Exprs.{DefinedAreCallees}
@@ -67,7 +67,7 @@ module _ (code : Code) (arguments : List ℕ) (f : FunctionCode) (end : ℕ) whe
             good_parts code arguments f end o from a.to bs a.code b.code h.to_is h.balanced run (h.goods o bs (fits_before code arguments f.registers a.lists b.lists g.grows k)) (g.goods o bs k);
       }
 
-  pub evaluated_flat : (from : ℕ) (l : Lists) (e : Emitted) → Sound code arguments f end from l e → Flat from l (evaluated e)
+  pub evaluated_flat : (from : ℕ) (l : Lists) (e : Emitted) → Sound code arguments f end from l e → Flat from l (code_of_value e)
   evaluated_flat from l e h = record { to_is = h.to_is; grows = h.grows; balanced = h.balanced; goods = h.goods }
 
   -- a target whose register is below a number
@@ -83,13 +83,13 @@ module _ (code : Code) (arguments : List ℕ) (f : FunctionCode) (end : ℕ) whe
   in_more n m (target.Element i c k t) e h = (let x = h.0 in omega (arith, e, x), h.1)
   in_more n m target.Nowhere e h = tt
 
-  fetched_sound : (t : Target) (from free : ℕ) (l : Lists) → IsIn l.registers t → Sound code arguments f end from l (fetched t from free l)
+  fetched_sound : (t : Target) (from free : ℕ) (l : Lists) → IsIn l.registers t → Sound code arguments f end from l (target_value t from free l)
   fetched_sound (target.Local i t) from free l h = in_local_sound code arguments f end i t from l
   fetched_sound (target.Cell c t) from free l h = one_sound code arguments f end (own.Read free c) from free t l (λ q bs. (refl, tt)) (λ r s. (r, h))
   fetched_sound (target.Element i c n t) from free l h = one_sound code arguments f end (own.ReadAt free i c n) from free t l (λ q bs. (refl, tt)) (λ r s. (r, let x = h.0 in omega (arith, x, s), h.1))
   fetched_sound target.Nowhere from free l h = one_sound code arguments f end (own.Constant free 0) from free Int l (λ q bs. (refl, tt)) (λ r s. (r, omega arith))
 
-  stored_flat : (t : Target) (r from : ℕ) (l : Lists) → r < l.registers → IsIn l.registers t → Flat from l (stored t r from l)
+  stored_flat : (t : Target) (r from : ℕ) (l : Lists) → r < l.registers → IsIn l.registers t → Flat from l (target_store t r from l)
   stored_flat (target.Local i t) r from l k h = by (r == i)
     where
       by : (b : Bool) → Flat from l (if b then nothing_written from l else one_written (own.Move i r) from l)
@@ -101,7 +101,7 @@ module _ (code : Code) (arguments : List ℕ) (f : FunctionCode) (end : ℕ) whe
 
   pub then_stored_flat : (t : Target) (from : ℕ) (l : Lists) (e : Emitted) → Sound code arguments f end from l e → IsIn l.registers t → Flat from l (then_stored t e)
   then_stored_flat t from l e h i =
-      then_flat from l (evaluated e) (stored t e.held.register e.held.to e.lists) (evaluated_flat from l e h)
+      then_flat from l (code_of_value e) (target_store t e.held.register e.held.to e.lists) (evaluated_flat from l e h)
       (stored_flat t e.held.register e.held.to e.lists h.held (in_more l.registers e.lists.registers t h.grows.registers i))
 
   -- a value on its way to a target
@@ -195,7 +195,7 @@ module _ (code : Code) (arguments : List ℕ) (f : FunctionCode) (end : ℕ) whe
       changed_sound op by hb t from free l i =
           let s = type_at t in
           let u = operand_type op s (type_or_int p scope by) in
-          let first = fetched t from free l in
+          let first = target_value t from free l in
           let old = converted_by (converting s u) u first free in
           let v = operand_type op (type_or_int p scope by) s in
           let other = value_or_one p scope v by old.held.to (above free old.held.register) old.lists in
@@ -244,19 +244,19 @@ module _ (code : Code) (arguments : List ℕ) (f : FunctionCode) (end : ℕ) whe
         let inner = with_local scope x t in
         let ahead = one_more_agrees p known scope x t agrees in
         let known' = with_number x t known in
-        let here : i < (used i l).registers = (let m = max_right l.registers (suc i) in omega (arith, m)) in
-        let first = first_written p inner i t d.first (from + 1) (used i l) in
-        let g = first_flat known' inner ahead i t d.first h.0 (from + 1) (used i l) here in
-        let own_growth : Grows l (used i l) = grows_used l l i (grows_same l) in
+        let here : i < (with_register i l).registers = (let m = max_right l.registers (suc i) in omega (arith, m)) in
+        let first = first_written p inner i t d.first (from + 1) (with_register i l) in
+        let g = first_flat known' inner ahead i t d.first h.0 (from + 1) (with_register i l) here in
+        let own_growth : Grows l (with_register i l) = grows_used l l i (grows_same l) in
         let one = declarator_written p t d scope from l in
         let zero : Instr = own.Constant i 0 in
         let y = g.to_is in
         let one_is : Flat from l one = (record {
           to_is = omega (arith, y);
-          grows = grows_further l (used i l) first.lists own_growth g.grows;
+          grows = grows_further l (with_register i l) first.lists own_growth g.grows;
           balanced = balanced_append arguments (zero ∷ []) first.code (λ q bs. refl) g.balanced;
           goods = λ o bs k run.
-              let fits = fits_before code arguments f.registers (used i l) first.lists g.grows k in
+              let fits = fits_before code arguments f.registers (with_register i l) first.lists g.grows k in
               good_parts code arguments f end o from (from + 1) bs (zero ∷ []) first.code (omega arith) (λ q bs. refl) run
               (λ r. (good_on code arguments f end o from bs zero [] (λ q bs. (refl, tt)) (is_register code arguments f.registers l i fits, omega arith) r, tt)) (g.goods o bs k);
         }) in

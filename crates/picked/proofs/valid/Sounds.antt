@@ -19,13 +19,13 @@ use Rattle.bytecode.specs.Code.{Code, FunctionCode, Instr as Plain}
 use Rattle.bytecode.specs.Valid.{IsWritten, Takes}
 use Rattle.bytecode.specs.Views.{instr_of}
 use Rattle.lowered.specs.Expressions as Lowered
-use Rattle.lowered.specs.Expressions.{constant_in, named_ones, nameless_ones, arranged}
-use Rattle.picked.specs.Lists.{Lists, used, holding}
+use Rattle.lowered.specs.Expressions.{constant_in, named_ones, nameless_ones, argument_order}
+use Rattle.picked.specs.Lists.{Lists, with_register, holding}
 use Rattle.picked.specs.Names.{Callee}
 use Rattle.picked.specs.declared.draft.Draft.TheVariants as draft
-use Rattle.picked.specs.Conditions.{Condition, test_in, jump_if, jump_if_not, completed, turned, going_on, going_back, by_value, opposite, first_of, joined, zero_tested}
+use Rattle.picked.specs.Conditions.{Condition, test_in, jump_if, jump_if_not, instruction_of_draft, opposite_draft, going_on, going_back, by_value, opposite, first_of, logical_condition, zero_tested}
 use Rattle.picked.specs.Simples.{widening}
-use Rattle.picked.specs.Expressions.{computing, negating, complementing, Emitted, AllEmitted, above, one, then_one, ready_from, ready, constant_ready, ready_or, in_local, converting, converted_by, in_type, in_first_type, constant, in_own_transaction, negated, complemented, compared, both, answered, tested, settled, chosen, followed, called}
+use Rattle.picked.specs.Expressions.{computing, negating, complementing, Emitted, AllEmitted, above, one, then_one, ready_from, ready, constant_ready, ready_or, in_local, converting, converted_by, in_type, in_first_type, constant, in_own_transaction, negation, complement, logical_negation, both, condition_value, condition_of, value_into, conditional_value, with_argument, call_code}
 use Rattle.picked.proofs.Drafted.{whole_are, turned_are, first_and, first_or, completed_length, on_length, back_length, first_length}
 use Rattle.picked.proofs.stands.Standing.{front_same, front_more, Grows, grows_same, grows_further, grows_used, max_left, max_right}
 use Rattle.picked.proofs.stands.Emitting.{computing_is}
@@ -65,7 +65,7 @@ nameless_below n (q ∷ qs) (r ∷ rs) h = by (is_some q.name) (nameless_below n
     by true g = g
     by false g = (h.0, g)
 
-arranged_below : (n : ℕ) (qs : List Parameter) (rs : List ℕ) → AreBelow n rs → AreBelow n (arranged qs rs)
+arranged_below : (n : ℕ) (qs : List Parameter) (rs : List ℕ) → AreBelow n rs → AreBelow n (argument_order qs rs)
 arranged_below n qs rs h = below_append n (named_ones qs rs) (nameless_ones qs rs) (named_below n qs rs h) (nameless_below n qs rs h)
 
 split_length : (qs : List Parameter) (rs : List ℕ) → length rs ≡ length qs → length (named_ones qs rs) + length (nameless_ones qs rs) ≡ length qs
@@ -77,7 +77,7 @@ split_length (q ∷ qs) (r ∷ rs) e = by (is_some q.name) (split_length qs rs (
     by true h = omega (arith, h)
     by false h = omega (arith, h)
 
-arranged_length : (qs : List Parameter) (rs : List ℕ) → length rs ≡ length qs → length (arranged qs rs) ≡ length qs
+arranged_length : (qs : List Parameter) (rs : List ℕ) → length rs ≡ length qs → length (argument_order qs rs) ≡ length qs
 arranged_length qs rs e = length-append (named_ones qs rs) (nameless_ones qs rs) ∙ split_length qs rs e
 
 -- a word is one that an instruction may set
@@ -86,7 +86,7 @@ word_fits Int z = let h = word_below Int z in omega (arith, h)
 word_fits Unsigned z = let h = word_below Unsigned z in omega (arith, h)
 word_fits LongLong z = word_below LongLong z
 
-pub settled_into : (r : ℕ) (e : Emitted) → (settled r e).held.register ≡ r
+pub settled_into : (r : ℕ) (e : Emitted) → (value_into r e).held.register ≡ r
 settled_into r e = by (e.held.register == r) refl
   where
     by : (b : Bool) → (e.held.register == r) ≡ b → (if b then e else then_one e (own.Move r e.held.register) r e.held.of).held.register ≡ r
@@ -149,7 +149,7 @@ module _ (code : Code) (arguments : List ℕ) (f : FunctionCode) (end : ℕ) whe
     held = let x = max_right e.lists.registers (suc r) in omega (arith, x);
     balanced = balanced_append arguments e.code (i ∷ []) h.balanced (balanced_one code arguments f end i way);
     goods = λ o bs k run.
-        let inner = fits_before code arguments f.registers e.lists (used r e.lists) (grows_used e.lists e.lists r (grows_same e.lists)) k in
+        let inner = fits_before code arguments f.registers e.lists (with_register r e.lists) (grows_used e.lists e.lists r (grows_same e.lists)) k in
         good_parts code arguments f end o from e.held.to bs e.code (i ∷ []) h.to_is h.balanced run (h.goods o bs inner)
         (λ g. (good_on code arguments f end o e.held.to bs i [] way (w (is_register code arguments f.registers e.lists r k) (in_size e.held.register e.lists h.held inner)) g, tt));
   }
@@ -213,7 +213,7 @@ module _ (code : Code) (arguments : List ℕ) (f : FunctionCode) (end : ℕ) whe
             (record { begins = from ∷ bs; are = at_commit; written = tt; asks = λ t. cc t; leads = (((omega (arith, first, x), omega (arith, last)), let same : e.held.to + 1 ≡ suc e.held.to = omega arith in subst (λ q. o q ≡ bs) same out.1), tt) }, tt);
       }
 
-  pub negated_sound : (into from : ℕ) (l : Lists) (e : Emitted) → Sound from l e → Sound from l (negated e into)
+  pub negated_sound : (into from : ℕ) (l : Lists) (e : Emitted) → Sound from l e → Sound from l (negation e into)
   negated_sound into from l e h = by e.held.of
     where
       by : (t : Scalar) → Sound from l (then_one e (negating t into e.held.register) into e.held.of)
@@ -221,7 +221,7 @@ module _ (code : Code) (arguments : List ℕ) (f : FunctionCode) (end : ℕ) whe
       by Unsigned = then_sound (own.NegateUnsigned into e.held.register) into e.held.of from l e h (λ q bs. (refl, tt)) (λ x y. (x, y))
       by LongLong = then_sound (own.NegateLong into e.held.register) into e.held.of from l e h (λ q bs. (refl, tt)) (λ x y. (x, y))
 
-  pub complemented_sound : (into from : ℕ) (l : Lists) (e : Emitted) → Sound from l e → Sound from l (complemented e into)
+  pub complemented_sound : (into from : ℕ) (l : Lists) (e : Emitted) → Sound from l e → Sound from l (complement e into)
   complemented_sound into from l e h = by e.held.of
     where
       by : (t : Scalar) → Sound from l (then_one e (complementing t into e.held.register) into e.held.of)
@@ -229,12 +229,12 @@ module _ (code : Code) (arguments : List ℕ) (f : FunctionCode) (end : ℕ) whe
       by Unsigned = then_sound (own.Complement into e.held.register) into e.held.of from l e h (λ q bs. (refl, tt)) (λ x y. (x, y))
       by LongLong = then_sound (own.ComplementLong into e.held.register) into e.held.of from l e h (λ q bs. (refl, tt)) (λ x y. (x, y))
 
-  pub compared_sound : (into free from : ℕ) (l : Lists) (e : Emitted) → Sound from l e → Sound from l (compared e into free)
+  pub compared_sound : (into free from : ℕ) (l : Lists) (e : Emitted) → Sound from l e → Sound from l (logical_negation e into free)
   compared_sound into free from l e h =
       let rz : ℕ = above free e.held.register in
       let zero : Instr = own.Constant rz 0 in
       let equal : Instr = own.Equal into e.held.register rz in
-      let lists : Lists = used rz e.lists in
+      let lists : Lists = with_register rz e.lists in
       let to_is = h.to_is in
       record {
         to_is = let b : length (e.code ++ zero ∷ equal ∷ []) ≡ length e.code + 2 = length-append e.code (zero ∷ equal ∷ []) in omega (arith, to_is, b);
@@ -242,7 +242,7 @@ module _ (code : Code) (arguments : List ℕ) (f : FunctionCode) (end : ℕ) whe
         held = let x = max_right lists.registers (suc into) in omega (arith, x);
         balanced = balanced_append arguments e.code (zero ∷ equal ∷ []) h.balanced (λ q bs. refl);
         goods = λ o bs k run.
-            let inner = fits_before code arguments f.registers lists (used into lists) (grows_used lists lists into (grows_same lists)) k in
+            let inner = fits_before code arguments f.registers lists (with_register into lists) (grows_used lists lists into (grows_same lists)) k in
             let first = fits_before code arguments f.registers e.lists lists (grows_used e.lists e.lists rz (grows_same e.lists)) inner in
             let z = is_register code arguments f.registers e.lists rz inner in
             good_parts code arguments f end o from e.held.to bs e.code (zero ∷ equal ∷ []) h.to_is h.balanced run (h.goods o bs first)
@@ -292,7 +292,7 @@ module _ (code : Code) (arguments : List ℕ) (f : FunctionCode) (end : ℕ) whe
         held = let z = max_right b.lists.registers (suc into) in omega (arith, z);
         balanced = balanced_append arguments (a.code ++ b.code) (i ∷ []) (balanced_append arguments a.code b.code h.balanced g.balanced) (balanced_one code arguments f end i way);
         goods = λ o bs k run.
-            let inner = fits_before code arguments f.registers b.lists (used into b.lists) (grows_used b.lists b.lists into (grows_same b.lists)) k in
+            let inner = fits_before code arguments f.registers b.lists (with_register into b.lists) (grows_used b.lists b.lists into (grows_same b.lists)) k in
             let first = fits_before code arguments f.registers a.lists b.lists g.grows inner in
             let there = computing_written op t into a.held.register b.held.register (is_register code arguments f.registers b.lists into k) (in_size a.held.register a.lists h.held first) (g.held inner) in
             good_parts code arguments f end o from b.held.to bs (a.code ++ b.code) (i ∷ []) last_is (balanced_append arguments a.code b.code h.balanced g.balanced) run
@@ -308,9 +308,9 @@ module _ (code : Code) (arguments : List ℕ) (f : FunctionCode) (end : ℕ) whe
     pub to_is : c.to ≡ from + length c.code
     pub grows : Grows l c.lists
     pub held : c.register < c.lists.registers
-    pub balanced : (met unmet : ℕ) → IsBalanced arguments (map (completed met unmet) c.code)
+    pub balanced : (met unmet : ℕ) → IsBalanced arguments (map (instruction_of_draft met unmet) c.code)
     pub goods : (open_at : ℕ → List ℕ) (bs : List ℕ) → Fits code arguments f.registers c.lists → (met unmet : ℕ) → Meets code arguments f end open_at (met, bs) → Meets code arguments f end open_at (unmet, bs) →
-        Runs code arguments f end open_at from bs (map (completed met unmet) c.code) → AreGood code arguments f end open_at from (map (completed met unmet) c.code)
+        Runs code arguments f end open_at from bs (map (instruction_of_draft met unmet) c.code) → AreGood code arguments f end open_at from (map (instruction_of_draft met unmet) c.code)
 
   value_sound : (from : ℕ) (l : Lists) (e : Emitted) → Sound from l e → TestSound from l (by_value e.code e.lists e.held)
   value_sound from l e h = record {
@@ -323,7 +323,7 @@ module _ (code : Code) (arguments : List ℕ) (f : FunctionCode) (end : ℕ) whe
 
   pub opposite_sound : (from : ℕ) (l : Lists) (c : Condition) → TestSound from l c → TestSound from l (opposite c)
   opposite_sound from l c h = record {
-    to_is = let x = h.to_is in let y : length (map turned c.code) ≡ length c.code = length-map c.code turned in omega (arith, x, y);
+    to_is = let x = h.to_is in let y : length (map opposite_draft c.code) ≡ length c.code = length-map c.code opposite_draft in omega (arith, x, y);
     grows = h.grows;
     held = h.held;
     balanced = λ met unmet. subst (IsBalanced arguments) (sym (turned_are met unmet c.code)) (h.balanced unmet met);
@@ -350,7 +350,7 @@ module _ (code : Code) (arguments : List ℕ) (f : FunctionCode) (end : ℕ) whe
 
   -- a condition with its jump
   module _ (from : ℕ) (l : Lists) (c : Condition) (h : TestSound from l c) where
-    at_jump : (met unmet : ℕ) → c.to ≡ from + length (map (completed met unmet) c.code)
+    at_jump : (met unmet : ℕ) → c.to ≡ from + length (map (instruction_of_draft met unmet) c.code)
     at_jump met unmet = let x = h.to_is in let y = completed_length met unmet c.code in omega (arith, x, y)
 
     pub test_on_is : (unmet : ℕ) → c.to + 1 ≡ from + length (going_on c.code (test_in c) unmet)
@@ -360,15 +360,15 @@ module _ (code : Code) (arguments : List ℕ) (f : FunctionCode) (end : ℕ) whe
     test_back_is met = let x = h.to_is in let y = back_length c.code (test_in c) met in omega (arith, x, y)
 
     pub on_balanced : (unmet : ℕ) → IsBalanced arguments (going_on c.code (test_in c) unmet)
-    on_balanced unmet = balanced_append arguments (map (completed (c.to + 1) unmet) c.code) (jump_if_not c.at_zero c.register unmet ∷ []) (h.balanced (c.to + 1) unmet) (balanced_if_not c.at_zero c.register unmet)
+    on_balanced unmet = balanced_append arguments (map (instruction_of_draft (c.to + 1) unmet) c.code) (jump_if_not c.at_zero c.register unmet ∷ []) (h.balanced (c.to + 1) unmet) (balanced_if_not c.at_zero c.register unmet)
 
     pub back_balanced : (met : ℕ) → IsBalanced arguments (going_back c.code (test_in c) met)
-    back_balanced met = balanced_append arguments (map (completed met (c.to + 1)) c.code) (jump_if c.at_zero c.register met ∷ []) (h.balanced met (c.to + 1)) (balanced_if c.at_zero c.register met)
+    back_balanced met = balanced_append arguments (map (instruction_of_draft met (c.to + 1)) c.code) (jump_if c.at_zero c.register met ∷ []) (h.balanced met (c.to + 1)) (balanced_if c.at_zero c.register met)
 
     module _ (open_at : ℕ → List ℕ) (bs : List ℕ) (k : Fits code arguments f.registers c.lists) (there : ℕ) (m : Meets code arguments f end open_at (there, bs)) where
       pub going_on_good : Runs code arguments f end open_at from bs (going_on c.code (test_in c) there) → AreGood code arguments f end open_at from (going_on c.code (test_in c) there)
       going_on_good run =
-          let test : List Instr = map (completed (c.to + 1) there) c.code in
+          let test : List Instr = map (instruction_of_draft (c.to + 1) there) c.code in
           let jump : Instr = jump_if_not c.at_zero c.register there in
           let next = meets_out code arguments f end open_at (c.to + 1) from bs (going_on c.code (test_in c) there) (test_on_is there) run in
           good_parts code arguments f end open_at from c.to bs test (jump ∷ []) (at_jump (c.to + 1) there) (h.balanced (c.to + 1) there) run (h.goods open_at bs k (c.to + 1) there next m)
@@ -376,14 +376,14 @@ module _ (code : Code) (arguments : List ℕ) (f : FunctionCode) (end : ℕ) whe
 
       pub going_back_good : Runs code arguments f end open_at from bs (going_back c.code (test_in c) there) → AreGood code arguments f end open_at from (going_back c.code (test_in c) there)
       going_back_good run =
-          let test : List Instr = map (completed there (c.to + 1)) c.code in
+          let test : List Instr = map (instruction_of_draft there (c.to + 1)) c.code in
           let jump : Instr = jump_if c.at_zero c.register there in
           let next = meets_out code arguments f end open_at (c.to + 1) from bs (going_back c.code (test_in c) there) (test_back_is there) run in
           good_parts code arguments f end open_at from c.to bs test (jump ∷ []) (at_jump there (c.to + 1)) (h.balanced there (c.to + 1)) run (h.goods open_at bs k there (c.to + 1) m next)
           (λ r. (good_if open_at c.at_zero c.to bs c.register there [] (in_size c.register c.lists h.held k) m r, tt))
 
   -- two conditions, one behind the other
-  pub joined_sound : (op : LogicalOp) (from : ℕ) (l : Lists) (a b : Condition) → TestSound from l a → TestSound (a.to + 1) a.lists b → TestSound from l (joined op a b)
+  pub joined_sound : (op : LogicalOp) (from : ℕ) (l : Lists) (a b : Condition) → TestSound from l a → TestSound (a.to + 1) a.lists b → TestSound from l (logical_condition op a b)
   joined_sound op from l a b h g =
       let x = h.to_is in
       let y = g.to_is in
@@ -393,30 +393,30 @@ module _ (code : Code) (arguments : List ℕ) (f : FunctionCode) (end : ℕ) whe
         grows = grows_further l a.lists b.lists h.grows g.grows;
         held = g.held;
         balanced = λ met unmet.
-            subst (IsBalanced arguments) (sym (map-append (completed met unmet) (first_of op a) b.code))
-            (balanced_append arguments (map (completed met unmet) (first_of op a)) (map (completed met unmet) b.code) (first_balanced op met unmet) (g.balanced met unmet));
+            subst (IsBalanced arguments) (sym (map-append (instruction_of_draft met unmet) (first_of op a) b.code))
+            (balanced_append arguments (map (instruction_of_draft met unmet) (first_of op a)) (map (instruction_of_draft met unmet) b.code) (first_balanced op met unmet) (g.balanced met unmet));
         goods = λ o bs k met unmet m u run.
-            let first : List Instr = map (completed met unmet) (first_of op a) in
-            let second : List Instr = map (completed met unmet) b.code in
-            let apart = map-append (completed met unmet) (first_of op a) b.code in
+            let first : List Instr = map (instruction_of_draft met unmet) (first_of op a) in
+            let second : List Instr = map (instruction_of_draft met unmet) b.code in
+            let apart = map-append (instruction_of_draft met unmet) (first_of op a) b.code in
             let mid_is : a.to + 1 ≡ from + length first = (let v = completed_length met unmet (first_of op a) in omega (arith, x, z, v)) in
             subst (AreGood code arguments f end o from) (sym apart)
             (good_parts code arguments f end o from (a.to + 1) bs first second mid_is (first_balanced op met unmet) (subst (Runs code arguments f end o from bs) apart run)
             (by op o bs (fits_before code arguments f.registers a.lists b.lists g.grows k) met unmet m u) (g.goods o bs k met unmet m u));
       }
     where
-      first_balanced : (op : LogicalOp) (met unmet : ℕ) → IsBalanced arguments (map (completed met unmet) (first_of op a))
+      first_balanced : (op : LogicalOp) (met unmet : ℕ) → IsBalanced arguments (map (instruction_of_draft met unmet) (first_of op a))
       first_balanced AndThen met unmet = subst (IsBalanced arguments) (sym (first_and met unmet a)) (on_balanced from l a h unmet)
       first_balanced OrElse met unmet = subst (IsBalanced arguments) (sym (first_or met unmet a)) (back_balanced from l a h met)
 
       by : (op : LogicalOp) (o : ℕ → List ℕ) (bs : List ℕ) → Fits code arguments f.registers a.lists → (met unmet : ℕ) → Meets code arguments f end o (met, bs) → Meets code arguments f end o (unmet, bs) →
-          Runs code arguments f end o from bs (map (completed met unmet) (first_of op a)) → AreGood code arguments f end o from (map (completed met unmet) (first_of op a))
+          Runs code arguments f end o from bs (map (instruction_of_draft met unmet) (first_of op a)) → AreGood code arguments f end o from (map (instruction_of_draft met unmet) (first_of op a))
       by AndThen o bs k met unmet m u run =
           subst (AreGood code arguments f end o from) (sym (first_and met unmet a)) (going_on_good from l a h o bs k unmet u (subst (Runs code arguments f end o from bs) (first_and met unmet a) run))
       by OrElse o bs k met unmet m u run =
           subst (AreGood code arguments f end o from) (sym (first_or met unmet a)) (going_back_good from l a h o bs k met m (subst (Runs code arguments f end o from bs) (first_or met unmet a) run))
 
-  pub tested_sound : (from : ℕ) (l : Lists) (o : Option Condition) (e : Emitted) → IfSome o (TestSound from l) → Sound from l e → TestSound from l (tested o e)
+  pub tested_sound : (from : ℕ) (l : Lists) (o : Option Condition) (e : Emitted) → IfSome o (TestSound from l) → Sound from l e → TestSound from l (condition_of o e)
   tested_sound from l None e h g = value_sound from l e g
   tested_sound from l (Some c) e h g = h
 
@@ -425,7 +425,7 @@ module _ (code : Code) (arguments : List ℕ) (f : FunctionCode) (end : ℕ) whe
   zero_sound (Some true) from l c h = opposite_sound from l c h
   zero_sound (Some false) from l c h = h
 
-  pub answered_sound : (into from : ℕ) (l : Lists) (c : Condition) → TestSound from l c → Sound from l (answered c into)
+  pub answered_sound : (into from : ℕ) (l : Lists) (c : Condition) → TestSound from l c → Sound from l (condition_value c into)
   answered_sound into from l c h =
       let long : Instr = own.Constant into 1 in
       let skip : Instr = own.Jump (c.to + 4) in
@@ -440,7 +440,7 @@ module _ (code : Code) (arguments : List ℕ) (f : FunctionCode) (end : ℕ) whe
         held = let z = max_right c.lists.registers (suc into) in omega (arith, z);
         balanced = balanced_append arguments head tail (on_balanced from l c h (c.to + 3)) (λ q bs. refl);
         goods = λ o bs k run.
-            let inner = fits_before code arguments f.registers c.lists (used into c.lists) (grows_used c.lists c.lists into (grows_same c.lists)) k in
+            let inner = fits_before code arguments f.registers c.lists (with_register into c.lists) (grows_used c.lists c.lists into (grows_same c.lists)) k in
             let here = is_register code arguments f.registers c.lists into k in
             let two = parted code arguments f end o from (c.to + 1) bs head tail next (on_balanced from l c h (c.to + 3)) run in
             let at_skip = next_run code arguments f end o (c.to + 1) bs long (skip ∷ short ∷ []) (λ q bs. refl) two.1 in
@@ -456,14 +456,14 @@ module _ (code : Code) (arguments : List ℕ) (f : FunctionCode) (end : ℕ) whe
             );
       }
 
-  pub settled_sound : (r from : ℕ) (l : Lists) (e : Emitted) → Sound from l e → Sound from l (settled r e)
+  pub settled_sound : (r from : ℕ) (l : Lists) (e : Emitted) → Sound from l e → Sound from l (value_into r e)
   settled_sound r from l e h = by (e.held.register == r)
     where
       by : (b : Bool) → Sound from l (if b then e else then_one e (own.Move r e.held.register) r e.held.of)
       by true = h
       by false = then_sound (own.Move r e.held.register) r e.held.of from l e h (λ q bs. (refl, tt)) (λ x y. (x, y))
 
-  pub chosen_sound : (t : Scalar) (into from : ℕ) (l : Lists) (c : Condition) (a b : Emitted) → TestSound from l c → Sound (c.to + 1) c.lists a → Sound (a.held.to + 1) a.lists b → b.held.register ≡ into → Sound from l (chosen t c a b into)
+  pub chosen_sound : (t : Scalar) (into from : ℕ) (l : Lists) (c : Condition) (a b : Emitted) → TestSound from l c → Sound (c.to + 1) c.lists a → Sound (a.held.to + 1) a.lists b → b.held.register ≡ into → Sound from l (conditional_value t c a b into)
   chosen_sound t into from l c a b h g w same =
       let test : List Instr = going_on c.code (test_in c) (a.held.to + 1) in
       let skip : Instr = own.Jump b.held.to in
@@ -501,7 +501,7 @@ module _ (code : Code) (arguments : List ℕ) (f : FunctionCode) (end : ℕ) whe
     pub balanced : IsBalanced arguments e.code
     pub goods : (open_at : ℕ → List ℕ) (bs : List ℕ) → Fits code arguments f.registers e.lists → Runs code arguments f end open_at from bs e.code → AreGood code arguments f end open_at from e.code
 
-  pub followed_sound : (from : ℕ) (l : Lists) (e : Emitted) (es : AllEmitted) → Sound from l e → AllSound e.held.to e.lists es → AllSound from l (followed e es)
+  pub followed_sound : (from : ℕ) (l : Lists) (e : Emitted) (es : AllEmitted) → Sound from l e → AllSound e.held.to e.lists es → AllSound from l (with_argument e es)
   followed_sound from l e es h g =
       let x = h.to_is in
       let y = g.to_is in
@@ -514,24 +514,24 @@ module _ (code : Code) (arguments : List ℕ) (f : FunctionCode) (end : ℕ) whe
             good_parts code arguments f end o from e.held.to bs e.code es.code h.to_is h.balanced run (h.goods o bs (fits_before code arguments f.registers e.lists es.lists g.grows k)) (g.goods o bs k);
       }
 
-  pub called_sound : (c : Callee) (into from : ℕ) (l : Lists) (args : AllEmitted) → AllSound from l args → length args.registers ≡ length c.parameters → Takes code c.number (length c.parameters) → Sound from l (called (Some c) args from into l)
+  pub called_sound : (c : Callee) (into from : ℕ) (l : Lists) (args : AllEmitted) → AllSound from l args → length args.registers ≡ length c.parameters → Takes code c.number (length c.parameters) → Sound from l (call_code (Some c) args from into l)
   called_sound c into from l args h many takes =
       let made : List ℕ = args.lists.arguments in
-      let handed : List ℕ = arranged c.parameters args.registers in
+      let handed : List ℕ = argument_order c.parameters args.registers in
       let i : Instr = own.Call into (length handed) c.number (length made) in
       let more : Lists = record args.lists { arguments = made ++ handed } in
       let lists : Lists = holding (length handed) more in
       let grows_more : Grows args.lists more = record { arguments = front_more made handed; texts = front_same args.lists.texts; registers = omega arith; layout = refl } in
       let grows_lists : Grows more lists = record { arguments = front_same (made ++ handed); texts = front_same args.lists.texts; registers = max_left args.lists.registers (length handed); layout = refl } in
-      let all : Grows args.lists (used into lists) = grows_used args.lists lists into (grows_further args.lists more lists grows_more grows_lists) in
+      let all : Grows args.lists (with_register into lists) = grows_used args.lists lists into (grows_further args.lists more lists grows_more grows_lists) in
       let to_is = h.to_is in
       record {
         to_is = let b : length (args.code ++ i ∷ []) ≡ length args.code + 1 = length-append args.code (i ∷ []) in omega (arith, to_is, b);
-        grows = grows_further l args.lists (used into lists) h.grows all;
+        grows = grows_further l args.lists (with_register into lists) h.grows all;
         held = let x = max_right lists.registers (suc into) in omega (arith, x);
         balanced = balanced_append arguments args.code (i ∷ []) h.balanced (λ q bs. refl);
         goods = λ o bs k run.
-            let first = fits_before code arguments f.registers args.lists (used into lists) all k in
+            let first = fits_before code arguments f.registers args.lists (with_register into lists) all k in
             let same : instr_of arguments i ≡ Plain.Call c.number into handed = ap (λ xs. Plain.Call c.number into xs) (handed_over arguments made handed k.arguments.0 k.arguments.1) in
             let below : AreBelow f.registers handed = arranged_below f.registers c.parameters args.registers (below_more args.lists.registers f.registers args.registers (size_of args.lists first) h.held) in
             let takes_them : Takes code c.number (length handed) = subst (Takes code c.number) (sym (arranged_length c.parameters args.registers many)) takes in

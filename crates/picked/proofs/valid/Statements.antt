@@ -21,8 +21,8 @@ use Rattle.picked.specs.declared.held.Exits.{Exits}
 use Rattle.picked.specs.Lists.{Lists}
 use Rattle.picked.specs.Expressions.{AllEmitted, due, condition, all_emitted}
 use Rattle.picked.specs.Conditions.{Condition, test_in, going_on}
-use Rattle.picked.specs.Simples.{Written, nothing_written, one_written, and_then, evaluated, start_written}
-use Rattle.picked.specs.Statements.{in_transaction, looping, left_by, branched, branched_twice, tested_back, while_written, do_written, for_written, returned, printing, and_one, pieces_written, print_written, for_test, for_step, written, all_written}
+use Rattle.picked.specs.Simples.{Written, nothing_written, one_written, and_then, code_of_value, start_written}
+use Rattle.picked.specs.Statements.{in_transaction, looping, left_by, if_code, branched_twice, tested_back, while_written, do_written, for_written, return_code, printing, and_one, pieces_written, print_written, for_test, for_step, written, all_written}
 use Rattle.picked.proofs.stands.Standing.{Grows, grows_further, front_same, front_more}
 use Rattle.picked.proofs.stands.Exprs.{DefinedAreCallees}
 use Rattle.picked.proofs.stands.Simply.{start_agrees}
@@ -94,12 +94,12 @@ module _ (code : Code) (arguments : List ℕ) (f : FunctionCode) (end : ℕ) whe
       (λ o k holds run. going_back_good code arguments f end from l c h o bs k there (meets o holds) run)
 
   -- a branch
-  if_part : (P : (ℕ → List ℕ) → Type 0) (bs : List ℕ) (from : ℕ) (l : Lists) (c : Condition) (a : Written) → TestSound code arguments f end from l c → Part code arguments f end P bs (c.to + 1) c.lists a → Part code arguments f end P bs from l (branched c a)
+  if_part : (P : (ℕ → List ℕ) → Type 0) (bs : List ℕ) (from : ℕ) (l : Lists) (c : Condition) (a : Written) → TestSound code arguments f end from l c → Part code arguments f end P bs (c.to + 1) c.lists a → Part code arguments f end P bs from l (if_code c a)
   if_part P bs from l c a h g =
       let Q : (ℕ → List ℕ) → Type 0 = λ o. P o × Open bs a.to o in
       let x = h.to_is in
       let y = g.to_is in
-      knowing code arguments f end Q P bs from l (branched c a)
+      knowing code arguments f end Q P bs from l (if_code c a)
       (then_part code arguments f end Q bs from (c.to + 1) l (leading c a.to) a refl (leading_part Q bs a.to from l c h (λ o q. q.1)) (given code arguments f end P Q bs (c.to + 1) c.lists a g (λ o q. q.0)))
       (λ o first last are e holds. (holds, ((omega (arith, first, x, y), last), e)))
 
@@ -293,13 +293,13 @@ module _ (code : Code) (arguments : List ℕ) (f : FunctionCode) (end : ℕ) whe
           (pieces_flat (pieces format) args.registers args.to args.lists g.held)
 
       return_part : (bs : List ℕ) (x : Exits) (loops : Bool) (m : Enclosing) (e : Expr) → TypedExpr known e → (from : ℕ) (l : Lists) →
-          Part code arguments f end (Exiting code arguments f end bs x loops m) bs from l (returned x.in_function (due p scope x.gives e from (length scope) (length scope) l))
+          Part code arguments f end (Exiting code arguments f end bs x loops m) bs from l (return_code x.in_function (due p scope x.gives e from (length scope) (length scope) l))
       return_part bs x loops m e h from l =
           let v = due p scope x.gives e from (length scope) (length scope) l in
           let s = due_sound p code arguments f end typed takes defined shares known scope agrees x.gives e h from (length scope) (length scope) l in
           let P : (ℕ → List ℕ) → Type 0 = Exiting code arguments f end bs x loops m in
-          then_part code arguments f end P bs from v.held.to l (evaluated v) (left_by x.in_function (own.ReturnValue v.held.register) v.held.to v.lists) refl
-          (flat_part code arguments f end P bs from l (evaluated v) (evaluated_flat code arguments f end from l v s))
+          then_part code arguments f end P bs from v.held.to l (code_of_value v) (left_by x.in_function (own.ReturnValue v.held.register) v.held.to v.lists) refl
+          (flat_part code arguments f end P bs from l (code_of_value v) (evaluated_flat code arguments f end from l v s))
           (left_part code arguments f end P bs x.in_function (own.ReturnValue v.held.register) v.held.to v.lists (λ o exits. let i = exits.in_function in omega (arith, i))
           (λ o k exits r are. record { begins = []; are = are ∙ all_left bs x.in_function exits.in_function; written = in_size code arguments f end v.held.register v.lists s.held k; asks = refl; leads = tt }))
 

@@ -9,7 +9,7 @@ use Rattle.replay.specs.declared.line.Line.{Line}
 use Rattle.replay.specs.declared.play.Halt.{Halt}
 use Rattle.replay.specs.declared.play.Halt.TheVariants.{Stopped, Refused}
 use Rattle.replay.specs.declared.line.TheConstants.{MOST_STEPS}
-use Rattle.replay.specs.Replays.{events_of, first_world, played, steps_of}
+use Rattle.replay.specs.Replays.{events_of, first_world, simulation_after, steps_of}
 
 -- With room for so many steps before it and after it, these are the steps of the line, whatever lines follow it.
 pub record Plays (line : Line) (room left : ℕ) (before after : Simulation) : Type 0 where
@@ -49,7 +49,7 @@ pub record Going (line : Line) (room count left : ℕ) (before now : Simulation)
 pub record HasPlayed (code : Code) (threads : ℕ) (lines : List Line) (room : ℕ) (rest : List Line) (now : Simulation) :
     Type 0 where
   pub made : List ℕ
-  pub are : now ≡ played code threads made
+  pub are : now ≡ simulation_after code threads made
   pub named : steps_of code MOST_STEPS lines (first_world code threads) ≡ made ++ steps_of code room rest (world_of now)
 
 -- where a schedule ends: all its lines were played, or one was cut at a step of its thread that is not made

@@ -44,11 +44,11 @@ pub record State : Type 0 where
   pub queue : List ℕ
 
 -- a number is put into the set and the queue, where it was no member yet
-abbrev pub visited : State → ℕ → State
-visited s i =
+abbrev pub enqueue : State → ℕ → State
+enqueue s i =
     if slice_index_or s.members i true then s
     else record { members = slice_set s.members i true; queue = s.queue ++ i ∷ [] }
 
 abbrev pub all_visited : State → List ℕ → State
 all_visited s [] = s
-all_visited s (i ∷ is) = all_visited (visited s i) is
+all_visited s (i ∷ is) = all_visited (enqueue s i) is

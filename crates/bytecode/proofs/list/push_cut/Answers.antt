@@ -1,6 +1,6 @@
 use Rattle.std.proofs.Common.{◌++◌, ◌-◌, ap, ◌∙◌, drop, map, take, string_bytes}
 use Rattle.std.proofs.lemmas.Result.{on_ok_weaker}
-use Rattle.bytecode.specs.Flat.{decoded}
+use Rattle.bytecode.specs.Flat.{instruction_from}
 use Rattle.bytecode.specs.Listing.{lines_from}
 use Rattle.bytecode.proofs.Kept.{cut_whole}
 use Rattle.bytecode.proofs.Lines.{lines_fit, cut_map}
@@ -23,9 +23,9 @@ returns g c =
     let n = c.args.end - c.args.first in
     let cut = c.cut-lines.ensures ∙ ap (λ k. take k (drop c.args.first fs)) c.saturating_sub-count.ensures in
     on_ok_weaker c.push_lines.result (λ h. h ∙ ap (λ r. string_bytes c.args.text.now ++ r) (
-    ap (λ gs. lines_from gs c.from.result (map (decoded ws) lines)) c.functions.ensures
-    ∙ ap (λ k. lines_from code.functions k (map (decoded ws) lines)) c.from.ensures
+    ap (λ gs. lines_from gs c.from.result (map (instruction_from ws) lines)) c.functions.ensures
+    ∙ ap (λ k. lines_from code.functions k (map (instruction_from ws) lines)) c.from.ensures
     ∙ ap (lines_from code.functions c.args.first) (
-    ap (map (decoded ws)) cut ∙ cut_map (decoded ws) n c.args.first fs ∙ ap (λ is. take n (drop c.args.first is)) c.flat.ensures.decodes
+    ap (map (instruction_from ws)) cut ∙ cut_map (instruction_from ws) n c.args.first fs ∙ ap (λ is. take n (drop c.args.first is)) c.flat.ensures.decodes
     )
     )) c.push_lines.ensures

@@ -8,7 +8,7 @@ use Rattle.syntax.specs.Numbers.{common}
 use Rattle.syntax.specs.Views.{name_of, parameter_of, expr_of, exprs_of}
 use Rattle.picked.specs.Names.{callee_of}
 use Rattle.picked.specs.Conditions.{zero_tested}
-use Rattle.picked.specs.Expressions.{AllEmitted, in_own_transaction, negated, complemented, compared, constant, converting, variable, element, answered, called, settled, types_of, taken_types, emitted_type, emitted, due, handed, condition, all_emitted}
+use Rattle.picked.specs.Expressions.{AllEmitted, in_own_transaction, negation, complement, logical_negation, constant, converting, variable, element, condition_value, call_code, value_into, types_of, taken_types, emitted_type, emitted, due, handed, condition, all_emitted}
 use Rattle.picked.proofs.Growing.{used_more, compared_more, condition_more}
 use Rattle.expression_code.specs.Lists.{lists_of}
 use Rattle.expression_code.specs.Views.{program_in, scope_in}
@@ -80,17 +80,17 @@ pub lower_expr-returns-in-None-called : goal.lower_expr-returns-in-None-called
 lower_expr-returns-in-None-called g t c =
     let found = sym (ap (option_map callee_in) c.in-None-called.is) ∙ c.called.ensures ∙ ap (callee_of (program_in c.args.names.now)) c.as_str-in-Call.ensures in
     let args = all_emitted (program_in c.args.names.now) (scope_in c.args.scope.now) (taken_types (callee_of (program_in c.args.names.now) (name_of c.in-Call.f).text)) (exprs_of c.in-Call.args) c.args.from c.args.free (lists_of c.args.lists.now) in
-    value_there (program_in c.args.names.now) (scope_in c.args.scope.now) c.args.from c.args.into c.args.free (lists_of c.args.lists.now) (call_is c.in-Call.is refl) (same (ap (λ o. of_value (called o args c.args.from c.args.into (lists_of c.args.lists.now))) found) c.put_constant-in-None-called.ensures)
+    value_there (program_in c.args.names.now) (scope_in c.args.scope.now) c.args.from c.args.into c.args.free (lists_of c.args.lists.now) (call_is c.in-Call.is refl) (same (ap (λ o. of_value (call_code o args c.args.from c.args.into (lists_of c.args.lists.now))) found) c.put_constant-in-None-called.ensures)
 
 pub lower_expr-returns-in-Some-called : goal.lower_expr-returns-in-Some-called
 lower_expr-returns-in-Some-called g t c =
     let found = c.in-Some-called.ensures ∙ ap (callee_of (program_in c.args.names.now)) c.as_str-in-Call.ensures in
-    value_there (program_in c.args.names.now) (scope_in c.args.scope.now) c.args.from c.args.into c.args.free (lists_of c.args.lists.now) (call_is c.in-Call.is c.as_slice-all.ensures) (same (ap (λ o. of_value (called o (all_emitted (program_in c.args.names.now) (scope_in c.args.scope.now) (taken_types o) (exprs_of c.as_slice-all.result.now) c.args.from c.args.free (lists_of c.args.lists.now)) c.args.from c.args.into (lists_of c.args.lists.now))) found) c.lower_call.ensures)
+    value_there (program_in c.args.names.now) (scope_in c.args.scope.now) c.args.from c.args.into c.args.free (lists_of c.args.lists.now) (call_is c.in-Call.is c.as_slice-all.ensures) (same (ap (λ o. of_value (call_code o (all_emitted (program_in c.args.names.now) (scope_in c.args.scope.now) (taken_types o) (exprs_of c.as_slice-all.result.now) c.args.from c.args.free (lists_of c.args.lists.now)) c.args.from c.args.into (lists_of c.args.lists.now))) found) c.lower_call.ensures)
 
 pub lower_expr-returns-in_ok-a-in-Negate : goal.lower_expr-returns-in_ok-a-in-Negate
 lower_expr-returns-in_ok-a-in-Negate g t c =
     let a = c.in_ok-a-in-Negate.ensures in
-    value_there (program_in c.args.names.now) (scope_in c.args.scope.now) c.args.from c.args.into c.args.free (lists_of c.args.lists.now) (unary_is c.in-Unary.is c.in-Negate.is c.get-in-Negate.ensures) (in_turn a (λ j. of_value (negated (in_place (a.end j) (a.lists j)) c.args.into)) c.put_negated.ensures)
+    value_there (program_in c.args.names.now) (scope_in c.args.scope.now) c.args.from c.args.into c.args.free (lists_of c.args.lists.now) (unary_is c.in-Unary.is c.in-Negate.is c.get-in-Negate.ensures) (in_turn a (λ j. of_value (negation (in_place (a.end j) (a.lists j)) c.args.into)) c.put_negated.ensures)
 
 pub lower_expr-returns-in_err-a-in-Negate : goal.lower_expr-returns-in_err-a-in-Negate
 lower_expr-returns-in_err-a-in-Negate g t c =
@@ -100,7 +100,7 @@ lower_expr-returns-in_err-a-in-Negate g t c =
 pub lower_expr-returns-in_ok-a-in-Complement : goal.lower_expr-returns-in_ok-a-in-Complement
 lower_expr-returns-in_ok-a-in-Complement g t c =
     let a = c.in_ok-a-in-Complement.ensures in
-    value_there (program_in c.args.names.now) (scope_in c.args.scope.now) c.args.from c.args.into c.args.free (lists_of c.args.lists.now) (unary_is c.in-Unary.is c.in-Complement.is c.get-in-Complement.ensures) (in_turn a (λ j. of_value (complemented (in_place (a.end j) (a.lists j)) c.args.into)) c.put_complemented.ensures)
+    value_there (program_in c.args.names.now) (scope_in c.args.scope.now) c.args.from c.args.into c.args.free (lists_of c.args.lists.now) (unary_is c.in-Unary.is c.in-Complement.is c.get-in-Complement.ensures) (in_turn a (λ j. of_value (complement (in_place (a.end j) (a.lists j)) c.args.into)) c.put_complemented.ensures)
 
 pub lower_expr-returns-in_err-a-in-Complement : goal.lower_expr-returns-in_err-a-in-Complement
 lower_expr-returns-in_err-a-in-Complement g t c =
@@ -110,7 +110,7 @@ lower_expr-returns-in_err-a-in-Complement g t c =
 pub lower_expr-returns-in_ok-a-in-Not : goal.lower_expr-returns-in_ok-a-in-Not
 lower_expr-returns-in_ok-a-in-Not g t c =
     let a = c.in_ok-a-in-Not.ensures in
-    value_there (program_in c.args.names.now) (scope_in c.args.scope.now) c.args.from c.args.into c.args.free (lists_of c.args.lists.now) (unary_is c.in-Unary.is c.in-Not.is c.get-in-Not.ensures) (in_turn a (λ j. of_value (compared (in_place (a.end j) (a.lists j)) c.args.into c.args.free)) c.put_compared.ensures)
+    value_there (program_in c.args.names.now) (scope_in c.args.scope.now) c.args.from c.args.into c.args.free (lists_of c.args.lists.now) (unary_is c.in-Unary.is c.in-Not.is c.get-in-Not.ensures) (in_turn a (λ j. of_value (logical_negation (in_place (a.end j) (a.lists j)) c.args.into c.args.free)) c.put_compared.ensures)
 
 pub lower_expr-returns-in_err-a-in-Not : goal.lower_expr-returns-in_err-a-in-Not
 lower_expr-returns-in_err-a-in-Not g t c =
@@ -121,7 +121,7 @@ pub lower_call-returns : goal.lower_call-returns
 lower_call-returns g t c =
     let k = c.in_ok-to.ensures in
     let rs = c.as_slice.ensures ∙ k.registers ∙ ap (λ xs. xs ++ (all_emitted (program_in c.args.names.now) (scope_in c.args.scope.now) (taken_types (Some (callee_in c.args.f))) (exprs_of c.args.all.now) c.args.from c.args.free (lists_of c.args.lists.now)).registers) c.requires in
-    in_turn k.code (λ j. of_value (called (Some (callee_in c.args.f)) (all_in_place (rs j) (k.code.end j) (k.code.lists j)) (k.code.end j) c.args.into (k.code.lists j))) c.put_call.ensures
+    in_turn k.code (λ j. of_value (call_code (Some (callee_in c.args.f)) (all_in_place (rs j) (k.code.end j) (k.code.lists j)) (k.code.end j) c.args.into (k.code.lists j))) c.put_call.ensures
 
 pub lower_call-returns-in_err-to : goal.lower_call-returns-in_err-to
 lower_call-returns-in_err-to g t c =
@@ -131,7 +131,7 @@ pub lower_logical-returns : goal.lower_logical-returns
 lower_logical-returns g t c =
     let a = c.in_ok-next.ensures in
     let b = in_turn a (λ j. of_test (condition (program_in c.args.names.now) (scope_in c.args.scope.now) (expr_of c.args.right.now) (a.end j) c.args.free (a.lists j))) c.in_ok-t.ensures in
-    same (ap (λ k. of_value (answered k c.args.into)) (gathered b c.requires.test c.as_slice.ensures.value)) c.put_answers.ensures
+    same (ap (λ k. of_value (condition_value k c.args.into)) (gathered b c.requires.test c.as_slice.ensures.value)) c.put_answers.ensures
 
 pub lower_logical-returns-in_err-next : goal.lower_logical-returns-in_err-next
 lower_logical-returns-in_err-next g t c =
@@ -152,7 +152,7 @@ pub lower_settled-returns-clause-code : goal.lower_settled-returns-clause-code
 lower_settled-returns-clause-code g t c =
     let k = c.in_ok-held.ensures in
     same (settled_behind c.args.into (due (program_in c.args.names.now) (scope_in c.args.scope.now) c.args.of (expr_of c.args.e.now) c.args.from c.args.into c.args.free (lists_of c.args.lists.now)))
-    (in_turn k (λ j. of_value (settled c.args.into (in_place (k.end j) (k.lists j)))) c.settle.ensures.code)
+    (in_turn k (λ j. of_value (value_into c.args.into (in_place (k.end j) (k.lists j)))) c.settle.ensures.code)
 
 pub lower_in_transaction-returns : goal.lower_in_transaction-returns
 lower_in_transaction-returns g t c =

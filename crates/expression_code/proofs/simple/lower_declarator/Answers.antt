@@ -1,7 +1,7 @@
 use Rattle.std.proofs.Common.{ap, ◌∙◌, arith, OnOk, Result, Ok, Err}
 use Rattle.syntax.specs.Views.{declarator_of}
 use Rattle.lowered.specs.Statements.{with_local}
-use Rattle.picked.specs.Lists.{used}
+use Rattle.picked.specs.Lists.{with_register}
 use Rattle.expression_code.specs.Lists.{lists_of}
 use Rattle.expression_code.specs.Views.{program_in, scope_in}
 use Rattle.expression_code.proofs.Declared.{zero_within, declarator_there}
@@ -19,10 +19,10 @@ returns-clause-scope g c =
 pub returns-clause-code : goal.returns-clause-code
 returns-clause-code g c =
     let at = c.len.ensures in
-    declarator_there (program_in c.args.names.now) c.args.of (declarator_of c.args.d.now) (scope_in c.args.scope.now) c.args.from (lists_of c.args.lists.now) (c.in_ok-register.ensures.register ∙ at) (c.in_ok-declare.ensures ∙ ap (λ x. with_local (scope_in c.args.scope.now) x c.args.of) c.as_str.ensures) c.in_ok-put.ensures (c.in_ok-register.ensures.lists ∙ ap (λ i. used i (lists_of c.args.lists.now)) at) c.in_ok-next.ensures c.lower_first.ensures
+    declarator_there (program_in c.args.names.now) c.args.of (declarator_of c.args.d.now) (scope_in c.args.scope.now) c.args.from (lists_of c.args.lists.now) (c.in_ok-register.ensures.register ∙ at) (c.in_ok-declare.ensures ∙ ap (λ x. with_local (scope_in c.args.scope.now) x c.args.of) c.as_str.ensures) c.in_ok-put.ensures (c.in_ok-register.ensures.lists ∙ ap (λ i. with_register i (lists_of c.args.lists.now)) at) c.in_ok-next.ensures c.lower_first.ensures
 
 pub returns-in_err-register-clause-code : goal.returns-in_err-register-clause-code
 returns-in_err-register-clause-code g c =
     let within = zero_within (program_in c.args.names.now) c.args.of (declarator_of c.args.d.now) (scope_in c.args.scope.now) c.args.from (lists_of c.args.lists.now) in
-    let at = ap (λ i. (used i (lists_of c.args.lists.now)).registers) c.len.ensures in
+    let at = ap (λ i. (with_register i (lists_of c.args.lists.now)).registers) c.len.ensures in
     needed_stops c.take.ensures.fails c.in_err-register.was c.from_residual.ensures (omega (arith, at, within))

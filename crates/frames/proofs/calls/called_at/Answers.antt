@@ -1,6 +1,6 @@
 use Rattle.std.proofs.Common.{◌≡◌, ◌<◌, ◌+◌, ◌-◌, ◌∙◌, length, refl, sym, ap, arith}
 use Rattle.std.proofs.lemmas.Bool.{ltb-true, ltb-false}
-use Rattle.bytecode.specs.Flat.{count_at, decoded, operand}
+use Rattle.bytecode.specs.Flat.{count_at, instruction_from, operand}
 use Rattle.bytecode.specs.Views.{function_of}
 use Rattle.frames.specs.Stack.{callee_of}
 use Rattle.frames.proofs.CallWords.{head_inside, result_inside, whole_at, call_count, none_called, call_at}
@@ -49,4 +49,4 @@ returns-in-None-get-clause-none g c = no_callee c.args.code.now _ (operand c.fla
     (no_item function_of c.args.code.now.functions c.functions.result.now (operand c.flat.result.0.now c.in-Some.first.now 1) (sym c.functions.ensures) (ltb-false _ _ (sym c.in-None-get.ensures.lookup.0)))
 
 pub returns-in-None-clause-none : goal.returns-in-None-clause-none
-returns-in-None-clause-none g c = ap (callee_of c.args.code.now) (no_item (decoded c.flat.result.0.now) c.args.code.now.instructions c.flat.result.1.now c.args.place (sym c.flat.ensures.decodes) (ltb-false _ _ (sym c.in-None.ensures.lookup.0)))
+returns-in-None-clause-none g c = ap (callee_of c.args.code.now) (no_item (instruction_from c.flat.result.0.now) c.args.code.now.instructions c.flat.result.1.now c.args.place (sym c.flat.ensures.decodes) (ltb-false _ _ (sym c.in-None.ensures.lookup.0)))

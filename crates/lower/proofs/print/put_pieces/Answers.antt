@@ -5,13 +5,13 @@ use Rattle.picked.specs.Statements.{pieces_written}
 use Rattle.picked.proofs.GrowingStmts.{pieces_same}
 use Rattle.expression_code.specs.Lists.{lists_of}
 use Rattle.expression_code.proofs.Adding.{written_behind, goes_on, stops}
-use Rattle.lower.specs.inner.Formats.{joined}
+use Rattle.lower.specs.inner.Formats.{with_literal}
 use Rattle.lower.proofs.Formatted.{byte_goes, figure_goes, text_same, no_register, no_piece}
 use Rattle.lower.proofs.print.put_pieces.Goals as goal
 
 pub units-init : goal.units-init
 units-init g c =
-    let same = ap (λ bs. pieces_written (joined bs (pieces c.args.format.now)) c.args.registers.now c.args.from (lists_of c.args.lists.now)) c.new-bytes.ensures.items in
+    let same = ap (λ bs. pieces_written (with_literal bs (pieces c.args.format.now)) c.args.registers.now c.args.from (lists_of c.args.lists.now)) c.new-bytes.ensures.items in
     record { within = omega arith; taken = omega arith; code = ap (written_behind c.args.code.now.items) same }
 
 pub units-preserved-in-Byte : goal.units-preserved-in-Byte
@@ -37,7 +37,7 @@ pub returns-in_err-to-in-Figure : goal.returns-in_err-to-in-Figure
 returns-in_err-to-in-Figure g c =
     let u = c.units in
     let text = text_same u.bytes.items u.to (lists_of u.lists) in
-    let rest = pieces_same (joined u.bytes.items (pieces (drop u.i c.args.format.now))) (drop u.k c.args.registers.now) u.to (lists_of u.lists) in
+    let rest = pieces_same (with_literal u.bytes.items (pieces (drop u.i c.args.format.now))) (drop u.k c.args.registers.now) u.to (lists_of u.lists) in
     let whole = ap (λ (w : Written). w.lists.registers) u.invariant.code in
     stops c.put_figure.ensures c.in_err-to-in-Figure.was c.from_residual-in_err-to-in-Figure.ensures (omega (arith, text, rest, whole))
 

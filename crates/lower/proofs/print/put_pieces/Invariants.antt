@@ -3,7 +3,7 @@ use Rattle.syntax.specs.Formats.{pieces}
 use Rattle.picked.specs.Statements.{pieces_written}
 use Rattle.expression_code.specs.Lists.{lists_of}
 use Rattle.expression_code.proofs.Adding.{written_behind}
-use Rattle.lower.specs.inner.Formats.{joined}
+use Rattle.lower.specs.inner.Formats.{with_literal}
 use Rattle.lower.proofs.print.put_pieces.Given as goal
 
 abbrev pub decreases-units : goal.decreases-units
@@ -12,7 +12,7 @@ decreases-units g l = length l.format - l.i
 -- what is put and what is to come are the whole
 abbrev pub invariant-units : goal.invariant-units
 invariant-units g l =
-    let rest = pieces_written (joined l.bytes.items (pieces (drop l.i l.format))) (drop l.k l.registers) l.to (lists_of l.lists) in
+    let rest = pieces_written (with_literal l.bytes.items (pieces (drop l.i l.format))) (drop l.k l.registers) l.to (lists_of l.lists) in
     let whole = pieces_written (pieces l.format) l.registers l.from (lists_of l.fn.lists) in
     record {
       within : l.i ≤ length l.format;

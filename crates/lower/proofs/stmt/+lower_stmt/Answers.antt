@@ -9,7 +9,7 @@ use Rattle.picked.specs.declared.held.Tested.{Tested}
 use Rattle.picked.specs.Conditions.{going_on}
 use Rattle.picked.specs.Expressions.{condition}
 use Rattle.picked.specs.Simples.{Written}
-use Rattle.picked.specs.Statements.{branched, looping, tested_back, for_step, for_test, written, all_written}
+use Rattle.picked.specs.Statements.{if_code, looping, tested_back, for_step, for_test, written, all_written}
 use Rattle.picked.proofs.Growing.{condition_more}
 use Rattle.picked.proofs.GrowingStmts.{written_more}
 use Rattle.expression_code.specs.Lists.{lists_of}
@@ -98,7 +98,7 @@ lower_if-returns-clause-code g t c =
     let there = ap of_written (λ j. written (program_in c.args.names.now) (stmt_of c.args.then.now) c.args.exits (scope_in c.args.scope.now) (next j) (c.in_ok-t.ensures.lists j)) in
     let test = gathered c.in_ok-t.ensures c.requires.test c.as_slice.ensures.value in
     let branch = written_alone (same there c.in_ok-to.ensures.code) c.requires.branch in
-    same (λ j. of_written (branched (test j) (branch j))) (record { code = c.in_ok-put_branch.ensures; lists = refl; end = refl; fails = tt })
+    same (λ j. of_written (if_code (test j) (branch j))) (record { code = c.in_ok-put_branch.ensures; lists = refl; end = refl; fails = tt })
 
 pub lower_if-returns-in_err-t-clause-code : goal.lower_if-returns-in_err-t-clause-code
 lower_if-returns-in_err-t-clause-code g t c =

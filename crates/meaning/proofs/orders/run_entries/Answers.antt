@@ -1,7 +1,7 @@
 use Rattle.std.proofs.Common.{◌∙◌, ap, map, refl, subst, sym}
 use Rattle.syntax.specs.Orders.{entries}
 use Rattle.syntax.specs.Views.{program_of}
-use Rattle.meaning.specs.InOrder.{IsInOrder, told}
+use Rattle.meaning.specs.InOrder.{IsInOrder, text_and_end}
 use Rattle.meaning.specs.declared.orders.Standing.{Standing}
 use Rattle.meaning.specs.declared.outcome.SourceOutcome.{SourceOutcome}
 use Rattle.meaning.specs.inner.Machine.{program_in}
@@ -19,4 +19,4 @@ returns g c =
     subst (λ p. IsInOrder p c.args.threads c.args.ticks c.args.order.now all) (sym same)
     (in_this_order source c.args.threads c.args.ticks c.args.order.now way.memory.items way.threads.items all (c.in_ok-take_turns.ensures.known c.args.ticks known)
     (sym (c.in_ok-take_turns.ensures.taken c.args.ticks known ∙ ap (entries (does_in (program_in source)) c.args.ticks c.args.order.now) c.in_ok-way.ensures.start)) refl
-    (c.in_ok-threads.ensures ∙ ap (map (λ (s : Standing _). told (seen_in s))) c.as_slice.ensures.value))
+    (c.in_ok-threads.ensures ∙ ap (map (λ (s : Standing _). text_and_end (seen_in s))) c.as_slice.ensures.value))

@@ -2,7 +2,7 @@ use Rattle.std.proofs.Common.{◌≡◌, ◌≤◌, ◌-◌, drop, length}
 use Rattle.syntax.specs.Formats.{pieces}
 use Rattle.syntax.specs.Meaning.{print_pieces}
 use Rattle.meaning.specs.inner.Machine.{state_in}
-use Rattle.meaning.specs.inner.Printing.{continued}
+use Rattle.meaning.specs.inner.Printing.{print_from}
 use Rattle.meaning.proofs.print.print_pieces.Given as goal
 
 abbrev pub decreases-bytes : goal.decreases-bytes
@@ -13,5 +13,5 @@ abbrev pub invariant-bytes : goal.invariant-bytes
 invariant-bytes g l = record {
   within : l.i ≤ length l.format;
   taken : l.k ≤ l.i;
-  value : continued l.begun (pieces (drop l.i l.format)) (drop l.k l.values) (state_in l.m) ≡ print_pieces (pieces l.format) l.values (state_in l.initial.m);
+  value : print_from l.begun (pieces (drop l.i l.format)) (drop l.k l.values) (state_in l.m) ≡ print_pieces (pieces l.format) l.values (state_in l.initial.m);
 }

@@ -6,7 +6,7 @@ use Rattle.syntax.proofs.Seen.{expr_of_variable}
 use Rattle.parse.specs.inner.Expressions.{arguments, expr_at, whole_at, infix_node, operators}
 use Rattle.parse.proofs.code.Climbing.{fails_along, loop_none, loop_deep, loop_full, turn_fails, turn_goes}
 use Rattle.parse.proofs.code.ExprSteps.{opened_none, cast_none, cast_open, cast_fails, cast_is, group_none, group_open, named_none, variable_goes, element_goes, call_goes, unread, unclosed, listed_goes, behind_none, both_none, first_fails, second_fails, both_go, deepest_push, none_left, climb_start, infix_depth, conditional_alone, conditional_deep, conditional_fails, conditional_goes, whole_goes, whole_fails}
-use Rattle.parse.specs.inner.Reading.{across, behind, is_other, mapped, many_until, climb_loop}
+use Rattle.parse.specs.inner.Reading.{across, behind, is_other, map_parser, many_until, climb_loop}
 use Rattle.std.proofs.lemmas.List.{map_push, length-map}
 use Rattle.syntax.specs.Depth.{expr_depth, deepest}
 use Rattle.syntax.specs.Tree.{Conditional}
@@ -157,7 +157,7 @@ named-returns-clause-value g t c =
 pub arguments-returns-clause-value : goal.arguments-returns-clause-value
 arguments-returns-clause-value g t c =
     let e : map expr_of c.push.new.self ≡ expr_of c.in_ok-first.first ∷ [] = rw (c.in_ok-push.ensures.ok, c.new-args.ensures) refl in
-    let start : arguments (whole_at c.args.depth) (expr_at c.args.depth 11) (toks c.args.tokens.now) ≡ mapped (λ es. map expr_of c.push.new.self ++ es) (many_until (is_other (Punctuator punct.Comma)) (behind (Punctuator punct.Comma) (whole_at c.args.depth))) (toks c.in_ok-first.rest.now) =
+    let start : arguments (whole_at c.args.depth) (expr_at c.args.depth 11) (toks c.args.tokens.now) ≡ map_parser (λ es. map expr_of c.push.new.self ++ es) (many_until (is_other (Punctuator punct.Comma)) (behind (Punctuator punct.Comma) (whole_at c.args.depth))) (toks c.in_ok-first.rest.now) =
     rw (sym c.is_next.ensures ∙ c.if-is_next.false, e) (listed_goes (whole_at c.args.depth) (many_until (is_other (Punctuator punct.Comma)) (behind (Punctuator punct.Comma) (whole_at c.args.depth))) (toks c.args.tokens.now) (toks c.in_ok-first.rest.now) (expr_of c.in_ok-first.first) c.in_ok-first.ensures.value) in
     rw start c.extend.ensures.value
 

@@ -1,6 +1,6 @@
 use Rattle.std.proofs.Common.{◌∙◌, ℕ, List, sym, ap, get_or, refl, arith}
 use Rattle.std.proofs.lemmas.List.{take_all}
-use Rattle.replay.specs.Replays.{played, timeline_of}
+use Rattle.replay.specs.Replays.{simulation_after, timeline_of}
 use Rattle.replay.proofs.Showing.{next_made}
 use Rattle.replay.proofs.shown.show_all.Goals as goal
 
@@ -23,4 +23,4 @@ pub returns : goal.returns
 returns g c =
     let w = c.args.world.now in
     let all = take_all c.steps.at c.args.steps.now (let f = c.steps-test.false in omega arith) in
-    c.steps.invariant.shown ∙ ap timeline_of (c.steps.invariant.made ∙ ap (λ (ts : List ℕ). played w.code w.threads ts) all)
+    c.steps.invariant.shown ∙ ap timeline_of (c.steps.invariant.made ∙ ap (λ (ts : List ℕ). simulation_after w.code w.threads ts) all)

@@ -4,7 +4,7 @@ use Rattle.serving.proofs.Replays.{replays_drawn}
 use Rattle.std.proofs.Common.{◌≡◌, subst, ℕ, List}
 use Rattle.serving.specs.Reports.{exit_status}
 use Rattle.picture.specs.Replayed.{IsDrawn}
-use Rattle.replay.specs.Replays.{played, timeline_of}
+use Rattle.replay.specs.Replays.{simulation_after, timeline_of}
 use Rattle.serving.specs.Written.{IsReplayPicture, ReplayedTo}
 use Rattle.serving.proofs.request.draw.Goals as goal
 
@@ -17,7 +17,7 @@ returns-in-Ok-clause-written g c =
       shown = printed_of c.in-Ok.replayed.printed;
       replay = c.in-Ok.ensures.ok;
     } in
-    part_so (λ (t : List ℕ). IsDrawn c.in-Ok.compiled.code (timeline_of (played c.in-Ok.compiled.code c.args.threads c.in-Ok.replayed.made.items)) t) (IsReplayPicture c.args.threads c.args.steps.now (g.S.Read.remaining c.args.schedule) c.args.text.now) (g.W.Write.contents c.args.out.now) (g.W.Write.contents c.print_picture.new.out) (λ t e. (r, e)) c.print_picture.ensures.written
+    part_so (λ (t : List ℕ). IsDrawn c.in-Ok.compiled.code (timeline_of (simulation_after c.in-Ok.compiled.code c.args.threads c.in-Ok.replayed.made.items)) t) (IsReplayPicture c.args.threads c.args.steps.now (g.S.Read.remaining c.args.schedule) c.args.text.now) (g.W.Write.contents c.args.out.now) (g.W.Write.contents c.print_picture.new.out) (λ t e. (r, e)) c.print_picture.ensures.written
 
 pub returns-in-Ok-clause-picture : goal.returns-in-Ok-clause-picture
 returns-in-Ok-clause-picture g c = λ status.

@@ -1,5 +1,5 @@
 use Rattle.std.proofs.Common.{ℕ, List, ◌≡◌, ◌++◌}
-use Rattle.replay.specs.Replays.{played, timeline_of}
+use Rattle.replay.specs.Replays.{simulation_after, timeline_of}
 use Rattle.report.specs.Timeline.{timeline_text}
 use Rattle.report.specs.Views.{printed_of}
 use Rattle.serving.proofs.Ends.{none_stopped}
@@ -12,7 +12,7 @@ use Rattle.serving.proofs.request.show_steps.Goals as goal
 pub returns-in-Ok-clause-timeline : goal.returns-in-Ok-clause-timeline
 returns-in-Ok-clause-timeline g c = λ status.
     let made : List ℕ = c.in-Ok.replayed.made.items in
-    let lines : List ℕ = timeline_text c.in-Ok.compiled.code (timeline_of (played c.in-Ok.compiled.code c.args.threads made)) in
+    let lines : List ℕ = timeline_text c.in-Ok.compiled.code (timeline_of (simulation_after c.in-Ok.compiled.code c.args.threads made)) in
     let report = printed_of c.in-Ok.replayed.printed in
     let printed = c.print_timeline.ensures.report status in
     let whole = c.print_timeline.ensures.whole status in
@@ -29,4 +29,4 @@ returns-in-Ok-clause-written g c =
       shown = printed_of c.in-Ok.replayed.printed;
       replay = c.in-Ok.ensures.ok;
     } in
-    part_so (λ (t : List ℕ). t ≡ timeline_text c.in-Ok.compiled.code (timeline_of (played c.in-Ok.compiled.code c.args.threads c.in-Ok.replayed.made.items)) ++ report_text (printed_of c.in-Ok.replayed.printed)) (IsReplayTimeline c.args.threads c.args.steps.now (g.S.Read.remaining c.args.schedule) c.args.text.now) (g.W.Write.contents c.args.out.now) (g.W.Write.contents c.print_timeline.new.out) (λ t e. (r, e)) c.print_timeline.ensures.written
+    part_so (λ (t : List ℕ). t ≡ timeline_text c.in-Ok.compiled.code (timeline_of (simulation_after c.in-Ok.compiled.code c.args.threads c.in-Ok.replayed.made.items)) ++ report_text (printed_of c.in-Ok.replayed.printed)) (IsReplayTimeline c.args.threads c.args.steps.now (g.S.Read.remaining c.args.schedule) c.args.text.now) (g.W.Write.contents c.args.out.now) (g.W.Write.contents c.print_timeline.new.out) (λ t e. (r, e)) c.print_timeline.ensures.written

@@ -4,7 +4,7 @@ use Rattle.bytecode.specs.Valid.{cells_of}
 use Rattle.norec_core.specs.declared.step.Access.TheVariants.{LoadWord}
 use Rattle.norec_core.specs.declared.step.Answer.TheVariants.{Value}
 use Rattle.machine.specs.States.{IsWordOf}
-use Rattle.machine.specs.Threads.{told}
+use Rattle.machine.specs.Threads.{step_with}
 use Rattle.workers.proofs.Waiting.{cell_fits, loaded_fits, word_is_next, word_loaded}
 use Rattle.workers.proofs.worker.Worker.compare_word.Goals as goal
 
@@ -42,6 +42,6 @@ returns-clause-goes_on g c = (
   refl,
   λ steps was.
       let r = word_loaded c.args.words.now.key c.args.self.now.number c.args.self.now.thread.thread steps c.args.self.now.thread.accesses c.args.self.now.seat.me was.1 c.args.code.now c.requires.code c.args.entry.0 c.requires.access
-      c.load_word-found.result c.load_word-found.new.seat.me c.load_word-found.ensures.took c.compared.new.self.thread (c.compared.ensures.thread ∙ ap (λ (n : ℕ). (told (effect c.args.code.now) c.args.self.now.thread.thread (Value n)).thread) (sym c.if-found-word.false)) c.compared.ensures.of _ c.compared.new.self.accesses refl c.compared.ensures.accesses in
+      c.load_word-found.result c.load_word-found.new.seat.me c.load_word-found.ensures.took c.compared.new.self.thread (c.compared.ensures.thread ∙ ap (λ (n : ℕ). (step_with (effect c.args.code.now) c.args.self.now.thread.thread (Value n)).thread) (sym c.if-found-word.false)) c.compared.ensures.of _ c.compared.new.self.accesses refl c.compared.ensures.accesses in
       ((c.load_word-found.ensures.seat.0 ∙ was.0, r.0), r.1),
 )
