@@ -67,7 +67,7 @@ impl<A: Allocator + Copy> AtomicThread<A> {
         ensures of { IfOk result (λ t. IsAtomicThreadOf code.now t.thread) }
     {
         // The prover learns here that the code is valid.
-        code.known();
+        code.note_valid();
         let frames = Frames::new(alloc, code, number)?;
         Ok(AtomicThread {
             alloc,
@@ -106,7 +106,7 @@ impl<A: Allocator + Copy> AtomicThread<A> {
         ensures of { IsAtomicThreadOf code.now self.new.thread }
     {
         // The prover learns here that the code is valid.
-        code.known();
+        code.note_valid();
         match end_of(self.held.status) {
             Some(end) => Ok(Ran {
                 steps: 0,

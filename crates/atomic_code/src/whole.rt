@@ -72,7 +72,7 @@ pub fn thread<A: Allocator + Copy, B: Allocator>(
         (memories_in founds.now) steps) }
 {
     // The prover learns here that the code is valid.
-    code.known();
+    code.note_valid();
     let frames = Frames::new(alloc, code, number)?;
     let mut held = KeptThread {
         frames,

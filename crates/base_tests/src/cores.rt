@@ -1,4 +1,4 @@
-//! Cores: played steps, each growth refused, and that `told` takes no memory.
+//! Cores: played steps, each growth refused, and that `request_of_words` takes no memory.
 
 ghost use Rattle.norec_core.specs.Accesses.{IsAnswerTo};
 
@@ -63,7 +63,7 @@ fn read_again() -> &'static [Row] {
 }
 
 /// A cancelled inner transaction, with a committed one in it, has written to addresses written before it and to others.
-fn nested() -> &'static [Row] {
+fn nested_rows() -> &'static [Row] {
     static ROWS: [Row; 16] = [
         (Op::Begin, 2, Access::LoadLock, Outcome::Done),
         (Op::Write(3, 1), 0, Access::Local, Outcome::Done),
@@ -86,7 +86,7 @@ fn nested() -> &'static [Row] {
 }
 
 /// Validation finds another word at an address that was read, and the attempt is dropped.
-fn changed() -> &'static [Row] {
+fn changed_word_rows() -> &'static [Row] {
     static ROWS: [Row; 7] = [
         (Op::Begin, 2, Access::LoadLock, Outcome::Done),
         (Op::Read(5), 7, Access::LoadWord(5), Outcome::Going),
@@ -147,7 +147,7 @@ fn last_write() -> &'static [Row] {
 }
 
 /// The lock is taken early, read under without a check, and released by a trap.
-fn kept() -> &'static [Row] {
+fn early_lock_rows() -> &'static [Row] {
     static ROWS: [Row; 5] = [
         (Op::Begin, 2, Access::LoadLock, Outcome::Done),
         (Op::Irrevocable, 2, Access::Swap(2), Outcome::Done),
@@ -161,10 +161,10 @@ fn kept() -> &'static [Row] {
 /// Whether one core plays these in turn.
 fn plays_each<A: Allocator + Copy>(core: &mut Core<A>) -> bool {
     plays(core, read_again())
-        && plays(core, nested())
+        && plays(core, nested_rows())
         && plays(core, last_release())
         && plays(core, last_read())
-        && plays(core, kept())
+        && plays(core, early_lock_rows())
 }
 
 /// Whether this is what was saved where the attempt that was aborted began.
@@ -174,7 +174,7 @@ fn is_first<A: Allocator + Copy>(saved: &Saved<A>) -> bool {
 
 /// Whether a core whose validation fails goes back to that, and there is no attempt.
 fn goes_back<A: Allocator + Copy>(core: &mut Core<A>) -> bool {
-    plays(core, changed()) && !core.has_attempt() && is_first(core.saved())
+    plays(core, changed_word_rows()) && !core.has_attempt() && is_first(core.saved())
 }
 
 /// Whether an operation is not prepared, since the sequence is used up.
@@ -214,7 +214,7 @@ fn insist<A: Allocator + Copy>(core: &mut Core<A>, rows: &[Row]) -> Option<u64> 
 
 /// How many steps of one of two transactions were refused, if all of both are made: the most.
 fn insist_twice<A: Allocator + Copy>(core: &mut Core<A>) -> Option<u64> {
-    match (insist(core, nested()), insist(core, read_again())) {
+    match (insist(core, nested_rows()), insist(core, read_again())) {
         (Some(first), Some(second)) => Some(first.max(second)),
         _ => None,
     }
@@ -227,7 +227,7 @@ fn insists<A: Allocator + Copy, B: Allocator>(core: &mut Core<A>, refusing: &Ref
     if refusing.is_waiting() {
         return refused == Some(0);
     }
-    refused == Some(1) && plays(core, nested())
+    refused == Some(1) && plays(core, nested_rows())
 }
 
 /// Whether a step is told its answer without a growth.
@@ -264,10 +264,10 @@ fn tells_in_place<A: Allocator + Copy, B: Allocator>(
     core: &mut Core<A>,
     refusing: &Refusing<B>,
 ) -> bool {
-    are_told_in_place(core, refusing, nested())
-        && are_told_in_place(core, refusing, changed())
+    are_told_in_place(core, refusing, nested_rows())
+        && are_told_in_place(core, refusing, changed_word_rows())
         && !core.has_attempt()
-        && are_told_in_place(core, refusing, kept())
+        && are_told_in_place(core, refusing, early_lock_rows())
 }
 
 /// Whether transactions are played in a core, and in the third round without a growth.
@@ -277,7 +277,7 @@ fn stays_roomy<A: Allocator + Copy, B: Allocator>(
 ) -> bool {
     for nth in [0, 0, 1] {
         refusing.refuse(nth);
-        if !plays(core, read_again()) || !plays(core, nested()) {
+        if !plays(core, read_again()) || !plays(core, nested_rows()) {
             return false;
         }
     }
@@ -312,7 +312,7 @@ fn stores_many<A: Allocator + Copy>(core: &mut Core<A>) -> bool {
 }
 
 /// The lock is released after that.
-fn released() -> &'static [Row] {
+fn release_rows() -> &'static [Row] {
     static ROWS: [Row; 1] = [(Op::Commit, 0, Access::StoreLock(4), Outcome::Done)];
     &ROWS
 }
@@ -323,7 +323,7 @@ fn commits_many<A: Allocator + Copy>(core: &mut Core<A>) -> bool {
         && writes_many(core)
         && makes(core, Op::Commit, 2)
         && stores_many(core)
-        && plays(core, released())
+        && plays(core, release_rows())
 }
 
 /// What comes of a read that is made whole, if it is: it finds this word, and then this lock.

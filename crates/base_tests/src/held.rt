@@ -112,7 +112,7 @@ fn compares_lists(alloc: Global) -> bool {
 }
 
 /// A text that a string is moved into.
-fn moved(alloc: Global, text: &str) -> Result<Text<Global>, AllocError> {
+fn text_of(alloc: Global, text: &str) -> Result<Text<Global>, AllocError> {
     let text = String::from_str(alloc, text)?;
     Ok(Text::from_string(text))
 }
@@ -123,7 +123,7 @@ fn compares_texts(alloc: Global) -> bool {
     tells_apart(
         Text::from_str(alloc, text),
         Text::from_str(alloc, text),
-        moved(alloc, "y"),
+        text_of(alloc, "y"),
     )
 }
 
@@ -156,7 +156,7 @@ fn a_text_holds_its_bytes(rt: HostRuntime) {
                 "of a str",
                 lends(Text::from_str(rt.alloc(), "x = 2"), "x = 2", "x"),
             ),
-            ("of a string", lends(moved(rt.alloc(), "y"), "y", "")),
+            ("of a string", lends(text_of(rt.alloc(), "y"), "y", "")),
         ],
     );
 }
@@ -231,7 +231,7 @@ fn a_refused_box_or_text_is_made_at_the_next_call(rt: HostRuntime) {
 type MaybeText<A> = Option<Boxed<Text<A>, A>>;
 
 /// A text in a box, where there is one.
-fn boxed<A: Allocator + Copy>(alloc: A, text: Option<&str>) -> Result<MaybeText<A>, AllocError> {
+fn boxed_text<A: Allocator + Copy>(alloc: A, text: Option<&str>) -> Result<MaybeText<A>, AllocError> {
     match text {
         Some(text) => {
             let text = Text::from_str(alloc, text)?;
@@ -247,7 +247,7 @@ type Texts<A> = Items<MaybeText<A>, A>;
 fn texts<A: Allocator + Copy>(alloc: A, first: &str) -> Result<Texts<A>, AllocError> {
     let mut texts = Items::new(alloc);
     for text in [Some(first), None, Some("y")] {
-        texts.push(boxed(alloc, text)?)?;
+        texts.push(boxed_text(alloc, text)?)?;
     }
     Ok(texts)
 }

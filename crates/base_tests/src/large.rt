@@ -6,7 +6,7 @@ use lex::{lex, unescape};
 use std::alloc::{AllocError, Global};
 
 /// A text of a part, another one so many times, and a last one.
-fn repeated(
+fn repeated_text(
     alloc: Global,
     before: &str,
     part: &str,
@@ -38,7 +38,7 @@ fn large_pieces() -> &'static [Row] {
 
 /// Whether a row's token stands at its place.
 fn is_lexed(alloc: Global, row: &Row) -> bool {
-    match repeated(alloc, row.0, row.1, 100000, row.2) {
+    match repeated_text(alloc, row.0, row.1, 100000, row.2) {
         Ok(text) => stand_at(alloc, text.as_str(), [row.3].as_slice()),
         Err(_) => false,
     }
@@ -61,7 +61,7 @@ fn large_pieces_are_lexed(rt: HostRuntime) {
 
 /// Whether so many spaces are a text without tokens.
 fn has_no_tokens(alloc: Global, spaces: usize) -> bool {
-    match repeated(alloc, "", " ", spaces, "") {
+    match repeated_text(alloc, "", " ", spaces, "") {
         Ok(text) => stand_at(alloc, text.as_str(), [].as_slice()),
         Err(_) => false,
     }
@@ -69,7 +69,7 @@ fn has_no_tokens(alloc: Global, spaces: usize) -> bool {
 
 /// Whether so many spaces behind this are refused as too long.
 fn is_too_long(alloc: Global, before: &str, spaces: usize) -> bool {
-    match repeated(alloc, before, " ", spaces, "") {
+    match repeated_text(alloc, before, " ", spaces, "") {
         Ok(text) => is_refused(alloc, &(text.as_str(), 5, 0, 0)),
         Err(_) => false,
     }
@@ -88,7 +88,7 @@ fn a_text_has_at_most_a_mebibyte(rt: HostRuntime) {
 
 /// How many tokens so many names are.
 fn count_names(alloc: Global, times: usize) -> Option<usize> {
-    match repeated(alloc, "", "a ", times, "") {
+    match repeated_text(alloc, "", "a ", times, "") {
         Err(_) => None,
         Ok(text) => match lex(alloc, text.as_str()) {
             Ok(tokens) => Some(tokens.len()),
@@ -99,7 +99,7 @@ fn count_names(alloc: Global, times: usize) -> Option<usize> {
 
 /// How many bytes so many escapes are.
 fn count_escapes(alloc: Global, times: usize) -> Option<usize> {
-    match repeated(alloc, "", "\\n", times, "") {
+    match repeated_text(alloc, "", "\\n", times, "") {
         Err(_) => None,
         Ok(text) => match unescape(alloc, text.as_str()) {
             Ok(found) => Some(found.len()),

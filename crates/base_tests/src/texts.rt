@@ -137,7 +137,7 @@ fn the_longest_punctuator_comes_first(rt: HostRuntime) {
     assert_none(&rt, stand_otherwise(rt.alloc(), punctuators()));
 }
 
-fn skipped() -> &'static [Row] {
+fn gap_rows() -> &'static [Row] {
     static ROWS: [Row; 2] = [
         (
             "/***/a/*/*/b//c\n\t# include /* x\nd",
@@ -150,7 +150,7 @@ fn skipped() -> &'static [Row] {
 
 #[test]
 fn comments_and_lines_of_include_are_skipped(rt: HostRuntime) {
-    assert_none(&rt, stand_otherwise(rt.alloc(), skipped()));
+    assert_none(&rt, stand_otherwise(rt.alloc(), gap_rows()));
 }
 
 fn bad() -> &'static [Refused<'static>] {
@@ -283,7 +283,7 @@ fn typed_otherwise(alloc: Global, rows: &[Typed]) -> Option<&'static str> {
     None
 }
 
-fn typed() -> &'static [Typed] {
+fn constant_rows() -> &'static [Typed] {
     static ROWS: [Typed; 59] = [
         ("0", 0, Scalar::Int),
         ("0u", 0, Scalar::Unsigned),
@@ -367,7 +367,7 @@ fn typed() -> &'static [Typed] {
 
 #[test]
 fn a_constant_has_the_first_type_that_holds_it(rt: HostRuntime) {
-    assert_none(&rt, typed_otherwise(rt.alloc(), typed()));
+    assert_none(&rt, typed_otherwise(rt.alloc(), constant_rows()));
 }
 
 fn open() -> &'static [Refused<'static>] {

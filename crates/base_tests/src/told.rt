@@ -1,7 +1,7 @@
 //! What is told of faults.
 
 use crate::asserted::{assert_all, assert_none};
-use faults::{explanation, underlined, words};
+use faults::{explanation, underline, words};
 use lex::token::Span;
 use refusing::{Refusing, growths};
 use std::alloc::{AllocError, Allocator, Global};
@@ -36,7 +36,7 @@ fn is_shown(alloc: Global, row: &Row) -> bool {
         start: row.1,
         end: row.2,
     };
-    match underlined(alloc, row.0, span) {
+    match underline(alloc, row.0, span) {
         Ok(shown) => shown.as_slice() == row.3.as_bytes(),
         Err(_) => false,
     }
@@ -72,7 +72,7 @@ fn shown_middle<A: Allocator>(alloc: A, text: &str) -> Result<Vec<u8, A>, AllocE
         start: 1000,
         end: 1002,
     };
-    underlined(alloc, text, span)
+    underline(alloc, text, span)
 }
 
 /// Whether growth `nth` is told where it is refused, and else the same is shown as with ample memory.

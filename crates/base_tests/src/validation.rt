@@ -36,7 +36,7 @@ fn waits<A: Allocator + Copy>(core: &mut Core<A>, lock: u64) -> bool {
     if !core.is_waiting() {
         return false;
     }
-    core.waited(lock);
+    core.take_wait(lock);
     true
 }
 
@@ -48,14 +48,14 @@ fn compares<A: Allocator + Copy>(core: &mut Core<A>, cell: Option<u32>, found: u
     match core.entry(time, place) {
         Some(entry) => {
             if found == entry.1 {
-                core.compared(time, place, entry);
+                core.take_equal(time, place, entry);
             } else {
-                core.differed(time, place, entry, found);
+                core.take_unequal(time, place, entry, found);
             }
             cell == Some(entry.0)
         }
         None => {
-            core.validated(time, place, found);
+            core.take_validation(time, place, found);
             cell.is_none()
         }
     }

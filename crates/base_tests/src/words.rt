@@ -6,20 +6,20 @@ use command::command;
 use std::alloc::{AllocError, Global};
 
 /// What words ask.
-fn told(alloc: Global, words: &[&str]) -> Result<String, AllocError> {
+fn request_of_words(alloc: Global, words: &[&str]) -> Result<String, AllocError> {
     let asked = command(alloc, words);
     format!(in alloc; "{asked:?}")
 }
 
 /// What a line asks.
-fn asked(alloc: Global, line: &str) -> Result<String, AllocError> {
+fn request_of_line(alloc: Global, line: &str) -> Result<String, AllocError> {
     let words: Vec<&str> = line.split('|').collect(alloc)?;
-    told(alloc, words.as_slice())
+    request_of_words(alloc, words.as_slice())
 }
 
 /// Whether this is what a line asks.
 fn asks(alloc: Global, line: &str, wanted: &[u8]) -> bool {
-    match asked(alloc, line) {
+    match request_of_line(alloc, line) {
         Ok(found) => found.as_bytes() == wanted,
         Err(_) => false,
     }
@@ -380,7 +380,7 @@ fn refuses_replays(rt: HostRuntime) {
 
 /// Whether what a line asks begins with this and has this piece.
 fn has(alloc: Global, line: &str, begin: &str, piece: &str) -> bool {
-    match asked(alloc, line) {
+    match request_of_line(alloc, line) {
         Ok(found) => found.starts_with(begin) && found.contains(piece),
         Err(_) => false,
     }

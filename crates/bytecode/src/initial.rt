@@ -12,7 +12,7 @@ use std::alloc::{AllocError, Allocator};
 use syntax::initial::push_global;
 
 /// What a type sees of a word.
-fn seen(of: Scalar, word: u64) -> u64
+fn value_by_type(of: Scalar, word: u64) -> u64
     ensures { result ≡ residue of word }
 {
     match of {
@@ -28,7 +28,7 @@ impl<A: Allocator> Code<A> {
         ensures words { OnOk result (words.new.items ≡ words.old.items ++ initial_of self.now) }
         ensures valid { IsValid self.now }
     {
-        self.known();
+        self.note_valid();
         'globals: for global in self.globals() {
             push_global(words, global)?;
         }
@@ -36,7 +36,7 @@ impl<A: Allocator> Code<A> {
     }
 
     /// What a cell keeps of a word: its residue for the cell's type. Takes a look at each global up to the cell's.
-    pub fn stored(&self, cell: u32, word: u64) -> u64
+    pub fn stored_word(&self, cell: u32, word: u64) -> u64
         requires { cell < length (bounds_of self.now) }
         ensures { result ≡ word_for_cell self.now cell word }
     {
@@ -44,7 +44,7 @@ impl<A: Allocator> Code<A> {
         'each: for global in self.globals() {
             let cells = global.cell_count();
             if left < cells {
-                return seen(global.of, word);
+                return value_by_type(global.of, word);
             }
             left -= cells;
         }

@@ -63,7 +63,7 @@ fn order<'a>(alloc: Global) -> Arg<'a>
 }
 
 /// A command with what is said of it.
-fn described<'a>(alloc: Global, name: &'a str, about: &'a str, example: &'a str) -> Command<'a>
+fn command_of<'a>(alloc: Global, name: &'a str, about: &'a str, example: &'a str) -> Command<'a>
     ensures { IsMade (new_app name.entry.now) result }
 {
     Command::new(alloc, name).about(about).after_help(example)
@@ -121,7 +121,7 @@ fn of_file<'a>(
 ) -> Result<Command<'a>, AllocError>
     ensures { IfOk result (IsMade (file_app name.entry.now)) }
 {
-    let command = with(Ok(described(alloc, name, about, example)), file(alloc));
+    let command = with(Ok(command_of(alloc, name, about, example)), file(alloc));
     let command = with(command, verbose(alloc));
     with(command, format(alloc))
 }
@@ -312,7 +312,7 @@ fn fault<'a>(alloc: Global) -> Arg<'a>
 fn explain<'a>(alloc: Global) -> Result<Command<'a>, AllocError>
     ensures { IfOk result (IsMade explain_app) }
 {
-    let command = described(
+    let command = command_of(
         alloc,
         "explain",
         "Says what a fault means, with an example",
@@ -325,7 +325,7 @@ fn explain<'a>(alloc: Global) -> Result<Command<'a>, AllocError>
 fn commandless<'a>(alloc: Global) -> Command<'a>
     ensures { app_of result ≡ commandless_app }
 {
-    described(
+    command_of(
         alloc,
         "txc",
         "A compiler and a machine for C programs with transactions",

@@ -34,7 +34,7 @@ pub(crate) fn jump_if_not(at_zero: bool, register: u16, to: u32) -> Instr
     }
 }
 
-fn completed(one: Draft, met: u32, unmet: u32) -> Instr
+fn complete_one(one: Draft, met: u32, unmet: u32) -> Instr
     ensures { result ≡ conditions.instruction_of_draft met unmet one }
 {
     match one {
@@ -44,7 +44,7 @@ fn completed(one: Draft, met: u32, unmet: u32) -> Instr
     }
 }
 
-fn turned(one: Draft) -> Draft
+fn opposite(one: Draft) -> Draft
     ensures { result ≡ conditions.opposite_draft one }
 {
     match one {
@@ -111,7 +111,7 @@ pub(crate) fn turn<A: Allocator>(
     ensures { OnOk result (drafts.new.items ≡ drafts.old.items ++ map conditions.opposite_draft first.now) }
 {
     'each: for one in first {
-        push(drafts, turned(*one))?;
+        push(drafts, opposite(*one))?;
     }
     Ok(())
 }
@@ -139,7 +139,7 @@ fn complete<A: Allocator>(
     ensures { OnOk result (code.new.items ≡ code.old.items ++ map (conditions.instruction_of_draft met unmet) drafts.now) }
 {
     'each: for one in drafts {
-        put(code, completed(*one, met, unmet))?;
+        put(code, complete_one(*one, met, unmet))?;
     }
     Ok(())
 }

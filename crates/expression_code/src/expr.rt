@@ -25,7 +25,7 @@ use crate::convert::{constant_in, converts, put_converted};
 use crate::draft::{keep, put_first, turn};
 use crate::fault::Failure;
 use crate::lists::Lists;
-use crate::names::{Callee, called, global};
+use crate::names::{Callee, callee_of, global};
 use crate::program::Names;
 use crate::put::{
     above, after, put, put_answers, put_both, put_chosen, put_compared, put_complemented,
@@ -306,7 +306,7 @@ pub fn lower_expr<A: Allocator + Copy>(
             }
             None => put_constant(lists, code, 0, Scalar::Int, from, into),
         },
-        Expr::Call(f, args, _) => match called(names, f.text.as_str()) {
+        Expr::Call(f, args, _) => match callee_of(names, f.text.as_str()) {
             Some(f) => {
                 let mut registers = SmallVec::<u16, 4, &A>::new(&names.alloc);
                 let all = args.as_slice();

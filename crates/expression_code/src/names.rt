@@ -33,7 +33,7 @@ pub(crate) fn global<'p, A: Allocator + Copy>(
 }
 
 /// A function that is defined in the file.
-pub(crate) fn called<'p, A: Allocator + Copy>(
+pub(crate) fn callee_of<'p, A: Allocator + Copy>(
     names: &Names<'p, A>,
     name: &str,
 ) -> Option<Callee<'p, A>>

@@ -7,7 +7,7 @@ ghost use Rattle.syntax.specs.Views.{expr_of};
 ghost use Rattle.picked.specs.Expressions.{variable_type, emitted_type};
 ghost use Rattle.expression_code.specs.Views.{program_in, scope_in};
 
-use crate::names::{called, global};
+use crate::names::{callee_of, global};
 use crate::program::Names;
 use crate::scope::Scope;
 use lex::token::Scalar;
@@ -49,7 +49,7 @@ pub(crate) fn value_type<A: Allocator + Copy>(
             Some(g) => g.global.of,
             None => Scalar::Int,
         },
-        Expr::Call(f, _, _) => match called(names, f.text.as_str()) {
+        Expr::Call(f, _, _) => match callee_of(names, f.text.as_str()) {
             Some(f) => f.of,
             None => Scalar::Int,
         },

@@ -6,5 +6,5 @@ mod line;
 mod table;
 
 pub use explanations::explanation;
-pub use line::underlined;
+pub use line::underline;
 pub use table::words;

@@ -81,7 +81,7 @@ fn push_under<A: Allocator>(
 /// caret where there is none.
 ///
 /// Of a long line at most 100 bytes before the place and 200 from it on are shown. Both lines end with LF.
-pub fn underlined<A: Allocator>(
+pub fn underline<A: Allocator>(
     alloc: A,
     text: &str,
     span: Span,

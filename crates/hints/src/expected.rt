@@ -165,7 +165,7 @@ fn all_go_on<'t, A: Allocator + Copy>(
 
 /// What could stand behind tokens that begin a program, as it is told: single tokens, and then what has many
 /// beginnings.
-pub(crate) fn expected<'t, A: Allocator + Copy>(
+pub(crate) fn expected_tokens<'t, A: Allocator + Copy>(
     alloc: A,
     tokens: &mut Vec<Token<'t>, A>,
 ) -> Result<Vec<&'static str, A>, AllocError> {

@@ -1,6 +1,6 @@
 //! The lines that are told beside a fault.
 
-use crate::expected::expected;
+use crate::expected::expected_tokens;
 use crate::meant::{of_character, of_name, of_number, of_token, of_unsafe, of_worker};
 use crate::near::is_near;
 use lex::lex;
@@ -74,7 +74,7 @@ fn tell_token<A: Allocator + Copy>(
     if place > MOST_BEFORE {
         return Ok(());
     }
-    let words = expected(alloc, &mut before)?;
+    let words = expected_tokens(alloc, &mut before)?;
     if words.is_empty() {
         return Ok(());
     }

@@ -159,7 +159,7 @@ fn type_of(is_decimal: bool, suffix: Suffix, value: u64) -> Option<Scalar>
 }
 
 /// The value and the type of these digits, where there is a type that holds it.
-fn typed(base: Base, suffix: Suffix, digits: &[u8]) -> Option<(u64, Scalar)>
+fn typed_value(base: Base, suffix: Suffix, digits: &[u8]) -> Option<(u64, Scalar)>
     requires { bytes.Only (spec.is_digit_of base) digits.now }
     ensures { GivesTyped result base suffix (spec.value_from (spec.radix base) 0 digits.now) }
 {
@@ -190,7 +190,7 @@ pub(crate) fn constant<'a>(text: &'a str, at: usize) -> Result<(Option<Kind<'a>>
         start: at,
         end: at + len,
     };
-    let Some((value, of)) = typed(base, suffix, digits) else {
+    let Some((value, of)) = typed_value(base, suffix, digits) else {
         return Err(LexFault::ConstantTooLarge(span));
     };
     if is_glued(after) {

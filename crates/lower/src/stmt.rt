@@ -77,7 +77,7 @@ fn cancelling(levels: u32) -> Instr
 }
 
 /// One transaction more. No count is as large as the number of instructions, which memory bounds.
-fn entered(kind: Kind, exits: Exits) -> Result<Exits, AllocError>
+fn enter_transaction(kind: Kind, exits: Exits) -> Result<Exits, AllocError>
     ensures { IfOk result (λ x. x ≡ statements.in_transaction kind exits) }
 {
     if exits.in_function >= 4_294_967_295 || exits.in_loop >= 4_294_967_295 {
@@ -618,7 +618,7 @@ fn lower_transaction<'p, A: Allocator + Copy>(
         (scope_in scope.old) (from + 1) (lists_of lists.old)))
         code.old code.new lists.new result }
 {
-    let exits = entered(kind, exits)?;
+    let exits = enter_transaction(kind, exits)?;
     let start = after(from, 1)?;
     let last = lower_block(names, scope, lists, inner, body, exits, start)?;
     let to = after(last, 1)?;

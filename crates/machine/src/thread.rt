@@ -85,7 +85,7 @@ impl<A: Allocator + Copy> Thread<A> {
         ensures accesses { IfOk result (λ t. t.accesses ≡ 0) }
     {
         // The prover learns here that the code is valid.
-        code.known();
+        code.note_valid();
         let frames = Frames::new(alloc, code, number)?;
         let core = Core::new(alloc);
         let text = String::new(alloc);
@@ -108,7 +108,7 @@ impl<A: Allocator + Copy> Thread<A> {
         ensures { StandsAt code.now self.now result }
     {
         // The prover learns here that the code is valid.
-        code.known();
+        code.note_valid();
         match self.held.status {
             Status::Running => self.held.frames.doing(code),
             Status::Ended => Doing::Local,
@@ -139,7 +139,7 @@ impl<A: Allocator + Copy> Thread<A> {
         ensures of { IsThreadOf code.now self.new.thread }
     {
         // The prover learns here that the code is valid.
-        code.known();
+        code.note_valid();
         match self.held.status {
             Status::Running => self.held.advance(code, loads, &mut self.accesses, most),
             Status::Ended => {
@@ -205,7 +205,7 @@ impl<A: Allocator + Copy> Thread<A> {
             ↔ (stops (access (effect code.now) self.old.thread) ≡ true) }
     {
         // The prover learns here that the code is valid.
-        code.known();
+        code.note_valid();
         match self.held.status {
             Status::Running => match self.held.prepare(code, doing) {
                 Ok(access) => {
@@ -247,7 +247,7 @@ impl<A: Allocator + Copy> Thread<A> {
         ensures accesses { self.new.accesses ≡ self.old.accesses + cost (access (effect code.now) self.old.thread) }
     {
         // The prover learns here that the code is valid.
-        code.known();
+        code.note_valid();
         self.accesses += cost_of(self.prepared);
         self.prepared = None;
         match self.held.status {
@@ -271,7 +271,7 @@ impl<A: Allocator + Copy> Thread<A> {
             → length self.old.ready.saved.registers < length self.old.thread.configuration.registers }
     {
         // The prover learns here that the code is valid.
-        code.known();
+        code.note_valid();
         // The prover names by it where the begin leads.
         let _to = to;
         match self.held.status {
@@ -297,7 +297,7 @@ impl<A: Allocator + Copy> Thread<A> {
         ensures accesses { self.new.accesses ≡ self.old.accesses + 1 }
     {
         // The prover learns here that the code is valid.
-        code.known();
+        code.note_valid();
         self.accesses += 1;
         let _event = self.held.take_begin(code, to, lock);
     }
@@ -311,7 +311,7 @@ impl<A: Allocator + Copy> Thread<A> {
         ensures none { IfNone result ((from : ℕ) → SwapsNext code.now self.now from → ⊥) }
     {
         // The prover learns here that the code is valid.
-        code.known();
+        code.note_valid();
         match self.held.status {
             Status::Running => self.held.core.swaps_from(),
             Status::Ended => None,
@@ -332,7 +332,7 @@ impl<A: Allocator + Copy> Thread<A> {
         ensures accesses { self.new.accesses ≡ self.old.accesses + 1 }
     {
         // The prover learns here that the code is valid.
-        code.known();
+        code.note_valid();
         self.accesses += 1;
         let _event = self.held.take_swap(code, from, answer);
     }
@@ -361,13 +361,13 @@ impl<A: Allocator + Copy> Thread<A> {
         ensures cost { cost result ≡ 1 }
     {
         // The prover learns here that the code is valid.
-        code.known();
+        code.note_valid();
         self.held.core.store_access(place)
     }
 
     /// Makes such a step, whose access was made: whether the commit stands there still. It takes no memory.
     #[inline(always)]
-    pub fn stored<B: Allocator>(&mut self, code: &Code<B>, place: usize) -> bool
+    pub fn take_store<B: Allocator>(&mut self, code: &Code<B>, place: usize) -> bool
         requires of { IsThreadOf code.now self.old.thread }
         requires stands { StandsAt code.now self.old Doing.Commit }
         requires stores { StoresNext self.old place }
@@ -379,9 +379,9 @@ impl<A: Allocator + Copy> Thread<A> {
         ensures accesses { self.new.accesses ≡ self.old.accesses + 1 }
     {
         // The prover learns here that the code is valid.
-        code.known();
+        code.note_valid();
         self.accesses += 1;
-        let (_event, again) = self.held.stored(code, place);
+        let (_event, again) = self.held.take_store(code, place);
         again
     }
 
@@ -431,7 +431,7 @@ impl<A: Allocator + Copy> Thread<A> {
         ensures access { result ≡ true → access (effect code.now) self.now.thread ≡ Access.LoadLock }
     {
         // The prover learns here that the code is valid.
-        code.known();
+        code.note_valid();
         match self.held.status {
             Status::Running => is_validated(doing) && self.held.core.is_waiting(),
             Status::Ended => false,
@@ -441,7 +441,7 @@ impl<A: Allocator + Copy> Thread<A> {
 
     /// Makes such a step, with the lock's value that was loaded. It takes no memory.
     #[inline(always)]
-    pub fn waited<B: Allocator>(&mut self, code: &Code<B>, lock: u64)
+    pub fn take_wait<B: Allocator>(&mut self, code: &Code<B>, lock: u64)
         requires of { IsThreadOf code.now self.old.thread }
         requires waits { WaitsNext code.now self.old }
         requires count { self.old.accesses + 1 < 2 ^ 64 }
@@ -451,9 +451,9 @@ impl<A: Allocator + Copy> Thread<A> {
         ensures accesses { self.new.accesses ≡ self.old.accesses + 1 }
     {
         // The prover learns here that the code is valid.
-        code.known();
+        code.note_valid();
         self.accesses += 1;
-        self.held.waited(code, lock);
+        self.held.take_wait(code, lock);
     }
 
     /// Where the operation that stands at its place is under validation, and compares an entry next, or past the last
@@ -466,7 +466,7 @@ impl<A: Allocator + Copy> Thread<A> {
         ensures none { IfNone result ((time place : ℕ) → ComparesNext code.now self.now time place → ⊥) }
     {
         // The prover learns here that the code is valid.
-        code.known();
+        code.note_valid();
         match self.held.status {
             Status::Running => {
                 if is_validated(doing) {
@@ -491,14 +491,14 @@ impl<A: Allocator + Copy> Thread<A> {
         ensures access { access (effect code.now) self.now.thread ≡ entry_access result }
     {
         // The prover learns here that the code is valid.
-        code.known();
+        code.note_valid();
         self.held.core.entry(time, place)
     }
 
     /// Makes the step that compares this entry, where its word was loaded again: the entry behind it is compared next.
     /// It takes no memory.
     #[inline(always)]
-    pub fn compared<B: Allocator>(
+    pub fn take_equal<B: Allocator>(
         &mut self,
         code: &Code<B>,
         time: u64,
@@ -518,15 +518,15 @@ impl<A: Allocator + Copy> Thread<A> {
         ensures accesses { self.new.accesses ≡ self.old.accesses + 1 }
     {
         // The prover learns here that the code is valid.
-        code.known();
+        code.note_valid();
         self.accesses += 1;
-        self.held.compared(code, time, place, entry);
+        self.held.take_equal(code, time, place, entry);
     }
 
     /// Makes the step that compares this entry, where another word was loaded: the attempt is dropped. It takes no
     /// memory.
     #[inline(always)]
-    pub fn differed<B: Allocator>(
+    pub fn take_unequal<B: Allocator>(
         &mut self,
         code: &Code<B>,
         time: u64,
@@ -545,15 +545,15 @@ impl<A: Allocator + Copy> Thread<A> {
         ensures accesses { self.new.accesses ≡ self.old.accesses + 1 }
     {
         // The prover learns here that the code is valid.
-        code.known();
+        code.note_valid();
         self.accesses += 1;
-        self.held.differed(code, time, place, entry, word);
+        self.held.take_unequal(code, time, place, entry, word);
     }
 
     /// Makes the step past the last entry, with the lock's value that was loaded: where it is the one at which
     /// validation began it is the new snapshot, else validation begins again. It takes no memory.
     #[inline(always)]
-    pub fn validated<B: Allocator>(&mut self, code: &Code<B>, time: u64, place: usize, lock: u64)
+    pub fn take_validation<B: Allocator>(&mut self, code: &Code<B>, time: u64, place: usize, lock: u64)
         requires of { IsThreadOf code.now self.old.thread }
         requires compares { ComparesNext code.now self.old time place }
         requires entry { ComparesEntry self.old time place None }
@@ -564,8 +564,8 @@ impl<A: Allocator + Copy> Thread<A> {
         ensures accesses { self.new.accesses ≡ self.old.accesses + 1 }
     {
         // The prover learns here that the code is valid.
-        code.known();
+        code.note_valid();
         self.accesses += 1;
-        self.held.validated(code, time, place, lock);
+        self.held.take_validation(code, time, place, lock);
     }
 }

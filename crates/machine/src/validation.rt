@@ -32,7 +32,7 @@ pub(crate) fn is_validated(doing: Doing) -> bool
 impl<A: Allocator + Copy> KeptThread<A> {
     /// A step that waits for an even lock, with the lock's value that was loaded.
     #[inline(always)]
-    pub(crate) fn waited<B: Allocator>(&mut self, code: &Code<B>, lock: u64)
+    pub(crate) fn take_wait<B: Allocator>(&mut self, code: &Code<B>, lock: u64)
         requires valid { IsValid code.now }
         requires running { self.old.status ≡ Running }
         requires runs { RunsInContext code.now (kept self.old) }
@@ -44,13 +44,13 @@ impl<A: Allocator + Copy> KeptThread<A> {
     {
         // The prover names by it the code.
         let _code = code;
-        self.core.waited(lock);
+        self.core.take_wait(lock);
         self.trapping = false;
     }
 
     /// A step that compares this entry, whose word was loaded again. The entry behind it is compared next.
     #[inline(always)]
-    pub(crate) fn compared<B: Allocator>(
+    pub(crate) fn take_equal<B: Allocator>(
         &mut self,
         code: &Code<B>,
         time: u64,
@@ -73,13 +73,13 @@ impl<A: Allocator + Copy> KeptThread<A> {
     {
         // The prover names by it the code.
         let _code = code;
-        self.core.compared(time, place, entry);
+        self.core.take_equal(time, place, entry);
         self.trapping = false;
     }
 
     /// A step that compares this entry, where another word was loaded.
     #[inline(always)]
-    pub(crate) fn differed<B: Allocator>(
+    pub(crate) fn take_unequal<B: Allocator>(
         &mut self,
         code: &Code<B>,
         time: u64,
@@ -99,14 +99,14 @@ impl<A: Allocator + Copy> KeptThread<A> {
     {
         // The prover names by it the code.
         let _code = code;
-        self.core.differed(time, place, entry, word);
+        self.core.take_unequal(time, place, entry, word);
         self.trapping = false;
         go_back(&mut self.frames, &self.core);
     }
 
     /// A step past the last entry, with the lock's value that was loaded.
     #[inline(always)]
-    pub(crate) fn validated<B: Allocator>(
+    pub(crate) fn take_validation<B: Allocator>(
         &mut self,
         code: &Code<B>,
         time: u64,
@@ -124,7 +124,7 @@ impl<A: Allocator + Copy> KeptThread<A> {
     {
         // The prover names by it the code.
         let _code = code;
-        self.core.validated(time, place, lock);
+        self.core.take_validation(time, place, lock);
         self.trapping = false;
     }
 }

@@ -38,7 +38,7 @@ pub fn dropped_once() -> &'static [Row] {
 
 /// The steps of `traps`: the lock is taken before the print, the trap gives it back without a store, and no further
 /// step does anything.
-pub fn trapped() -> &'static [Row] {
+pub fn trap_rows() -> &'static [Row] {
     static ROWS: [Row; 9] = [
         (0, 7, Some((Access::LoadLock, Event::Quiet))),
         (0, 7, Some((Access::Local, Event::Quiet))),

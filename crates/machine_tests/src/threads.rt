@@ -8,7 +8,7 @@ ghost use Rattle.machine.specs.States.{IsWordOf};
 
 use crate::asserted::{assert_all, assert_that};
 use crate::built::code_of_two;
-use crate::rows::{Row, dropped_once, trapped};
+use crate::rows::{Row, dropped_once, trap_rows};
 use bytecode::{Code, Instr};
 use frames::Doing;
 use machine::{Event, Loads, Thread};
@@ -60,7 +60,7 @@ fn answer_to<A: Allocator>(code: &Code<A>, access: Access, lock: u64, word: u32)
 }
 
 /// A thread at its beginning.
-fn begun<A: Allocator + Copy>(alloc: A, code: &Code<A>) -> Option<Thread<A>>
+fn fresh_thread<A: Allocator + Copy>(alloc: A, code: &Code<A>) -> Option<Thread<A>>
     ensures { IfSome result (λ t. IsThreadOf code.now t.thread) }
 {
     match Thread::new(alloc, code, 0) {
@@ -171,7 +171,7 @@ fn begins<A: Allocator + Copy, B: Allocator>(
     rows: &[Row],
     found: Found,
 ) -> Option<u64> {
-    match begun(alloc, code) {
+    match fresh_thread(alloc, code) {
         Some(mut thread) => {
             refusing.refuse(nth);
             goes(&mut thread, code, rows, found)
@@ -223,7 +223,7 @@ fn a_dropped_attempt_begins_again(rt: HostRuntime) {
 #[test]
 fn a_trap_gives_the_lock_back_and_is_the_end(rt: HostRuntime) {
     let found = (Status::Trapped(Trap::ZeroDivisor), "2", 3);
-    assert_that(&rt, go(rt.alloc(), traps(), trapped(), found));
+    assert_that(&rt, go(rt.alloc(), traps(), trap_rows(), found));
 }
 
 /// Reads, in a transaction.
@@ -327,7 +327,7 @@ fn reads_first<A: Allocator + Copy>(
     code: &Code<A>,
     lock: u64,
 ) -> Option<(u64, Option<Doing>)> {
-    match begun(alloc, code) {
+    match fresh_thread(alloc, code) {
         Some(mut thread) => reads_on(&mut thread, code, lock),
         None => None,
     }
@@ -484,7 +484,7 @@ fn tells_in_place<A: Allocator + Copy, B: Allocator>(
     rows: &[Row],
     found: Found,
 ) -> bool {
-    match begun(alloc, code) {
+    match fresh_thread(alloc, code) {
         Some(mut thread) => {
             are_told_in_place(&mut thread, code, refusing, rows) && is_found(&thread, found)
         }
@@ -514,7 +514,7 @@ fn calls_and_cancels() -> &'static [Instr] {
 }
 
 /// The steps of `calls_and_cancels`.
-fn cancelled() -> &'static [Row] {
+fn cancel_rows() -> &'static [Row] {
     static ROWS: [Row; 12] = [
         (2, 7, Some((Access::LoadLock, Event::Quiet))),
         (2, 7, Some((Access::Local, Event::Quiet))),
@@ -547,7 +547,7 @@ fn is_told_cancels(inner: Global) -> bool {
     match code_of_two(&alloc, calls_and_cancels(), 11, (2, 1)) {
         Some(code) => {
             let found = (Status::Ended, "\"\t\"", 1);
-            tells_in_place(&alloc, &alloc, &code, cancelled(), found)
+            tells_in_place(&alloc, &alloc, &code, cancel_rows(), found)
         }
         None => false,
     }
@@ -558,7 +558,7 @@ fn told_takes_no_memory(rt: HostRuntime) {
     let drops = (Status::Ended, "13", 13);
     let ends = (Status::Trapped(Trap::ZeroDivisor), "2", 3);
     let dropped = is_told_all(rt.alloc(), adds_five(), dropped_once(), drops);
-    let trapping = is_told_all(rt.alloc(), traps(), trapped(), ends);
+    let trapping = is_told_all(rt.alloc(), traps(), trap_rows(), ends);
     let cancelling = is_told_cancels(rt.alloc());
     assert_all(
         &rt,

@@ -131,7 +131,7 @@ pub(crate) fn call<'p, A: Allocator + Copy>(
 {
     let values = values(source, frames, args, m)?;
     tick(m)?; // the call's
-    entered(source, frames, f.text.as_str(), values.as_slice(), m)
+    enter_function(source, frames, f.text.as_str(), values.as_slice(), m)
 }
 
 /// The values of arguments, in their order.
@@ -158,7 +158,7 @@ pub(crate) fn values<'p, A: Allocator + Copy>(
 
 /// A function's body, with locals of its own, where a frame may come to live.
 #[cycle(run)]
-pub(crate) fn entered<'p, A: Allocator + Copy>(
+pub(crate) fn enter_function<'p, A: Allocator + Copy>(
     source: &Source<'p, A>,
     frames: u64,
     f: &str,

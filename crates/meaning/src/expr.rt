@@ -10,7 +10,7 @@ ghost use Rattle.meaning.specs.inner.Does.{called, does_expr};
 
 use crate::calls::call;
 use crate::machine::{Halted, Machine, Spot, fetch, operate, operate_unary};
-use crate::places::{indexed, joined, variable};
+use crate::places::{element_cell, common_value, variable};
 use crate::program::Source;
 use crate::transactions::value_transaction;
 use crate::word::{Word, constant, convert_word, flag, is_zero};
@@ -109,7 +109,7 @@ fn conditional<'p, A: Allocator + Copy>(
     } else {
         eval(source, frames, a, m)?
     };
-    joined(source, a, b, w, m)
+    common_value(source, a, b, w, m)
 }
 
 /// The cell of an element, its index computed and tested.
@@ -126,5 +126,5 @@ pub(crate) fn element<'p, A: Allocator + Copy>(
         (λ k. meaning.element (program_in source.now) (called source.now frames) x.now.text k)) m.new }
 {
     let k = eval(source, frames, i, m)?;
-    indexed(source, x, k, m)
+    element_cell(source, x, k, m)
 }

@@ -15,7 +15,7 @@ ghost use Rattle.meaning.specs.inner.Does.{called, does_turn};
 
 use crate::calls::{Begun, begin as begin_body, result_of, values};
 use crate::expr::eval;
-use crate::loops::{Loop, holds, left_by_body, started, stepped, tested};
+use crate::loops::{Loop, holds, left_by_body, for_start, for_step, loop_test};
 use crate::machine::{End, Halted, Local, Machine, tick};
 use crate::program::Source;
 use crate::stmt::stmt;
@@ -151,7 +151,7 @@ fn begin_for<'p, A: Allocator + Copy>(
         (going.turn_of (program_in source.now) (called source.now frames) (stmt_of s.now)) (state_in m.old)) m.new }
 {
     let outer = m.locals.len();
-    started(source, frames, start, m)?;
+    for_start(source, frames, start, m)?;
     Ok(Stepped::Nests(
         Left::Scope(outer),
         Task::Alone(Way::Turns(m.ticks), frames, s),
@@ -350,8 +350,8 @@ fn behind<'p, A: Allocator + Copy>(
 {
     match which {
         Loop::While(_, _) => Ok(None),
-        Loop::DoWhile(_, c) => tested(source, frames, c, m),
-        Loop::For(head, _) => stepped(source, frames, &head.step, m),
+        Loop::DoWhile(_, c) => loop_test(source, frames, c, m),
+        Loop::For(head, _) => for_step(source, frames, &head.step, m),
     }
 }
 

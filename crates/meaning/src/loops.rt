@@ -13,7 +13,7 @@ use crate::expr::eval;
 use crate::machine::{End, Halted, Machine, tick};
 use crate::program::Source;
 use crate::simple::{declare, simple};
-use crate::stmt::scoped;
+use crate::stmt::scoped_stmt;
 use crate::word::is_zero;
 use std::alloc::Allocator;
 use syntax::numbers::Halt;
@@ -91,16 +91,16 @@ fn turn_while<'p, A: Allocator + Copy>(
         (while_turn (program_in source.now) (called source.now frames) (expr_of c.now) (stmt_of a.now) (state_in m.old))
         m.new }
 {
-    if let Some(end) = tested(source, frames, c, m)? {
+    if let Some(end) = loop_test(source, frames, c, m)? {
         return Ok(Some(end));
     }
-    let end = scoped(source, frames, a, m)?;
+    let end = scoped_stmt(source, frames, a, m)?;
     Ok(left_by_body(end))
 }
 
 /// A test before or behind a body.
 #[cycle(run)]
-pub(crate) fn tested<'p, A: Allocator + Copy>(
+pub(crate) fn loop_test<'p, A: Allocator + Copy>(
     source: &Source<'p, A>,
     frames: u64,
     c: &'p Expr<A>,
@@ -129,10 +129,10 @@ fn turn_do<'p, A: Allocator + Copy>(
         (do_turn (program_in source.now) (called source.now frames) (stmt_of a.now) (expr_of c.now) (state_in m.old))
         m.new }
 {
-    let end = scoped(source, frames, a, m)?;
+    let end = scoped_stmt(source, frames, a, m)?;
     match left_by_body(end) {
         Some(end) => Ok(Some(end)),
-        None => tested(source, frames, c, m),
+        None => loop_test(source, frames, c, m),
     }
 }
 
@@ -153,10 +153,10 @@ fn turn_for<'p, A: Allocator + Copy>(
     if !more {
         return Ok(Some(End::Next));
     }
-    let end = scoped(source, frames, a, m)?;
+    let end = scoped_stmt(source, frames, a, m)?;
     match left_by_body(end) {
         Some(end) => Ok(Some(end)),
-        None => stepped(source, frames, &head.step, m),
+        None => for_step(source, frames, &head.step, m),
     }
 }
 
@@ -182,7 +182,7 @@ pub(crate) fn holds<'p, A: Allocator + Copy>(
 
 /// The step of a `for`.
 #[cycle(run)]
-pub(crate) fn stepped<'p, A: Allocator + Copy>(
+pub(crate) fn for_step<'p, A: Allocator + Copy>(
     source: &Source<'p, A>,
     frames: u64,
     step: &'p Option<Simple<A>>,
@@ -236,13 +236,13 @@ fn for_run<'p, A: Allocator + Copy>(
         (option_map expr_of head.now.condition) (option_map simple_of head.now.step) (stmt_of a.now) (state_in m.old))
         m.new }
 {
-    started(source, frames, &head.start, m)?;
+    for_start(source, frames, &head.start, m)?;
     repeat(source, frames, &Loop::For(head, a), m)
 }
 
 /// What a `for` begins with.
 #[cycle(run)]
-pub(crate) fn started<'p, A: Allocator + Copy>(
+pub(crate) fn for_start<'p, A: Allocator + Copy>(
     source: &Source<'p, A>,
     frames: u64,
     start: &'p Start<A>,

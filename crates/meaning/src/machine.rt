@@ -10,7 +10,7 @@ ghost use Rattle.meaning.specs.inner.Word.{value_of};
 ghost use Rattle.meaning.specs.inner.Machine.{Means, MeansSpot, MeansWord, state_in, local_in, spot_of};
 
 use crate::arithmetic::{apply, apply_unary, convert};
-use crate::word::{Word, pack, packed, unpack};
+use crate::word::{Word, pack, pack_value, unpack};
 use lex::token::Scalar;
 use std::alloc::Allocator;
 use syntax::numbers::{Halt, Trap};
@@ -110,7 +110,7 @@ pub(crate) fn operate<A: Allocator>(
     ensures { MeansWord result (or_trap_due (binary op (value_of x) (value_of y)) (state_in m.old)) m.new }
 {
     match apply(op, unpack(x), unpack(y)) {
-        Ok(v) => Ok(packed(v)),
+        Ok(v) => Ok(pack_value(v)),
         Err(why) => trap(m, why),
     }
 }
@@ -124,7 +124,7 @@ pub(crate) fn operate_unary<A: Allocator>(
     ensures { MeansWord result (or_trap_due (unary op (value_of x)) (state_in m.old)) m.new }
 {
     match apply_unary(op, unpack(x)) {
-        Ok(v) => Ok(packed(v)),
+        Ok(v) => Ok(pack_value(v)),
         Err(why) => trap(m, why),
     }
 }

@@ -84,7 +84,7 @@ pub(crate) enum Symbol<'p, A: Allocator> {
 
 impl<'p, A: Allocator> Symbol<'p, A> {
     /// Lends a symbol once more.
-    fn lent(&self) -> Symbol<'p, A>
+    fn reborrow(&self) -> Symbol<'p, A>
         ensures { result ≡ self.now }
     {
         match self {
@@ -97,17 +97,17 @@ impl<'p, A: Allocator> Symbol<'p, A> {
 }
 
 /// What a name is first declared as in the file.
-fn declared<'p, A: Allocator + Copy>(source: &Source<'p, A>, name: &str) -> Symbol<'p, A>
+fn file_symbol<'p, A: Allocator + Copy>(source: &Source<'p, A>, name: &str) -> Symbol<'p, A>
     ensures { known_of result ≡ file_scope (program_in source.now) name.now }
 {
     match source.symbols.get(name) {
-        Some(symbol) => symbol.lent(),
+        Some(symbol) => symbol.reborrow(),
         None => Symbol::Unknown,
     }
 }
 
 /// What a name is known as while these locals live.
-fn known<'p, A: Allocator + Copy>(
+fn symbol_of<'p, A: Allocator + Copy>(
     source: &Source<'p, A>,
     locals: &[Local],
     name: &str,
@@ -116,7 +116,7 @@ fn known<'p, A: Allocator + Copy>(
 {
     match newest(locals, name) {
         Some((_, of)) => Symbol::Local(of),
-        None => declared(source, name),
+        None => file_symbol(source, name),
     }
 }
 
@@ -166,10 +166,10 @@ pub(crate) fn type_of<A: Allocator + Copy>(
     ensures { result ≡ Types.type_of (running_scope (program_in source.now) (map local_in locals.now)) (expr_of e.now) }
 {
     match e {
-        Expr::Variable(x) => number_type(&known(source, locals, x.text.as_str())),
+        Expr::Variable(x) => number_type(&symbol_of(source, locals, x.text.as_str())),
         Expr::Constant(_, t, _) => Some(*t),
-        Expr::Element(x, _, _) => element_type(&known(source, locals, x.text.as_str())),
-        Expr::Call(f, _, _) => call_type(&known(source, locals, f.text.as_str())),
+        Expr::Element(x, _, _) => element_type(&symbol_of(source, locals, x.text.as_str())),
+        Expr::Call(f, _, _) => call_type(&symbol_of(source, locals, f.text.as_str())),
         Expr::Parenthesized(e, _) => type_of(source, locals, e.get()),
         Expr::Cast(t, _, _) => Some(*t),
         Expr::Unary(op, e, _) => unary_type(*op, type_of(source, locals, e.get())),

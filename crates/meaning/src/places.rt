@@ -21,7 +21,7 @@ use syntax::tree::{Expr, Name};
 use syntax::types::common_of;
 
 /// Where the value of a name stands.
-pub(crate) fn named<'p, A: Allocator + Copy>(
+pub(crate) fn name_place<'p, A: Allocator + Copy>(
     source: &Source<'p, A>,
     x: &Name<A>,
     m: &mut Machine<'p, '_, A>,
@@ -51,12 +51,12 @@ pub(crate) fn variable<'p, A: Allocator + Copy>(
         (meaning.expr (program_in source.now) (called source.now 0) (tree.Variable (name_of x.now)) (state_in m.old))
         m.new }
 {
-    let at = named(source, x, m)?;
+    let at = name_place(source, x, m)?;
     fetch(m, at)
 }
 
 /// The cell of an element by its index, which is tested.
-pub(crate) fn indexed<'p, A: Allocator + Copy>(
+pub(crate) fn element_cell<'p, A: Allocator + Copy>(
     source: &Source<'p, A>,
     x: &Name<A>,
     index: Word,
@@ -79,7 +79,7 @@ pub(crate) fn indexed<'p, A: Allocator + Copy>(
 }
 
 /// A value of the type to which two branches are converted.
-pub(crate) fn joined<'p, A: Allocator + Copy>(
+pub(crate) fn common_value<'p, A: Allocator + Copy>(
     source: &Source<'p, A>,
     a: &Expr<A>,
     b: &Expr<A>,

@@ -12,7 +12,7 @@ ghost use Rattle.meaning.specs.inner.Does.{called, declared_one};
 
 use crate::expr::{element, eval};
 use crate::machine::{End, Halted, Local, Machine, Spot, assign, fetch, operate};
-use crate::places::named;
+use crate::places::name_place;
 use crate::program::Source;
 use crate::word::{Word, flag};
 use lex::token::Scalar;
@@ -49,7 +49,7 @@ fn target<'p, A: Allocator + Copy>(
         (meaning.spot (program_in source.now) (called source.now frames) (expr_of e.now) (state_in m.old)) m.new }
 {
     match e {
-        Expr::Variable(x) => named(source, x, m),
+        Expr::Variable(x) => name_place(source, x, m),
         Expr::Element(x, i, _) => element(source, frames, x, i.get(), m),
         _ => {
             m.why = Some(Halt::Astray);
@@ -60,7 +60,7 @@ fn target<'p, A: Allocator + Copy>(
 
 /// What an assignment without an operator does.
 #[cycle(run)]
-fn assigned<'p, A: Allocator + Copy>(
+fn simple_assignment<'p, A: Allocator + Copy>(
     source: &Source<'p, A>,
     frames: u64,
     to: &'p Expr<A>,
@@ -79,7 +79,7 @@ fn assigned<'p, A: Allocator + Copy>(
 
 /// What an assignment with an operator does: the old value is read first.
 #[cycle(run)]
-fn changed<'p, A: Allocator + Copy>(
+fn compound_assignment<'p, A: Allocator + Copy>(
     source: &Source<'p, A>,
     frames: u64,
     to: &'p Expr<A>,
@@ -114,8 +114,8 @@ pub(crate) fn simple<'p, A: Allocator + Copy>(
             Ok(End::Next)
         }
         Simple::Assign(to, op, e) => match op {
-            None => assigned(source, frames, to, e, m),
-            Some(op) => changed(source, frames, to, *op, e, m),
+            None => simple_assignment(source, frames, to, e, m),
+            Some(op) => compound_assignment(source, frames, to, *op, e, m),
         },
         Simple::Adjust(to, by) => {
             let at = target(source, frames, to, m)?;

@@ -125,7 +125,7 @@ fn went<'p, A: Allocator + Copy>(
 }
 
 /// A machine that goes no further.
-fn stopped<'p, A: Allocator>(m: Machine<'p, '_, A>) -> Result<Gone<'p, A>, AllocError>
+fn stop_machine<'p, A: Allocator>(m: Machine<'p, '_, A>) -> Result<Gone<'p, A>, AllocError>
     ensures { (source : Source A)
         → IfOk result (λ g. Happened m.entry.why
         × IsGone source g (act.Stops (halt_of m.entry.why) (state_in m.entry))) }
@@ -158,7 +158,7 @@ fn go<'p, A: Allocator + Copy>(
     let mut m = machine(source.alloc, at)?;
     match step(source, left, end, &mut m) {
         Ok(next) => went(source.alloc, next, m),
-        Err(_) => stopped(m),
+        Err(_) => stop_machine(m),
     }
 }
 
@@ -176,7 +176,7 @@ fn go_open<'p, A: Allocator + Copy>(
     let mut m = machine(source.alloc, at)?;
     match open(source, frames, s, parts, &mut m) {
         Ok(next) => went(source.alloc, next, m),
-        Err(_) => stopped(m),
+        Err(_) => stop_machine(m),
     }
 }
 
@@ -195,12 +195,12 @@ fn go_call<'p, A: Allocator + Copy>(
     let mut m = machine(source.alloc, at)?;
     match open_call(source, frames, f, args, &mut m) {
         Ok(next) => went(source.alloc, next, m),
-        Err(_) => stopped(m),
+        Err(_) => stop_machine(m),
     }
 }
 
 /// Puts what comes next behind what is left, and gives the end with which that goes on.
-fn put<'p, A: Allocator + Copy>(
+fn push_next<'p, A: Allocator + Copy>(
     left: &mut Vec<Left<'p, A>, A>,
     next: Stepped<'p, A>,
 ) -> Result<End, AllocError>
@@ -237,7 +237,7 @@ fn arrive<'p, A: Allocator + Copy>(
     ensures text { OnOk result (thread.new.shown.text.items ≡ thread.old.shown.text.items ++ shown.text.items) }
 {
     let mut shown = shown;
-    thread.end = put(&mut thread.left, next)?;
+    thread.end = push_next(&mut thread.left, next)?;
     thread.at = at;
     thread.shown.lefts.append(&mut shown.lefts)?;
     thread.shown.text.append(&mut shown.text)

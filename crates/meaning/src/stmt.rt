@@ -39,7 +39,7 @@ pub(crate) fn stmt<'p, A: Allocator + Copy>(
         Stmt::Do(s) => simple(source, frames, s, m),
         Stmt::Block(ss) => block(source, frames, ss.as_slice(), m),
         Stmt::Print(_, format, _, args) => {
-            printed(
+            print_output(
                 source,
                 frames,
                 format.as_str().as_bytes(),
@@ -53,7 +53,7 @@ pub(crate) fn stmt<'p, A: Allocator + Copy>(
         Stmt::For(head, a) => for_scoped(source, frames, head.get(), a.get(), m),
         Stmt::Break(_) => Ok(End::Breaks),
         Stmt::Continue(_) => Ok(End::Continues),
-        Stmt::Return(e, _) => returned(source, frames, e, m),
+        Stmt::Return(e, _) => return_end(source, frames, e, m),
         Stmt::Transaction(kind, ss, _) => {
             transaction(source, frames, *kind, &Body::Block(ss.as_slice()), m)
         }
@@ -99,7 +99,7 @@ pub(crate) fn block<'p, A: Allocator + Copy>(
 
 /// A statement with names of its own.
 #[cycle(run)]
-pub(crate) fn scoped<'p, A: Allocator + Copy>(
+pub(crate) fn scoped_stmt<'p, A: Allocator + Copy>(
     source: &Source<'p, A>,
     frames: u64,
     s: &'p Stmt<A>,
@@ -116,7 +116,7 @@ pub(crate) fn scoped<'p, A: Allocator + Copy>(
 /// What a format and its arguments print behind the statement's tick, where printing is allowed.
 #[cycle(run)]
 #[inline(never)]
-fn printed<'p, A: Allocator + Copy>(
+fn print_output<'p, A: Allocator + Copy>(
     source: &Source<'p, A>,
     frames: u64,
     format: &[u8],
@@ -149,17 +149,17 @@ fn either<'p, A: Allocator + Copy>(
 {
     let v = eval(source, frames, c, m)?;
     if !is_zero(v) {
-        return scoped(source, frames, a, m);
+        return scoped_stmt(source, frames, a, m);
     }
     match b {
-        Some(b) => scoped(source, frames, b.get(), m),
+        Some(b) => scoped_stmt(source, frames, b.get(), m),
         None => Ok(End::Next),
     }
 }
 
 /// The end that leaves a function, behind the statement's tick.
 #[cycle(run)]
-fn returned<'p, A: Allocator + Copy>(
+fn return_end<'p, A: Allocator + Copy>(
     source: &Source<'p, A>,
     frames: u64,
     e: &'p Option<Expr<A>>,

@@ -10,7 +10,7 @@ ghost use Rattle.meaning.specs.Outcomes.{AreMemories, memories_in, outcome_in, t
 ghost use Rattle.meaning.specs.inner.Standing.{end_by as end_by_due};
 ghost use Rattle.meaning.specs.inner.Machine.{Means, context_in, program_in, state_in};
 
-use crate::calls::entered;
+use crate::calls::enter_function;
 use crate::machine::{Context, Halted, Machine, tick};
 use crate::outcome::{ThreadEnd, ThreadOutcome};
 use crate::program::Source;
@@ -34,12 +34,12 @@ fn work<'p, A: Allocator + Copy>(
         of: Scalar::Unsigned,
         word: u64::from(t),
     }];
-    entered(source, 64, "worker", &values, m)?;
+    enter_function(source, 64, "worker", &values, m)?;
     tick(m)
 }
 
 /// The memories left.
-fn left<A: Allocator + Copy>(alloc: A, context: Context<A>) -> Vec<Vec<u64, A>, A>
+fn memories_left<A: Allocator + Copy>(alloc: A, context: Context<A>) -> Vec<Vec<u64, A>, A>
     ensures { memories_in result.items ≡ lefts_in (context_in context.entry) }
 {
     match context {
@@ -57,7 +57,7 @@ fn finish<A: Allocator + Copy>(alloc: A, end: ThreadEnd, m: Machine<A>) -> Threa
     } }
 {
     ThreadOutcome {
-        lefts: left(alloc, m.context),
+        lefts: memories_left(alloc, m.context),
         text: m.text,
         end,
     }

@@ -270,7 +270,7 @@ pub(crate) fn transaction<'p, A: Allocator + Copy>(
     let none = Context::Inside(Mode::Atomic, Vec::new(source.alloc));
     match mem::replace(&mut m.context, none) {
         Context::Outside(founds, lefts) => outermost(source, frames, kind, founds, lefts, body, m),
-        Context::Inside(outer, found) => nested(source, frames, outer, found, kind, body, m),
+        Context::Inside(outer, found) => nested_transaction(source, frames, outer, found, kind, body, m),
     }
 }
 
@@ -325,7 +325,7 @@ fn outermost<'p, 'f, A: Allocator + Copy>(
 /// A transaction in another, which runs as `outer` on this memory.
 #[cycle(run)]
 #[inline(never)]
-fn nested<'p, A: Allocator + Copy>(
+fn nested_transaction<'p, A: Allocator + Copy>(
     source: &Source<'p, A>,
     frames: u64,
     outer: Mode,

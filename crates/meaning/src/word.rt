@@ -60,7 +60,7 @@ pub(crate) fn unpack(w: Word) -> Value
 
 /// A value in one piece.
 #[inline(always)]
-pub(crate) fn packed(v: Value) -> Word
+pub(crate) fn pack_value(v: Value) -> Word
     ensures { value_of result ≡ v }
 {
     pack(v.of, v.word)
@@ -95,5 +95,5 @@ pub(crate) fn flag(b: bool) -> Word
 pub(crate) fn convert_word(t: Scalar, w: Word) -> Word
     ensures { value_of result ≡ value_in_type t (value_of w) }
 {
-    packed(convert(t, unpack(w)))
+    pack_value(convert(t, unpack(w)))
 }

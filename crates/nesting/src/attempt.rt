@@ -353,7 +353,7 @@ impl<A: Allocator + Copy> Attempt<A> {
 
     /// The word last written at an address, if any.
     #[inline(always)]
-    pub fn written(&self, address: u32) -> Option<u64>
+    pub fn written_word(&self, address: u32) -> Option<u64>
         ensures { result ≡ overlay_word address self.now.writes }
     {
         self.writes.get(address)

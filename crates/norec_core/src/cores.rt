@@ -286,7 +286,7 @@ impl<A: Allocator + Copy> Core<A> {
 
     /// Makes such a step, whose access was made. It takes no memory.
     #[inline(always)]
-    pub fn stored(&mut self, place: usize) -> Outcome
+    pub fn take_store(&mut self, place: usize) -> Outcome
         requires { IsSomeAnd self.old.attempt (λ a. IsStoring place a) }
         ensures attempt { (answer : Reply)
             → self.new.attempt ≡ (core_step self.old.saved self.old.attempt Op.Commit answer).attempt }
@@ -295,7 +295,7 @@ impl<A: Allocator + Copy> Core<A> {
         ensures asked { self.new.asked ≡ None }
     {
         self.is_asked = false;
-        self.steps.stored(place)
+        self.steps.take_store(place)
     }
 
     /// What to go back to, after a step that cancelled or aborted: the thread's state at that begin.
@@ -337,13 +337,13 @@ impl<A: Allocator + Copy> Core<A> {
 
     /// Makes such a step, with the lock's value that was loaded. It takes no memory.
     #[inline(always)]
-    pub fn waited(&mut self, lock: u64)
+    pub fn take_wait(&mut self, lock: u64)
         requires { IsSomeAnd self.old.attempt (λ a. IsWaiting a) }
         ensures step { (op : Operation) → IsAskedAgain self.old (Value lock) op self.new }
         ensures asked { self.new.asked ≡ None }
     {
         self.is_asked = false;
-        self.steps.waited(lock);
+        self.steps.take_wait(lock);
     }
 
     /// Where validation compares an entry next, or past the last one the lock: at which lock value, and the entry's
@@ -373,7 +373,7 @@ impl<A: Allocator + Copy> Core<A> {
     /// Makes the step that compares this entry, where its word was loaded again: validation compares the one behind it
     /// next. It takes no memory.
     #[inline(always)]
-    pub fn compared(&mut self, time: u64, place: usize, entry: (u32, u64))
+    pub fn take_equal(&mut self, time: u64, place: usize, entry: (u32, u64))
         requires entry { IsSomeAnd self.old.attempt (λ a. ComparesWith time place (Some entry) a) }
         requires next { place + 1 < 2 ^ 64 }
         ensures step { (op : Operation) → IsAskedAgain self.old (Value entry.1) op self.new }
@@ -383,13 +383,13 @@ impl<A: Allocator + Copy> Core<A> {
         // The prover names by it the word.
         let _entry = entry;
         self.is_asked = false;
-        self.steps.compared(time, place);
+        self.steps.take_equal(time, place);
     }
 
     /// Makes the step that compares this entry, where another word was loaded: the attempt is dropped. It takes no
     /// memory.
     #[inline(always)]
-    pub fn differed(&mut self, time: u64, place: usize, entry: (u32, u64), word: u64)
+    pub fn take_unequal(&mut self, time: u64, place: usize, entry: (u32, u64), word: u64)
         requires entry { IsSomeAnd self.old.attempt (λ a. ComparesWith time place (Some entry) a) }
         requires differs { word ≢ entry.1 }
         ensures step { (op : Operation) → IsDropped self.old (Value word) op self.new }
@@ -398,18 +398,18 @@ impl<A: Allocator + Copy> Core<A> {
         // The prover names by them the entry and the word.
         let _compared = (time, place, entry, word);
         self.is_asked = false;
-        self.steps.differed();
+        self.steps.take_unequal();
     }
 
     /// Makes the step past the last entry, with the lock's value that was loaded: where it is the one at which
     /// validation began it is the new snapshot, else validation begins again. It takes no memory.
     #[inline(always)]
-    pub fn validated(&mut self, time: u64, place: usize, lock: u64)
+    pub fn take_validation(&mut self, time: u64, place: usize, lock: u64)
         requires { IsSomeAnd self.old.attempt (λ a. ComparesWith time place None a) }
         ensures step { (op : Operation) → IsAskedAgain self.old (Value lock) op self.new }
         ensures asked { self.new.asked ≡ None }
     {
         self.is_asked = false;
-        self.steps.validated(time, place, lock);
+        self.steps.take_validation(time, place, lock);
     }
 }

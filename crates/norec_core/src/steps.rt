@@ -129,7 +129,7 @@ impl<A: Allocator + Copy> Steps<A> {
         if !self.plain {
             return ReadStep::Other;
         }
-        match self.logs.written(cell) {
+        match self.logs.written_word(cell) {
             Some(word) => ReadStep::Written(word),
             None => ReadStep::Loads,
         }
@@ -258,7 +258,7 @@ impl<A: Allocator + Copy> Steps<A> {
     {
         // The prover names by it the lock's value, which is the snapshot.
         let _from = from;
-        self.swapped(answer)
+        self.after_swap(answer)
     }
 
     /// The place in the write log that a commit stores next, where one stores.
@@ -288,7 +288,7 @@ impl<A: Allocator + Copy> Steps<A> {
 
     /// A commit goes on whose store of this pair, or past the last one of the lock, was made.
     #[inline(always)]
-    pub(crate) fn stored(&mut self, place: usize) -> Outcome
+    pub(crate) fn take_store(&mut self, place: usize) -> Outcome
         requires begun { self.old.begun ≡ true }
         requires phase { self.old.attempt.phase ≡ Phase.Stores place }
         ensures { IsStep (core_store self.old.attempt place (slice_get self.old.attempt.writes place)) result self.new }
@@ -324,7 +324,7 @@ impl<A: Allocator + Copy> Steps<A> {
         ensures { result ≡ operation_access self.now.attempt op }
     {
         match op {
-            Op::Read(address) => match self.logs.written(address) {
+            Op::Read(address) => match self.logs.written_word(address) {
                 Some(_) => Access::Local,
                 None => Access::LoadWord(address),
             },
@@ -455,7 +455,7 @@ impl<A: Allocator + Copy> Steps<A> {
         requires phase { self.old.attempt.phase ≡ Phase.AtOperation }
         ensures { IsStep (core_read self.old.attempt (overlay_word address self.old.attempt.writes) answer) result self.new }
     {
-        if let Some(word) = self.logs.written(address) {
+        if let Some(word) = self.logs.written_word(address) {
             return Outcome::Read(word);
         }
         if let Answer::Value(word) = answer {
@@ -491,12 +491,12 @@ impl<A: Allocator + Copy> Steps<A> {
             self.end();
             return Outcome::Done;
         }
-        self.swapped(answer)
+        self.after_swap(answer)
     }
 
     /// A commit has swapped the lock: where the swap was won it stores next, where it was lost it validates.
     #[inline(always)]
-    fn swapped(&mut self, answer: Answer) -> Outcome
+    fn after_swap(&mut self, answer: Answer) -> Outcome
         requires begun { self.old.begun ≡ true }
         requires kept { self.old.attempt.kept ≡ false }
         requires goes_on { stops (Access.Swap self.old.attempt.snapshot) ≡ false }
@@ -674,7 +674,7 @@ impl<A: Allocator + Copy> Steps<A> {
 
     /// The step of a validation that waits for an even lock, with the lock's value.
     #[inline(always)]
-    pub(crate) fn waited(&mut self, lock: u64)
+    pub(crate) fn take_wait(&mut self, lock: u64)
         requires begun { self.old.begun ≡ true }
         requires phase { self.old.attempt.phase ≡ Phase.ValidatesTime }
         ensures { IsStep (core_time self.old.attempt (Value lock)) Outcome.Going self.new }
@@ -716,7 +716,7 @@ impl<A: Allocator + Copy> Steps<A> {
 
     /// The step in which an entry's word was found again.
     #[inline(always)]
-    pub(crate) fn compared(&mut self, time: u64, place: usize)
+    pub(crate) fn take_equal(&mut self, time: u64, place: usize)
         requires phase { self.old.attempt.phase ≡ Phase.ValidatesEntry time place }
         requires next { place + 1 < 2 ^ 64 }
         ensures begun { self.new.begun ≡ self.old.begun }
@@ -728,7 +728,7 @@ impl<A: Allocator + Copy> Steps<A> {
 
     /// The step in which an entry's word was not found again.
     #[inline(always)]
-    pub(crate) fn differed(&mut self)
+    pub(crate) fn take_unequal(&mut self)
         ensures begun { self.new.begun ≡ false }
         ensures aside { self.new.aside ≡ self.old.attempt.saved }
     {
@@ -738,7 +738,7 @@ impl<A: Allocator + Copy> Steps<A> {
 
     /// The step past the last entry, with the lock's value.
     #[inline(always)]
-    pub(crate) fn validated(&mut self, time: u64, place: usize, lock: u64)
+    pub(crate) fn take_validation(&mut self, time: u64, place: usize, lock: u64)
         requires begun { self.old.begun ≡ true }
         requires phase { self.old.attempt.phase ≡ Phase.ValidatesEntry time place }
         ensures { IsStep (core_compare self.old.attempt time place None (Value lock)) Outcome.Going self.new }

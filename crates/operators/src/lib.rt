@@ -112,7 +112,7 @@ fn bits(t: Scalar) -> u64
 
 /// The number of an `int`'s word.
 #[inline(always)]
-fn signed(w: u64) -> i32
+fn signed_number(w: u64) -> i32
     ensures { result ≡ number_in Scalar.Int w }
 {
     low(w).cast_signed()
@@ -147,7 +147,7 @@ fn long_word(z: i64) -> u64
 fn multiply_signed(a: u64, b: u64) -> Result<u64, Trap>
     ensures { result ≡ operation_result BinaryOp.Multiply Scalar.Int a b }
 {
-    match signed(a).checked_mul(signed(b)) {
+    match signed_number(a).checked_mul(signed_number(b)) {
         Some(z) => Ok(word(z)),
         None => Err(Trap::OutOfRange),
     }
@@ -179,7 +179,7 @@ fn divide_signed(a: u64, b: u64) -> Result<u64, Trap>
     requires divisor { residue Scalar.Int b ≢ 0 }
     ensures { result ≡ operation_result BinaryOp.Divide Scalar.Int a b }
 {
-    match signed(a).checked_div(signed(b)) {
+    match signed_number(a).checked_div(signed_number(b)) {
         Some(z) => Ok(word(z)),
         None => Err(Trap::OutOfRange),
     }
@@ -191,7 +191,7 @@ fn remain_signed(a: u64, b: u64) -> Result<u64, Trap>
     requires divisor { residue Scalar.Int b ≢ 0 }
     ensures { result ≡ operation_result BinaryOp.Remainder Scalar.Int a b }
 {
-    match signed(a).checked_rem(signed(b)) {
+    match signed_number(a).checked_rem(signed_number(b)) {
         Some(z) => Ok(word(z)),
         None => Err(Trap::OutOfRange),
     }
@@ -331,7 +331,7 @@ pub fn less(t: Scalar, a: u64, b: u64) -> u64
     ensures { operation_result BinaryOp.Less t a b ≡ Ok result }
 {
     match t {
-        Scalar::Int => u64::from(signed(a) < signed(b)),
+        Scalar::Int => u64::from(signed_number(a) < signed_number(b)),
         Scalar::Unsigned => u64::from(low(a) < low(b)),
         Scalar::LongLong => u64::from(long(a) < long(b)),
     }
@@ -343,7 +343,7 @@ pub fn less_equal(t: Scalar, a: u64, b: u64) -> u64
     ensures { operation_result BinaryOp.LessEqual t a b ≡ Ok result }
 {
     match t {
-        Scalar::Int => u64::from(signed(a) <= signed(b)),
+        Scalar::Int => u64::from(signed_number(a) <= signed_number(b)),
         Scalar::Unsigned => u64::from(low(a) <= low(b)),
         Scalar::LongLong => u64::from(long(a) <= long(b)),
     }

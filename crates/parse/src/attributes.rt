@@ -10,9 +10,9 @@ ghost use Rattle.syntax.specs.Grammar.{the_attribute, attribute_named};
 ghost use Rattle.parse.specs.inner.Reading.{Gives, take, head, behind, before};
 ghost use Rattle.parse.specs.inner.Items.{words, bracket_attributes, gnu_attributes, attribute_list, is_plain, attributes};
 
-use crate::cursor::{closed, counted, expect, is_next};
+use crate::cursor::{expect_close, count_tokens, expect, is_next};
 use crate::fault::Failure;
-use crate::list::{Element, listed};
+use crate::list::{Element, comma_list};
 use containers::Items;
 use lex::token::{Fixed, Keyword, Kind, Punctuator, Token};
 use std::alloc::{AllocError, Allocator};
@@ -22,7 +22,7 @@ use syntax::tree::Attribute;
 type Found<'t, 'a, A> = (Items<Attribute, A>, &'t [Token<'a>]);
 
 /// The attribute that a word names, if it names one.
-fn named(text: &str) -> Option<Attribute>
+fn attribute_of(text: &str) -> Option<Attribute>
     ensures { result ≡ attribute_named text.now }
 {
     match text {
@@ -43,7 +43,7 @@ fn word<'t, 'a>(tokens: &'t [Token<'a>]) -> Result<(Attribute, &'t [Token<'a>]),
     let Kind::Name(text) = first.kind else {
         return Err(Failure::Wrong(tokens));
     };
-    match named(text) {
+    match attribute_of(text) {
         Some(word) => Ok((word, rest)),
         None => Err(Failure::Wrong(tokens)),
     }
@@ -77,11 +77,11 @@ fn words<'t, 'a, A: Allocator + Copy>(
 ) -> Result<Found<'t, 'a, A>, Failure<'t, 'a>>
     ensures { Gives (λ x. (x.0, toks x.1.now)) result (words (toks tokens.now)) }
 {
-    listed(alloc, &EachWord {}, tokens)
+    comma_list(alloc, &EachWord {}, tokens)
 }
 
 /// Words between two of the one and two of the other.
-fn enclosed<'t, 'a, A: Allocator + Copy>(
+fn doubly_enclosed_words<'t, 'a, A: Allocator + Copy>(
     alloc: A,
     tokens: &'t [Token<'a>],
     opening: Fixed,
@@ -92,17 +92,17 @@ fn enclosed<'t, 'a, A: Allocator + Copy>(
 {
     let rest = expect(tokens, opening)?;
     let rest = expect(rest, opening)?;
-    closed(closed(words(alloc, rest), closing), closing)
+    expect_close(expect_close(words(alloc, rest), closing), closing)
 }
 
 /// `[[ .. ]]`
-fn bracketed<'t, 'a, A: Allocator + Copy>(
+fn bracket_attributes<'t, 'a, A: Allocator + Copy>(
     alloc: A,
     tokens: &'t [Token<'a>],
 ) -> Result<Found<'t, 'a, A>, Failure<'t, 'a>>
     ensures { Gives (λ x. (x.0, toks x.1.now)) result (bracket_attributes (toks tokens.now)) }
 {
-    enclosed(
+    doubly_enclosed_words(
         alloc,
         tokens,
         Fixed::Punctuator(Punctuator::OpenBracket),
@@ -111,14 +111,14 @@ fn bracketed<'t, 'a, A: Allocator + Copy>(
 }
 
 /// `__attribute__((..))`
-fn parenthesized<'t, 'a, A: Allocator + Copy>(
+fn gnu_attributes<'t, 'a, A: Allocator + Copy>(
     alloc: A,
     tokens: &'t [Token<'a>],
 ) -> Result<Found<'t, 'a, A>, Failure<'t, 'a>>
     ensures { Gives (λ x. (x.0, toks x.1.now)) result (gnu_attributes (toks tokens.now)) }
 {
     let rest = expect(tokens, Fixed::Keyword(Keyword::Attribute))?;
-    enclosed(
+    doubly_enclosed_words(
         alloc,
         rest,
         Fixed::Punctuator(Punctuator::OpenParen),
@@ -134,9 +134,9 @@ fn attribute_list<'t, 'a, A: Allocator + Copy>(
     ensures { Gives (λ x. (x.0, toks x.1.now)) result (attribute_list (toks tokens.now)) }
 {
     if is_next(tokens, Fixed::Punctuator(Punctuator::OpenBracket)) {
-        bracketed(alloc, tokens)
+        bracket_attributes(alloc, tokens)
     } else {
-        parenthesized(alloc, tokens)
+        gnu_attributes(alloc, tokens)
     }
 }
 
@@ -149,7 +149,7 @@ fn is_plain(tokens: &[Token]) -> bool
 }
 
 /// The attributes of one list, and then those of another.
-pub fn joined<A: Allocator>(
+pub fn append_attributes<A: Allocator>(
     front: Items<Attribute, A>,
     back: Items<Attribute, A>,
 ) -> Result<Items<Attribute, A>, AllocError>
@@ -167,14 +167,14 @@ pub fn attributes<'t, 'a, A: Allocator + Copy>(
 ) -> Result<Found<'t, 'a, A>, Failure<'t, 'a>>
     ensures { Gives (λ x. (x.0, toks x.1.now)) result (attributes (toks tokens.now)) }
 {
-    let (mut rest, count) = counted(tokens);
+    let (mut rest, count) = count_tokens(tokens);
     let mut all = Items::new(alloc);
     'turns: for _turn in 0..count {
         if is_plain(rest) {
             return Ok((all, rest));
         }
         let (more, after) = attribute_list(alloc, rest)?;
-        all = joined(all, more)?;
+        all = append_attributes(all, more)?;
         rest = after;
     }
     if is_plain(rest) {

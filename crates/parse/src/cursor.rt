@@ -14,7 +14,7 @@ use std::alloc::Allocator;
 use syntax::tree::Name;
 
 /// All tokens, and how many they are: for the prover, which then knows the bound of a loop by a clause.
-pub fn counted<'t, 'a>(tokens: &'t [Token<'a>]) -> (&'t [Token<'a>], usize)
+pub fn count_tokens<'t, 'a>(tokens: &'t [Token<'a>]) -> (&'t [Token<'a>], usize)
     ensures all { result.0.now ≡ tokens.now }
     ensures count { result.1 ≡ length tokens.now }
 {
@@ -64,7 +64,7 @@ pub fn eat<'t, 'a>(tokens: &'t [Token<'a>], fixed: Fixed) -> Option<&'t [Token<'
 /// What was read, where this keyword or punctuator stands behind it. It takes what a call returned: a caller with a `?`
 /// before it and one behind it is dearer to prove. What was read is dropped here where the token is missing: written
 /// out at each caller, the drop of a tree is dear too.
-pub fn closed<'t, 'a, T: Drop>(
+pub fn expect_close<'t, 'a, T: Drop>(
     read: Result<(T, &'t [Token<'a>]), Failure<'t, 'a>>,
     fixed: Fixed,
 ) -> Result<(T, &'t [Token<'a>]), Failure<'t, 'a>>
@@ -79,7 +79,7 @@ pub fn closed<'t, 'a, T: Drop>(
     }
 }
 
-/// What was read, and where this keyword or punctuator stands behind it; as `closed`, it is dropped here where none
+/// What was read, and where this keyword or punctuator stands behind it; as `expect_close`, it is dropped here where none
 /// does.
 pub fn closed_at<'t, 'a, T: Drop>(
     read: T,

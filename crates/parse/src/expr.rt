@@ -14,7 +14,7 @@ ghost use Rattle.parse.specs.inner.Expressions.{arguments, conditional_at, expr_
 ghost use Rattle.parse.specs.inner.Expressions.{outcomes, prefixed, starts_expr, the_constant, the_prefix, transaction};
 ghost use Rattle.parse.specs.inner.Expressions.{whole_at};
 
-use crate::cursor::{closed_at, counted, eat, expect, is_next, name, spot};
+use crate::cursor::{closed_at, count_tokens, eat, expect, is_next, name, spot};
 use crate::fault::Failure;
 use crate::lead::{Infix, Operand, infix_of, mode_keyword, operand_at, precedence};
 use crate::node;
@@ -41,7 +41,7 @@ pub fn starts_expr(tokens: &[Token]) -> bool
 }
 
 /// Why no expression is read where no depth is left.
-fn sunk<'t, 'a>(tokens: &'t [Token<'a>]) -> Failure<'t, 'a>
+fn too_deep<'t, 'a>(tokens: &'t [Token<'a>]) -> Failure<'t, 'a>
     ensures { Fails result (too_deep_at {A = E.Expr} starts_expr (toks tokens.now)) }
 {
     if starts_expr(tokens) {
@@ -108,7 +108,7 @@ fn prefix<'t, 'a>(
 
 /// `prefix operand`
 #[cycle(climbing)]
-fn prefixed<'t, 'a, A: Allocator + Copy>(
+fn prefix_operation<'t, 'a, A: Allocator + Copy>(
     alloc: A,
     tokens: &'t [Token<'a>],
     depth: usize,
@@ -126,7 +126,7 @@ fn prefixed<'t, 'a, A: Allocator + Copy>(
 
 /// `( type ) operand` or `( expr )`
 #[cycle(climbing)]
-fn opened<'t, 'a, A: Allocator + Copy>(
+fn cast_or_group<'t, 'a, A: Allocator + Copy>(
     alloc: A,
     tokens: &'t [Token<'a>],
     depth: usize,
@@ -210,7 +210,7 @@ fn extend<'t, 'a, A: Allocator + Copy>(
     ensures deep { IfOk result (λ x. x.1 ≡ deepest (exprs_of x.0)) }
     ensures within { IfOk result (λ x. x.1 ≤ depth) }
 {
-    let (mut rest, count) = counted(tokens);
+    let (mut rest, count) = count_tokens(tokens);
     let mut all = read;
     let mut most = deep;
     'turns: for _turn in 0..count {
@@ -252,7 +252,7 @@ fn arguments<'t, 'a, A: Allocator + Copy>(
 
 /// `name`, `name [ expr ]` or `name ( arguments )`
 #[cycle(climbing)]
-fn named<'t, 'a, A: Allocator + Copy>(
+fn name_expr<'t, 'a, A: Allocator + Copy>(
     alloc: A,
     tokens: &'t [Token<'a>],
     depth: usize,
@@ -299,10 +299,10 @@ fn operand<'t, 'a, A: Allocator + Copy>(
     ensures within { IfOk result (λ x. x.1 ≤ depth + 1) }
 {
     match operand_at(tokens) {
-        Operand::Name => named(alloc, tokens, depth),
+        Operand::Name => name_expr(alloc, tokens, depth),
         Operand::Constant => constant(tokens),
-        Operand::Open => opened(alloc, tokens, depth),
-        Operand::Prefix => prefixed(alloc, tokens, depth),
+        Operand::Open => cast_or_group(alloc, tokens, depth),
+        Operand::Prefix => prefix_operation(alloc, tokens, depth),
         Operand::Transaction(mode) => transaction(alloc, tokens, mode, depth),
         Operand::None => Err(Failure::Wrong(tokens)),
     }
@@ -324,7 +324,7 @@ fn climb<'t, 'a, A: Allocator + Copy>(
     ensures within { IfOk result (λ x. x.1 ≤ depth) }
 {
     if depth == 0 {
-        return Err(sunk(tokens));
+        return Err(too_deep(tokens));
     }
     let below = depth - 1;
     let (mut left, mut deep, mut rest) = operand(alloc, tokens, below)?;
@@ -430,7 +430,7 @@ fn whole<'t, 'a, A: Allocator + Copy>(
     ensures within { IfOk result (λ x. x.1 ≤ depth) }
 {
     if depth == 0 {
-        return Err(sunk(tokens));
+        return Err(too_deep(tokens));
     }
     let (condition, deep, rest) = climb(alloc, tokens, depth, 1)?;
     conditional(alloc, condition, deep, rest, depth - 1)

@@ -15,10 +15,10 @@ ghost use Rattle.parse.specs.inner.Items.{header};
 ghost use Rattle.parse.specs.inner.Items as items;
 ghost use Rattle.parse.specs.inner.Headings.{heading_of};
 
-use crate::attributes::{attributes, joined};
-use crate::cursor::{closed, eat, expect, is_next, name};
+use crate::attributes::{attributes, append_attributes};
+use crate::cursor::{expect_close, eat, expect, is_next, name};
 use crate::fault::Failure;
-use crate::list::{Element, listed};
+use crate::list::{Element, comma_list};
 use crate::scalar::scalar;
 use crate::stmt::block;
 use containers::Items;
@@ -131,7 +131,7 @@ fn parameter_list<'t, 'a, A: Allocator + Copy>(
     if let Some(rest) = eat(tokens, Fixed::Keyword(Keyword::Void)) {
         return Ok((Items::new(alloc), rest));
     }
-    listed(alloc, &EachParameter { alloc }, tokens)
+    comma_list(alloc, &EachParameter { alloc }, tokens)
 }
 
 /// `( parameter_list )`
@@ -142,7 +142,7 @@ fn parameters<'t, 'a, A: Allocator + Copy>(
     ensures { Gives (λ x. (map parameter_of x.0, toks x.1.now)) result (parameters (toks tokens.now)) }
 {
     let rest = expect(tokens, Fixed::Punctuator(Punctuator::OpenParen))?;
-    closed(
+    expect_close(
         parameter_list(alloc, rest),
         Fixed::Punctuator(Punctuator::CloseParen),
     )
@@ -193,7 +193,7 @@ pub fn function<'t, 'a, A: Allocator + Copy>(
     let (body, rest) = body(alloc, rest, depth, parameters.as_slice())?;
     Ok((
         Item::Function(Function {
-            attributes: joined(heading.attributes, more)?,
+            attributes: append_attributes(heading.attributes, more)?,
             result: heading.result,
             name: heading.name,
             parameters,

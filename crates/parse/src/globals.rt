@@ -12,7 +12,7 @@ ghost use Rattle.parse.specs.inner.Reading.{Gives, take, before, behind};
 ghost use Rattle.parse.specs.inner.Items.{the_placed_value, initialiser, first_value, first_values, global_tail, global};
 ghost use Rattle.parse.specs.inner.Items.{value_list, several, globals_from};
 
-use crate::cursor::{closed, eat, expect, is_next, name, spot};
+use crate::cursor::{expect_close, eat, expect, is_next, name, spot};
 use crate::fault::Failure;
 use crate::list::{Element, further, one};
 use containers::Items;
@@ -66,7 +66,7 @@ fn array_length<'t, 'a>(
         (toks tokens.now)) }
 {
     let rest = expect(tokens, Fixed::Punctuator(Punctuator::OpenBracket))?;
-    closed(length(rest), Fixed::Punctuator(Punctuator::CloseBracket))
+    expect_close(length(rest), Fixed::Punctuator(Punctuator::CloseBracket))
 }
 
 /// `[-] constant`
@@ -150,14 +150,14 @@ fn first_values<'t, 'a, A: Allocator + Copy>(
         return Ok((Items::new(alloc), tokens));
     };
     let rest = expect(rest, Fixed::Punctuator(Punctuator::OpenBrace))?;
-    closed(
+    expect_close(
         value_list(alloc, rest),
         Fixed::Punctuator(Punctuator::CloseBrace),
     )
 }
 
 /// `[= initialiser]` or `[ length ] [= { value_list }]`, behind a global's name.
-fn sized<'t, 'a, A: Allocator + Copy>(
+fn global_tail<'t, 'a, A: Allocator + Copy>(
     alloc: A,
     tokens: &'t [Token<'a>],
 ) -> Result<Sized<'t, 'a, A>, Failure<'t, 'a>>
@@ -193,7 +193,7 @@ impl<A: Allocator + Copy> Element<Global<A>> for EachGlobal<A> {
         tokens: &'t [Token<'a>],
     ) -> Result<(Global<A>, &'t [Token<'a>]), Failure<'t, 'a>> {
         let (name, rest) = name(self.alloc, tokens)?;
-        let ((length, first), rest) = sized(self.alloc, rest)?;
+        let ((length, first), rest) = global_tail(self.alloc, rest)?;
         let of = self.of;
         Ok((
             Global {
@@ -216,7 +216,7 @@ fn several<'t, 'a, A: Allocator + Copy>(
 ) -> Result<(Items<Global<A>, A>, &'t [Token<'a>]), Failure<'t, 'a>>
     ensures { Gives (λ x. (map global_of x.0, toks x.1.now)) result (several of (name_of name) (toks tokens.now)) }
 {
-    let ((length, first), rest) = sized(alloc, tokens)?;
+    let ((length, first), rest) = global_tail(alloc, tokens)?;
     let first = Global {
         of,
         name,
@@ -236,7 +236,7 @@ pub fn globals<'t, 'a, A: Allocator + Copy>(
 ) -> Result<(Item<A>, &'t [Token<'a>]), Failure<'t, 'a>>
     ensures { Gives (λ x. (item_of x.0, toks x.1.now)) result (globals_from of (name_of name) (toks tokens.now)) }
 {
-    let (all, rest) = closed(
+    let (all, rest) = expect_close(
         several(alloc, tokens, of, name),
         Fixed::Punctuator(Punctuator::Semicolon),
     )?;

@@ -6,7 +6,7 @@ ghost use Rattle.lex.specs.declared.token.Fixed.TheVariants as token;
 ghost use Rattle.lex.specs.declared.token.Punctuator.TheVariants as punct;
 ghost use Rattle.parse.specs.inner.Reading.{Gives, Parser, behind, is_other, comma_list, many_until, map_parser};
 
-use crate::cursor::{counted, eat, is_next};
+use crate::cursor::{count_tokens, eat, is_next};
 use crate::fault::Failure;
 use containers::Items;
 use lex::token::{Fixed, Punctuator, Token};
@@ -51,7 +51,7 @@ pub fn further<'t, 'a, T: Drop, E: Element<T>, A: Allocator>(
         (behind (token.Punctuator punct.Comma) (E.reads element.now)))
         (toks tokens.now)) }
 {
-    let (mut rest, count) = counted(tokens);
+    let (mut rest, count) = count_tokens(tokens);
     let mut all = read;
     'turns: for _turn in 0..count {
         let Some(inner) = eat(rest, Fixed::Punctuator(Punctuator::Comma)) else {
@@ -68,7 +68,7 @@ pub fn further<'t, 'a, T: Drop, E: Element<T>, A: Allocator>(
 }
 
 /// `element { , element }`
-pub fn listed<'t, 'a, T: Drop, E: Element<T>, A: Allocator + Copy>(
+pub fn comma_list<'t, 'a, T: Drop, E: Element<T>, A: Allocator + Copy>(
     alloc: A,
     element: &E,
     tokens: &'t [Token<'a>],

@@ -38,7 +38,7 @@ fn outer<'t, 'a>(tokens: &'t [Token<'a>]) -> Result<&'t [Token<'a>], Failure<'t,
 }
 
 /// `outer` between two of the one and two of the other.
-fn enclosed<'t, 'a>(
+fn enclosed_outer<'t, 'a>(
     tokens: &'t [Token<'a>],
     opening: Fixed,
     closing: Fixed,
@@ -53,18 +53,18 @@ fn enclosed<'t, 'a>(
 }
 
 /// `[[ outer ]]` or `__attribute__ (( outer ))`
-fn outer_mark<'t, 'a>(tokens: &'t [Token<'a>]) -> Result<&'t [Token<'a>], Failure<'t, 'a>>
+fn outer_attribute<'t, 'a>(tokens: &'t [Token<'a>]) -> Result<&'t [Token<'a>], Failure<'t, 'a>>
     ensures { Gives (λ x. (tt, toks x.now)) result (outer_attribute (toks tokens.now)) }
 {
     if is_next(tokens, Fixed::Punctuator(Punctuator::OpenBracket)) {
-        return enclosed(
+        return enclosed_outer(
             tokens,
             Fixed::Punctuator(Punctuator::OpenBracket),
             Fixed::Punctuator(Punctuator::CloseBracket),
         );
     }
     let rest = expect(tokens, Fixed::Keyword(Keyword::Attribute))?;
-    enclosed(
+    enclosed_outer(
         rest,
         Fixed::Punctuator(Punctuator::OpenParen),
         Fixed::Punctuator(Punctuator::CloseParen),
@@ -72,20 +72,20 @@ fn outer_mark<'t, 'a>(tokens: &'t [Token<'a>]) -> Result<&'t [Token<'a>], Failur
 }
 
 /// Whether a mark begins here.
-fn is_marked(tokens: &[Token]) -> bool
+fn begins_outer_attribute(tokens: &[Token]) -> bool
     ensures { result ≡ begins_outer_attribute (head (toks tokens.now)) }
 {
     is_next(tokens, Fixed::Punctuator(Punctuator::OpenBracket))
         || is_next(tokens, Fixed::Keyword(Keyword::Attribute))
 }
 
-/// `[outer_mark]`: whether it stands here.
-pub fn marked<'t, 'a>(tokens: &'t [Token<'a>]) -> Result<(bool, &'t [Token<'a>]), Failure<'t, 'a>>
+/// `[outer]`: whether it stands here.
+pub fn has_outer_mark<'t, 'a>(tokens: &'t [Token<'a>]) -> Result<(bool, &'t [Token<'a>]), Failure<'t, 'a>>
     ensures { Gives (λ x. (x.0, toks x.1.now)) result (outer_attribute_if_any (toks tokens.now)) }
 {
-    if !is_marked(tokens) {
+    if !begins_outer_attribute(tokens) {
         return Ok((false, tokens));
     }
-    let rest = outer_mark(tokens)?;
+    let rest = outer_attribute(tokens)?;
     Ok((true, rest))
 }

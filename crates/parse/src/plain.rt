@@ -11,10 +11,10 @@ ghost use Rattle.syntax.specs.Grammar.{the_text};
 ghost use Rattle.parse.specs.inner.Reading.{Gives, take, map_parser, before, expect, spot};
 ghost use Rattle.parse.specs.inner.Statements.{simple_at, printed, print_stmt, cancel_stmt, return_stmt};
 
-use crate::cursor::{closed, expect, spot};
+use crate::cursor::{expect_close, expect, spot};
 use crate::expr::further;
 use crate::fault::Failure;
-use crate::outer::marked;
+use crate::outer::has_outer_mark;
 use crate::simple::{last_expression, simple_before};
 use containers::{Items, Text};
 use lex::token::{Fixed, Keyword, Kind, Punctuator, Span, Token};
@@ -70,7 +70,7 @@ fn text<'t, 'a, A: Allocator + Copy>(
 }
 
 /// `{ , expr } ) ;`, behind the format of a `printf`.
-fn printed<'t, 'a, A: Allocator + Copy>(
+fn print_tail<'t, 'a, A: Allocator + Copy>(
     alloc: A,
     tokens: &'t [Token<'a>],
     depth: usize,
@@ -78,8 +78,8 @@ fn printed<'t, 'a, A: Allocator + Copy>(
     requires { depth < 2 ^ 32 }
     ensures { Gives (λ x. (map expr_of x.0, toks x.1.now)) result (printed depth (toks tokens.now)) }
 {
-    closed(
-        closed(
+    expect_close(
+        expect_close(
             further(alloc, tokens, depth),
             Fixed::Punctuator(Punctuator::CloseParen),
         ),
@@ -99,7 +99,7 @@ pub fn print_stmt<'t, 'a, A: Allocator + Copy>(
     let (at, rest) = spot(tokens, Fixed::Keyword(Keyword::Printf))?;
     let rest = expect(rest, Fixed::Punctuator(Punctuator::OpenParen))?;
     let ((format, format_at), rest) = text(alloc, rest)?;
-    let (arguments, rest) = printed(alloc, rest, depth)?;
+    let (arguments, rest) = print_tail(alloc, rest, depth)?;
     Ok((Stmt::Print(at, format, format_at, arguments), rest))
 }
 
@@ -111,7 +111,7 @@ fn alone<'t, 'a>(
     ensures { Gives (λ x. (x.0, toks x.1.now)) result
         (before (token.Punctuator punct.Semicolon) (spot fixed) (toks tokens.now)) }
 {
-    closed(
+    expect_close(
         spot(tokens, fixed),
         Fixed::Punctuator(Punctuator::Semicolon),
     )
@@ -140,14 +140,14 @@ pub fn continue_stmt<'t, 'a, A: Allocator + Copy>(
     Ok((Stmt::Continue(at), rest))
 }
 
-/// `__transaction_cancel [outer_mark] ;`
+/// `__transaction_cancel [outer] ;`
 pub fn cancel_stmt<'t, 'a, A: Allocator + Copy>(
     tokens: &'t [Token<'a>],
 ) -> Result<(Stmt<A>, &'t [Token<'a>]), Failure<'t, 'a>>
     ensures { Gives (λ x. (stmt_of x.0, toks x.1.now)) result (cancel_stmt (toks tokens.now)) }
 {
     let (at, rest) = spot(tokens, Fixed::Keyword(Keyword::Cancel))?;
-    let (outer, rest) = marked(rest)?;
+    let (outer, rest) = has_outer_mark(rest)?;
     let rest = expect(rest, Fixed::Punctuator(Punctuator::Semicolon))?;
     if outer {
         Ok((Stmt::CancelOuter(at), rest))

@@ -13,10 +13,10 @@ ghost use Rattle.parse.specs.inner.Expressions.{whole_at};
 ghost use Rattle.parse.specs.inner.Statements.{GivesToken, simple_from, simple, starts_simple, simple_at, declarator};
 ghost use Rattle.parse.specs.inner.Statements.{declaration, declaration_at, start};
 
-use crate::cursor::{closed, eat, name};
+use crate::cursor::{expect_close, eat, name};
 use crate::expr::{expression, starts_expr};
 use crate::fault::Failure;
-use crate::list::{Element, listed};
+use crate::list::{Element, comma_list};
 use crate::scalar::{scalar, starts_type};
 use containers::Items;
 use lex::token::{Fixed, Kind, Punctuator, Token};
@@ -152,7 +152,7 @@ pub fn simple_before<'t, 'a, A: Allocator + Copy>(
     requires { depth < 2 ^ 32 }
     ensures { Gives (λ x. (simple_of x.0, toks x.1.now)) result (before fixed (simple_at depth) (toks tokens.now)) }
 {
-    closed(simple(alloc, tokens, depth), fixed)
+    expect_close(simple(alloc, tokens, depth), fixed)
 }
 
 /// `[= expr]`
@@ -227,8 +227,8 @@ fn declarators<'t, 'a, A: Allocator + Copy>(
         (before (token.Punctuator punct.Semicolon) (comma_list (declarator (whole_at depth))) (toks tokens.now)) }
 {
     let each = EachDeclarator { alloc, depth };
-    closed(
-        listed(alloc, &each, tokens),
+    expect_close(
+        comma_list(alloc, &each, tokens),
         Fixed::Punctuator(Punctuator::Semicolon),
     )
 }
@@ -328,7 +328,7 @@ pub fn last_expression<'t, 'a, A: Allocator + Copy>(
         return Ok((None, rest));
     }
     let (value, rest) = expression(alloc, tokens, depth)?;
-    closed(
+    expect_close(
         Ok((Some(value), rest)),
         Fixed::Punctuator(Punctuator::Semicolon),
     )

@@ -14,11 +14,11 @@ ghost use Rattle.parse.specs.inner.Statements.{in_parens, entry, branches, if_tr
 ghost use Rattle.parse.specs.inner.Statements.{end_of_do, rest_of_head, head_of_for, for_stmt, kind, transaction_stmt};
 ghost use Rattle.parse.specs.inner.Statements.{starts_stmt, stmt_at, block_at};
 
-use crate::cursor::{closed, eat, expect, is_next, spot};
+use crate::cursor::{expect_close, eat, expect, is_next, spot};
 use crate::expr::expression;
 use crate::fault::Failure;
 use crate::lead::{Lead, lead_at, mode_keyword};
-use crate::outer::marked;
+use crate::outer::has_outer_mark;
 use crate::plain::{
     break_stmt, cancel_stmt, continue_stmt, empty_stmt, print_stmt, return_stmt, simple_stmt,
 };
@@ -46,7 +46,7 @@ fn in_parens<'t, 'a, A: Allocator + Copy>(
     ensures { Gives (λ x. (expr_of x.0, toks x.1.now)) result (in_parens (whole_at depth) (toks tokens.now)) }
 {
     let rest = expect(tokens, Fixed::Punctuator(Punctuator::OpenParen))?;
-    closed(
+    expect_close(
         expression(alloc, rest, depth),
         Fixed::Punctuator(Punctuator::CloseParen),
     )
@@ -126,7 +126,7 @@ fn end_of_do<'t, 'a, A: Allocator + Copy>(
     ensures { Gives (λ x. (expr_of x.0, toks x.1.now)) result (end_of_do depth (toks tokens.now)) }
 {
     let rest = expect(tokens, Fixed::Keyword(Keyword::While))?;
-    closed(
+    expect_close(
         in_parens(alloc, rest, depth),
         Fixed::Punctuator(Punctuator::Semicolon),
     )
@@ -134,7 +134,7 @@ fn end_of_do<'t, 'a, A: Allocator + Copy>(
 
 /// What was read of a statement, in a box. In this function and the next ones, which take what the cycle of statements
 /// reads, what was read before is dropped where the rest fails: in the cycle itself that is dear to prove.
-fn boxed<'t, 'a, A: Allocator + Copy>(
+fn box_stmt<'t, 'a, A: Allocator + Copy>(
     alloc: A,
     read: Result<(Stmt<A>, &'t [Token<'a>]), Failure<'t, 'a>>,
 ) -> Result<(Boxed<Stmt<A>, A>, &'t [Token<'a>]), Failure<'t, 'a>>
@@ -227,7 +227,7 @@ fn do_of<'t, 'a, A: Allocator + Copy>(
 }
 
 /// What was read of a statement, behind those that were read before.
-fn added<'t, 'a, A: Allocator + Copy>(
+fn append_stmt<'t, 'a, A: Allocator + Copy>(
     mut all: Items<Stmt<A>, A>,
     read: Result<(Stmt<A>, &'t [Token<'a>]), Failure<'t, 'a>>,
 ) -> Result<(Items<Stmt<A>, A>, &'t [Token<'a>]), Failure<'t, 'a>>
@@ -243,7 +243,7 @@ fn added<'t, 'a, A: Allocator + Copy>(
 }
 
 /// Statements, where a brace closes them.
-fn braced<'t, 'a, A: Allocator + Copy>(
+fn block_tail<'t, 'a, A: Allocator + Copy>(
     all: Items<Stmt<A>, A>,
     tokens: &'t [Token<'a>],
 ) -> Result<(Items<Stmt<A>, A>, &'t [Token<'a>]), Failure<'t, 'a>>
@@ -251,7 +251,7 @@ fn braced<'t, 'a, A: Allocator + Copy>(
     ensures rest { Gives (λ x. (tt, toks x.1.now)) result
         (expect (token.Punctuator punct.CloseBrace) (toks tokens.now)) }
 {
-    closed(Ok((all, tokens)), Fixed::Punctuator(Punctuator::CloseBrace))
+    expect_close(Ok((all, tokens)), Fixed::Punctuator(Punctuator::CloseBrace))
 }
 
 /// A statement, in a box.
@@ -264,7 +264,7 @@ fn boxed_stmt<'t, 'a, A: Allocator + Copy>(
     requires { depth < 2 ^ 32 }
     ensures { Gives (λ x. (stmt_of x.0, toks x.1.now)) result (stmt_at depth (toks tokens.now)) }
 {
-    boxed(alloc, stmt(alloc, tokens, depth))
+    box_stmt(alloc, stmt(alloc, tokens, depth))
 }
 
 /// `[else stmt]`
@@ -363,7 +363,7 @@ fn for_stmt<'t, 'a, A: Allocator + Copy>(
     for_of(head, boxed_stmt(alloc, rest, depth))
 }
 
-/// `[outer_mark]`, behind the keyword of a transaction: what kind it is. A relaxed one has no mark.
+/// `[outer]`, behind the keyword of a transaction: what kind it is. A relaxed one has no mark.
 fn kind<'t, 'a>(
     tokens: &'t [Token<'a>],
     mode: Mode,
@@ -373,7 +373,7 @@ fn kind<'t, 'a>(
     match mode {
         Mode::Relaxed => Ok((Kind::Plain(Mode::Relaxed), tokens)),
         Mode::Atomic => {
-            let (outer, rest) = marked(tokens)?;
+            let (outer, rest) = has_outer_mark(tokens)?;
             if outer {
                 Ok((Kind::Outer, rest))
             } else {
@@ -445,11 +445,11 @@ pub fn block<'t, 'a, A: Allocator + Copy>(
         if is_next(rest, Fixed::Punctuator(Punctuator::CloseBrace)) {
             break;
         }
-        let (more, after) = added(all, entry(alloc, rest, below))?;
+        let (more, after) = append_stmt(all, entry(alloc, rest, below))?;
         all = more;
         rest = after;
     }
-    let (all, rest) = braced(all, rest)?;
+    let (all, rest) = block_tail(all, rest)?;
     Ok((all, rest))
 }
 

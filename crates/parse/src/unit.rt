@@ -11,7 +11,7 @@ ghost use Rattle.parse.specs.inner.Headings.{heading_of};
 ghost use Rattle.parse.specs.Faults.{IsParseFaultOf, Finds, source_of};
 ghost use Rattle.parse.specs.Keys.{key_of};
 
-use crate::cursor::{counted, is_next};
+use crate::cursor::{count_tokens, is_next};
 use crate::fault::{Failure, ParseFault};
 use crate::functions::{Heading, function, header};
 use crate::globals::globals;
@@ -25,7 +25,7 @@ use syntax::tree::{Item, Unit};
 const DEEPEST: usize = 100;
 
 /// Globals, behind a header that has a type and no attributes.
-fn shared<'t, 'a, A: Allocator + Copy>(
+fn shared_globals<'t, 'a, A: Allocator + Copy>(
     alloc: A,
     tokens: &'t [Token<'a>],
     heading: Heading<A>,
@@ -54,7 +54,7 @@ fn item<'t, 'a, A: Allocator + Copy>(
     if is_next(rest, Fixed::Punctuator(Punctuator::OpenParen)) {
         return function(alloc, rest, depth, heading);
     }
-    shared(alloc, rest, heading)
+    shared_globals(alloc, rest, heading)
 }
 
 /// `{ item }`, up to the last token.
@@ -66,7 +66,7 @@ fn program<'t, 'a, A: Allocator + Copy>(
     requires { depth < 2 ^ 32 }
     ensures { Gives (λ x. map item_of x) result (whole_program depth (toks tokens.now)) }
 {
-    let (mut rest, count) = counted(tokens);
+    let (mut rest, count) = count_tokens(tokens);
     let mut all = Items::new(alloc);
     'turns: for _turn in 0..count {
         if rest.is_empty() {

@@ -5,7 +5,7 @@ ghost use Rattle.picture.specs.Arrows.{arrow_title, dropped_for, is_store_to, la
 
 use crate::layout::{BOX, lane, middle};
 use crate::mark::Mark;
-use crate::pieces::{Piece, put, put_line, put_number};
+use crate::pieces::{Piece, push_pieces, put_line, put_number};
 use crate::sheet::{Sheet, Store};
 use crate::step::{MOST_ACCESSES, Step};
 use machine::Event;
@@ -106,7 +106,7 @@ impl<'p, A: Allocator + Copy> Sheet<'p, A> {
             &[(start, from), (gutter, from), (gutter, below), (end, below)],
             b"why",
         )?;
-        put(
+        push_pieces(
             to,
             &[
                 Piece::Plain(b"<circle cx=\""),

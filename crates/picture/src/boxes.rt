@@ -15,7 +15,7 @@ pub(crate) enum Fate {
 }
 
 /// The box of a transaction from a row to a row.
-fn boxed<A: Allocator + Copy>(
+fn transaction_box<A: Allocator + Copy>(
     alloc: A,
     thread: u32,
     rows: (u64, u64),
@@ -59,7 +59,7 @@ impl<'p, A: Allocator + Copy> Sheet<'p, A> {
             return Ok(());
         };
         self.boxes
-            .push(boxed(alloc, thread, (begun, row), fate, depth)?)?;
+            .push(transaction_box(alloc, thread, (begun, row), fate, depth)?)?;
         Ok(())
     }
 
@@ -87,7 +87,7 @@ impl<'p, A: Allocator + Copy> Sheet<'p, A> {
         fate: Fate,
     ) -> Result<(), AllocError> {
         self.boxes
-            .push(boxed(alloc, thread, (attempt.row, row), fate, 0)?)?;
+            .push(transaction_box(alloc, thread, (attempt.row, row), fate, 0)?)?;
         Ok(())
     }
 

@@ -1,6 +1,6 @@
 //! How the cells of memory are named.
 
-use crate::pieces::{Piece, put};
+use crate::pieces::{Piece, push_pieces};
 use crate::sheet::Cell;
 use std::alloc::{AllocError, Allocator};
 use syntax::tree::{Global, Item, Unit};
@@ -15,7 +15,7 @@ fn add_cell<A: Allocator + Copy>(
     let mut name = Vec::new(alloc);
     name.extend_from_slice(global.name.text.as_str().as_bytes())?;
     if let Some(place) = place {
-        put(
+        push_pieces(
             &mut name,
             &[Piece::Plain(b"["), Piece::Number(place), Piece::Plain(b"]")],
         )?;

@@ -1,7 +1,7 @@
 //! The column of the lock.
 
 use crate::layout::{ROW, baseline, top};
-use crate::pieces::{Piece, put, put_rectangle};
+use crate::pieces::{Piece, push_pieces, put_rectangle};
 use crate::sheet::{Holding, Sheet};
 use std::alloc::{AllocError, Allocator};
 
@@ -12,7 +12,7 @@ fn put_at<A: Allocator>(
     class: &[u8],
     words: &[Piece<'_>],
 ) -> Result<(), AllocError> {
-    put(
+    push_pieces(
         to,
         &[
             Piece::Plain(b"<text x=\"46\" y=\""),
@@ -21,7 +21,7 @@ fn put_at<A: Allocator>(
         ],
     )?;
     if !class.is_empty() {
-        put(
+        push_pieces(
             to,
             &[
                 Piece::Plain(b" class=\""),
@@ -30,9 +30,9 @@ fn put_at<A: Allocator>(
             ],
         )?;
     }
-    put(to, &[Piece::Plain(b">")])?;
-    put(to, words)?;
-    put(to, &[Piece::Plain(b"</text>\n")])
+    push_pieces(to, &[Piece::Plain(b">")])?;
+    push_pieces(to, words)?;
+    push_pieces(to, &[Piece::Plain(b"</text>\n")])
 }
 
 impl<'p, A: Allocator + Copy> Sheet<'p, A> {

@@ -3,10 +3,10 @@
 use crate::attempt::{Attempt, Load, Phase};
 use crate::layout::{BOX, lane, middle};
 use crate::mark::Look;
-use crate::pieces::{Piece, put, put_line};
+use crate::pieces::{Piece, push_pieces, put_line};
 use crate::sheet::{Effect, Fold, Sheet, Store};
 use crate::step::Step;
-use crate::words::{put_name, put_value, said, words};
+use crate::words::{put_name, put_value, words_of, words};
 use machine::Event;
 use norec_core::{Access, Answer};
 use std::alloc::{AllocError, Allocator};
@@ -66,7 +66,7 @@ impl<'p, A: Allocator + Copy> Sheet<'p, A> {
         };
         let mut said = words(alloc, &[Piece::Plain(b"begin at "), Piece::Number(value)])?;
         if tries > 1 {
-            put(&mut said, &[Piece::Plain(b", try "), Piece::Number(tries)])?;
+            push_pieces(&mut said, &[Piece::Plain(b", try "), Piece::Number(tries)])?;
         }
         self.mark(
             to,
@@ -90,7 +90,7 @@ impl<'p, A: Allocator + Copy> Sheet<'p, A> {
     /// A thread waits.
     fn wait(&mut self, to: &mut Vec<u8, A>, step: &Step<A>) -> Result<(), AllocError> {
         let look = Look::new(b"wait", b"waits", b"g", Some(step.accesses));
-        self.mark(to, step.thread, look.folded(Fold::Waits))
+        self.mark(to, step.thread, look.fold(Fold::Waits))
     }
 
     /// A load of the lock that is told by these words.
@@ -130,7 +130,7 @@ impl<'p, A: Allocator + Copy> Sheet<'p, A> {
         let value = self.snapshot(step.thread);
         let said = words(alloc, &[Piece::Plain(b"lock = "), Piece::Number(value)])?;
         let look = Look::new(b"lock", said.as_slice(), b"g", Some(step.accesses));
-        self.mark(to, step.thread, look.folded(Fold::Read(step.thread)))
+        self.mark(to, step.thread, look.fold(Fold::Read(step.thread)))
     }
 
     /// The words that were read are of the moment of another lock.
@@ -201,7 +201,7 @@ impl<'p, A: Allocator + Copy> Sheet<'p, A> {
     ) -> Result<(), AllocError> {
         let (thread, depth) = (step.thread, self.depth(step.thread));
         if step.event == Event::Abort {
-            let said = said(alloc, self.cells, b"again", cell, word, depth)?;
+            let said = words_of(alloc, self.cells, b"again", cell, word, depth)?;
             self.mark(
                 to,
                 thread,
@@ -211,12 +211,12 @@ impl<'p, A: Allocator + Copy> Sheet<'p, A> {
         }
         if let Some((Phase::Compare(_), _)) = self.phase(thread) {
             let look = Look::new(b"load", b"same", b"g", Some(step.accesses));
-            return self.mark(to, thread, look.folded(Fold::Same(thread)));
+            return self.mark(to, thread, look.fold(Fold::Same(thread)));
         }
-        let said = said(alloc, self.cells, b"load", cell, word, depth)?;
+        let said = words_of(alloc, self.cells, b"load", cell, word, depth)?;
         let look = Look::new(b"load", said.as_slice(), b"", Some(step.accesses));
         self.fold = Fold::Never;
-        self.mark(to, thread, look.folded(Fold::Read(thread)))?;
+        self.mark(to, thread, look.fold(Fold::Read(thread)))?;
         let row = self.last();
         let Some(lane) = self.lane(thread) else {
             return Ok(());
@@ -252,7 +252,7 @@ impl<'p, A: Allocator + Copy> Sheet<'p, A> {
         read: Load,
         store: Store,
     ) -> Result<(), AllocError> {
-        put(
+        push_pieces(
             &mut self.told,
             &[
                 Piece::Plain(b" Access "),
@@ -267,7 +267,7 @@ impl<'p, A: Allocator + Copy> Sheet<'p, A> {
         put_value(&mut self.told, self.cells, cell, read.word)?;
         self.told.extend_from_slice(b" and is ")?;
         put_value(&mut self.told, self.cells, cell, word)?;
-        put(
+        push_pieces(
             &mut self.told,
             &[
                 Piece::Plain(b", stored by thread "),
@@ -364,7 +364,7 @@ impl<'p, A: Allocator + Copy> Sheet<'p, A> {
         cell: u32,
         word: u64,
     ) -> Result<(), AllocError> {
-        let said = said(
+        let said = words_of(
             alloc,
             self.cells,
             b"store",
@@ -421,12 +421,12 @@ impl<'p, A: Allocator + Copy> Sheet<'p, A> {
                         Piece::Number(u64::from(trap.number())),
                     ],
                 )?;
-                put(&mut said, &number)?;
+                push_pieces(&mut said, &number)?;
                 self.leave(alloc, to, step.thread, b"trapped", b"trap", said.as_slice())
             }
             _ => {
                 let mut said = words(alloc, &[Piece::Plain(b"commit")])?;
-                put(&mut said, &number)?;
+                push_pieces(&mut said, &number)?;
                 self.leave(alloc, to, step.thread, b"wrote", b"done", said.as_slice())
             }
         }

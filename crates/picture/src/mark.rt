@@ -1,7 +1,7 @@
 //! Marks: what is drawn of one step, in a row of its own or behind others.
 
 use crate::layout::{BOX, baseline, inset, lane, middle};
-use crate::pieces::{Piece, put, put_text};
+use crate::pieces::{Piece, push_pieces, put_text};
 use crate::sheet::{Fold, Sheet};
 use std::alloc::{AllocError, Allocator, Global};
 
@@ -42,7 +42,7 @@ impl<'a> Look<'a> {
     }
 
     /// The mark, where it may stand in the last row.
-    pub(crate) fn folded(self, fold: Fold) -> Look<'a> {
+    pub(crate) fn fold(self, fold: Fold) -> Look<'a> {
         Look { fold, ..self }
     }
 }
@@ -63,7 +63,7 @@ fn put_symbol<A: Allocator>(
     x: u64,
     y: u64,
 ) -> Result<(), AllocError> {
-    put(
+    push_pieces(
         to,
         &[
             Piece::Plain(b"<use href=\"#"),
@@ -163,7 +163,7 @@ fn put_text_of_number<A: Allocator>(
     row: u64,
     number: u64,
 ) -> Result<(), AllocError> {
-    put(
+    push_pieces(
         to,
         &[
             Piece::Plain(b"<text x=\"34\" y=\""),

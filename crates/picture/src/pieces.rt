@@ -48,7 +48,7 @@ pub(crate) fn put_number<A: Allocator>(to: &mut Vec<u8, A>, number: u64) -> Resu
 }
 
 /// Adds pieces.
-pub(crate) fn put<A: Allocator>(
+pub(crate) fn push_pieces<A: Allocator>(
     to: &mut Vec<u8, A>,
     pieces: &[Piece<'_>],
 ) -> Result<(), AllocError> {
@@ -70,7 +70,7 @@ pub(crate) fn put_text<A: Allocator>(
     class: &[u8],
     words: &[u8],
 ) -> Result<(), AllocError> {
-    put(
+    push_pieces(
         to,
         &[
             Piece::Plain(b"<text x=\""),
@@ -81,7 +81,7 @@ pub(crate) fn put_text<A: Allocator>(
         ],
     )?;
     if !class.is_empty() {
-        put(
+        push_pieces(
             to,
             &[
                 Piece::Plain(b" class=\""),
@@ -90,7 +90,7 @@ pub(crate) fn put_text<A: Allocator>(
             ],
         )?;
     }
-    put(
+    push_pieces(
         to,
         &[
             Piece::Plain(b">"),
@@ -107,7 +107,7 @@ pub(crate) fn put_rectangle<A: Allocator>(
     size: (u64, u64),
     class: &[u8],
 ) -> Result<(), AllocError> {
-    put(
+    push_pieces(
         to,
         &[
             Piece::Plain(b"<rect x=\""),
@@ -134,7 +134,7 @@ pub(crate) fn put_line<A: Allocator>(
     to.extend_from_slice(b"<polyline points=\"")?;
     let mut between: &[u8] = b"";
     'points: for (x, y) in points {
-        put(
+        push_pieces(
             to,
             &[
                 Piece::Plain(between),
@@ -145,7 +145,7 @@ pub(crate) fn put_line<A: Allocator>(
         )?;
         between = b" ";
     }
-    put(
+    push_pieces(
         to,
         &[
             Piece::Plain(b"\" class=\""),

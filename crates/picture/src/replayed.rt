@@ -154,7 +154,7 @@ fn ends_of<A: Allocator + Copy>(alloc: A, world: &World<A>) -> Result<Vec<Status
 }
 
 /// Draws steps as they are drawn, with how the threads of their world are found.
-fn drawn<A: Allocator + Copy>(
+fn draw_steps<A: Allocator + Copy>(
     alloc: A,
     unit: &Unit<A>,
     steps: &[Step<A>],
@@ -187,7 +187,7 @@ pub fn replay_picture<A: Allocator + Copy>(
         return None;
     };
     let steps = drawn_steps(alloc, code, &mut world, shown.as_slice())?;
-    match drawn(alloc, unit, steps.as_slice(), &world, file.as_bytes()) {
+    match draw_steps(alloc, unit, steps.as_slice(), &world, file.as_bytes()) {
         Ok(svg) => Some(svg),
         Err(_) => None,
     }

@@ -123,7 +123,7 @@ impl<'p, A: Allocator + Copy> Sheet<'p, A> {
         let moment = self.snapshot(step.thread) / 2;
         self.take_effect(step.thread, step.accesses)?;
         let mut said = words(alloc, what)?;
-        crate::pieces::put(
+        crate::pieces::push_pieces(
             &mut said,
             &[Piece::Plain(b", after #"), Piece::Number(moment)],
         )?;
@@ -147,7 +147,7 @@ impl<'p, A: Allocator + Copy> Sheet<'p, A> {
             spelled.extend_from_slice(b"..".get(..room.min(2)).unwrap_or(b""))?;
         }
         let look = Look::new(b"print", spelled.as_slice(), b"i", None);
-        self.mark(to, step.thread, look.folded(fold))
+        self.mark(to, step.thread, look.fold(fold))
     }
 
     /// A cancel of a thread.

@@ -9,7 +9,7 @@ use crate::boxes::Fate;
 use crate::layout::{FIRST, HEADED, PITCH, ROW, TOP, foot, heads, lane};
 use crate::legend::{LEGEND, STYLE};
 use crate::mark::Mark;
-use crate::pieces::{Piece, put, put_line, put_rectangle, put_text, put_words};
+use crate::pieces::{Piece, push_pieces, put_line, put_rectangle, put_text, put_words};
 use crate::sheet::{Cell, Effect, Sheet};
 use crate::step::{MOST_ACCESSES, Step};
 use crate::words::words;
@@ -120,7 +120,7 @@ fn put_order<A: Allocator + Copy>(
         let mut said = Vec::new(alloc);
         if effect.took_lock {
             let number = (effect.snapshot / 2).wrapping_add(1);
-            put(
+            push_pieces(
                 &mut said,
                 &[
                     Piece::Plain(b"#"),
@@ -129,7 +129,7 @@ fn put_order<A: Allocator + Copy>(
                 ],
             )?;
         }
-        put(
+        push_pieces(
             &mut said,
             &[
                 Piece::Plain(b"T"),
@@ -278,7 +278,7 @@ fn put_front<'x, A: Allocator>(
     width: u64,
     height: u64,
 ) -> Result<(), AllocError> {
-    put(
+    push_pieces(
         to,
         &[
             Piece::Plain(b"<svg xmlns=\"http://www.w3.org/2000/svg\" width=\""),
@@ -294,7 +294,7 @@ fn put_front<'x, A: Allocator>(
             Piece::Plain(b"</title>\n<desc id=\"d\">"),
         ],
     )?;
-    put(
+    push_pieces(
         to,
         &[
             Piece::Number(sheet.effects.len() as u64),
@@ -323,7 +323,7 @@ fn put_title<A: Allocator>(
     threads: u32,
     drawn: u64,
 ) -> Result<(), AllocError> {
-    put(
+    push_pieces(
         to,
         &[
             Piece::Plain(file),
@@ -341,7 +341,7 @@ fn put_end<A: Allocator>(to: &mut Vec<u8, A>, status: Status) -> Result<(), Allo
     match status {
         Status::Running => to.extend_from_slice(b"running"),
         Status::Ended => to.extend_from_slice(b"ended"),
-        Status::Trapped(trap) => put(
+        Status::Trapped(trap) => push_pieces(
             to,
             &[
                 Piece::Plain(b"trap "),

@@ -1,7 +1,7 @@
 //! The words of a mark.
 
 use crate::layout::CHARACTERS;
-use crate::pieces::{Piece, put};
+use crate::pieces::{Piece, push_pieces};
 use crate::sheet::Cell;
 use std::alloc::{AllocError, Allocator};
 use syntax::number::number;
@@ -14,7 +14,7 @@ pub(crate) fn put_name<A: Allocator>(
 ) -> Result<(), AllocError> {
     match cells.get(cell as usize) {
         Some(found) => to.extend_from_slice(found.name.as_slice()),
-        None => put(to, &[Piece::Plain(b"@"), Piece::Number(u64::from(cell))]),
+        None => push_pieces(to, &[Piece::Plain(b"@"), Piece::Number(u64::from(cell))]),
     }
 }
 
@@ -27,21 +27,21 @@ pub(crate) fn put_value<A: Allocator>(
 ) -> Result<(), AllocError> {
     let value = match cells.get(cell as usize) {
         Some(found) => number(found.of, word),
-        None => return put(to, &[Piece::Number(word)]),
+        None => return push_pieces(to, &[Piece::Number(word)]),
     };
     if value < 0 {
-        put(
+        push_pieces(
             to,
             &[Piece::Plain(b"-"), Piece::Number(value.unsigned_abs())],
         )
     } else {
-        put(to, &[Piece::Number(value.unsigned_abs())])
+        push_pieces(to, &[Piece::Number(value.unsigned_abs())])
     }
 }
 
 /// A verb, a cell and its word, in the room of a row. Without the verb where that is too long, and with less of the
 /// name where it still is.
-pub(crate) fn said<A: Allocator + Copy>(
+pub(crate) fn words_of<A: Allocator + Copy>(
     alloc: A,
     cells: &[Cell<A>],
     verb: &[u8],
@@ -78,6 +78,6 @@ pub(crate) fn words<A: Allocator>(
     pieces: &[Piece<'_>],
 ) -> Result<Vec<u8, A>, AllocError> {
     let mut words = Vec::new(alloc);
-    put(&mut words, pieces)?;
+    push_pieces(&mut words, pieces)?;
     Ok(words)
 }

@@ -6,7 +6,7 @@ use lower::{LowerFault, lower};
 use separation::Accepted;
 use std::alloc::Allocator;
 
-fn lowered<A: Allocator + Copy>(alloc: A, accepted: &Accepted<A>) -> Option<Code<A>> {
+fn code_of_accepted<A: Allocator + Copy>(alloc: A, accepted: &Accepted<A>) -> Option<Code<A>> {
     match lower(alloc, accepted) {
         Ok(code) => Some(code),
         Err(LowerFault::OutOfMemory) => lower(alloc, accepted).ok(),
@@ -14,14 +14,14 @@ fn lowered<A: Allocator + Copy>(alloc: A, accepted: &Accepted<A>) -> Option<Code
     }
 }
 
-fn copied<A: Allocator + Copy>(alloc: A, code: &Code<A>) -> Option<Code<A>> {
+fn copy_of<A: Allocator + Copy>(alloc: A, code: &Code<A>) -> Option<Code<A>> {
     match code.copy(alloc) {
         Ok(copy) => Some(copy),
         Err(_) => code.copy(alloc).ok(),
     }
 }
 
-fn listed<A: Allocator + Copy>(alloc: A, code: &Code<A>) -> Option<String<A>> {
+fn listing_of<A: Allocator + Copy>(alloc: A, code: &Code<A>) -> Option<String<A>> {
     match listing(alloc, code) {
         Ok(text) => Some(text),
         Err(_) => listing(alloc, code).ok(),
@@ -30,7 +30,7 @@ fn listed<A: Allocator + Copy>(alloc: A, code: &Code<A>) -> Option<String<A>> {
 
 /// Adds the listing of a code.
 fn list<A: Allocator + Copy>(alloc: A, code: &Code<A>, seen: &mut Seen) -> Option<()> {
-    match listed(alloc, code) {
+    match listing_of(alloc, code) {
         Some(text) => seen.line(text.as_str()),
         None => None,
     }
@@ -42,13 +42,13 @@ pub fn code_of<A: Allocator + Copy>(
     accepted: &Accepted<A>,
     seen: &mut Seen,
 ) -> Option<Code<A>> {
-    let Some(code) = lowered(alloc, accepted) else {
+    let Some(code) = code_of_accepted(alloc, accepted) else {
         return None;
     };
     let Some(()) = list(alloc, &code, seen) else {
         return None;
     };
-    let Some(copy) = copied(alloc, &code) else {
+    let Some(copy) = copy_of(alloc, &code) else {
         return None;
     };
     match list(alloc, &copy, seen) {

@@ -14,7 +14,7 @@ use workers::{CloseFault, CloseReason, Hall, Outcome, Status, Worker};
 const MOST: u64 = 100_000;
 
 /// A hall of two workers, if memory is there.
-fn opened<A: Allocator + Copy>(alloc: A, code: &Code<A>) -> Option<(Hall<A>, Vec<Worker<A>, A>)>
+fn open_hall<A: Allocator + Copy>(alloc: A, code: &Code<A>) -> Option<(Hall<A>, Vec<Worker<A>, A>)>
     ensures { IfSome result (λ r. AreWorkersOf r.0.table.shared.table_id r.0.setup r.1.items) }
 {
     match Hall::open(alloc, code, 2) {
@@ -30,9 +30,9 @@ fn opened_at_last<A: Allocator + Copy>(
 ) -> Option<(Hall<A>, Vec<Worker<A>, A>)>
     ensures { IfSome result (λ r. AreWorkersOf r.0.table.shared.table_id r.0.setup r.1.items) }
 {
-    match opened(alloc, code) {
+    match open_hall(alloc, code) {
         Some(hall) => Some(hall),
-        None => opened(alloc, code),
+        None => open_hall(alloc, code),
     }
 }
 
@@ -145,7 +145,7 @@ fn end_both<A: Allocator + Copy>(
 }
 
 /// What a hall leaves, by a second call where the first was refused memory and gave all back.
-fn closed<A: Allocator + Copy>(
+fn close_hall<A: Allocator + Copy>(
     alloc: A,
     hall: Hall<A>,
     workers: Vec<Worker<A>, A>,
@@ -179,7 +179,7 @@ fn close<A: Allocator + Copy>(
 ) -> Option<()>
     requires { AreWorkersOf hall.table.shared.table_id hall.setup workers.items }
 {
-    let Some(outcome) = closed(alloc, hall, workers) else {
+    let Some(outcome) = close_hall(alloc, hall, workers) else {
         return None;
     };
     for thread in &outcome.threads {

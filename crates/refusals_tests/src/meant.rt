@@ -62,7 +62,7 @@ pub fn mean<A: Allocator + Copy>(
     seen.bytes(end_text(outcome.end), outcome.text.as_slice())
 }
 
-fn ordered<A: Allocator + Copy>(
+fn run_in_order<A: Allocator + Copy>(
     alloc: A,
     accepted: &Accepted<A>,
     order: &[u32],
@@ -91,7 +91,7 @@ pub fn mean_in_order<A: Allocator + Copy>(
     order: &[u32],
     seen: &mut Seen,
 ) -> Option<()> {
-    let Some(outcome) = ordered(alloc, accepted, order) else {
+    let Some(outcome) = run_in_order(alloc, accepted, order) else {
         return None;
     };
     for thread in &outcome.threads {
@@ -103,7 +103,7 @@ pub fn mean_in_order<A: Allocator + Copy>(
 }
 
 /// Thread 1 of a code at its beginning.
-fn begun<A: Allocator + Copy>(alloc: A, code: &Code<A>) -> Option<AtomicThread<A>>
+fn fresh_thread<A: Allocator + Copy>(alloc: A, code: &Code<A>) -> Option<AtomicThread<A>>
     ensures { IfSome result (λ t. IsAtomicThreadOf code.now t.thread) }
 {
     match AtomicThread::new(alloc, code, 1) {
@@ -116,9 +116,9 @@ fn begun<A: Allocator + Copy>(alloc: A, code: &Code<A>) -> Option<AtomicThread<A
 fn begun_at_last<A: Allocator + Copy>(alloc: A, code: &Code<A>) -> Option<AtomicThread<A>>
     ensures { IfSome result (λ t. IsAtomicThreadOf code.now t.thread) }
 {
-    match begun(alloc, code) {
+    match fresh_thread(alloc, code) {
         Some(thread) => Some(thread),
-        None => begun(alloc, code),
+        None => fresh_thread(alloc, code),
     }
 }
 
@@ -161,7 +161,7 @@ fn stands_so<A: Allocator + Copy>(
     code: &Code<A>,
     found: &[u64],
 ) -> bool {
-    match begun(alloc, code) {
+    match fresh_thread(alloc, code) {
         Some(mut beside) => {
             go_to(&mut beside, code, found, thread.steps());
             beside.steps() == thread.steps()

@@ -14,7 +14,7 @@ fn read<A: Allocator + Copy>(alloc: A, text: &str) -> Option<Vec<Line, A>> {
     }
 }
 
-fn drawn<A: Allocator + Copy>(alloc: A) -> Option<Vec<Line, A>> {
+fn lines_of_seed<A: Allocator + Copy>(alloc: A) -> Option<Vec<Line, A>> {
     match seeded(alloc, 42, 4, 12) {
         Ok(lines) => Some(lines),
         Err(ScheduleFault::OutOfMemory) => seeded(alloc, 42, 4, 12).ok(),
@@ -22,7 +22,7 @@ fn drawn<A: Allocator + Copy>(alloc: A) -> Option<Vec<Line, A>> {
     }
 }
 
-fn replayed<A: Allocator + Copy>(alloc: A, code: &Code<A>, lines: &[Line]) -> Option<Report<A>> {
+fn replay_of<A: Allocator + Copy>(alloc: A, code: &Code<A>, lines: &[Line]) -> Option<Report<A>> {
     match replay(alloc, code, 2, lines) {
         Ok(report) => Some(report),
         Err(WorldFault::OutOfMemory) => replay(alloc, code, 2, lines).ok(),
@@ -36,14 +36,14 @@ fn replayed_whole<A: Allocator + Copy>(
     code: &Code<A>,
     lines: &[Line],
 ) -> Option<Report<A>> {
-    let Some(report) = replayed(alloc, code, lines) else {
+    let Some(report) = replay_of(alloc, code, lines) else {
         return None;
     };
     match report.stop {
         None => Some(report),
         Some(stop) => {
             if stop.number() == 0 && stop.step == report.trace.len() as u64 {
-                replayed(alloc, code, lines)
+                replay_of(alloc, code, lines)
             } else {
                 None
             }
@@ -83,7 +83,7 @@ fn are_alike<A: Allocator + Copy>(one: &World<A>, other: &World<A>) -> bool {
 }
 
 /// A world of two threads.
-fn opened<A: Allocator + Copy>(alloc: A, code: &Code<A>) -> Option<World<A>> {
+fn new_world<A: Allocator + Copy>(alloc: A, code: &Code<A>) -> Option<World<A>> {
     match World::new(alloc, code, 2) {
         Ok(world) => Some(world),
         Err(WorldFault::OutOfMemory) => World::new(alloc, code, 2).ok(),
@@ -98,7 +98,7 @@ fn stands_before<A: Allocator + Copy>(
     world: &World<A>,
     steps: &[u32],
 ) -> bool {
-    match opened(alloc, code) {
+    match new_world(alloc, code) {
         Some(mut beside) => beside.run(steps).is_ok() && are_alike(world, &beside),
         None => false,
     }
@@ -153,7 +153,7 @@ fn step<A: Allocator + Copy>(
     steps: &[u32],
     seen: &mut Seen,
 ) -> Option<()> {
-    let Some(mut world) = opened(alloc, code) else {
+    let Some(mut world) = new_world(alloc, code) else {
         return None;
     };
     if !run(alloc, code, &mut world, steps) || world.trace() != steps {
@@ -201,7 +201,7 @@ pub fn make<A: Allocator + Copy>(
     let Some(()) = add_lines(alloc, code, lines.as_slice(), seen) else {
         return None;
     };
-    match drawn(alloc) {
+    match lines_of_seed(alloc) {
         Some(lines) => add_threads(lines.as_slice(), seen),
         None => None,
     }

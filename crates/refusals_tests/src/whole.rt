@@ -243,7 +243,7 @@ fn seen_at(inner: Global, alloc: &Refusing<Global>, row: &Row, half: Half, nth: 
 
 /// How many growths are met, each of which was refused once and left the end as it is without a refusal; or the first
 /// that did not.
-fn met(inner: Global, row: &Row, half: Half, wanted: &Seen) -> Result<u64, u64> {
+fn growths_met(inner: Global, row: &Row, half: Half, wanted: &Seen) -> Result<u64, u64> {
     growths(inner, 5000, |alloc, nth| {
         seen_at(inner, alloc, row, half, nth).text() == wanted.text()
     })
@@ -257,7 +257,7 @@ fn assert_goes_on(rt: &impl Abort, inner: Global, row: &Row, half: Half, lines: 
         let has_line = wanted.text().lines().any(|found| found == *line);
         assert!(rt; has_line, "no line {line} in {:?}", wanted.text());
     }
-    match met(inner, row, half, &wanted) {
+    match growths_met(inner, row, half, &wanted) {
         Ok(count) => assert!(rt; count > 50, "{count} growths"),
         Err(nth) => {
             let found = seen_at(inner, &Refusing::new(inner, 0), row, half, nth);

@@ -86,7 +86,7 @@ fn step<A: Allocator + Copy>(
 }
 
 /// What a step takes of a line's count, where it made so many accesses.
-fn spent(line: Line, made: u32) -> u32
+fn spent_count(line: Line, made: u32) -> u32
     ensures { result ≡ (if line.accesses then made else 1) }
 {
     if line.accesses { made } else { 1 }
@@ -121,7 +121,7 @@ fn play<A: Allocator + Copy>(
             Ok(made) => made,
             Err(halt) => return Err(halt),
         };
-        count -= spent(line, made);
+        count -= spent_count(line, made);
         left -= 1;
     }
     Ok(left)

@@ -25,14 +25,14 @@ fn replays(alloc: Global, code: &Code, wanted: &Wanted) -> bool {
 /// Whether levels are left, which the thread commits: with its fourth access, since a kept lock is taken before the
 /// stores.
 fn commits(alloc: Global, code: &Code, levels: Levels) -> bool {
-    let Some(text) = NUMBERS.get(levels.left() as usize).copied() else {
+    let Some(text) = NUMBERS.get(levels.levels_left() as usize).copied() else {
         return false;
     };
     let cancelled = if levels.kept { 2u64 } else { 1 };
     let wanted = Wanted {
         events: &[(cancelled, 0, Event::Cancel), (4, 0, Event::Commit)],
         threads: &[(End::Ended, text)],
-        words: &[u64::from(levels.left())],
+        words: &[u64::from(levels.levels_left())],
         holder: None,
         stop: None,
     };
@@ -65,7 +65,7 @@ fn standing_still() -> &'static Wanted<'static> {
 
 /// Whether the thread of a code does what it should.
 fn does(alloc: Global, code: &Code, levels: Levels) -> bool {
-    if levels.left() > 0 {
+    if levels.levels_left() > 0 {
         commits(alloc, code, levels)
     } else if levels.kept {
         replays(alloc, code, standing_still())

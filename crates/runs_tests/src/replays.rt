@@ -92,7 +92,7 @@ fn a_stranger_ends_a_replay(rt: HostRuntime) {
 }
 
 /// The one thread traps behind its print.
-fn trapped() -> &'static Wanted<'static> {
+fn trap_replay() -> &'static Wanted<'static> {
     static WANTED: Wanted<'static> = Wanted {
         events: &[(3, 0, Event::Trap(Trap::ZeroDivisor))],
         threads: &[(End::Trapped(Trap::ZeroDivisor), "2")],
@@ -105,7 +105,7 @@ fn trapped() -> &'static Wanted<'static> {
 
 #[test]
 fn a_trap_gives_the_lock_back(rt: HostRuntime) {
-    let holds = gives(rt.alloc(), traps(), 1, "0 a10", trapped());
+    let holds = gives(rt.alloc(), traps(), 1, "0 a10", trap_replay());
     assert_that(&rt, holds);
 }
 
@@ -166,7 +166,7 @@ fn reads_and_takes_back() -> &'static [Instr] {
 }
 
 /// What thread 1 has read there is validated all the same, once thread 0 has stored.
-fn validated() -> &'static Wanted<'static> {
+fn validation_replay() -> &'static Wanted<'static> {
     static WANTED: Wanted<'static> = Wanted {
         events: &[
             (6, 0, Event::Cancel),
@@ -187,12 +187,12 @@ fn validated() -> &'static Wanted<'static> {
 #[test]
 fn what_cancelled_levels_have_read_is_validated(rt: HostRuntime) {
     let schedule = "1 a3\n0 a9\n1 a20";
-    let holds = gives(rt.alloc(), reads_and_takes_back(), 2, schedule, validated());
+    let holds = gives(rt.alloc(), reads_and_takes_back(), 2, schedule, validation_replay());
     assert_that(&rt, holds);
 }
 
 /// A thread that prints has the lock before its print.
-fn held() -> &'static Wanted<'static> {
+fn lock_held_replay() -> &'static Wanted<'static> {
     static WANTED: Wanted<'static> = Wanted {
         events: &[],
         threads: &[(End::Running, "")],
@@ -205,7 +205,7 @@ fn held() -> &'static Wanted<'static> {
 
 #[test]
 fn a_replay_ends_with_the_lock_held(rt: HostRuntime) {
-    let holds = gives(rt.alloc(), traps(), 1, "0 a2", held());
+    let holds = gives(rt.alloc(), traps(), 1, "0 a2", lock_held_replay());
     assert_that(&rt, holds);
 }
 

@@ -192,7 +192,7 @@ fn is_written_as(alloc: Global, lines: &[Line], wanted: &str) -> bool {
     }
 }
 
-fn written() -> &'static [Line] {
+fn lines_written() -> &'static [Line] {
     static LINES: [Line; 3] = [
         Line {
             thread: 0,
@@ -221,9 +221,9 @@ fn refuses_to_write(alloc: &Refusing<Global>, lines: &[Line]) -> bool {
 #[test]
 fn what_is_written_is_read_back(rt: HostRuntime) {
     let text = "0 1\n63 a0\n4294967295 a1048575\n";
-    let three = is_written_as(rt.alloc(), written(), text);
+    let three = is_written_as(rt.alloc(), lines_written(), text);
     let none = is_written_as(rt.alloc(), [].as_slice(), "");
-    let refused = refuses_to_write(&Refusing::new(rt.alloc(), 1), written());
+    let refused = refuses_to_write(&Refusing::new(rt.alloc(), 1), lines_written());
     assert_all(
         &rt,
         &[("three", three), ("none", none), ("refused", refused)],

@@ -84,7 +84,7 @@ const GLOBALS: [Words; 3] = [
 ];
 
 /// A replay of two threads, with globals of each type.
-fn replayed<A: Allocator + Copy>(alloc: A, holder: Option<u32>) -> Result<Printed<A>, AllocError> {
+fn replay_of<A: Allocator + Copy>(alloc: A, holder: Option<u32>) -> Result<Printed<A>, AllocError> {
     let events = Items::from_vec(Vec::from_slice(alloc, EVENTS.as_slice())?);
     let threads = threads(alloc, THREADS.as_slice())?;
     Ok(Printed {
@@ -118,8 +118,8 @@ const HELD: &[u8] =
 
 #[test]
 fn shows_a_replay(rt: HostRuntime) {
-    let free = is_reported(rt.alloc(), replayed(rt.alloc(), None), REPLAYED);
-    let held = is_reported(rt.alloc(), replayed(rt.alloc(), Some(1)), HELD);
+    let free = is_reported(rt.alloc(), replay_of(rt.alloc(), None), REPLAYED);
+    let held = is_reported(rt.alloc(), replay_of(rt.alloc(), Some(1)), HELD);
     assert_all(&rt, &[("free", free), ("held", held)]);
 }
 
@@ -154,7 +154,7 @@ fn shows_each_end(rt: HostRuntime) {
 
 /// Whether the replay's report is shown where its growth `nth` is not met, and else that is told.
 fn tells(alloc: &Refusing<Global>, nth: u64) -> bool {
-    match replayed(alloc, None) {
+    match replay_of(alloc, None) {
         Ok(printed) => {
             alloc.refuse(nth);
             match report_text(alloc, &printed) {

@@ -7,7 +7,7 @@ use seats::{Setup, close, join, meet, open, split_first};
 use std::alloc::{Allocator, Global};
 
 /// What the cells have that a table leaves, whose seats part and join.
-fn left(alloc: Global, setup: &Setup) -> Option<Vec<u64>> {
+fn cells_left(alloc: Global, setup: &Setup) -> Option<Vec<u64>> {
     match open(alloc, setup) {
         Ok((table, mut all)) => {
             let first = split_first(&table.shared, &mut all);
@@ -23,7 +23,7 @@ fn left(alloc: Global, setup: &Setup) -> Option<Vec<u64>> {
 
 /// Whether these are the two variables.
 fn leaves(alloc: Global, setup: &Setup, first: u64, second: u64) -> bool {
-    match left(alloc, setup) {
+    match cells_left(alloc, setup) {
         Some(cells) => cells.as_slice() == [first, second].as_slice(),
         None => false,
     }
@@ -43,7 +43,7 @@ fn seats_part_and_join(rt: HostRuntime) {
 }
 
 /// The lock that the first of two threads finds where it meets the other.
-fn met(alloc: Global, setup: &Setup) -> Option<u64> {
+fn lock_met(alloc: Global, setup: &Setup) -> Option<u64> {
     match open(alloc, setup) {
         Ok((table, mut all)) => {
             let mut first = split_first(&table.shared, &mut all);
@@ -56,7 +56,7 @@ fn met(alloc: Global, setup: &Setup) -> Option<u64> {
 /// The lock that the first of two threads of a new table finds where it meets the other.
 fn met_first(alloc: Global) -> Option<u64> {
     match setup(alloc, 7, 9, 2) {
-        Some(setup) => met(alloc, &setup),
+        Some(setup) => lock_met(alloc, &setup),
         None => None,
     }
 }

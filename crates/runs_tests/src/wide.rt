@@ -22,7 +22,7 @@ fn is_given(report: &Report, given: Result<&str, Trap>) -> bool {
 }
 
 /// What a hundred steps of the one thread of a code leave.
-fn replayed(alloc: Global, code: &Code) -> Option<Report> {
+fn replay_of(alloc: Global, code: &Code) -> Option<Report> {
     match read_schedule(alloc, "0 100") {
         Ok(lines) => match replay(alloc, code, 1, lines.as_slice()) {
             Ok(report) => Some(report),
@@ -41,7 +41,7 @@ fn comes_to(
     words: [u64; 2],
 ) -> bool {
     match code_over_both(alloc, instructions, begin) {
-        Some(code) => match replayed(alloc, &code) {
+        Some(code) => match replay_of(alloc, &code) {
             Some(report) => is_given(&report, given) && report.words.as_slice() == words.as_slice(),
             None => false,
         },

@@ -8,7 +8,7 @@ use written_codes::{adds_five, code_of, over_x};
 
 /// Of two threads that add 5 to x: thread 1 has the word of x when thread 0 changes it. It reads again, and makes 10
 /// accesses in place of 6.
-fn crossed() -> &'static [u32] {
+fn crossing_steps() -> &'static [u32] {
     static STEPS: [u32; 29] = [
         1, 1, 1, 0, 0, 0, 0, 0, 0, 0, 0, 0, 0, 0, 1, 1, 1, 1, 1, 1, 1, 1, 1, 1, 1, 1, 1, 1, 1,
     ];
@@ -16,7 +16,7 @@ fn crossed() -> &'static [u32] {
 }
 
 /// A world of so many threads that add, before any step.
-fn opened<A: Allocator + Copy>(alloc: A, threads: u32) -> Result<World<A>, WorldFault> {
+fn new_world<A: Allocator + Copy>(alloc: A, threads: u32) -> Result<World<A>, WorldFault> {
     match code_of(alloc, &over_x(adds_five())) {
         Some(code) => World::new(alloc, &code, threads),
         None => Err(WorldFault::OutOfMemory),
@@ -24,7 +24,7 @@ fn opened<A: Allocator + Copy>(alloc: A, threads: u32) -> Result<World<A>, World
 }
 
 /// Which step was not made and why, where one was not.
-fn stopped<A: Allocator + Copy>(world: &mut World<A>, steps: &[u32]) -> Option<(u64, StopReason)> {
+fn stop_of<A: Allocator + Copy>(world: &mut World<A>, steps: &[u32]) -> Option<(u64, StopReason)> {
     match world.run(steps) {
         Ok(()) => None,
         Err(stop) => Some((stop.step, stop.reason)),
@@ -52,12 +52,12 @@ fn stands(world: &World, steps: &[u32], left: Left) -> bool {
 
 /// Whether all these steps of two threads are made, and leave what is wanted.
 fn goes(alloc: Global, world: &mut World, steps: &[u32], left: Left) -> bool {
-    stopped(world, steps).is_none() && stands(world, steps, left) && reports(alloc, world, left.2)
+    stop_of(world, steps).is_none() && stands(world, steps, left) && reports(alloc, world, left.2)
 }
 
 /// Whether all these steps of two threads of a new world are made, and leave what is wanted.
 fn leads_to(alloc: Global, steps: &[u32], left: Left) -> bool {
-    match opened(alloc, 2) {
+    match new_world(alloc, 2) {
         Ok(mut world) => goes(alloc, &mut world, steps, left),
         Err(_) => false,
     }
@@ -76,11 +76,11 @@ fn read_again() -> &'static Wanted<'static> {
 
 #[test]
 fn a_word_is_read_again(rt: HostRuntime) {
-    let holds = leads_to(rt.alloc(), crossed(), (4, 16, read_again()));
+    let holds = leads_to(rt.alloc(), crossing_steps(), (4, 16, read_again()));
     assert_that(&rt, holds);
 }
 
-fn held() -> &'static Wanted<'static> {
+fn lock_held_report() -> &'static Wanted<'static> {
     static WANTED: Wanted<'static> = Wanted {
         events: &[],
         threads: &[(End::Running, ""), (End::Running, "")],
@@ -93,19 +93,19 @@ fn held() -> &'static Wanted<'static> {
 
 #[test]
 fn a_thread_has_the_lock(rt: HostRuntime) {
-    let holds = leads_to(rt.alloc(), &[1, 1, 1, 1, 1, 1, 1], (1, 4, held()));
+    let holds = leads_to(rt.alloc(), &[1, 1, 1, 1, 1, 1, 1], (1, 4, lock_held_report()));
     assert_that(&rt, holds);
 }
 
 /// Whether a stranger's step, the third one, is not made, and those before it are.
 fn stops_at_a_stranger(world: &mut World) -> bool {
-    let stop = stopped(world, &[0, 1, 7, 0]);
+    let stop = stop_of(world, &[0, 1, 7, 0]);
     stop == Some((2, StopReason::Stranger)) && world.trace() == [0u32, 1].as_slice()
 }
 
 /// Whether a stranger's step in a new world, the third one, is not made, and those before it are.
 fn meets_a_stranger(alloc: Global) -> bool {
-    match opened(alloc, 2) {
+    match new_world(alloc, 2) {
         Ok(mut world) => stops_at_a_stranger(&mut world),
         Err(_) => false,
     }
@@ -118,7 +118,7 @@ fn a_stranger_makes_no_step(rt: HostRuntime) {
 
 /// Why a world of so many threads is not opened, where it is not.
 fn refusal(alloc: Global, threads: u32) -> Option<WorldFault> {
-    match opened(alloc, threads) {
+    match new_world(alloc, threads) {
         Ok(_) => None,
         Err(fault) => Some(fault),
     }

@@ -82,7 +82,7 @@ fn close_all<A: Allocator + Copy>(
 }
 
 /// Which numbers a way leads to from 0.
-fn reached<A: Allocator + Copy>(
+fn reachable_from<A: Allocator + Copy>(
     alloc: A,
     callers: &[Items<usize, A>],
 ) -> Result<Vec<bool, A>, AllocError>
@@ -106,6 +106,6 @@ pub fn least<'a, A: Allocator + Copy>(
     ensures { IfOk result (λ set. IsLeast (links_of links.now) (set_of set)) }
 {
     let Graph { numbers, callers } = graph_of(alloc, key, links)?;
-    let members = reached(alloc, callers.as_slice())?;
+    let members = reachable_from(alloc, callers.as_slice())?;
     Ok(FunctionSet { numbers, members })
 }

@@ -77,7 +77,7 @@ fn threads_shown(
 fn thread_shown(alloc: Global, number: u32, ran: &RunReport) -> Result<ThreadShown, AllocError>
     ensures { IfOk result (λ s. thread_of s ≡ spec.thread_at_once ran.now number) }
 {
-    let stopped = stopped(ran.ends.as_slice(), number);
+    let stopped = thread_stop(ran.ends.as_slice(), number);
     finished_shown(
         alloc,
         stopped,
@@ -137,7 +137,7 @@ fn stop_of(ending: Option<&Ending>) -> Option<Stop>
 }
 
 /// What stopped the thread of this number.
-fn stopped(ends: &[Ending], number: u32) -> Option<Stop>
+fn thread_stop(ends: &[Ending], number: u32) -> Option<Stop>
     ensures { result ≡ stopped_of ends.now number }
 {
     stop_of(ending_numbered(ends, number))

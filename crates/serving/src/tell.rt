@@ -11,7 +11,7 @@ use crate::at_once::thread_numbered;
 use crate::run::SourceFault;
 use crate::status::{ENDED, REFUSED, STOPPED, UNUSABLE};
 use command::{Format, UsageFault};
-use faults::{underlined, words};
+use faults::{underline, words};
 use hints::hints;
 use lex::place;
 use lex::token::Span;
@@ -111,7 +111,7 @@ fn tell_place<E: Write>(number: u32, line: usize, column: usize, detail: Detail<
 /// Shows the line of a source that a span begins in, with carets under the span. Where memory is refused it shows
 /// nothing.
 fn show_line<A: Allocator + Copy, E: Write>(alloc: A, text: &str, span: Span, err: &mut E) {
-    if let Ok(shown) = underlined(alloc, text, span) {
+    if let Ok(shown) = underline(alloc, text, span) {
         let _ = err.write_all(shown.as_slice());
     }
 }

@@ -105,7 +105,7 @@ pub struct WrongRow {
 }
 
 /// An answer in a line of text, if there was memory for it.
-fn shown(alloc: Global, answer: Answer) -> Option<String> {
+fn answer_text(alloc: Global, answer: Answer) -> Option<String> {
     let (status, out, err) = answer;
     let out = String::from_utf8_lossy(alloc, out).ok()?;
     let err = String::from_utf8_lossy(alloc, err).ok()?;
@@ -120,7 +120,7 @@ fn shown(alloc: Global, answer: Answer) -> Option<String> {
 /// What was served, in a line of text.
 fn served_shown(alloc: Global, served: Option<Served>) -> Option<String> {
     match served {
-        Some(served) => shown(
+        Some(served) => answer_text(
             alloc,
             (served.status, served.out.as_slice(), served.err.as_slice()),
         ),
@@ -142,7 +142,7 @@ pub fn wrong_row<H: Threads + Wait + Sync>(
                     number,
                     line: *line,
                     answered: served_shown(alloc, served),
-                    wanted: shown(alloc, *wanted),
+                    wanted: answer_text(alloc, *wanted),
                 });
             }
         }

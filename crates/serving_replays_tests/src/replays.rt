@@ -485,7 +485,7 @@ fn reads_back_what_is_printed(rt: HostRuntime) {
 }
 
 /// A request of so many threads and steps.
-fn seeded(alloc: Global, threads: u32, count: u32) -> Result<Request, AllocError> {
+fn seeded_request(alloc: Global, threads: u32, count: u32) -> Result<Request, AllocError> {
     let file = String::from_str(alloc, "a.c")?;
     let steps = Steps::Seed { seed: 1, count };
     Ok(Request::Program {
@@ -505,7 +505,7 @@ fn is_answered<H: Threads + Wait + Sync>(
     wanted: Answer,
 ) -> bool {
     let none = b"".as_slice();
-    match seeded(alloc, threads, count) {
+    match seeded_request(alloc, threads, count) {
         Ok(request) => is_answer(&serve_bytes(rt, alloc, &request, ADDS, none, false), wanted),
         Err(_) => false,
     }

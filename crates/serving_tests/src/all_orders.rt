@@ -25,7 +25,7 @@ const THIRD: &str =
 const TRAPS: &str =
     "int x; void worker(int self) { int k; __transaction_atomic { k = x; x = 1; } k = 1 / k; }";
 
-fn listed() -> &'static [Row] {
+fn outcome_rows() -> &'static [Row] {
     static ROWS: [Row; 14] = [
         (
             "txc outcomes a.c --threads 2",
@@ -170,7 +170,7 @@ fn listed() -> &'static [Row] {
 
 #[test]
 fn lists_outcomes(rt: HostRuntime) {
-    assert_eq!(rt; wrong_row(&rt, rt.alloc(), listed()), None);
+    assert_eq!(rt; wrong_row(&rt, rt.alloc(), outcome_rows()), None);
 }
 
 /// Threads that each add 40 times.

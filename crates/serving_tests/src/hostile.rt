@@ -23,7 +23,7 @@ const CALLS: &[u8] =
 /// A command line, and the source and the schedule of its files.
 type Asked = (&'static str, &'static [u8], &'static [u8]);
 
-fn asked() -> &'static [Asked] {
+fn hostile_lines() -> &'static [Asked] {
     static ASKED: [Asked; 16] = [
         ("txc check a.c", CANCELS, b""),
         ("txc listing a.c", CANCELS, b""),
@@ -147,7 +147,7 @@ fn growths_of_line(alloc: Global, asked: &Asked) -> Result<u64, u64> {
 
 /// The first command line that makes few growths, or tells one otherwise, and how many they are or which.
 fn told_otherwise(alloc: Global) -> Option<(&'static str, Result<u64, u64>)> {
-    for asked in asked() {
+    for asked in hostile_lines() {
         let met = growths_of_line(alloc, asked);
         if met.ok() < Some(50) {
             return Some((asked.0, met));

@@ -1,6 +1,6 @@
 //! Large inputs and broken ones: each is answered, and none for want of something.
 
-use crate::refusals::joined;
+use crate::refusals::text_of_pieces;
 use serving_in_memory::{Answer, Served, answers, serve_line};
 use std::alloc::{AllocError, Global};
 use std::sync::Wait;
@@ -111,7 +111,7 @@ fn is_checked<H: Threads + Wait + Sync>(
     pieces: &[(&str, usize)],
     wanted: Answer,
 ) -> bool {
-    match joined(alloc, pieces) {
+    match text_of_pieces(alloc, pieces) {
         Ok(source) => {
             let source = source.as_str().as_bytes();
             answers(rt, alloc, "txc check a.c", source, b"", false, wanted)
@@ -136,13 +136,13 @@ fn the_largest_sources_are_checked(rt: HostRuntime) {
 }
 
 /// What is served to a command line with a text in pieces.
-fn served<H: Threads + Wait + Sync>(
+fn answer_of<H: Threads + Wait + Sync>(
     rt: &H,
     alloc: Global,
     line: &str,
     pieces: &[(&str, usize)],
 ) -> Option<Served> {
-    match joined(alloc, pieces) {
+    match text_of_pieces(alloc, pieces) {
         Ok(source) => serve_line(rt, alloc, line, source.as_str().as_bytes(), b"", false),
         Err(_) => None,
     }
@@ -157,7 +157,7 @@ fn prints<H: Threads + Wait + Sync>(
     least: usize,
     end: &[u8],
 ) -> bool {
-    match served(rt, alloc, line, pieces) {
+    match answer_of(rt, alloc, line, pieces) {
         Some(served) => {
             served.status == 0 && served.out.len() >= least && served.out.as_slice().ends_with(end)
         }
@@ -483,7 +483,7 @@ const WHOLE: &[u8] =
 type Counts = (u32, u32, u32, u32);
 
 /// Counts one more answer of a check; there is none where it is another one.
-fn counted(counts: Counts, served: &Served) -> Option<Counts> {
+fn count_answer(counts: Counts, served: &Served) -> Option<Counts> {
     let err = served.err.as_slice();
     let (accepted, unexpected, unfinished, no_worker) = counts;
     if served.status == 0 && served.out.as_slice() == b"accepted\n".as_slice() {
@@ -507,7 +507,7 @@ fn beginnings<H: Threads + Wait + Sync>(rt: &H, alloc: Global, source: &[u8]) ->
     for length in 0..source.len().saturating_add(1) {
         let beginning = source.get(..length)?;
         let served = serve_line(rt, alloc, "txc check a.c", beginning, b"", false)?;
-        counts = counted(counts, &served)?;
+        counts = count_answer(counts, &served)?;
     }
     Some(counts)
 }

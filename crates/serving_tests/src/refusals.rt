@@ -13,7 +13,7 @@ use workers::RunFault;
 type Told = (&'static str, u32, &'static str);
 
 /// The faults of sources, each with a short source that has it.
-fn told() -> &'static [Told] {
+fn told_faults() -> &'static [Told] {
     static TOLD: [Told; 41] = [
         ("int x$;", 1, "1:6: bad character"),
         ("long long x = 1ull;", 1, "1:17: bad character"),
@@ -212,7 +212,7 @@ fn told_of_long() -> &'static [ToldOfLong] {
 }
 
 /// The text that pieces make.
-pub fn joined(alloc: Global, pieces: &[(&str, usize)]) -> Result<String, AllocError> {
+pub fn text_of_pieces(alloc: Global, pieces: &[(&str, usize)]) -> Result<String, AllocError> {
     let mut text = String::new(alloc);
     for (piece, times) in pieces {
         text.push_str(piece.repeat(alloc, *times)?.as_str())?;
@@ -246,7 +246,7 @@ fn is_told<H: Threads + Wait + Sync>(
 
 /// The first source of the table that is answered otherwise.
 fn not_told<H: Threads + Wait + Sync>(rt: &H, alloc: Global) -> Option<&'static str> {
-    for (source, number, words) in told() {
+    for (source, number, words) in told_faults() {
         if !is_told(rt, alloc, source.as_bytes(), *number, words) {
             return Some(*source);
         }
@@ -267,7 +267,7 @@ fn is_told_of<H: Threads + Wait + Sync>(
     number: u32,
     told: &str,
 ) -> bool {
-    match joined(alloc, pieces) {
+    match text_of_pieces(alloc, pieces) {
         Ok(source) => is_told(rt, alloc, source.as_str().as_bytes(), number, told),
         Err(_) => false,
     }

@@ -424,7 +424,7 @@ fn serves_sources_with_long_long(rt: HostRuntime) {
     assert_eq!(rt; wrong_row(&rt, rt.alloc(), wide()), None);
 }
 
-fn checked() -> &'static [Row] {
+fn check_rows() -> &'static [Row] {
     static ROWS: [Row; 10] = [
         ("txc check a.c", FIRST, b"", (0, b"accepted\n", b"")),
         // an access that `worker` does not reach
@@ -507,7 +507,7 @@ fn checked() -> &'static [Row] {
 
 #[test]
 fn says_what_is_accepted(rt: HostRuntime) {
-    assert_eq!(rt; wrong_row(&rt, rt.alloc(), checked()), None);
+    assert_eq!(rt; wrong_row(&rt, rt.alloc(), check_rows()), None);
 }
 
 /// A transaction that never ends.

@@ -197,17 +197,17 @@ fn join_all<A: Allocator>(
     let Some(last) = workers.pop() else {
         unreachable!()
     };
-    let (mut all, finished) = parted(last);
+    let (mut all, finished) = into_parts(last);
     threads.push_reserved(finished);
     while let Some(worker) = workers.pop() {
-        let (seat, finished) = parted(worker);
+        let (seat, finished) = into_parts(worker);
         join(words, &mut all, seat);
         threads.push_reserved(finished);
     }
     (all, threads)
 }
 
-fn parted<A: Allocator>(worker: Worker<A>) -> (Seat<(), View>, Finished<A>)
+fn into_parts<A: Allocator>(worker: Worker<A>) -> (Seat<(), View>, Finished<A>)
     ensures { (result.0 ≡ worker.seat)
         × (result.1 ≡ record {
           number = worker.number;

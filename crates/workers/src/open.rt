@@ -111,7 +111,7 @@ fn workers<A: Allocator + Copy>(
 }
 
 /// A hall for these threads, of which there is one at least.
-fn opened<A: Allocator + Copy>(
+fn open_hall<A: Allocator + Copy>(
     alloc: A,
     code: &Code<A>,
     threads: u32,
@@ -146,7 +146,7 @@ impl<A: Allocator + Copy> Hall<A> {
         if threads == 0 || threads > MOST_THREADS {
             return Err(HallFault::Threads);
         }
-        match opened(alloc, code, threads) {
+        match open_hall(alloc, code, threads) {
             Ok(opened) => Ok(opened),
             Err(_) => Err(HallFault::OutOfMemory),
         }

@@ -39,7 +39,7 @@ pub trait Gate {
 const MOST_TURNS: u64 = 1_000_000;
 
 /// Whether the gate held the thread to the end.
-fn held<G: Gate>(gate: &G, thread: u32, accesses: u64) -> bool {
+fn is_held<G: Gate>(gate: &G, thread: u32, accesses: u64) -> bool {
     'turns: for _ in 0..MOST_TURNS {
         if !gate.hold(thread, accesses) {
             return false;
@@ -60,7 +60,7 @@ pub struct Driven<A: Allocator = Global> {
     pub stopped: Option<Stop>,
 }
 
-fn made(worker: Worker, overheld: bool, stopped: Option<Stop>) -> Driven
+fn driven_of(worker: Worker, overheld: bool, stopped: Option<Stop>) -> Driven
     ensures { (result.worker ≡ worker) × (result.overheld ≡ overheld) × (result.stopped ≡ stopped) }
 {
     Driven {
@@ -81,14 +81,14 @@ fn drive_held<G: Gate>(hall: &Hall, mut worker: Worker, budget: u64, gate: &G) -
     let mut overheld = false;
     'steps: for turn in 0..budget {
         if worker.thread.status() != Status::Running {
-            return made(worker, overheld, None);
+            return driven_of(worker, overheld, None);
         }
-        overheld = overheld || held(gate, worker.number, worker.thread.accesses());
+        overheld = overheld || is_held(gate, worker.number, worker.thread.accesses());
         if let Err(stop) = worker.step(&hall.table.shared, hall.setup.code()) {
-            return made(worker, overheld, Some(stop));
+            return driven_of(worker, overheld, Some(stop));
         }
     }
-    made(worker, overheld, None)
+    driven_of(worker, overheld, None)
 }
 
 /// A worker's loop, where no gate holds it.
@@ -100,8 +100,8 @@ fn drive_free(hall: &Hall, mut worker: Worker, budget: u64) -> Driven
     ensures number { result.worker.number ≡ worker.number }
 {
     match worker.run(hall, budget) {
-        Ok(_) => made(worker, false, None),
-        Err(stop) => made(worker, false, Some(stop)),
+        Ok(_) => driven_of(worker, false, None),
+        Err(stop) => driven_of(worker, false, Some(stop)),
     }
 }
 
@@ -382,7 +382,7 @@ fn memory(words: Vec<u64>, held: Option<u32>) -> RunMemory
 }
 
 /// The report of workers that were driven.
-fn reported(
+fn report_of(
     alloc: Global,
     hall: Hall,
     budget: u64,
@@ -429,7 +429,7 @@ fn run_workers<R: Threads + Wait + Sync, G: Gate + Sync>(
         → Ran does hall.setup budget r) }
 {
     match drive_all(rt, alloc, &hall, workers, budget, gate) {
-        Ok(driven) => reported(alloc, hall, budget, driven),
+        Ok(driven) => report_of(alloc, hall, budget, driven),
         Err(fault) => Err(fault),
     }
 }

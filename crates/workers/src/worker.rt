@@ -225,7 +225,7 @@ impl<A: Allocator + Copy> Worker<A> {
     {
         let access = self.thread.store_access(code, place);
         let _answer = make(words, &mut self.seat, access);
-        self.thread.stored(code, place)
+        self.thread.take_store(code, place)
     }
 
     /// The steps of a commit's stores, one after another, at most so many: how many were made.
@@ -301,7 +301,7 @@ impl<A: Allocator + Copy> Worker<A> {
         ensures still { StandsStill code.now self.old.thread self.new.thread }
     {
         let lock = load_lock(words, &mut self.seat);
-        self.thread.waited(code, lock);
+        self.thread.take_wait(code, lock);
         self.tally.count_wait(lock);
         pause(lock);
     }
@@ -330,10 +330,10 @@ impl<A: Allocator + Copy> Worker<A> {
         let (cell, word) = entry;
         let found = load_word(words, &mut self.seat, cell as usize);
         if found != word {
-            self.thread.differed(code, time, place, entry, found);
+            self.thread.take_unequal(code, time, place, entry, found);
             return false;
         }
-        self.thread.compared(code, time, place, entry);
+        self.thread.take_equal(code, time, place, entry);
         true
     }
 
@@ -350,7 +350,7 @@ impl<A: Allocator + Copy> Worker<A> {
         ensures still { StandsStill code.now self.old.thread self.new.thread }
     {
         let lock = load_lock(words, &mut self.seat);
-        self.thread.validated(code, time, place, lock);
+        self.thread.take_validation(code, time, place, lock);
     }
 
     /// Steps of validation at this lock value, from this place of the read log on, one after another, at most so many,
@@ -455,7 +455,7 @@ impl<A: Allocator + Copy> Worker<A> {
     }
 
     /// How its thread is, after all steps of a budget.
-    fn reported(&self, budget: u64) -> Status
+    fn report_of(&self, budget: u64) -> Status
         ensures { Reports result self.now.thread.thread.status budget budget }
     {
         // The prover names by it the budget.
@@ -490,14 +490,14 @@ impl<A: Allocator + Copy> Worker<A> {
             let (rested, doing) = self.advance(&hall.table.shared, hall.setup.code(), left);
             left -= rested;
             let Some(doing) = doing else {
-                return (budget, Ok(self.reported(budget)));
+                return (budget, Ok(self.report_of(budget)));
             };
             match self.operate(&hall.table.shared, hall.setup.code(), doing, left) {
                 Ok(made) => left -= made,
                 Err(stop) => return (budget - left, Err(stop)),
             }
         }
-        (budget, Ok(self.reported(budget)))
+        (budget, Ok(self.report_of(budget)))
     }
 
     /// Makes `budget` steps of the machine, or fewer where the thread is over or a step stops. An access to the lock or

@@ -75,7 +75,7 @@ fn end_with(stop: Option<(u32, StopReason)>, t: u32, status: Status) -> End
 
 impl<A: Allocator + Copy> World<A> {
     /// How each thread is found, and what it has printed.
-    fn shown(
+    fn thread_reports(
         &self,
         alloc: A,
         stop: Option<(u32, StopReason)>,
@@ -117,7 +117,7 @@ impl<A: Allocator + Copy> World<A> {
         ensures stop { IfOk result (λ r. r.stop ≡ stop_with stop self.now) }
         ensures trace { IfOk result (λ r. r.trace.items ≡ self.now.trace) }
     {
-        let threads = self.shown(alloc, stop)?;
+        let threads = self.thread_reports(alloc, stop)?;
         let words = Vec::from_slice(alloc, self.words())?;
         let trace = Vec::from_slice(alloc, self.trace())?;
         Ok(Report {

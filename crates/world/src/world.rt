@@ -67,7 +67,7 @@ fn first_threads<A: Allocator + Copy>(
 }
 
 /// The world of so many threads, before any step.
-fn opened<A: Allocator + Copy>(
+fn new_world<A: Allocator + Copy>(
     alloc: A,
     code: &Code<A>,
     threads: u32,
@@ -99,11 +99,11 @@ impl<A: Allocator + Copy> World<A> {
         ensures alone { EndsAlone code.now }
     {
         // The prover learns here that the code is valid.
-        code.known();
+        code.note_valid();
         if threads == 0 || threads > MOST_THREADS {
             return Err(WorldFault::WrongThreads);
         }
-        match opened(alloc, code, threads) {
+        match new_world(alloc, code, threads) {
             Ok(world) => Ok(world),
             Err(_) => Err(WorldFault::OutOfMemory),
         }
@@ -190,7 +190,7 @@ impl<A: Allocator + Copy> World<A> {
         let _threads = self.threads();
         'steps: for made in 0..steps.len() {
             if let Err(reason) = self.step_any(steps[made]) {
-                return Err(stopped(made, reason));
+                return Err(stop_at(made, reason));
             }
         }
         Ok(())
@@ -272,7 +272,7 @@ impl<A: Allocator + Copy> World<A> {
 }
 
 /// The stop of a list's step.
-fn stopped(step: usize, reason: StopReason) -> WorldStop
+fn stop_at(step: usize, reason: StopReason) -> WorldStop
     ensures { (result.step ≡ step) × (result.reason ≡ reason) }
 {
     WorldStop {

@@ -13,7 +13,7 @@ pub struct Levels {
 
 impl Levels {
     /// How many levels are left.
-    pub fn left(&self) -> u32 {
+    pub fn levels_left(&self) -> u32 {
         self.depth.saturating_sub(self.cancelled)
     }
 

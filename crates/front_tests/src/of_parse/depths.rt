@@ -23,7 +23,7 @@ fn is_too_deep(alloc: Global, pieces: &[Piece]) -> bool {
 }
 
 /// A worker with a declaration whose first value stands in so many pairs of parentheses, of which this opens each.
-fn nested(open: &'static str, pairs: usize) -> [Piece; 5] {
+fn nested_parens(open: &'static str, pairs: usize) -> [Piece; 5] {
     [
         Piece::Times("void worker(int self) { int a = ", 1),
         Piece::Times(open, pairs),
@@ -39,10 +39,10 @@ fn a_program_may_be_100_deep(rt: HostRuntime) {
         start: 130,
         end: 131,
     };
-    let deep = has_shape_in(rt.alloc(), &nested("(", 97), Shape::Depth(100));
-    let deeper = fault_in(rt.alloc(), Stage::Parse, &nested("(", 98));
-    let atomic = nested("__transaction_atomic (", 97);
-    let relaxed = nested("__transaction_relaxed (", 98);
+    let deep = has_shape_in(rt.alloc(), &nested_parens("(", 97), Shape::Depth(100));
+    let deeper = fault_in(rt.alloc(), Stage::Parse, &nested_parens("(", 98));
+    let atomic = nested_parens("__transaction_atomic (", 97);
+    let relaxed = nested_parens("__transaction_relaxed (", 98);
     assert_all(
         &rt,
         &[

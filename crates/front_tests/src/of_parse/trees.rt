@@ -119,7 +119,7 @@ fn is_nearest(body: Option<&[Stmt]>) -> Option<bool> {
 }
 
 /// Of a body that is a value, its outermost operator, and whether the operands are operators' values.
-fn grouped(body: Option<&[Stmt]>) -> Option<(BinaryOp, bool, bool)> {
+fn grouping_of(body: Option<&[Stmt]>) -> Option<(BinaryOp, bool, bool)> {
     match body {
         Some([Stmt::Do(Simple::Evaluate(Expr::Binary(op, a, b, _)))]) => {
             let left = matches!(a.get(), Expr::Binary(_, _, _, _));
@@ -240,7 +240,7 @@ fn is_shaped(unit: &Unit, shape: Shape) -> bool {
         Shape::Depth(depth) => unit.depth() == depth,
         Shape::Statements(count) => has_statements(body_of(unit), count),
         Shape::Choice(nearest) => is_nearest(body_of(unit)) == Some(nearest),
-        Shape::Sum(op, left, right) => grouped(body_of(unit)) == Some((op, left, right)),
+        Shape::Sum(op, left, right) => grouping_of(body_of(unit)) == Some((op, left, right)),
         Shape::Declared => keeps_function(unit),
         Shape::Globals => keeps_values(unit),
         Shape::Of(of) => is_one_of(unit, of),

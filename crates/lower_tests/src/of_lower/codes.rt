@@ -27,7 +27,7 @@ pub fn fault_of(alloc: Global, text: &str) -> Option<(u32, Option<Span>)> {
 }
 
 /// The listing of a text's code, or in its place the fault's number.
-pub fn listed(alloc: Global, text: &str) -> Result<String, u32> {
+pub fn listing_of(alloc: Global, text: &str) -> Result<String, u32> {
     match code_of(alloc, text) {
         Ok(code) => match listing(alloc, &code) {
             Ok(text) => Ok(text),

@@ -1,7 +1,7 @@
 //! The codes of small programs, as they are listed: each was read by eye, so that a change in what is picked is seen.
 
 use crate::asserted::assert_none;
-use crate::of_lower::codes::listed;
+use crate::of_lower::codes::listing_of;
 use std::alloc::Global;
 
 /// A program, and the listing of its code.
@@ -88,7 +88,7 @@ pub fn rows() -> &'static [Listed] {
 
 /// Whether this is the listing of a program's code.
 fn is_listed(alloc: Global, text: &str, wanted: &str) -> bool {
-    match listed(alloc, text) {
+    match listing_of(alloc, text) {
         Ok(found) => found.as_str() == wanted,
         Err(_) => false,
     }

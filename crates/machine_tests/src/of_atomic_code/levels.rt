@@ -16,8 +16,8 @@ type Came = Option<(u64, Option<u64>, Option<End>)>;
 
 /// What the cancel comes to, whose transaction has found 9; where the outermost one was among the levels and the lock
 /// is kept it stands still.
-fn cancelled(levels: Levels) -> Came {
-    if levels.left() == 0 && !levels.kept {
+fn cancel_result(levels: Levels) -> Came {
+    if levels.levels_left() == 0 && !levels.kept {
         Some((1, Some(9), None))
     } else {
         Some((1, None, None))
@@ -25,8 +25,8 @@ fn cancelled(levels: Levels) -> Came {
 }
 
 /// What the commits of the levels that are left come to.
-fn committed(levels: Levels) -> Came {
-    let left = u64::from(levels.left());
+fn commit_result(levels: Levels) -> Came {
+    let left = u64::from(levels.levels_left());
     if left > 0 {
         Some((left, Some(left), None))
     } else if levels.kept {
@@ -37,11 +37,11 @@ fn committed(levels: Levels) -> Came {
 }
 
 /// What it prints then: register 1, as it was at the begin of the outermost level that was cancelled.
-fn printed(levels: Levels) -> Option<&'static str> {
-    if levels.left() == 0 && levels.kept {
+fn text_printed(levels: Levels) -> Option<&'static str> {
+    if levels.levels_left() == 0 && levels.kept {
         Some("")
     } else {
-        NUMBERS.get(levels.left() as usize).copied()
+        NUMBERS.get(levels.levels_left() as usize).copied()
     }
 }
 
@@ -59,7 +59,7 @@ fn cancels_in_place<A: Allocator + Copy, B: Allocator>(
     let made = go(thread, code, 9, 1);
     let waits = refusing.is_waiting();
     refusing.refuse(0);
-    waits && made == cancelled(levels)
+    waits && made == cancel_result(levels)
 }
 
 /// Whether a thread comes to what it should behind the cancel.
@@ -73,7 +73,7 @@ fn goes_on<A: Allocator + Copy>(
 {
     let made = go(thread, code, 9, 100);
     let _rest = go(thread, code, 9, 100);
-    made == committed(levels) && Some(thread.output()) == printed(levels)
+    made == commit_result(levels) && Some(thread.output()) == text_printed(levels)
 }
 
 /// Whether a thread opens its levels, makes the cancel without a growth, and comes to what it should.

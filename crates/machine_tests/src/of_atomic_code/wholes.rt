@@ -19,7 +19,7 @@ fn first_word(lefts: &[Vec<u64>], number: usize) -> Option<u64> {
     }
 }
 
-fn shown(outcome: &ThreadOutcome, text: &str) -> Shown {
+fn outcome_shown(outcome: &ThreadOutcome, text: &str) -> Shown {
     let lefts = outcome.lefts.as_slice();
     (
         first_word(lefts, 0),
@@ -44,7 +44,7 @@ fn outcome(
         return None;
     }
     match thread(alloc, code, 5, founds, steps) {
-        Ok(outcome) => Some(shown(&outcome, text)),
+        Ok(outcome) => Some(outcome_shown(&outcome, text)),
         Err(_) => None,
     }
 }
@@ -128,7 +128,7 @@ fn loops() -> &'static [Instr] {
     &CODE
 }
 
-fn looped() -> &'static [Row] {
+fn loop_rows() -> &'static [Row] {
     static ROWS: [Row; 7] = [
         ((1, 20), 0, None, None, ThreadEnd::Stopped(Halt::Spent), ""),
         ((1, 20), 4, None, None, ThreadEnd::Stopped(Halt::Spent), ""),
@@ -178,7 +178,7 @@ fn looped() -> &'static [Row] {
 
 #[test]
 fn each_transaction_finds_its_memory(rt: HostRuntime) {
-    assert_that(&rt, comes_to(rt.alloc(), loops(), looped()));
+    assert_that(&rt, comes_to(rt.alloc(), loops(), loop_rows()));
 }
 
 fn ends() -> &'static [Instr] {
@@ -186,7 +186,7 @@ fn ends() -> &'static [Instr] {
     &CODE
 }
 
-fn ended() -> &'static [Row] {
+fn end_rows() -> &'static [Row] {
     static ROWS: [Row; 1] = [((7, 8), 100, Some(7), None, ThreadEnd::Ended, "")];
     &ROWS
 }
@@ -203,7 +203,7 @@ fn traps() -> &'static [Instr] {
     &CODE
 }
 
-fn trapped() -> &'static [Row] {
+fn trap_rows() -> &'static [Row] {
     static ROWS: [Row; 2] = [
         (
             (7, 0),
@@ -227,7 +227,7 @@ fn trapped() -> &'static [Row] {
 
 #[test]
 fn a_thread_ends_or_traps(rt: HostRuntime) {
-    let ends = comes_to(rt.alloc(), ends(), ended());
-    let traps = comes_to(rt.alloc(), traps(), trapped());
+    let ends = comes_to(rt.alloc(), ends(), end_rows());
+    let traps = comes_to(rt.alloc(), traps(), trap_rows());
     assert_all(&rt, &[("ends", ends), ("traps", traps)]);
 }

@@ -27,7 +27,7 @@ fn counts(code: &Code) -> Counts {
 }
 
 /// The counts of a code with this listing.
-fn counted(alloc: Global, code: &Code, wanted: &str) -> Option<Counts> {
+fn counts_of(alloc: Global, code: &Code, wanted: &str) -> Option<Counts> {
     if is_listed(alloc, code, wanted) {
         Some(counts(code))
     } else {
@@ -36,24 +36,24 @@ fn counted(alloc: Global, code: &Code, wanted: &str) -> Option<Counts> {
 }
 
 /// The counts of a code's copy with this listing.
-fn copied(alloc: Global, code: &Code, wanted: &str) -> Option<Counts> {
+fn counts_of_copy(alloc: Global, code: &Code, wanted: &str) -> Option<Counts> {
     match code.copy(alloc) {
         Err(_) => None,
-        Ok(copy) => counted(alloc, &copy, wanted),
+        Ok(copy) => counts_of(alloc, &copy, wanted),
     }
 }
 
 /// The counts of a code's copy where both have this listing.
 fn listed_twice(alloc: Global, code: &Code, wanted: &str) -> Option<Counts> {
     if is_listed(alloc, code, wanted) {
-        copied(alloc, code, wanted)
+        counts_of_copy(alloc, code, wanted)
     } else {
         None
     }
 }
 
 /// The counts of a copy of these functions' code, where both have this listing.
-fn listed(
+fn counts_of_both(
     alloc: Global,
     functions: &[Function],
     instructions: &[Instr],
@@ -78,7 +78,7 @@ type Row = (
 /// Whether the listing and the counts are those of a row.
 fn is_told(alloc: Global, row: &Row) -> bool {
     let (functions, instructions, texts, wanted, counts) = *row;
-    listed(alloc, functions, instructions, texts, wanted) == Some(counts)
+    counts_of_both(alloc, functions, instructions, texts, wanted) == Some(counts)
 }
 
 const TRANSACTION: &str =

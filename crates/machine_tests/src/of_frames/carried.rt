@@ -33,7 +33,7 @@ fn carry_out<A: Allocator + Copy>(
     ensures { IsConfigurationOf code.now frames.new.configuration }
 {
     // The prover learns here that the code is valid.
-    code.known();
+    code.note_valid();
     match doing {
         Doing::Local => frames.step(code),
         Doing::Read(d, cell) => {
@@ -78,7 +78,7 @@ fn pass<A: Allocator + Copy>(frames: &mut Frames<A>, code: &Code<A>, doing: Doin
     ensures { IsConfigurationOf code.now frames.new.configuration }
 {
     // The prover learns here that the code is valid.
-    code.known();
+    code.note_valid();
     match doing {
         Doing::Call => frames.enter(code),
         Doing::Return(word) => {
@@ -96,7 +96,7 @@ fn go_once<A: Allocator + Copy>(frames: &mut Frames<A>, code: &Code<A>) -> (u64,
     ensures { IsConfigurationOf code.now frames.new.configuration }
 {
     // The prover learns here that the code is valid.
-    code.known();
+    code.note_valid();
     let (made, paused) = frames.advance(code, &mut NoAccess, 1000);
     match paused {
         Some(doing) => (made, pass(frames, code, doing)),
@@ -130,7 +130,7 @@ pub fn first<A: Allocator + Copy>(
     ensures { IfOk result (λ f. IsConfigurationOf code.now f.configuration) }
 {
     // The prover learns here that the code is valid.
-    code.known();
+    code.note_valid();
     Frames::new(alloc, code, thread)
 }
 

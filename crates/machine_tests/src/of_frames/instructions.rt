@@ -31,7 +31,7 @@ fn prints<A: Allocator + Copy>(alloc: A, code: &Code<A>, printed: &str) -> Optio
 }
 
 /// What is found of a code, if there is one, over a cell that holds 9, where it has printed this.
-fn found<A: Allocator + Copy>(alloc: A, code: Option<Code<A>>, printed: &str) -> Option<Found> {
+fn what_is_found<A: Allocator + Copy>(alloc: A, code: Option<Code<A>>, printed: &str) -> Option<Found> {
     match code {
         Some(code) => prints(alloc, &code, printed),
         None => None,
@@ -41,7 +41,7 @@ fn found<A: Allocator + Copy>(alloc: A, code: Option<Code<A>>, printed: &str) ->
 /// What thread 5 comes to in a worker of these instructions, which prints nothing, the local steps that it makes, and
 /// its register 1.
 fn of<A: Allocator + Copy>(alloc: A, instructions: &[Instr]) -> Option<(Doing, u64, u64)> {
-    match found(alloc, code_of_worker(alloc, instructions), "") {
+    match what_is_found(alloc, code_of_worker(alloc, instructions), "") {
         Some((doing, made, _, Some(word))) => Some((doing, made, word)),
         _ => None,
     }
@@ -53,7 +53,7 @@ type Computed = (u64, u64, Instr, Result<u64, Trap>);
 
 /// What a thread comes to behind an operator that gives this: it ends after three local steps, or traps at the third
 /// with nothing written.
-fn wanted(given: Result<u64, Trap>) -> (Doing, u64, u64) {
+fn doing_of(given: Result<u64, Trap>) -> (Doing, u64, u64) {
     match given {
         Ok(word) => (Doing::End, 3, word),
         Err(why) => (Doing::Traps(why), 2, 0),
@@ -69,7 +69,7 @@ fn is_computed<A: Allocator + Copy>(alloc: A, row: &Computed) -> bool {
         operator,
         Instr::Return,
     ];
-    of(alloc, &instructions) == Some(wanted(given))
+    of(alloc, &instructions) == Some(doing_of(given))
 }
 
 /// Whether each of these does.
@@ -524,7 +524,7 @@ fn prints_three() -> &'static [Instr] {
 #[test]
 fn texts_and_numbers_are_printed(rt: HostRuntime) {
     let code = code_of_worker(rt.alloc(), prints_three());
-    let shown = found(rt.alloc(), code, "-1\\\n4294967295");
+    let shown = what_is_found(rt.alloc(), code, "-1\\\n4294967295");
     assert_that(
         &rt,
         shown == Some((Doing::End, 1, Some(5), Some(4294967295))),
@@ -533,7 +533,7 @@ fn texts_and_numbers_are_printed(rt: HostRuntime) {
 
 /// What is found of a worker behind which a function begins at this place.
 fn calls<A: Allocator + Copy>(alloc: A, instructions: &[Instr], second: u32) -> Option<Found> {
-    found(alloc, code_of_two(alloc, instructions, second, (2, 1)), "")
+    what_is_found(alloc, code_of_two(alloc, instructions, second, (2, 1)), "")
 }
 
 /// r1 = f(r0), and f gives minus its parameter
@@ -560,14 +560,14 @@ fn calls_twice() -> &'static [Instr] {
 }
 
 /// What is found where `f` has given minus 5, after so many steps.
-fn given(made: u64) -> Option<Found> {
+fn after_steps(made: u64) -> Option<Found> {
     Some((Doing::End, made, Some(5), Some(4294967291)))
 }
 
 #[test]
 fn calls_return_what_they_give(rt: HostRuntime) {
-    let once = calls(rt.alloc(), calls_once(), 2) == given(2);
-    let twice = calls(rt.alloc(), calls_twice(), 3) == given(5);
+    let once = calls(rt.alloc(), calls_once(), 2) == after_steps(2);
+    let twice = calls(rt.alloc(), calls_twice(), 3) == after_steps(5);
     assert_all(&rt, &[("once", once), ("twice", twice)]);
 }
 

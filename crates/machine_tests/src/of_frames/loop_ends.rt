@@ -20,7 +20,7 @@ fn go<A: Allocator + Copy>(frames: &mut Frames<A>, code: &Code<A>, most: u64) ->
     ensures { IsConfigurationOf code.now frames.new.configuration }
 {
     // The prover learns here that the code is valid.
-    code.known();
+    code.note_valid();
     let (made, _) = frames.advance(code, &mut NoAccess, most);
     made
 }

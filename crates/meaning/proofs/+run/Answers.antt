@@ -48,11 +48,11 @@ expr::conditional-returns g t c at done =
       | expr::conditional-then-is_zero+in_ok-w w ↦ conditional_gives p call e1 e2 e3 at (state_in c.args.m.now) s1 s2 (value_of c.in_ok-v.v) w2 _ (c.in_ok-v.ensures tt)
           (branch_gives (expr p call e3) (expr p call e2) (is_zero (value_of c.in_ok-v.v)) true s1 (Gives w2 s2) (sym c.is_zero.ensures ∙ w.if-is_zero.true)
           (w.in_ok-w.ensures tt ∙ ap (λ x. Gives (value_of x) (state_in w.eval-then-is_zero.new.m)) (sym w.w-is) ∙ ap (λ m. Gives w2 (state_in m)) (sym w.m-is)))
-          (c.joined.ensures done)
+          (c.common_value.ensures done)
       | expr::conditional-else-is_zero+in_ok-w-2 w ↦ conditional_gives p call e1 e2 e3 at (state_in c.args.m.now) s1 s2 (value_of c.in_ok-v.v) w2 _ (c.in_ok-v.ensures tt)
           (branch_gives (expr p call e3) (expr p call e2) (is_zero (value_of c.in_ok-v.v)) false s1 (Gives w2 s2) (sym c.is_zero.ensures ∙ w.if-is_zero.false)
           (w.in_ok-w-2.ensures tt ∙ ap (λ x. Gives (value_of x) (state_in w.eval-else-is_zero.new.m)) (sym w.w-is) ∙ ap (λ m. Gives w2 (state_in m)) (sym w.m-is)))
-          (c.joined.ensures done)
+          (c.common_value.ensures done)
     ]
 
 pub simple::declare-declarators-preserved : goal.simple::declare-declarators-preserved
@@ -68,19 +68,19 @@ simple::declare-returns-in_err-declare_one g t c =
     let is : c.from_residual.result ≡ Err c.in_err-declare_one.field-0.0 = err_of c.from_residual.result c.in_err-declare_one.field-0.0 c.from_residual.ensures.1 in
     stops_as end_of c.from_residual.result c.in_err-declare_one.field-0.0 _ c.declare_one.new.m is (λ d. declare_halt (program_in c.args.source.now) (called c.args.source.now c.args.frames) c.args.t c.args.ds.now c.declarators.d-index c.d-item.result (state_in c.declarators.m) (state_in c.declare_one.new.m) _ (declare (program_in c.args.source.now) (called c.args.source.now c.args.frames) c.args.t (map declarator_of c.args.ds.now) (state_in c.args.m.now)) c.declarators-test.true c.d-item.is c.declarators.invariant (c.in_err-declare_one.ensures d))
 
-pub calls::entered-returns : goal.calls::entered-returns
-calls::entered-returns g t c done =
+pub calls::enter_function-returns : goal.calls::enter_function-returns
+calls::enter_function-returns g t c done =
     let more : c.args.frames ≡ suc (c.args.frames - 1) = omega (arith, c.if-frames-eq0.false) in
     call_gives (program_in c.args.source.now) c.args.frames (c.args.frames - 1) c.args.f.now c.args.values.now (state_in c.args.m.now) (state_in c.begin.new.m) (begun_in c.in_ok-of.field-0) (items_in c.replace-outer.new.dest) (items_in c.replace-outer.result) more (c.in_ok-of.ensures.value tt) (ap items_in c.replace-outer.ensures.after) (ap items_in c.replace-outer.ensures.value) (state_in c.stmts.new.m) (end_of c.in_ok-end.end) _ (c.in_ok-end.ensures tt) (c.result_of.ensures done)
 
-pub calls::entered-returns-in_err-end : goal.calls::entered-returns-in_err-end
-calls::entered-returns-in_err-end g t c =
+pub calls::enter_function-returns-in_err-end : goal.calls::enter_function-returns-in_err-end
+calls::enter_function-returns-in_err-end g t c =
     let more : c.args.frames ≡ suc (c.args.frames - 1) = omega (arith, c.if-frames-eq0.false) in
     let is : c.from_residual-in_err-end.result ≡ Err c.in_err-end.field-0.0 = err_of c.from_residual-in_err-end.result c.in_err-end.field-0.0 c.from_residual-in_err-end.ensures.1 in
     stops_as value_of c.from_residual-in_err-end.result c.in_err-end.field-0.0 _ c.stmts.new.m is (λ d. call_stops (program_in c.args.source.now) c.args.frames (c.args.frames - 1) c.args.f.now c.args.values.now (state_in c.args.m.now) (state_in c.begin.new.m) (begun_in c.in_ok-of.field-0) (items_in c.replace-outer.new.dest) (items_in c.replace-outer.result) more (c.in_ok-of.ensures.value tt) (ap items_in c.replace-outer.ensures.after) (ap items_in c.replace-outer.ensures.value) (state_in c.stmts.new.m) _ (c.in_err-end.ensures d))
 
-pub calls::entered-stmts-requires : goal.calls::entered-stmts-requires
-calls::entered-stmts-requires g t c κs within =
+pub calls::enter_function-stmts-requires : goal.calls::enter_function-stmts-requires
+calls::enter_function-stmts-requires g t c κs within =
     let more : c.args.frames ≡ suc (c.args.frames - 1) = omega (arith, c.if-frames-eq0.false) in
     (omega (arith, weight_less (program_in c.args.source.now) c.args.frames (c.args.frames - 1) (block_depth (stmts_of c.in_ok-of.field-0.body.now)) more c.in_ok-of.ensures.deep), within)
 
@@ -171,17 +171,17 @@ loops::for_scoped-returns g t c done =
     scoped_gives (for_all (program_in c.args.source.now) (called c.args.source.now c.args.frames) (start_of c.args.head.now.start) (option_map expr_of c.args.head.now.condition) (option_map simple_of c.args.head.now.step) (stmt_of c.args.a.now)) (state_in c.args.m.now) (state_in c.for_run.new.m) (end_of c.in_ok-end.end) _ (c.in_ok-end.ensures tt)
     (truncated local_in c.args.m.now.locals.items c.for_run.new.m.locals.items c.truncate.new.self.items c.len-outer.result len c.truncate.ensures.items)
 
-pub transactions::nested-returns : goal.transactions::nested-returns
-transactions::nested-returns g t c done =
+pub transactions::nested_transaction-returns : goal.transactions::nested_transaction-returns
+transactions::nested_transaction-returns g t c done =
     nested_gives c.args.outer c.args.kind c.mode_of-mode.result c.args.found.items c.in-Ok-copy_memory.memory.items (does_body c.args.source.now c.args.frames c.args.body.now) (record (state_in c.args.m.now) { context = act.Inside c.args.outer c.args.found.items }) (state_in c.run_body.new.m) c.mode_of-mode.ensures (sym c.is_forbidden.ensures ∙ c.if-is_forbidden.false) (c.in-Ok-copy_memory.ensures ∙ c.as_slice-2.ensures.value) (items_in c.in-Ok.mine) (end_of c.in_ok-end.end) _ (c.in-Ok.ensures ∙ ap (map local_in) c.as_slice.ensures.value) (c.in_ok-end.ensures tt) c.leave_inner.ensures
 
-pub transactions::nested-returns-in_err-end : goal.transactions::nested-returns-in_err-end
-transactions::nested-returns-in_err-end g t c =
+pub transactions::nested_transaction-returns-in_err-end : goal.transactions::nested_transaction-returns-in_err-end
+transactions::nested_transaction-returns-in_err-end g t c =
     let is : c.from_residual.result ≡ Err c.in_err-end.field-0.0 = err_of c.from_residual.result c.in_err-end.field-0.0 c.from_residual.ensures.1 in
     stops_as end_of c.from_residual.result c.in_err-end.field-0.0 _ c.run_body.new.m is (λ d. nested_stops c.args.outer c.args.kind c.mode_of-mode.result c.args.found.items c.in-Ok-copy_memory.memory.items (does_body c.args.source.now c.args.frames c.args.body.now) (record (state_in c.args.m.now) { context = act.Inside c.args.outer c.args.found.items }) (state_in c.run_body.new.m) c.mode_of-mode.ensures (sym c.is_forbidden.ensures ∙ c.if-is_forbidden.false) (c.in-Ok-copy_memory.ensures ∙ c.as_slice-2.ensures.value) _ (c.in_err-end.ensures d))
 
-pub transactions::nested-returns-then-is_forbidden : goal.transactions::nested-returns-then-is_forbidden
-transactions::nested-returns-then-is_forbidden g t c done =
+pub transactions::nested_transaction-returns-then-is_forbidden : goal.transactions::nested_transaction-returns-then-is_forbidden
+transactions::nested_transaction-returns-then-is_forbidden g t c done =
     nested_astray c.args.outer c.args.kind c.args.found.items (does_body c.args.source.now c.args.frames c.args.body.now) _ (ap (is_forbidden c.args.outer) (sym c.mode_of-mode.ensures) ∙ sym c.is_forbidden.ensures ∙ c.if-is_forbidden.true)
 
 pub transactions::outermost-returns-in-Err : goal.transactions::outermost-returns-in-Err
@@ -196,12 +196,12 @@ pub transactions::outermost-returns-in_default : goal.transactions::outermost-re
 transactions::outermost-returns-in_default g t c done =
     outermost_none c.args.kind (memories_in c.args.founds.now) (memories_in c.args.lefts.items) (does_body c.args.source.now c.args.frames c.args.body.now) _ _ (found_none c.args.founds.now c.in_default.len_below) refl
 
-pub stmt::printed-returns : goal.stmt::printed-returns
-stmt::printed-returns g t c at format_at begun ticked done =
+pub stmt::print_output-returns : goal.stmt::print_output-returns
+stmt::print_output-returns g t c at format_at begun ticked done =
     print_until (program_in c.args.source.now) (called c.args.source.now c.args.frames) at format_at c.args.format.now (exprs_of c.args.args.now) begun (state_in c.args.m.now) (state_in c.may_print.new.m) (state_in c.values.new.m) c.as_slice.result.now ticked (c.in_ok-may_print.ensures tt) (c.in_ok-values.ensures tt ∙ ap (λ vs. Gives vs (state_in c.values.new.m)) (sym c.as_slice.ensures.value)) ∙ after _ (λ _. act.pure meaning.Next) _ (state_in c.print_pieces.new.m) (c.in_ok-print_pieces.ensures tt)
 
-pub stmt::printed-returns-in_err-print_pieces : goal.stmt::printed-returns-in_err-print_pieces
-stmt::printed-returns-in_err-print_pieces g t c at format_at begun ticked =
+pub stmt::print_output-returns-in_err-print_pieces : goal.stmt::print_output-returns-in_err-print_pieces
+stmt::print_output-returns-in_err-print_pieces g t c at format_at begun ticked =
     let is : c.from_residual-in_err-print_pieces.result ≡ Err c.in_err-print_pieces.field-0.0 = err_of c.from_residual-in_err-print_pieces.result c.in_err-print_pieces.field-0.0 c.from_residual-in_err-print_pieces.ensures.1 in
     stops_as end_of c.from_residual-in_err-print_pieces.result c.in_err-print_pieces.field-0.0 _ c.print_pieces.new.m is (λ d. print_until (program_in c.args.source.now) (called c.args.source.now c.args.frames) at format_at c.args.format.now (exprs_of c.args.args.now) begun (state_in c.args.m.now) (state_in c.may_print.new.m) (state_in c.values.new.m) c.as_slice.result.now ticked (c.in_ok-may_print.ensures tt) (c.in_ok-values.ensures tt ∙ ap (λ vs. Gives vs (state_in c.values.new.m)) (sym c.as_slice.ensures.value)) ∙ halts _ (λ _. act.pure meaning.Next) _ (state_in c.print_pieces.new.m) (c.in_err-print_pieces.ensures d))
 
@@ -220,30 +220,30 @@ loops::repeat-turns-preserved g t c =
 
 pub loops::turn_while-returns : goal.loops::turn_while-returns
 loops::turn_while-returns g t c done =
-    while_goes (program_in c.args.source.now) (called c.args.source.now c.args.frames) (expr_of c.args.c.now) (stmt_of c.args.a.now) (state_in c.args.m.now) (state_in c.tested.new.m) _ (c.in_ok-end.ensures tt) (state_in c.scoped.new.m) c.in_default.is _ _ (c.in_ok-end-2.ensures tt) (c.left_by_body.ensures (act.pure None) (state_in c.scoped.new.m))
+    while_goes (program_in c.args.source.now) (called c.args.source.now c.args.frames) (expr_of c.args.c.now) (stmt_of c.args.a.now) (state_in c.args.m.now) (state_in c.loop_test.new.m) _ (c.in_ok-end.ensures tt) (state_in c.scoped_stmt.new.m) c.in_default.is _ _ (c.in_ok-end-2.ensures tt) (c.left_by_body.ensures (act.pure None) (state_in c.scoped_stmt.new.m))
 
 pub loops::turn_while-returns-in-Some : goal.loops::turn_while-returns-in-Some
 loops::turn_while-returns-in-Some g t c done =
-    while_ends (program_in c.args.source.now) (called c.args.source.now c.args.frames) (expr_of c.args.c.now) (stmt_of c.args.a.now) (state_in c.args.m.now) (state_in c.tested.new.m) _ (c.in_ok-end.ensures tt) c.in-Some.end c.in-Some.is
+    while_ends (program_in c.args.source.now) (called c.args.source.now c.args.frames) (expr_of c.args.c.now) (stmt_of c.args.a.now) (state_in c.args.m.now) (state_in c.loop_test.new.m) _ (c.in_ok-end.ensures tt) c.in-Some.end c.in-Some.is
 
 pub loops::turn_while-returns-in_err-end : goal.loops::turn_while-returns-in_err-end
 loops::turn_while-returns-in_err-end g t c =
     let is : c.from_residual.result ≡ Err c.in_err-end.field-0.0 = err_of c.from_residual.result c.in_err-end.field-0.0 c.from_residual.ensures.1 in
-    stops_as (option_map end_of) c.from_residual.result c.in_err-end.field-0.0 _ c.tested.new.m is (λ d. while_stops (program_in c.args.source.now) (called c.args.source.now c.args.frames) (expr_of c.args.c.now) (stmt_of c.args.a.now) (state_in c.args.m.now) (state_in c.tested.new.m) _ (c.in_err-end.ensures d))
+    stops_as (option_map end_of) c.from_residual.result c.in_err-end.field-0.0 _ c.loop_test.new.m is (λ d. while_stops (program_in c.args.source.now) (called c.args.source.now c.args.frames) (expr_of c.args.c.now) (stmt_of c.args.a.now) (state_in c.args.m.now) (state_in c.loop_test.new.m) _ (c.in_err-end.ensures d))
 
 pub loops::turn_while-returns-in_err-end-2 : goal.loops::turn_while-returns-in_err-end-2
 loops::turn_while-returns-in_err-end-2 g t c =
     let is : c.from_residual-in_err-end-2.result ≡ Err c.in_err-end-2.field-0.0 = err_of c.from_residual-in_err-end-2.result c.in_err-end-2.field-0.0 c.from_residual-in_err-end-2.ensures.1 in
-    stops_as (option_map end_of) c.from_residual-in_err-end-2.result c.in_err-end-2.field-0.0 _ c.scoped.new.m is (λ d. while_halts (program_in c.args.source.now) (called c.args.source.now c.args.frames) (expr_of c.args.c.now) (stmt_of c.args.a.now) (state_in c.args.m.now) (state_in c.tested.new.m) _ (c.in_ok-end.ensures tt) (state_in c.scoped.new.m) c.in_default.is _ (c.in_err-end-2.ensures d))
+    stops_as (option_map end_of) c.from_residual-in_err-end-2.result c.in_err-end-2.field-0.0 _ c.scoped_stmt.new.m is (λ d. while_halts (program_in c.args.source.now) (called c.args.source.now c.args.frames) (expr_of c.args.c.now) (stmt_of c.args.a.now) (state_in c.args.m.now) (state_in c.loop_test.new.m) _ (c.in_ok-end.ensures tt) (state_in c.scoped_stmt.new.m) c.in_default.is _ (c.in_err-end-2.ensures d))
 
-pub stmt::scoped-returns : goal.stmt::scoped-returns
-stmt::scoped-returns g t c done =
+pub stmt::scoped_stmt-returns : goal.stmt::scoped_stmt-returns
+stmt::scoped_stmt-returns g t c done =
     let len : c.len-outer.result ≡ length c.args.m.now.locals.items = search (arith, c.len-outer.ensures) in
     scoped_gives (does_stmt c.args.source.now c.args.frames c.args.s.now) (state_in c.args.m.now) (state_in c.stmt.new.m) (end_of c.in_ok-end.end) _ (c.in_ok-end.ensures tt)
     (truncated local_in c.args.m.now.locals.items c.stmt.new.m.locals.items c.truncate.new.self.items c.len-outer.result len c.truncate.ensures.items)
 
-pub simple::changed-returns : goal.simple::changed-returns
-simple::changed-returns g t c done =
+pub simple::compound_assignment-returns : goal.simple::compound_assignment-returns
+simple::compound_assignment-returns g t c done =
     changed_gives (program_in c.args.source.now) (called c.args.source.now c.args.frames) (expr_of c.args.to.now) (expr_of c.args.e.now) c.args.op (state_in c.args.m.now) (state_in c.target.new.m) (state_in c.fetch.new.m) (state_in c.eval.new.m) (spot_of c.in_ok-at.at) (value_of c.in_ok-before.before) (value_of c.in_ok-v.v) _ (c.in_ok-at.ensures tt) (c.in_ok-before.ensures tt) (c.in_ok-v.ensures tt) (c.rewrite.ensures done)
 
 pub simple::simple-returns-in_ok-old-in-Adjust : goal.simple::simple-returns-in_ok-old-in-Adjust
@@ -253,14 +253,14 @@ simple::simple-returns-in_ok-old-in-Adjust g t c done =
 
 pub simple::simple-returns-in-None : goal.simple::simple-returns-in-None
 simple::simple-returns-in-None g t c done =
-    ap (λ x. simple (program_in c.args.source.now) (called c.args.source.now c.args.frames) (simple_of x) (state_in c.args.m.now)) c.in-Assign.is ∙ ap (λ o. simple (program_in c.args.source.now) (called c.args.source.now c.args.frames) (tree.Assign (expr_of c.in-Assign.to) o (expr_of c.in-Assign.e)) (state_in c.args.m.now)) c.in-None.is ∙ c.assigned.ensures done
+    ap (λ x. simple (program_in c.args.source.now) (called c.args.source.now c.args.frames) (simple_of x) (state_in c.args.m.now)) c.in-Assign.is ∙ ap (λ o. simple (program_in c.args.source.now) (called c.args.source.now c.args.frames) (tree.Assign (expr_of c.in-Assign.to) o (expr_of c.in-Assign.e)) (state_in c.args.m.now)) c.in-None.is ∙ c.simple_assignment.ensures done
 
 pub simple::simple-returns-in-Some : goal.simple::simple-returns-in-Some
 simple::simple-returns-in-Some g t c done =
-    ap (λ x. simple (program_in c.args.source.now) (called c.args.source.now c.args.frames) (simple_of x) (state_in c.args.m.now)) c.in-Assign.is ∙ ap (λ o. simple (program_in c.args.source.now) (called c.args.source.now c.args.frames) (tree.Assign (expr_of c.in-Assign.to) o (expr_of c.in-Assign.e)) (state_in c.args.m.now)) c.in-Some.is ∙ c.changed.ensures done
+    ap (λ x. simple (program_in c.args.source.now) (called c.args.source.now c.args.frames) (simple_of x) (state_in c.args.m.now)) c.in-Assign.is ∙ ap (λ o. simple (program_in c.args.source.now) (called c.args.source.now c.args.frames) (tree.Assign (expr_of c.in-Assign.to) o (expr_of c.in-Assign.e)) (state_in c.args.m.now)) c.in-Some.is ∙ c.compound_assignment.ensures done
 
-pub loops::started-returns-in-Declare : goal.loops::started-returns-in-Declare
-loops::started-returns-in-Declare g t c done =
+pub loops::for_start-returns-in-Declare : goal.loops::for_start-returns-in-Declare
+loops::for_start-returns-in-Declare g t c done =
     ap (λ x. meaning.start_with (program_in c.args.source.now) (called c.args.source.now c.args.frames) (start_of x) (state_in c.args.m.now)) c.in-Declare.is ∙ ap (λ ds. declare (program_in c.args.source.now) (called c.args.source.now c.args.frames) c.in-Declare.d.of (map declarator_of ds) (state_in c.args.m.now)) (sym c.as_slice.ensures) ∙ c.declare.ensures done
 
 pub stmt::stmt-block-requires : goal.stmt::stmt-block-requires
@@ -278,11 +278,11 @@ stmt::stmt-returns-in_err-tick g t c =
 
 pub stmt::stmt-returns-in-Print : goal.stmt::stmt-returns-in-Print
 stmt::stmt-returns-in-Print g t c done =
-    ap (λ x. stmt (program_in c.args.source.now) (called c.args.source.now c.args.frames) x (state_in c.args.m.now)) (print_is c.args.s.now c.in-Print.field-0 c.in-Print.format c.as_bytes.result.now c.in-Print.field-2 c.in-Print.args c.as_slice-in-Print.result.now c.in-Print.is (c.as_bytes.ensures.value ∙ c.as_str.ensures) c.as_slice-in-Print.ensures) ∙ c.printed.ensures c.in-Print.field-0 c.in-Print.field-2 (state_in c.args.m.now) (c.in_ok-tick.ensures tt) done
+    ap (λ x. stmt (program_in c.args.source.now) (called c.args.source.now c.args.frames) x (state_in c.args.m.now)) (print_is c.args.s.now c.in-Print.field-0 c.in-Print.format c.as_bytes.result.now c.in-Print.field-2 c.in-Print.args c.as_slice-in-Print.result.now c.in-Print.is (c.as_bytes.ensures.value ∙ c.as_str.ensures) c.as_slice-in-Print.ensures) ∙ c.print_output.ensures c.in-Print.field-0 c.in-Print.field-2 (state_in c.args.m.now) (c.in_ok-tick.ensures tt) done
 
 pub stmt::stmt-returns-in-Return : goal.stmt::stmt-returns-in-Return
 stmt::stmt-returns-in-Return g t c done =
-    ap (λ x. stmt (program_in c.args.source.now) (called c.args.source.now c.args.frames) x (state_in c.args.m.now)) (return_is c.args.s.now c.in-Return.e c.in-Return.field-1 c.in-Return.is) ∙ c.returned.ensures c.in-Return.field-1 (state_in c.args.m.now) (c.in_ok-tick.ensures tt) done
+    ap (λ x. stmt (program_in c.args.source.now) (called c.args.source.now c.args.frames) x (state_in c.args.m.now)) (return_is c.args.s.now c.in-Return.e c.in-Return.field-1 c.in-Return.is) ∙ c.return_end.ensures c.in-Return.field-1 (state_in c.args.m.now) (c.in_ok-tick.ensures tt) done
 
 pub stmt::stmt-returns-in-Block : goal.stmt::stmt-returns-in-Block
 stmt::stmt-returns-in-Block g t c done =
@@ -335,7 +335,7 @@ stmt::stmts-stmt-requires g t c κs within =
 
 pub transactions::transaction-returns-in-Inside : goal.transactions::transaction-returns-in-Inside
 transactions::transaction-returns-in-Inside g t c done =
-    transaction_at c.args.kind (does_body c.args.source.now c.args.frames c.args.body.now) (state_in c.args.m.now) (act.Inside c.in-Inside.outer c.in-Inside.found.items) _ (ap context_in (sym c.replace.ensures.value ∙ c.in-Inside.is)) (c.nested.ensures done)
+    transaction_at c.args.kind (does_body c.args.source.now c.args.frames c.args.body.now) (state_in c.args.m.now) (act.Inside c.in-Inside.outer c.in-Inside.found.items) _ (ap context_in (sym c.replace.ensures.value ∙ c.in-Inside.is)) (c.nested_transaction.ensures done)
 
 pub transactions::transaction-returns-in-Outside : goal.transactions::transaction-returns-in-Outside
 transactions::transaction-returns-in-Outside g t c done =
@@ -456,40 +456,40 @@ pub calls::call-values-requires : goal.calls::call-values-requires
 calls::call-values-requires g t c κs within =
     (omega (arith, c.decreases), within)
 
-pub calls::call-entered-requires : goal.calls::call-entered-requires
-calls::call-entered-requires g t c κs within =
+pub calls::call-enter_function-requires : goal.calls::call-enter_function-requires
+calls::call-enter_function-requires g t c κs within =
     (omega (arith, c.decreases), within)
 
 pub simple::target-element-requires : goal.simple::target-element-requires
 simple::target-element-requires g t c κs within =
     (omega (arith, ap expr_depth (element_is c.args.e.now c.in-Element.x c.in-Element.i c.get.result.now c.in-Element.field-2 c.in-Element.is c.get.ensures), c.decreases), within)
 
-pub simple::assigned-target-requires : goal.simple::assigned-target-requires
-simple::assigned-target-requires g t c κs within =
+pub simple::simple_assignment-target-requires : goal.simple::simple_assignment-target-requires
+simple::simple_assignment-target-requires g t c κs within =
     (omega (arith, c.decreases), within)
 
-pub simple::assigned-eval-requires : goal.simple::assigned-eval-requires
-simple::assigned-eval-requires g t c κs within =
+pub simple::simple_assignment-eval-requires : goal.simple::simple_assignment-eval-requires
+simple::simple_assignment-eval-requires g t c κs within =
     (omega (arith, c.decreases), within)
 
-pub simple::changed-target-requires : goal.simple::changed-target-requires
-simple::changed-target-requires g t c κs within =
+pub simple::compound_assignment-target-requires : goal.simple::compound_assignment-target-requires
+simple::compound_assignment-target-requires g t c κs within =
     (omega (arith, c.decreases), within)
 
-pub simple::changed-eval-requires : goal.simple::changed-eval-requires
-simple::changed-eval-requires g t c κs within =
+pub simple::compound_assignment-eval-requires : goal.simple::compound_assignment-eval-requires
+simple::compound_assignment-eval-requires g t c κs within =
     (omega (arith, c.decreases), within)
 
 pub simple::simple-eval-requires : goal.simple::simple-eval-requires
 simple::simple-eval-requires g t c κs within =
     (omega (arith, ap (λ s. simple_depth (simple_of s)) c.in-Evaluate.is, c.decreases), within)
 
-pub simple::simple-assigned-requires : goal.simple::simple-assigned-requires
-simple::simple-assigned-requires g t c κs within =
+pub simple::simple-simple_assignment-requires : goal.simple::simple-simple_assignment-requires
+simple::simple-simple_assignment-requires g t c κs within =
     (omega (arith, ap (λ s. simple_depth (simple_of s)) c.in-Assign.is, c.decreases), within)
 
-pub simple::simple-changed-requires : goal.simple::simple-changed-requires
-simple::simple-changed-requires g t c κs within =
+pub simple::simple-compound_assignment-requires : goal.simple::simple-compound_assignment-requires
+simple::simple-compound_assignment-requires g t c κs within =
     (omega (arith, ap (λ s. simple_depth (simple_of s)) c.in-Assign.is, c.decreases), within)
 
 pub simple::simple-target-requires : goal.simple::simple-target-requires
@@ -508,8 +508,8 @@ pub stmt::stmt-simple-requires : goal.stmt::stmt-simple-requires
 stmt::stmt-simple-requires g t c κs within =
     (omega (arith, do_deep c.args.s.now c.in-Do.s c.in-Do.is, c.decreases), within)
 
-pub stmt::stmt-printed-requires : goal.stmt::stmt-printed-requires
-stmt::stmt-printed-requires g t c κs within =
+pub stmt::stmt-print_output-requires : goal.stmt::stmt-print_output-requires
+stmt::stmt-print_output-requires g t c κs within =
     (omega (arith, ap stmt_depth (print_is c.args.s.now c.in-Print.field-0 c.in-Print.format c.as_bytes.result.now c.in-Print.field-2 c.in-Print.args c.as_slice-in-Print.result.now c.in-Print.is (c.as_bytes.ensures.value ∙ c.as_str.ensures) c.as_slice-in-Print.ensures), c.decreases), within)
 
 pub stmt::stmt-either-requires : goal.stmt::stmt-either-requires
@@ -528,36 +528,36 @@ pub stmt::stmt-for_scoped-requires : goal.stmt::stmt-for_scoped-requires
 stmt::stmt-for_scoped-requires g t c κs within =
     (omega (arith, ap stmt_depth (for_is c.args.s.now c.in-For.head c.get-in-For.result.now c.in-For.a c.get-in-For-2.result.now c.in-For.is c.get-in-For.ensures c.get-in-For-2.ensures), c.decreases), within)
 
-pub stmt::stmt-returned-requires : goal.stmt::stmt-returned-requires
-stmt::stmt-returned-requires g t c κs within =
+pub stmt::stmt-return_end-requires : goal.stmt::stmt-return_end-requires
+stmt::stmt-return_end-requires g t c κs within =
     (omega (arith, ap stmt_depth (return_is c.args.s.now c.in-Return.e c.in-Return.field-1 c.in-Return.is), c.decreases), within)
 
 pub stmt::block-stmts-requires : goal.stmt::block-stmts-requires
 stmt::block-stmts-requires g t c κs within =
     (omega (arith, c.decreases), within)
 
-pub stmt::scoped-stmt-requires : goal.stmt::scoped-stmt-requires
-stmt::scoped-stmt-requires g t c κs within =
+pub stmt::scoped_stmt-stmt-requires : goal.stmt::scoped_stmt-stmt-requires
+stmt::scoped_stmt-stmt-requires g t c κs within =
     (omega (arith, c.decreases), within)
 
-pub stmt::printed-values-requires : goal.stmt::printed-values-requires
-stmt::printed-values-requires g t c κs within =
+pub stmt::print_output-values-requires : goal.stmt::print_output-values-requires
+stmt::print_output-values-requires g t c κs within =
     (omega (arith, c.decreases), within)
 
 pub stmt::either-eval-requires : goal.stmt::either-eval-requires
 stmt::either-eval-requires g t c κs within =
     (omega (arith, c.decreases), within)
 
-pub stmt::either-scoped-requires : goal.stmt::either-scoped-requires
-stmt::either-scoped-requires g t c κs within =
+pub stmt::either-scoped_stmt-requires : goal.stmt::either-scoped_stmt-requires
+stmt::either-scoped_stmt-requires g t c κs within =
     (omega (arith, c.decreases), within)
 
-pub stmt::either-scoped-requires-in-Some : goal.stmt::either-scoped-requires-in-Some
-stmt::either-scoped-requires-in-Some g t c κs within =
+pub stmt::either-scoped_stmt-requires-in-Some : goal.stmt::either-scoped_stmt-requires-in-Some
+stmt::either-scoped_stmt-requires-in-Some g t c κs within =
     (omega (arith, ap (λ o. else_depth (option_map stmt_of o)) c.in-Some.is, ap (λ s. stmt_depth (stmt_of s)) c.get.ensures, c.decreases), within)
 
-pub stmt::returned-eval-requires : goal.stmt::returned-eval-requires
-stmt::returned-eval-requires g t c κs within =
+pub stmt::return_end-eval-requires : goal.stmt::return_end-eval-requires
+stmt::return_end-eval-requires g t c κs within =
     (omega (arith, ap (λ o. optional_depth (option_map expr_of o)) c.in-Some.is, c.decreases), within)
 
 pub loops::repeat-turn-requires : goal.loops::repeat-turn-requires
@@ -576,80 +576,80 @@ pub loops::turn-turn_for-requires : goal.loops::turn-turn_for-requires
 loops::turn-turn_for-requires g t c κs within =
     (omega (arith, ap loop_depth c.in-For.is, c.decreases), within)
 
-pub loops::turn_while-tested-requires : goal.loops::turn_while-tested-requires
-loops::turn_while-tested-requires g t c κs within =
+pub loops::turn_while-loop_test-requires : goal.loops::turn_while-loop_test-requires
+loops::turn_while-loop_test-requires g t c κs within =
     (omega (arith, c.decreases), within)
 
-pub loops::turn_while-scoped-requires : goal.loops::turn_while-scoped-requires
-loops::turn_while-scoped-requires g t c κs within =
+pub loops::turn_while-scoped_stmt-requires : goal.loops::turn_while-scoped_stmt-requires
+loops::turn_while-scoped_stmt-requires g t c κs within =
     (omega (arith, c.decreases), within)
 
-pub loops::tested-eval-requires : goal.loops::tested-eval-requires
-loops::tested-eval-requires g t c κs within =
+pub loops::loop_test-eval-requires : goal.loops::loop_test-eval-requires
+loops::loop_test-eval-requires g t c κs within =
     (omega (arith, c.decreases), within)
 
-pub loops::turn_do-scoped-requires : goal.loops::turn_do-scoped-requires
-loops::turn_do-scoped-requires g t c κs within =
+pub loops::turn_do-scoped_stmt-requires : goal.loops::turn_do-scoped_stmt-requires
+loops::turn_do-scoped_stmt-requires g t c κs within =
     (omega (arith, c.decreases), within)
 
-pub loops::turn_do-tested-requires : goal.loops::turn_do-tested-requires
-loops::turn_do-tested-requires g t c κs within =
+pub loops::turn_do-loop_test-requires : goal.loops::turn_do-loop_test-requires
+loops::turn_do-loop_test-requires g t c κs within =
     (omega (arith, c.decreases), within)
 
 pub loops::turn_for-holds-requires : goal.loops::turn_for-holds-requires
 loops::turn_for-holds-requires g t c κs within =
     (omega (arith, c.decreases), within)
 
-pub loops::turn_for-scoped-requires : goal.loops::turn_for-scoped-requires
-loops::turn_for-scoped-requires g t c κs within =
+pub loops::turn_for-scoped_stmt-requires : goal.loops::turn_for-scoped_stmt-requires
+loops::turn_for-scoped_stmt-requires g t c κs within =
     (omega (arith, c.decreases), within)
 
-pub loops::turn_for-stepped-requires : goal.loops::turn_for-stepped-requires
-loops::turn_for-stepped-requires g t c κs within =
+pub loops::turn_for-for_step-requires : goal.loops::turn_for-for_step-requires
+loops::turn_for-for_step-requires g t c κs within =
     (omega (arith, c.decreases), within)
 
 pub loops::holds-eval-requires : goal.loops::holds-eval-requires
 loops::holds-eval-requires g t c κs within =
     (omega (arith, ap (λ o. optional_depth (option_map expr_of o)) c.in-Some.is, c.decreases), within)
 
-pub loops::stepped-simple-requires : goal.loops::stepped-simple-requires
-loops::stepped-simple-requires g t c κs within =
+pub loops::for_step-simple-requires : goal.loops::for_step-simple-requires
+loops::for_step-simple-requires g t c κs within =
     (omega (arith, ap (λ o. optional_simple_depth (option_map simple_of o)) c.in-Some.is, c.decreases), within)
 
 pub loops::for_scoped-for_run-requires : goal.loops::for_scoped-for_run-requires
 loops::for_scoped-for_run-requires g t c κs within =
     (omega (arith, c.decreases), within)
 
-pub loops::for_run-started-requires : goal.loops::for_run-started-requires
-loops::for_run-started-requires g t c κs within =
+pub loops::for_run-for_start-requires : goal.loops::for_run-for_start-requires
+loops::for_run-for_start-requires g t c κs within =
     (omega (arith, c.decreases), within)
 
 pub loops::for_run-repeat-requires : goal.loops::for_run-repeat-requires
 loops::for_run-repeat-requires g t c κs within =
     (omega (arith, c.decreases), within)
 
-pub loops::started-declare-requires : goal.loops::started-declare-requires
-loops::started-declare-requires g t c κs within =
+pub loops::for_start-declare-requires : goal.loops::for_start-declare-requires
+loops::for_start-declare-requires g t c κs within =
     (omega (arith, ap (λ s. start_depth (start_of s)) c.in-Declare.is, ap (λ ds. deepest_value (map declarator_of ds)) c.as_slice.ensures, c.decreases), within)
 
-pub loops::started-simple-requires : goal.loops::started-simple-requires
-loops::started-simple-requires g t c κs within =
+pub loops::for_start-simple-requires : goal.loops::for_start-simple-requires
+loops::for_start-simple-requires g t c κs within =
     (omega (arith, ap (λ s. start_depth (start_of s)) c.in-Do.is, c.decreases), within)
 
 pub transactions::transaction-outermost-requires : goal.transactions::transaction-outermost-requires
 transactions::transaction-outermost-requires g t c κs within =
     (omega (arith, c.decreases), within)
 
-pub transactions::transaction-nested-requires : goal.transactions::transaction-nested-requires
-transactions::transaction-nested-requires g t c κs within =
+pub transactions::transaction-nested_transaction-requires : goal.transactions::transaction-nested_transaction-requires
+transactions::transaction-nested_transaction-requires g t c κs within =
     (omega (arith, c.decreases), within)
 
 pub transactions::outermost-run_body-requires : goal.transactions::outermost-run_body-requires
 transactions::outermost-run_body-requires g t c κs within =
     (omega (arith, c.decreases), within)
 
-pub transactions::nested-run_body-requires : goal.transactions::nested-run_body-requires
-transactions::nested-run_body-requires g t c κs within =
+pub transactions::nested_transaction-run_body-requires : goal.transactions::nested_transaction-run_body-requires
+transactions::nested_transaction-run_body-requires g t c κs within =
     (omega (arith, c.decreases), within)
 
 pub transactions::run_body-block-requires : goal.transactions::run_body-block-requires

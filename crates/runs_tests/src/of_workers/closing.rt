@@ -4,7 +4,7 @@ ghost use Rattle.workers.specs.Seen.{setup_of, table_of};
 ghost use Rattle.workers.specs.Workers.{AreWorkersOf, IsWorkerOf};
 
 use crate::asserted::assert_all;
-use crate::of_workers::hall::{Turn, are_turns, leaves, opened, put, take};
+use crate::of_workers::hall::{Turn, are_turns, leaves, open_hall, put, take};
 use crate::of_workers::programs::prints;
 use std::alloc::Global;
 use workers::{CloseFault, CloseReason, Hall, Status, Worker};
@@ -99,7 +99,7 @@ fn loses_one(alloc: Global, hall: Hall, mut workers: Vec<Worker>, right: bool) -
 
 /// Worker 0 has the lock: whether the hall is closed at last, after all that.
 fn closes_at_last(alloc: Global) -> bool {
-    match opened(alloc, prints(), 2) {
+    match open_hall(alloc, prints(), 2) {
         Ok((hall, mut workers)) => {
             let right = are_turns(&hall, &mut workers, up_to_the_lock());
             loses_one(alloc, hall, workers, right)
@@ -118,7 +118,7 @@ fn wants_workers(alloc: Global, hall: Hall) -> bool {
 
 /// A hall of 64 is not closed without workers.
 fn is_kept_open(alloc: Global) -> bool {
-    match opened(alloc, prints(), 64) {
+    match open_hall(alloc, prints(), 64) {
         Ok((hall, _)) => wants_workers(alloc, hall),
         Err(_) => false,
     }

@@ -39,7 +39,7 @@ fn open<A: Allocator + Copy>(
 }
 
 /// A hall of so many workers of a program.
-pub fn opened<A: Allocator + Copy>(
+pub fn open_hall<A: Allocator + Copy>(
     alloc: A,
     program: Program,
     threads: u32,

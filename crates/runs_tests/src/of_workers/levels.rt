@@ -47,10 +47,10 @@ fn run<R: Threads + Wait + Sync>(
 ) -> Result<bool, AllocError> {
     let instructions = cancels_levels(alloc, levels)?;
     let program = (2, 0, instructions.as_slice());
-    if levels.left() == 0 && levels.kept {
+    if levels.levels_left() == 0 && levels.kept {
         Ok(stands_still(rt, alloc, program))
     } else {
-        Ok(all_end(rt, alloc, program, levels.left()))
+        Ok(all_end(rt, alloc, program, levels.levels_left()))
     }
 }
 

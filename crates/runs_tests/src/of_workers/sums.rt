@@ -76,7 +76,7 @@ fn no_addition_of_8_to_64_threads_is_lost(rt: HostRuntime) {
     );
 }
 
-fn unmoved() -> &'static Wanted<'static> {
+fn sums_at_rest() -> &'static Wanted<'static> {
     static WANTED: Wanted<'static> = Wanted {
         ended: None,
         threads: &[(0, "", Status::Running, 0), (1, "", Status::Running, 0)],
@@ -88,7 +88,7 @@ fn unmoved() -> &'static Wanted<'static> {
 
 /// Whether two threads without a step leave all as it was.
 fn makes_no_step<R: Threads + Wait + Sync>(rt: &R, alloc: Global) -> bool {
-    runs_as(rt, alloc, prints(), 2, 0, &Never, unmoved()) == Ok(true)
+    runs_as(rt, alloc, prints(), 2, 0, &Never, sums_at_rest()) == Ok(true)
 }
 
 fn in_its_commit() -> &'static Wanted<'static> {

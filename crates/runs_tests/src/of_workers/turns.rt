@@ -4,7 +4,7 @@ ghost use Rattle.workers.specs.Seen.{setup_of, table_of};
 ghost use Rattle.workers.specs.Workers.{AreWorkersOf};
 
 use crate::asserted::{assert_all, assert_that};
-use crate::of_workers::hall::{Turn, are_turns, leaves, opened};
+use crate::of_workers::hall::{Turn, are_turns, leaves, open_hall};
 use crate::of_workers::programs::{adds, divides, looks};
 use std::alloc::Global;
 use syntax::numbers::Trap;
@@ -31,7 +31,7 @@ fn in_order_with_a_meeting() -> &'static [Turn] {
 
 /// Whether worker 1 reads what worker 0 wrote.
 fn reads_it(alloc: Global, turns: &[Turn]) -> bool {
-    match opened(alloc, looks(), 2) {
+    match open_hall(alloc, looks(), 2) {
         Ok((hall, mut workers)) => {
             let right = are_turns(&hall, &mut workers, turns);
             let closes = leaves(alloc, hall, workers, (2, "", "2\n"));
@@ -49,7 +49,7 @@ fn what_one_wrote_the_next_reads(rt: HostRuntime) {
 }
 
 /// Worker 0 traps, and stays there.
-fn trapped() -> &'static [Turn] {
+fn trap_turns() -> &'static [Turn] {
     static TURNS: [Turn; 2] = [
         Turn::Run(0, 100, Status::Trapped(Trap::ZeroDivisor), 3, 0),
         Turn::Run(0, 5, Status::Trapped(Trap::ZeroDivisor), 3, 0),
@@ -58,8 +58,8 @@ fn trapped() -> &'static [Turn] {
 }
 
 fn traps(alloc: Global) -> bool {
-    match opened(alloc, divides(), 2) {
-        Ok((hall, mut workers)) => are_turns(&hall, &mut workers, trapped()),
+    match open_hall(alloc, divides(), 2) {
+        Ok((hall, mut workers)) => are_turns(&hall, &mut workers, trap_turns()),
         Err(_) => false,
     }
 }
@@ -79,7 +79,7 @@ fn one_step() -> &'static [Turn] {
 fn opens_another(alloc: Global, hall: &Hall, workers: &mut Vec<Worker>) -> bool
     requires { AreWorkersOf (table_of hall.now) (setup_of hall.now) workers.old.items }
 {
-    match opened(alloc, adds(), 2) {
+    match open_hall(alloc, adds(), 2) {
         Ok((other, mut others)) => {
             let mine = are_turns(hall, workers, one_step());
             let theirs = are_turns(&other, &mut others, one_step());
@@ -91,7 +91,7 @@ fn opens_another(alloc: Global, hall: &Hall, workers: &mut Vec<Worker>) -> bool
 
 /// Whether there are two halls at one time.
 fn are_two(alloc: Global) -> bool {
-    match opened(alloc, adds(), 2) {
+    match open_hall(alloc, adds(), 2) {
         Ok((hall, mut workers)) => opens_another(alloc, &hall, &mut workers),
         Err(_) => false,
     }
@@ -99,7 +99,7 @@ fn are_two(alloc: Global) -> bool {
 
 /// Why a hall of so many threads is refused, if it is.
 fn refusal(alloc: Global, threads: u32) -> Option<HallFault> {
-    match opened(alloc, adds(), threads) {
+    match open_hall(alloc, adds(), threads) {
         Ok(_) => None,
         Err(fault) => Some(fault),
     }

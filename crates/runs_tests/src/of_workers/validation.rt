@@ -1,7 +1,7 @@
 //! Validation, and begins that wait for the lock, in runs that end amid them.
 
 use crate::asserted::assert_all;
-use crate::of_workers::hall::{Turn, are_turns, leaves, opened};
+use crate::of_workers::hall::{Turn, are_turns, leaves, open_hall};
 use crate::of_workers::programs::{Program, adds, reads_again};
 use std::alloc::Global;
 use workers::{Status, Tally, Worker};
@@ -25,7 +25,7 @@ fn has_counted(workers: &[Worker], wanted: Tally) -> bool {
 
 /// Whether two workers of a program make these turns, this word is left, and worker 0 has counted this.
 fn makes(alloc: Global, program: Program, turns: &[Turn], word: u64, wanted: Tally) -> bool {
-    match opened(alloc, program, 2) {
+    match open_hall(alloc, program, 2) {
         Ok((hall, mut workers)) => {
             let right = are_turns(&hall, &mut workers, turns);
             let counted = has_counted(workers.as_slice(), wanted);

@@ -15,7 +15,7 @@ use Rattle.atomic_code.proofs.whole.thread.Goals as goal
 pub turns-init : goal.turns-init
 turns-init g c =
     rw c.new-lefts.ensures.items (comes_to_first c.args.code.now c.args.number (memories_in c.args.founds.now) c.args.steps _ c.in_ok-frames.ensures refl c.new-2.ensures.bytes refl
-    (runs_at_first c.args.code.now c.known.ensures c.in_ok-frames.frames.configuration _ c.args.number (omega arith) c.in_ok-frames.ensures))
+    (runs_at_first c.args.code.now c.note_valid.ensures c.in_ok-frames.frames.configuration _ c.args.number (omega arith) c.in_ok-frames.ensures))
 
 pub carry_on-more-requires-clause-found : goal.carry_on-more-requires-clause-found
 carry_on-more-requires-clause-found g c =

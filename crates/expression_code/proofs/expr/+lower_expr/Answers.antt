@@ -76,15 +76,15 @@ lower_expr-returns-in_err-i-in-Some g t c =
     (same (ap (λ o. of_value (element o index c.args.from c.args.into (lists_of c.args.lists.now))) found)
     (stops c.lower_expr.ensures c.in_err-i-in-Some.was c.from_residual.ensures (used_more c.args.into index.lists)))
 
-pub lower_expr-returns-in-None-called : goal.lower_expr-returns-in-None-called
-lower_expr-returns-in-None-called g t c =
-    let found = sym (ap (option_map callee_in) c.in-None-called.is) ∙ c.called.ensures ∙ ap (callee_of (program_in c.args.names.now)) c.as_str-in-Call.ensures in
+pub lower_expr-returns-in-None-callee_of : goal.lower_expr-returns-in-None-callee_of
+lower_expr-returns-in-None-callee_of g t c =
+    let found = sym (ap (option_map callee_in) c.in-None-callee_of.is) ∙ c.callee_of.ensures ∙ ap (callee_of (program_in c.args.names.now)) c.as_str-in-Call.ensures in
     let args = all_emitted (program_in c.args.names.now) (scope_in c.args.scope.now) (taken_types (callee_of (program_in c.args.names.now) (name_of c.in-Call.f).text)) (exprs_of c.in-Call.args) c.args.from c.args.free (lists_of c.args.lists.now) in
-    value_there (program_in c.args.names.now) (scope_in c.args.scope.now) c.args.from c.args.into c.args.free (lists_of c.args.lists.now) (call_is c.in-Call.is refl) (same (ap (λ o. of_value (call_code o args c.args.from c.args.into (lists_of c.args.lists.now))) found) c.put_constant-in-None-called.ensures)
+    value_there (program_in c.args.names.now) (scope_in c.args.scope.now) c.args.from c.args.into c.args.free (lists_of c.args.lists.now) (call_is c.in-Call.is refl) (same (ap (λ o. of_value (call_code o args c.args.from c.args.into (lists_of c.args.lists.now))) found) c.put_constant-in-None-callee_of.ensures)
 
-pub lower_expr-returns-in-Some-called : goal.lower_expr-returns-in-Some-called
-lower_expr-returns-in-Some-called g t c =
-    let found = c.in-Some-called.ensures ∙ ap (callee_of (program_in c.args.names.now)) c.as_str-in-Call.ensures in
+pub lower_expr-returns-in-Some-callee_of : goal.lower_expr-returns-in-Some-callee_of
+lower_expr-returns-in-Some-callee_of g t c =
+    let found = c.in-Some-callee_of.ensures ∙ ap (callee_of (program_in c.args.names.now)) c.as_str-in-Call.ensures in
     value_there (program_in c.args.names.now) (scope_in c.args.scope.now) c.args.from c.args.into c.args.free (lists_of c.args.lists.now) (call_is c.in-Call.is c.as_slice-all.ensures) (same (ap (λ o. of_value (call_code o (all_emitted (program_in c.args.names.now) (scope_in c.args.scope.now) (taken_types o) (exprs_of c.as_slice-all.result.now) c.args.from c.args.free (lists_of c.args.lists.now)) c.args.from c.args.into (lists_of c.args.lists.now))) found) c.lower_call.ensures)
 
 pub lower_expr-returns-in_ok-a-in-Negate : goal.lower_expr-returns-in_ok-a-in-Negate

@@ -3,8 +3,8 @@ use Rattle.lex.proofs.pieces.Constants.{parts_found}
 use Rattle.lex.proofs.steps.Steps.{large_step, glued_step, constant_step}
 use Rattle.lex.proofs.constant.constant.Goals as goal
 
-pub typed-requires : goal.typed-requires
-typed-requires c =
+pub typed_value-requires : goal.typed_value-requires
+typed_value-requires c =
     let f = parts_found c.split_at.result.1.now c.base_at-base.result c.before_len.result c.split_at-2.result.1.now c.digits_len.result c.split_at-3.result.0.now c.split_at-3.result.1.now c.suffix_at-suffix.result c.split_at-4.result.1.now
     record { of_base = c.base_at-base.ensures; of_start = c.before_len.ensures; of_on = c.split_at-2.ensures.back; of_size = c.digits_len.ensures.value; of_digits = c.split_at-3.ensures.front; of_behind = c.split_at-3.ensures.back; of_suffix = c.suffix_at-suffix.ensures; of_after = c.split_at-4.ensures.back ∙ ap (λ (n : ℕ). drop n c.split_at-3.result.1.now) c.suffix_size-size.ensures } in
     f.all_are

@@ -10,7 +10,7 @@ pub returns-in-Err : goal.returns-in-Err
 returns-in-Err g c =
     let source = c.args.source.now in
     let run = call_begun (program_in source) c.args.frames c.args.f.now.text (exprs_of c.args.args.now) in
-    IfOk-weaker c.stopped.result _ _ (λ gone h. subst (IsGone source gone) (sym (ap run (sym c.in_ok-m.ensures) ∙ c.in-Err.ensures h.0)) h.1) (c.stopped.ensures source)
+    IfOk-weaker c.stop_machine.result _ _ (λ gone h. subst (IsGone source gone) (sym (ap run (sym c.in_ok-m.ensures) ∙ c.in-Err.ensures h.0)) h.1) (c.stop_machine.ensures source)
 
 pub returns-in-Ok : goal.returns-in-Ok
 returns-in-Ok g c =

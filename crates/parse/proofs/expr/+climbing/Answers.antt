@@ -19,8 +19,8 @@ use Rattle.parse.proofs.expr.+climbing.Goals as goal
 
 -- ---- each call goes down
 
-pub opened-whole-requires : goal.opened-whole-requires
-opened-whole-requires g t c κs within = (omega (arith, c.decreases), (within, c.requires))
+pub cast_or_group-whole-requires : goal.cast_or_group-whole-requires
+cast_or_group-whole-requires g t c κs within = (omega (arith, c.decreases), (within, c.requires))
 
 pub behind-whole-requires : goal.behind-whole-requires
 behind-whole-requires g t c κs within = (omega (arith, c.decreases), (within, c.requires))
@@ -28,20 +28,20 @@ behind-whole-requires g t c κs within = (omega (arith, c.decreases), (within, c
 pub arguments-whole-requires : goal.arguments-whole-requires
 arguments-whole-requires g t c κs within = (omega (arith, c.decreases), (within, c.requires))
 
-pub named-whole-requires : goal.named-whole-requires
-named-whole-requires g t c κs within = (omega (arith, c.decreases), (within, c.requires))
+pub name_expr-whole-requires : goal.name_expr-whole-requires
+name_expr-whole-requires g t c κs within = (omega (arith, c.decreases), (within, c.requires))
 
-pub named-arguments-requires : goal.named-arguments-requires
-named-arguments-requires g t c κs within = (omega (arith, c.decreases), (within, c.requires))
+pub name_expr-arguments-requires : goal.name_expr-arguments-requires
+name_expr-arguments-requires g t c κs within = (omega (arith, c.decreases), (within, c.requires))
 
-pub operand-named-requires : goal.operand-named-requires
-operand-named-requires g t c κs within = (omega (arith, c.decreases), (within, c.requires))
+pub operand-name_expr-requires : goal.operand-name_expr-requires
+operand-name_expr-requires g t c κs within = (omega (arith, c.decreases), (within, c.requires))
 
-pub operand-opened-requires : goal.operand-opened-requires
-operand-opened-requires g t c κs within = (omega (arith, c.decreases), (within, c.requires))
+pub operand-cast_or_group-requires : goal.operand-cast_or_group-requires
+operand-cast_or_group-requires g t c κs within = (omega (arith, c.decreases), (within, c.requires))
 
-pub operand-prefixed-requires : goal.operand-prefixed-requires
-operand-prefixed-requires g t c κs within = (omega (arith, c.decreases), (within, c.requires))
+pub operand-prefix_operation-requires : goal.operand-prefix_operation-requires
+operand-prefix_operation-requires g t c κs within = (omega (arith, c.decreases), (within, c.requires))
 
 pub operand-transaction-requires : goal.operand-transaction-requires
 operand-transaction-requires g t c κs within = (omega (arith, c.decreases), (within, c.requires))
@@ -64,11 +64,11 @@ conditional-outcomes-requires g t c κs within = (omega (arith, c.decreases), (w
 pub climb-operand-requires : goal.climb-operand-requires
 climb-operand-requires g t c κs within = (omega (arith, c.decreases, c.if-depth-eq0.false), (within, omega (arith, c.requires.fits)))
 
-pub opened-climb-requires : goal.opened-climb-requires
-opened-climb-requires g t c κs within = (omega (arith, c.decreases), (within, (c.requires, omega arith)))
+pub cast_or_group-climb-requires : goal.cast_or_group-climb-requires
+cast_or_group-climb-requires g t c κs within = (omega (arith, c.decreases), (within, (c.requires, omega arith)))
 
-pub prefixed-climb-requires : goal.prefixed-climb-requires
-prefixed-climb-requires g t c κs within = (omega (arith, c.decreases), (within, (c.requires, omega arith)))
+pub prefix_operation-climb-requires : goal.prefix_operation-climb-requires
+prefix_operation-climb-requires g t c κs within = (omega (arith, c.decreases), (within, (c.requires, omega arith)))
 
 pub climb-climb-requires : goal.climb-climb-requires
 climb-climb-requires g t c κs within =
@@ -83,72 +83,72 @@ whole-conditional-requires g t c κs within =
 
 -- ---- parentheses
 
-pub opened-returns-in_err-at-clause-value : goal.opened-returns-in_err-at-clause-value
-opened-returns-in_err-at-clause-value g t c =
+pub cast_or_group-returns-in_err-at-clause-value : goal.cast_or_group-returns-in_err-at-clause-value
+cast_or_group-returns-in_err-at-clause-value g t c =
     let p = err_from_is_err_and c.from_residual.result c.from_residual.ensures.1 in
     rw (p.1, p.2) (fails_along c.in_err-at.field-0.0 _ _ (opened_none (whole_at c.args.depth) (expr_at c.args.depth 11) (toks c.args.tokens.now)) c.in_err-at.ensures)
 
-pub opened-returns-in_err-to-clause-value : goal.opened-returns-in_err-to-clause-value
-opened-returns-in_err-to-clause-value g t c =
+pub cast_or_group-returns-in_err-to-clause-value : goal.cast_or_group-returns-in_err-to-clause-value
+cast_or_group-returns-in_err-to-clause-value g t c =
     let p = err_from_is_err_and c.from_residual-in_err-to.result c.from_residual-in_err-to.ensures.1 in
     rw (p.1, p.2) (fails_along c.in_err-to.field-0.0 _ _ (cast_none (whole_at c.args.depth) (expr_at c.args.depth 11) (toks c.args.tokens.now) c.in_ok-at.at (toks c.in_ok-at.rest.now) c.in_ok-at.ensures (sym c.starts_type.ensures ∙ c.if-starts_type.true)) c.in_err-to.ensures)
 
-pub opened-returns-in_err-rest-clause-value : goal.opened-returns-in_err-rest-clause-value
-opened-returns-in_err-rest-clause-value g t c =
+pub cast_or_group-returns-in_err-rest-clause-value : goal.cast_or_group-returns-in_err-rest-clause-value
+cast_or_group-returns-in_err-rest-clause-value g t c =
     let p = err_from_is_err_and c.from_residual-in_err-rest.result c.from_residual-in_err-rest.ensures.1 in
     rw (p.1, p.2) (fails_along c.in_err-rest.field-0.0 _ _ (cast_open (whole_at c.args.depth) (expr_at c.args.depth 11) (toks c.args.tokens.now) c.in_ok-at.at (toks c.in_ok-at.rest.now) c.in_ok-at.ensures (sym c.starts_type.ensures ∙ c.if-starts_type.true) c.in_ok-to.to (toks c.in_ok-to.rest.now) c.in_ok-to.ensures) c.in_err-rest.ensures)
 
-pub opened-returns-in_err-inner-clause-value : goal.opened-returns-in_err-inner-clause-value
-opened-returns-in_err-inner-clause-value g t c =
+pub cast_or_group-returns-in_err-inner-clause-value : goal.cast_or_group-returns-in_err-inner-clause-value
+cast_or_group-returns-in_err-inner-clause-value g t c =
     let p = err_from_is_err_and c.from_residual-in_err-inner.result c.from_residual-in_err-inner.ensures.1 in
     rw (p.1, p.2) (fails_along c.in_err-inner.field-0.0 _ _ (cast_fails (whole_at c.args.depth) (expr_at c.args.depth 11) (toks c.args.tokens.now) c.in_ok-at.at (toks c.in_ok-at.rest.now) c.in_ok-at.ensures (sym c.starts_type.ensures ∙ c.if-starts_type.true) c.in_ok-to.to (toks c.in_ok-to.rest.now) c.in_ok-to.ensures (toks c.in_ok-rest.rest.now) c.in_ok-rest.ensures) c.in_err-inner.ensures.value)
 
-pub opened-returns-then-starts_type-clause-value : goal.opened-returns-then-starts_type-clause-value
-opened-returns-then-starts_type-clause-value g t c =
+pub cast_or_group-returns-then-starts_type-clause-value : goal.cast_or_group-returns-then-starts_type-clause-value
+cast_or_group-returns-then-starts_type-clause-value g t c =
     cast_is (whole_at c.args.depth) (expr_at c.args.depth 11) (toks c.args.tokens.now) c.in_ok-at.at (toks c.in_ok-at.rest.now) c.in_ok-at.ensures (sym c.starts_type.ensures ∙ c.if-starts_type.true) c.in_ok-to.to (toks c.in_ok-to.rest.now) c.in_ok-to.ensures (toks c.in_ok-rest.rest.now) c.in_ok-rest.ensures (expr_of c.in_ok-inner.inner) (toks c.in_ok-inner.rest.now) c.in_ok-inner.ensures.value
     ∙ ap (λ e. Ok (e, toks c.in_ok-inner.rest.now)) (sym c.in_ok-cast.ensures)
 
-pub opened-returns-in_err-inner-2-clause-value : goal.opened-returns-in_err-inner-2-clause-value
-opened-returns-in_err-inner-2-clause-value g t c =
+pub cast_or_group-returns-in_err-inner-2-clause-value : goal.cast_or_group-returns-in_err-inner-2-clause-value
+cast_or_group-returns-in_err-inner-2-clause-value g t c =
     let p = err_from_is_err_and c.from_residual-in_err-inner-2.result c.from_residual-in_err-inner-2.ensures.1 in
     rw (p.1, p.2) (fails_along c.in_err-inner-2.field-0.0 _ _ (group_none (whole_at c.args.depth) (expr_at c.args.depth 11) (toks c.args.tokens.now) c.in_ok-at.at (toks c.in_ok-at.rest.now) c.in_ok-at.ensures (sym c.starts_type.ensures ∙ c.if-starts_type.false)) c.in_err-inner-2.ensures.value)
 
-pub opened-returns-in_err-inner-3-clause-value : goal.opened-returns-in_err-inner-3-clause-value
-opened-returns-in_err-inner-3-clause-value g t c =
+pub cast_or_group-returns-in_err-inner-3-clause-value : goal.cast_or_group-returns-in_err-inner-3-clause-value
+cast_or_group-returns-in_err-inner-3-clause-value g t c =
     let p = err_from_is_err_and c.from_residual-in_err-inner-3.result c.from_residual-in_err-inner-3.ensures.1 in
     rw (p.1, p.2) (fails_along c.in_err-inner-3.field-0.0 _ _ (group_open (whole_at c.args.depth) (expr_at c.args.depth 11) (toks c.args.tokens.now) c.in_ok-at.at (toks c.in_ok-at.rest.now) c.in_ok-at.ensures (sym c.starts_type.ensures ∙ c.if-starts_type.false) (expr_of c.in_ok-inner-2.inner) (toks c.in_ok-inner-2.rest.now) c.in_ok-inner-2.ensures.value) c.in_err-inner-3.ensures.rest)
 
 -- ---- a name, and what may follow it
 
-pub named-returns-in_err-name-clause-value : goal.named-returns-in_err-name-clause-value
-named-returns-in_err-name-clause-value g t c =
+pub name_expr-returns-in_err-name-clause-value : goal.name_expr-returns-in_err-name-clause-value
+name_expr-returns-in_err-name-clause-value g t c =
     let p = err_from_is_err_and c.from_residual.result c.from_residual.ensures.1 in
     rw (p.1, p.2) (fails_along c.in_err-name.field-0.0 _ _ (named_none (whole_at c.args.depth) (expr_at c.args.depth 11) (toks c.args.tokens.now)) c.in_err-name.ensures)
 
-pub named-returns-in_err-index-clause-value : goal.named-returns-in_err-index-clause-value
-named-returns-in_err-index-clause-value g t c =
+pub name_expr-returns-in_err-index-clause-value : goal.name_expr-returns-in_err-index-clause-value
+name_expr-returns-in_err-index-clause-value g t c =
     let p = err_from_is_err_and c.from_residual-in_err-index.result c.from_residual-in_err-index.ensures.1 in
     rw (p.1, p.2) (fails_along c.in_err-index.field-0.0 _ _ (λ f e. element_goes (whole_at c.args.depth) (expr_at c.args.depth 11) (toks c.args.tokens.now) (toks c.in_ok-name.rest.now) (name_of c.in_ok-name.name) c.in_ok-name.ensures c.in-Some.ensures.0 ∙ unread (Punctuator punct.OpenBracket) (Punctuator punct.CloseBracket) (whole_at c.args.depth) _ (toks c.in_ok-name.rest.now) (toks c.in-Some.rest.now) f c.in-Some.ensures.1 e) c.in_err-index.ensures.value)
 
-pub named-returns-in_err-index-2-clause-value : goal.named-returns-in_err-index-2-clause-value
-named-returns-in_err-index-2-clause-value g t c =
+pub name_expr-returns-in_err-index-2-clause-value : goal.name_expr-returns-in_err-index-2-clause-value
+name_expr-returns-in_err-index-2-clause-value g t c =
     let p = err_from_is_err_and c.from_residual-in_err-index-2.result c.from_residual-in_err-index-2.ensures.1 in
     rw (p.1, p.2) (fails_along c.in_err-index-2.field-0.0 _ _ (λ f e. element_goes (whole_at c.args.depth) (expr_at c.args.depth 11) (toks c.args.tokens.now) (toks c.in_ok-name.rest.now) (name_of c.in_ok-name.name) c.in_ok-name.ensures c.in-Some.ensures.0 ∙ unclosed (Punctuator punct.OpenBracket) (Punctuator punct.CloseBracket) (whole_at c.args.depth) _ (toks c.in_ok-name.rest.now) (toks c.in-Some.rest.now) (toks c.in_ok-index.rest.now) _ f c.in-Some.ensures.1 c.in_ok-index.ensures.value e) c.in_err-index-2.ensures.rest)
 
-pub named-returns-in_err-args-clause-value : goal.named-returns-in_err-args-clause-value
-named-returns-in_err-args-clause-value g t c =
+pub name_expr-returns-in_err-args-clause-value : goal.name_expr-returns-in_err-args-clause-value
+name_expr-returns-in_err-args-clause-value g t c =
     let p = err_from_is_err_and c.from_residual-in_err-args.result c.from_residual-in_err-args.ensures.1 in
     rw (p.1, p.2) (fails_along c.in_err-args.field-0.0 _ _ (λ f e. call_goes (whole_at c.args.depth) (expr_at c.args.depth 11) (toks c.args.tokens.now) (toks c.in_ok-name.rest.now) (name_of c.in_ok-name.name) c.in_ok-name.ensures c.in_default.ensures c.in-Some-eat.ensures.0 ∙ unread (Punctuator punct.OpenParen) (Punctuator punct.CloseParen) (arguments (whole_at c.args.depth) (expr_at c.args.depth 11)) _ (toks c.in_ok-name.rest.now) (toks c.in-Some-eat.rest.now) f c.in-Some-eat.ensures.1 e) c.in_err-args.ensures.value)
 
-pub named-returns-in_err-args-2-clause-value : goal.named-returns-in_err-args-2-clause-value
-named-returns-in_err-args-2-clause-value g t c =
+pub name_expr-returns-in_err-args-2-clause-value : goal.name_expr-returns-in_err-args-2-clause-value
+name_expr-returns-in_err-args-2-clause-value g t c =
     let p = err_from_is_err_and c.from_residual-in_err-args-2.result c.from_residual-in_err-args-2.ensures.1 in
     rw (p.1, p.2) (fails_along c.in_err-args-2.field-0.0 _ _ (λ f e.
     call_goes (whole_at c.args.depth) (expr_at c.args.depth 11) (toks c.args.tokens.now) (toks c.in_ok-name.rest.now) (name_of c.in_ok-name.name) c.in_ok-name.ensures c.in_default.ensures c.in-Some-eat.ensures.0
     ∙ unclosed (Punctuator punct.OpenParen) (Punctuator punct.CloseParen) (arguments (whole_at c.args.depth) (expr_at c.args.depth 11)) _ (toks c.in_ok-name.rest.now) (toks c.in-Some-eat.rest.now) (toks c.in_ok-args.rest.now) _ f c.in-Some-eat.ensures.1 c.in_ok-args.ensures.value e) c.in_err-args-2.ensures.rest)
 
-pub named-returns-clause-value : goal.named-returns-clause-value
-named-returns-clause-value g t c =
+pub name_expr-returns-clause-value : goal.name_expr-returns-clause-value
+name_expr-returns-clause-value g t c =
     variable_goes (whole_at c.args.depth) (expr_at c.args.depth 11) (toks c.args.tokens.now) (toks c.in_ok-name.rest.now) (name_of c.in_ok-name.name) c.in_ok-name.ensures c.in_default.ensures c.in_default-eat.ensures
     ∙ ap (λ e. Ok (e, toks c.in_ok-name.rest.now)) (sym (expr_of_variable c.in_ok-name.name))
 
@@ -175,17 +175,17 @@ behind-returns-clause-value g t c = rw (behind_is c.args.fixed (whole_at c.args.
 
 pub extend-turns-init : goal.extend-turns-init
 extend-turns-init g t c =
-    let n : c.counted-count.result.1 - 0 ≡ length (toks c.args.tokens.now) = omega (arith, length-map c.args.tokens.now tok, c.counted-count.ensures.count) in
-    record { long = c.counted-count.ensures.count; within = c.requires.shallow; deep = c.requires.measured; value = rw (n, c.counted-count.ensures.all) refl }
+    let n : c.count_tokens-count.result.1 - 0 ≡ length (toks c.args.tokens.now) = omega (arith, length-map c.args.tokens.now tok, c.count_tokens-count.ensures.count) in
+    record { long = c.count_tokens-count.ensures.count; within = c.requires.shallow; deep = c.requires.measured; value = rw (n, c.count_tokens-count.ensures.all) refl }
 
 pub extend-returns-in_default-clause-value : goal.extend-returns-in_default-clause-value
-extend-returns-in_default-clause-value g t c = stops_at (is_other (Punctuator punct.Comma)) (behind (Punctuator punct.Comma) (whole_at c.args.depth)) (map expr_of c.turns.all) (c.counted-count.result.1 - c.turns._turn) (toks c.turns.rest.now) _ (ap not c.in_default.ensures) c.turns.invariant.value
+extend-returns-in_default-clause-value g t c = stops_at (is_other (Punctuator punct.Comma)) (behind (Punctuator punct.Comma) (whole_at c.args.depth)) (map expr_of c.turns.all) (c.count_tokens-count.result.1 - c.turns._turn) (toks c.turns.rest.now) _ (ap not c.in_default.ensures) c.turns.invariant.value
 
 pub extend-returns-in_err-one-clause-value : goal.extend-returns-in_err-one-clause-value
 extend-returns-in_err-one-clause-value g t c =
     let p = err_from_is_err_and c.from_residual.result c.from_residual.ensures.1 in
     rw (p.1, p.2) (fails_along c.in_err-one.field-0.0 _ _ (λ f e.
-    fails_on (is_other (Punctuator punct.Comma)) (behind (Punctuator punct.Comma) (whole_at c.args.depth)) (map expr_of c.turns.all) c.counted-count.result.1 c.turns._turn (toks c.turns.rest.now) f _ c.turns-test.true (ap not c.in-Some.ensures.0) (behind_is (Punctuator punct.Comma) (whole_at c.args.depth) (toks c.turns.rest.now) (toks c.in-Some.inner.now) c.in-Some.ensures.1 ∙ e) c.turns.invariant.value) c.in_err-one.ensures.value)
+    fails_on (is_other (Punctuator punct.Comma)) (behind (Punctuator punct.Comma) (whole_at c.args.depth)) (map expr_of c.turns.all) c.count_tokens-count.result.1 c.turns._turn (toks c.turns.rest.now) f _ c.turns-test.true (ap not c.in-Some.ensures.0) (behind_is (Punctuator punct.Comma) (whole_at c.args.depth) (toks c.turns.rest.now) (toks c.in-Some.inner.now) c.in-Some.ensures.1 ∙ e) c.turns.invariant.value) c.in_err-one.ensures.value)
 
 pub extend-turns-preserved : goal.extend-turns-preserved
 extend-turns-preserved g t c =
@@ -196,19 +196,19 @@ extend-turns-preserved g t c =
       long = c.turns.invariant.long;
       within = omega (arith, most, c.turns.invariant.within, c.in_ok-one.ensures.within);
       deep = omega (arith, most, pushed, c.turns.invariant.deep, c.in_ok-one.ensures.deep);
-      value = rw e (goes_on (is_other (Punctuator punct.Comma)) (behind (Punctuator punct.Comma) (whole_at c.args.depth)) (map expr_of c.turns.all) c.counted-count.result.1 c.turns._turn (toks c.turns.rest.now) (toks c.in_ok-one.after.now) (expr_of c.in_ok-one.one) _ c.turns-test.true (ap not c.in-Some.ensures.0) (behind_is (Punctuator punct.Comma) (whole_at c.args.depth) (toks c.turns.rest.now) (toks c.in-Some.inner.now) c.in-Some.ensures.1 ∙ c.in_ok-one.ensures.value) c.turns.invariant.value);
+      value = rw e (goes_on (is_other (Punctuator punct.Comma)) (behind (Punctuator punct.Comma) (whole_at c.args.depth)) (map expr_of c.turns.all) c.count_tokens-count.result.1 c.turns._turn (toks c.turns.rest.now) (toks c.in_ok-one.after.now) (expr_of c.in_ok-one.one) _ c.turns-test.true (ap not c.in-Some.ensures.0) (behind_is (Punctuator punct.Comma) (whole_at c.args.depth) (toks c.turns.rest.now) (toks c.in-Some.inner.now) c.in-Some.ensures.1 ∙ c.in_ok-one.ensures.value) c.turns.invariant.value);
     }
 
 pub extend-returns-then-is_next-clause-value : goal.extend-returns-then-is_next-clause-value
-extend-returns-then-is_next-clause-value g t c = runs_out (is_other (Punctuator punct.Comma)) (behind (Punctuator punct.Comma) (whole_at c.args.depth)) (map expr_of c.turns.all) (c.counted-count.result.1 - c.turns._turn) (toks c.turns.rest.now) _ (omega (arith, c.turns-test.false)) (ap not (sym c.is_next.ensures ∙ c.if-is_next.true)) c.turns.invariant.value
+extend-returns-then-is_next-clause-value g t c = runs_out (is_other (Punctuator punct.Comma)) (behind (Punctuator punct.Comma) (whole_at c.args.depth)) (map expr_of c.turns.all) (c.count_tokens-count.result.1 - c.turns._turn) (toks c.turns.rest.now) _ (omega (arith, c.turns-test.false)) (ap not (sym c.is_next.ensures ∙ c.if-is_next.true)) c.turns.invariant.value
 
 pub extend-returns-clause-value : goal.extend-returns-clause-value
-extend-returns-clause-value g t c = stops_at (is_other (Punctuator punct.Comma)) (behind (Punctuator punct.Comma) (whole_at c.args.depth)) (map expr_of c.turns.all) (c.counted-count.result.1 - c.turns._turn) (toks c.turns.rest.now) _ (ap not (sym c.is_next.ensures ∙ c.if-is_next.false)) c.turns.invariant.value
+extend-returns-clause-value g t c = stops_at (is_other (Punctuator punct.Comma)) (behind (Punctuator punct.Comma) (whole_at c.args.depth)) (map expr_of c.turns.all) (c.count_tokens-count.result.1 - c.turns._turn) (toks c.turns.rest.now) _ (ap not (sym c.is_next.ensures ∙ c.if-is_next.false)) c.turns.invariant.value
 
 -- ---- operators
 
 pub climb-returns-then-depth-eq0-clause-value : goal.climb-returns-then-depth-eq0-clause-value
-climb-returns-then-depth-eq0-clause-value g t c = rw (none_left c.args.depth c.args.min (toks c.args.tokens.now) c.if-depth-eq0.true) c.sunk.ensures
+climb-returns-then-depth-eq0-clause-value g t c = rw (none_left c.args.depth c.args.min (toks c.args.tokens.now) c.if-depth-eq0.true) c.too_deep.ensures
 
 pub climb-returns-in_err-left-clause-value : goal.climb-returns-in_err-left-clause-value
 climb-returns-in_err-left-clause-value g t c =
@@ -305,7 +305,7 @@ conditional-returns-in_ok-whole-in-Ok-clause-deep g t c =
 -- ---- any expression
 
 pub whole-returns-then-depth-eq0-clause-value : goal.whole-returns-then-depth-eq0-clause-value
-whole-returns-then-depth-eq0-clause-value g t c = rw (none_left c.args.depth 0 (toks c.args.tokens.now) c.if-depth-eq0.true) c.sunk.ensures
+whole-returns-then-depth-eq0-clause-value g t c = rw (none_left c.args.depth 0 (toks c.args.tokens.now) c.if-depth-eq0.true) c.too_deep.ensures
 
 pub whole-returns-in_err-condition-clause-value : goal.whole-returns-in_err-condition-clause-value
 whole-returns-in_err-condition-clause-value g t c =

@@ -30,17 +30,17 @@ decreases-extend g l = 7 * l.depth + 3
 abbrev pub decreases-arguments : goal.decreases-arguments
 decreases-arguments g l = 7 * l.depth + 4
 
-abbrev pub decreases-named : goal.decreases-named
-decreases-named g l = 7 * l.depth + 5
+abbrev pub decreases-name_expr : goal.decreases-name_expr
+decreases-name_expr g l = 7 * l.depth + 5
 
-abbrev pub decreases-opened : goal.decreases-opened
-decreases-opened g l = 7 * l.depth + 5
+abbrev pub decreases-cast_or_group : goal.decreases-cast_or_group
+decreases-cast_or_group g l = 7 * l.depth + 5
 
 abbrev pub decreases-transaction : goal.decreases-transaction
 decreases-transaction g l = 7 * l.depth + 5
 
-abbrev pub decreases-prefixed : goal.decreases-prefixed
-decreases-prefixed g l = 7 * l.depth + 5
+abbrev pub decreases-prefix_operation : goal.decreases-prefix_operation
+decreases-prefix_operation g l = 7 * l.depth + 5
 
 abbrev pub decreases-operand : goal.decreases-operand
 decreases-operand g l = 7 * l.depth + 6

@@ -12,4 +12,4 @@ use Rattle.parse.proofs.functions.parameters.Goals as goal
 pub returns : goal.returns
 returns g c =
     rw (behind_is (Punctuator punct.OpenParen) (before (Punctuator punct.CloseParen) parameter_list) (toks c.args.tokens.now) (toks c.in_ok-rest.rest.now) c.in_ok-rest.ensures)
-    (closes (λ qs. map parameter_of qs) (Punctuator punct.CloseParen) parameter_list (toks c.in_ok-rest.rest.now) c.parameter_list.result c.closed.result c.parameter_list.ensures c.closed.ensures)
+    (closes (λ qs. map parameter_of qs) (Punctuator punct.CloseParen) parameter_list (toks c.in_ok-rest.rest.now) c.parameter_list.result c.expect_close.result c.parameter_list.ensures c.expect_close.ensures)

@@ -10,4 +10,4 @@ use Rattle.parse.proofs.globals.array_length.Goals as goal
 pub returns : goal.returns
 returns c =
     rw (behind_is (Punctuator punct.OpenBracket) (before (Punctuator punct.CloseBracket) (take the_length)) (toks c.args.tokens.now) (toks c.in_ok-rest.rest.now) c.in_ok-rest.ensures)
-    (closes (λ x. x) (Punctuator punct.CloseBracket) (take the_length) (toks c.in_ok-rest.rest.now) c.length.result c.closed.result c.length.ensures c.closed.ensures)
+    (closes (λ x. x) (Punctuator punct.CloseBracket) (take the_length) (toks c.in_ok-rest.rest.now) c.length.result c.expect_close.result c.length.ensures c.expect_close.ensures)

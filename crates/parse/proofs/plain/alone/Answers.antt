@@ -6,4 +6,4 @@ use Rattle.parse.proofs.code.Made.{closes}
 use Rattle.parse.proofs.plain.alone.Goals as goal
 
 pub returns : goal.returns
-returns c = closes (λ x. x) (Punctuator punct.Semicolon) (spot c.args.fixed) (toks c.args.tokens.now) c.spot.result c.closed.result c.spot.ensures c.closed.ensures
+returns c = closes (λ x. x) (Punctuator punct.Semicolon) (spot c.args.fixed) (toks c.args.tokens.now) c.spot.result c.expect_close.result c.spot.ensures c.expect_close.ensures

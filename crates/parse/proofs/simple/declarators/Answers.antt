@@ -10,4 +10,4 @@ use Rattle.parse.proofs.code.Made.{closes}
 use Rattle.parse.proofs.simple.declarators.Goals as goal
 
 pub returns : goal.returns
-returns g c = closes (λ ds. map declarator_of ds) (Punctuator punct.Semicolon) (comma_list (declarator (whole_at c.args.depth))) (toks c.args.tokens.now) c.listed.result c.closed.result c.listed.ensures c.closed.ensures
+returns g c = closes (λ ds. map declarator_of ds) (Punctuator punct.Semicolon) (comma_list (declarator (whole_at c.args.depth))) (toks c.args.tokens.now) c.comma_list.result c.expect_close.result c.comma_list.ensures c.expect_close.ensures

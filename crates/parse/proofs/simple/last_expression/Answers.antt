@@ -10,5 +10,5 @@ use Rattle.parse.proofs.simple.last_expression.Goals as goal
 
 pub returns : goal.returns
 returns g c =
-    closes (option_map expr_of) (Punctuator punct.Semicolon) (unless (Punctuator punct.Semicolon) (whole_at c.args.depth)) (toks c.args.tokens.now) (Ok (Some c.in_ok-value.value, c.in_ok-value.rest)) c.closed.result
-    (rw (c.in_default.ensures, c.in_ok-value.ensures) refl) c.closed.ensures
+    closes (option_map expr_of) (Punctuator punct.Semicolon) (unless (Punctuator punct.Semicolon) (whole_at c.args.depth)) (toks c.args.tokens.now) (Ok (Some c.in_ok-value.value, c.in_ok-value.rest)) c.expect_close.result
+    (rw (c.in_default.ensures, c.in_ok-value.ensures) refl) c.expect_close.ensures

@@ -5,4 +5,4 @@ use Rattle.parse.proofs.code.Made.{closes}
 use Rattle.parse.proofs.simple.simple_before.Goals as goal
 
 pub returns : goal.returns
-returns g c = closes simple_of c.args.fixed (simple_at c.args.depth) (toks c.args.tokens.now) c.simple.result c.closed.result c.simple.ensures c.closed.ensures
+returns g c = closes simple_of c.args.fixed (simple_at c.args.depth) (toks c.args.tokens.now) c.simple.result c.expect_close.result c.simple.ensures c.expect_close.ensures

@@ -19,7 +19,7 @@ use Rattle.parse.proofs.stmt.+statements.Goals.{block-else-turns-test, block-the
 use Rattle.parse.proofs.stmt.+statements.Goals as goal
 
 pub boxed_stmt-returns : goal.boxed_stmt-returns
-boxed_stmt-returns g t c = made_same stmt_of c.boxed.result (stmt_at c.args.depth (toks c.args.tokens.now)) (c.boxed.ensures _ c.stmt.ensures)
+boxed_stmt-returns g t c = made_same stmt_of c.box_stmt.result (stmt_at c.args.depth (toks c.args.tokens.now)) (c.box_stmt.ensures _ c.stmt.ensures)
 
 pub else_part-returns-in_default : goal.else_part-returns-in_default
 else_part-returns-in_default g t c = no_else c.args.depth (toks c.args.tokens.now) c.in_default.ensures

@@ -13,4 +13,4 @@ use Rattle.parse.proofs.stmt.end_of_do.Goals as goal
 pub returns : goal.returns
 returns g c =
     rw (behind_is (Keyword key.While) (before (Punctuator punct.Semicolon) (in_parens (whole_at c.args.depth))) (toks c.args.tokens.now) (toks c.in_ok-rest.rest.now) c.in_ok-rest.ensures)
-    (closes expr_of (Punctuator punct.Semicolon) (in_parens (whole_at c.args.depth)) (toks c.in_ok-rest.rest.now) c.in_parens.result c.closed.result c.in_parens.ensures c.closed.ensures)
+    (closes expr_of (Punctuator punct.Semicolon) (in_parens (whole_at c.args.depth)) (toks c.in_ok-rest.rest.now) c.in_parens.result c.expect_close.result c.in_parens.ensures c.expect_close.ensures)

@@ -11,4 +11,4 @@ use Rattle.parse.proofs.stmt.in_parens.Goals as goal
 pub returns : goal.returns
 returns g c =
     rw (behind_is (Punctuator punct.OpenParen) (before (Punctuator punct.CloseParen) (whole_at c.args.depth)) (toks c.args.tokens.now) (toks c.in_ok-rest.rest.now) c.in_ok-rest.ensures)
-    (closes expr_of (Punctuator punct.CloseParen) (whole_at c.args.depth) (toks c.in_ok-rest.rest.now) c.expression.result c.closed.result c.expression.ensures c.closed.ensures)
+    (closes expr_of (Punctuator punct.CloseParen) (whole_at c.args.depth) (toks c.in_ok-rest.rest.now) c.expression.result c.expect_close.result c.expression.ensures c.expect_close.ensures)

@@ -1,4 +1,4 @@
 use Rattle.picture.proofs.replayed.replay_picture.Goals as goal
 
-pub returns-in-Ok-drawn : goal.returns-in-Ok-drawn
-returns-in-Ok-drawn g c = rw (c.as_slice-2.ensures.value, c.in_ok-steps.ensures.moments, c.in_ok-steps.ensures.titles, c.as_slice.ensures.value, c.in_ok-shown.ensures) at c.in-Ok-drawn.ensures
+pub returns-in-Ok-draw_steps : goal.returns-in-Ok-draw_steps
+returns-in-Ok-draw_steps g c = rw (c.as_slice-2.ensures.value, c.in_ok-steps.ensures.moments, c.in_ok-steps.ensures.titles, c.as_slice.ensures.value, c.in_ok-shown.ensures) at c.in-Ok-draw_steps.ensures

@@ -32,7 +32,7 @@ returns-in-Err-clause-halt g c =
 
 pub steps-preserved : goal.steps-preserved
 steps-preserved g c = record {
-  going = subst (λ n. Going c.args.line c.args.room (c.steps.count - n) (c.steps.left - 1) c.args.world.now c.step.new.world) (sym (c.spent-count.ensures ∙ ap (λ (m : ℕ). if c.args.line.accesses then m else 1) c.in-Ok.ensures.cost))
+  going = subst (λ n. Going c.args.line c.args.room (c.steps.count - n) (c.steps.left - 1) c.args.world.now c.step.new.world) (sym (c.spent_count-count.ensures ∙ ap (λ (m : ℕ). if c.args.line.accesses then m else 1) c.in-Ok.ensures.cost))
       (goes c.args.line c.args.room c.steps.count c.steps.left (c.steps.left - 1) c.args.world.now c.steps.world c.step.new.world c.steps.invariant.going (not_zero (world_of c.steps.world) (record c.args.line { count = c.steps.count }) (let f = c.if-count-eq0.false in omega arith) (sym c.is_cut_off.ensures ∙ c.if-is_cut_off.false)) (let f = c.steps-test.true in omega arith) c.in-Ok.ensures.ok);
   events = c.in-Ok.ensures.events;
   threads = c.steps.invariant.threads ∙ ap (λ (v : Simulation). v.threads) (sym c.in-Ok.ensures.ok);

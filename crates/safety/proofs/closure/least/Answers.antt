@@ -7,8 +7,8 @@ use Rattle.safety.proofs.Graphs.{callers_within}
 use Rattle.safety.proofs.LeastSet.{is_least}
 use Rattle.safety.proofs.closure.least.Goals as goal
 
-pub reached-requires-clause-within : goal.reached-requires-clause-within
-reached-requires-clause-within g c =
+pub reachable_from-requires-clause-within : goal.reachable_from-requires-clause-within
+reachable_from-requires-clause-within g c =
     let graph = c.in_ok-numbers.field-0 in
     let is : c.as_slice.result.now ≡ graph.callers.items = c.as_slice.ensures.value in
     subst IsWithin (sym is) (callers_within (links_of c.args.links.now) (first (entries_in graph.numbers)) graph.callers.items c.in_ok-numbers.ensures.numbered c.in_ok-numbers.ensures.links)

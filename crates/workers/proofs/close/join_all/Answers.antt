@@ -8,13 +8,13 @@ use Rattle.workers.proofs.close.join_all.Goals as goal
 pub loop-worker-init : goal.loop-worker-init
 loop-worker-init g c =
     let is : IsWorkerOf c.args.words.now.table_id c.args.words.now.key c.in-Some.last = worker_in c.args.words.now.table_id c.args.words.now.key c.args.workers.items c.pop.new.self.items [] c.in-Some.last c.requires.workers (c.in-Some.ensures.items) in
-    let seat = c.parted-all.ensures.0 in (
+    let seat = c.into_parts-all.ensures.0 in (
       ap (λ s. s.table_id) seat ∙ is.0,
       (
         c.in-Some.last ∷ [],
         c.in-Some.ensures.items,
         ap (λ s. s.me) seat ∙ (λ i. (c.in-Some.last.seat.me.0, (ap (λ (m : SeatView). m.1) is.1.sits) i)),
-        c.push_reserved.ensures.items ∙ (λ i. c.requires.places.0 i ++ c.parted-all.ensures.1 i ∷ []),
+        c.push_reserved.ensures.items ∙ (λ i. c.requires.places.0 i ++ c.into_parts-all.ensures.1 i ∷ []),
       ),
       room_left _ _ _ _ _ c.push_reserved.ensures.len c.push_reserved.ensures.capacity (counts_one_fewer _ _ _ _ _ c.in-Some.ensures.items c.args.workers.ok.0 c.pop.new.self.ok.0) (room_for_all _ _ _ _ c.requires.places.0 c.args.threads.ok.0 c.requires.places.1),
     )
@@ -36,8 +36,8 @@ loop-worker-preserved g c =
       (
         c.in-Some-pop.worker ∷ inv.0,
         items,
-        c.join.ensures.seat ∙ (λ i. ((inv.2 i).0 ++ (c.parted-seat.ensures.0 i).me.0, (inv.2 i).1)),
-        c.push_reserved-in-Some-pop.ensures.items ∙ (λ i. inv.3 i ++ c.parted-seat.ensures.1 i ∷ []),
+        c.join.ensures.seat ∙ (λ i. ((inv.2 i).0 ++ (c.into_parts-seat.ensures.0 i).me.0, (inv.2 i).1)),
+        c.push_reserved-in-Some-pop.ensures.items ∙ (λ i. inv.3 i ++ c.into_parts-seat.ensures.1 i ∷ []),
       ),
       room_left _ _ _ _ _ c.push_reserved-in-Some-pop.ensures.len c.push_reserved-in-Some-pop.ensures.capacity (counts_one_fewer _ _ _ _ _ c.in-Some-pop.ensures.items c.loop-worker.workers.ok.0 c.pop-in-loop-worker.new.self.ok.0) c.loop-worker.invariant.2,
     )
@@ -47,11 +47,11 @@ join-requires-clause-table g c =
     let inv = c.loop-worker.invariant.1 in
     let items : c.args.workers.items ≡ c.pop-in-loop-worker.new.self.items ++ c.in-Some-pop.worker ∷ inv.0 = inv.1 ∙ (ap (λ (l : List (Worker _)). l ++ inv.0) (c.in-Some-pop.ensures.items) ∙ append_assoc c.pop-in-loop-worker.new.self.items (c.in-Some-pop.worker ∷ []) inv.0) in
     let is : IsWorkerOf c.args.words.now.table_id c.args.words.now.key c.in-Some-pop.worker = worker_in c.args.words.now.table_id c.args.words.now.key c.args.workers.items c.pop-in-loop-worker.new.self.items inv.0 c.in-Some-pop.worker c.requires.workers items in
-    (search rules, ap (λ s. s.table_id) c.parted-seat.ensures.0 ∙ is.0, search rules)
+    (search rules, ap (λ s. s.table_id) c.into_parts-seat.ensures.0 ∙ is.0, search rules)
 
 pub join-requires-clause-none : goal.join-requires-clause-none
 join-requires-clause-none g c =
     let inv = c.loop-worker.invariant.1 in
     let items : c.args.workers.items ≡ c.pop-in-loop-worker.new.self.items ++ c.in-Some-pop.worker ∷ inv.0 = inv.1 ∙ (ap (λ (l : List (Worker _)). l ++ inv.0) (c.in-Some-pop.ensures.items) ∙ append_assoc c.pop-in-loop-worker.new.self.items (c.in-Some-pop.worker ∷ []) inv.0) in
     let is : IsWorkerOf c.args.words.now.table_id c.args.words.now.key c.in-Some-pop.worker = worker_in c.args.words.now.table_id c.args.words.now.key c.args.workers.items c.pop-in-loop-worker.new.self.items inv.0 c.in-Some-pop.worker c.requires.workers items in
-    ap (λ s. s.me.1) c.parted-seat.ensures.0 ∙ ap (λ (m : SeatView). m.1) is.1.sits
+    ap (λ s. s.me.1) c.into_parts-seat.ensures.0 ∙ ap (λ (m : SeatView). m.1) is.1.sits

@@ -4,7 +4,7 @@ use Rattle.workers.specs.Workers.{StepsOn}
 use Rattle.workers.proofs.run.drive_free.Goals as goal
 
 pub returns-in-Ok-clause-goes_on : goal.returns-in-Ok-clause-goes_on
-returns-in-Ok-clause-goes_on c = subst (λ (w : Worker _). StepsOn c.args.hall.now.table.shared.table_id c.args.hall.now.setup c.args.worker w) (sym c.made.ensures.0) c.run.ensures.goes_on.1
+returns-in-Ok-clause-goes_on c = subst (λ (w : Worker _). StepsOn c.args.hall.now.table.shared.table_id c.args.hall.now.setup c.args.worker w) (sym c.driven_of.ensures.0) c.run.ensures.goes_on.1
 
 pub returns-in-Err-clause-goes_on : goal.returns-in-Err-clause-goes_on
-returns-in-Err-clause-goes_on c = subst (λ (w : Worker _). StepsOn c.args.hall.now.table.shared.table_id c.args.hall.now.setup c.args.worker w) (sym c.made-in-Err.ensures.0) c.run.ensures.goes_on.1
+returns-in-Err-clause-goes_on c = subst (λ (w : Worker _). StepsOn c.args.hall.now.table.shared.table_id c.args.hall.now.setup c.args.worker w) (sym c.driven_of-in-Err.ensures.0) c.run.ensures.goes_on.1

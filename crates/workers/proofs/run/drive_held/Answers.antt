@@ -14,14 +14,14 @@ steps-init g c = record {
 }
 
 pub returns-then-ne-clause-goes_on : goal.returns-then-ne-clause-goes_on
-returns-then-ne-clause-goes_on g c = subst (λ (w : Worker _). StepsOn c.args.hall.now.table.shared.table_id c.args.hall.now.setup c.args.worker w) (sym c.made.ensures.0) c.steps.invariant.goes_on
+returns-then-ne-clause-goes_on g c = subst (λ (w : Worker _). StepsOn c.args.hall.now.table.shared.table_id c.args.hall.now.setup c.args.worker w) (sym c.driven_of.ensures.0) c.steps.invariant.goes_on
 
 pub returns-in-Err-clause-goes_on : goal.returns-in-Err-clause-goes_on
 returns-in-Err-clause-goes_on g c =
     let z = c.args.hall.now.table.shared.table_id in
     let key = c.args.hall.now.setup in
     let one = subst (λ (k : Setup). StepsOn z k c.steps.worker c.step.new.self) c.args.hall.now.key c.step.ensures.goes_on.1 in
-    subst (λ (w : Worker _). StepsOn z key c.args.worker w) (sym c.made-in-Err.ensures.0) (further z key c.args.worker c.steps.worker c.step.new.self c.steps.invariant.goes_on one)
+    subst (λ (w : Worker _). StepsOn z key c.args.worker w) (sym c.driven_of-in-Err.ensures.0) (further z key c.args.worker c.steps.worker c.step.new.self c.steps.invariant.goes_on one)
 
 pub steps-preserved : goal.steps-preserved
 steps-preserved g c =
@@ -36,13 +36,13 @@ steps-preserved g c =
     }
 
 pub returns-clause-goes_on : goal.returns-clause-goes_on
-returns-clause-goes_on g c = subst (λ (w : Worker _). StepsOn c.args.hall.now.table.shared.table_id c.args.hall.now.setup c.args.worker w) (sym c.made-2.ensures.0) c.steps.invariant.goes_on
+returns-clause-goes_on g c = subst (λ (w : Worker _). StepsOn c.args.hall.now.table.shared.table_id c.args.hall.now.setup c.args.worker w) (sym c.driven_of-2.ensures.0) c.steps.invariant.goes_on
 
 pub returns-then-ne-clause-number : goal.returns-then-ne-clause-number
-returns-then-ne-clause-number g c = ap (λ (w : Worker _). w.number) c.made.ensures.0 ∙ c.steps.invariant.number
+returns-then-ne-clause-number g c = ap (λ (w : Worker _). w.number) c.driven_of.ensures.0 ∙ c.steps.invariant.number
 
 pub returns-in-Err-clause-number : goal.returns-in-Err-clause-number
-returns-in-Err-clause-number g c = ap (λ (w : Worker _). w.number) c.made-in-Err.ensures.0 ∙ (c.step.ensures.goes_on.0 ∙ c.steps.invariant.number)
+returns-in-Err-clause-number g c = ap (λ (w : Worker _). w.number) c.driven_of-in-Err.ensures.0 ∙ (c.step.ensures.goes_on.0 ∙ c.steps.invariant.number)
 
 pub returns-clause-number : goal.returns-clause-number
-returns-clause-number g c = ap (λ (w : Worker _). w.number) c.made-2.ensures.0 ∙ c.steps.invariant.number
+returns-clause-number g c = ap (λ (w : Worker _). w.number) c.driven_of-2.ensures.0 ∙ c.steps.invariant.number

@@ -17,7 +17,7 @@ returns-after-outcome-clause-err g c =
     elim c.match-outcome.branch [
       | in-Err w ↦
           let h = rw w.in-Err.is at c.carry_on-made.ensures in
-          rw w.result-is (breaks_off c.args.code.now c.known.ensures c.args.found.now c.args.steps k c.carry_on-made.result.0 l h c.args.self.now _ (ap (λ (s : AtomicThreadState). s.thread) c.self.view_is) refl (ap (λ (s : AtomicThreadState). s.steps + c.carry_on-made.result.0) c.self.view_is))
+          rw w.result-is (breaks_off c.args.code.now c.note_valid.ensures c.args.found.now c.args.steps k c.carry_on-made.result.0 l h c.args.self.now _ (ap (λ (s : AtomicThreadState). s.thread) c.self.view_is) refl (ap (λ (s : AtomicThreadState). s.steps + c.carry_on-made.result.0) c.self.view_is))
       | in-Ok-Goes w ↦ rw w.result-is tt
       | in-Ok-Leaves w ↦ rw w.result-is tt
       | in-Ok-Wants w ↦ rw w.result-is tt
@@ -30,7 +30,7 @@ returns-after-outcome-clause-of g c =
     elim c.match-outcome.branch [
       | in-Err w ↦
           let h = rw w.in-Err.is at c.carry_on-made.ensures in
-          breaks_of c.args.code.now c.known.ensures c.args.found.now c.args.steps k c.carry_on-made.result.0 l h
+          breaks_of c.args.code.now c.note_valid.ensures c.args.found.now c.args.steps k c.carry_on-made.result.0 l h
       | in-Ok-Goes w ↦ let h = rw (w.in-Ok-Goes.is, w.in-Ok-Goes.field-0-is) at c.carry_on-made.ensures in is_thread_of c.args.code.now l h.of
       | in-Ok-Leaves w ↦ let h = rw (w.in-Ok-Leaves.is, w.in-Ok-Leaves.field-0-is) at c.carry_on-made.ensures in is_thread_of c.args.code.now l h.of
       | in-Ok-Wants w ↦ let h = rw (w.in-Ok-Wants.is, w.in-Ok-Wants.field-0-is) at c.carry_on-made.ensures in is_thread_of c.args.code.now l h.of

@@ -11,7 +11,7 @@ after_either code v c d true of p s = after_pure code v c d of (p refl)
 after_either code v c d false of p s = subst (λ (x : Configuration). IsConfigurationOf code x) (sym (s refl)) of
 
 pub returns-in-Call : goal.returns-in-Call
-returns-in-Call g c = after_either c.args.code.now c.known.ensures c.args.frames.now.configuration c.enter.new.self.configuration c.enter.result c.requires.of c.enter.ensures.made c.enter.ensures.still
+returns-in-Call g c = after_either c.args.code.now c.note_valid.ensures c.args.frames.now.configuration c.enter.new.self.configuration c.enter.result c.requires.of c.enter.ensures.made c.enter.ensures.still
 
 pub returns-in-Return : goal.returns-in-Return
-returns-in-Return g c = let t = rw c.in-Return.is at c.requires.told in after_return c.args.code.now c.known.ensures c.args.frames.now.configuration c.give_back.new.self.configuration c.in-Return.word c.requires.of t.0 c.give_back.ensures
+returns-in-Return g c = let t = rw c.in-Return.is at c.requires.told in after_return c.args.code.now c.note_valid.ensures c.args.frames.now.configuration c.give_back.new.self.configuration c.in-Return.word c.requires.of t.0 c.give_back.ensures

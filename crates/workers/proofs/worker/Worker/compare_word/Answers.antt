@@ -18,8 +18,8 @@ load_word-found-requires-clause-table g c =
 pub load_word-found-requires-clause-next : goal.load_word-found-requires-clause-next
 load_word-found-requires-clause-next g c = word_is_next c.args.words.now.key c.args.self.now.number c.args.self.now.thread.thread c.requires.worker.0 c.args.self.now.thread.accesses c.args.self.now.seat.me c.requires.worker.1.1 c.args.code.now c.requires.code c.args.entry.0 c.requires.access
 
-pub differed-requires-clause-word : goal.differed-requires-clause-word
-differed-requires-clause-word g c =
+pub take_unequal-requires-clause-word : goal.take_unequal-requires-clause-word
+take_unequal-requires-clause-word g c =
     loaded_fits c.args.words.now.key c.args.self.now.number c.args.self.now.thread.thread c.requires.worker.0 c.args.self.now.thread.accesses c.args.self.now.seat.me c.requires.worker.1.1 c.args.code.now c.requires.code c.args.entry.0 c.requires.access c.load_word-found.result c.load_word-found.new.seat.me c.load_word-found.ensures.took
 
 pub returns-then-found-word-clause-goes_on : goal.returns-then-found-word-clause-goes_on
@@ -28,12 +28,12 @@ returns-then-found-word-clause-goes_on g c = (
   refl,
   λ steps was.
       let r = word_loaded c.args.words.now.key c.args.self.now.number c.args.self.now.thread.thread steps c.args.self.now.thread.accesses c.args.self.now.seat.me was.1 c.args.code.now c.requires.code c.args.entry.0 c.requires.access
-      c.load_word-found.result c.load_word-found.new.seat.me c.load_word-found.ensures.took c.differed.new.self.thread c.differed.ensures.thread c.differed.ensures.of _ c.differed.new.self.accesses refl c.differed.ensures.accesses in
+      c.load_word-found.result c.load_word-found.new.seat.me c.load_word-found.ensures.took c.take_unequal.new.self.thread c.take_unequal.ensures.thread c.take_unequal.ensures.of _ c.take_unequal.new.self.accesses refl c.take_unequal.ensures.accesses in
       ((c.load_word-found.ensures.seat.0 ∙ was.0, r.0), r.1),
 )
 
-pub compared-requires-clause-word : goal.compared-requires-clause-word
-compared-requires-clause-word g c =
+pub take_equal-requires-clause-word : goal.take_equal-requires-clause-word
+take_equal-requires-clause-word g c =
     subst (λ (n : ℕ). IsWordOf c.args.code.now (LoadWord c.args.entry.0) (Value n)) c.if-found-word.false (loaded_fits c.args.words.now.key c.args.self.now.number c.args.self.now.thread.thread c.requires.worker.0 c.args.self.now.thread.accesses c.args.self.now.seat.me c.requires.worker.1.1 c.args.code.now c.requires.code c.args.entry.0 c.requires.access c.load_word-found.result c.load_word-found.new.seat.me c.load_word-found.ensures.took)
 
 pub returns-clause-goes_on : goal.returns-clause-goes_on
@@ -42,6 +42,6 @@ returns-clause-goes_on g c = (
   refl,
   λ steps was.
       let r = word_loaded c.args.words.now.key c.args.self.now.number c.args.self.now.thread.thread steps c.args.self.now.thread.accesses c.args.self.now.seat.me was.1 c.args.code.now c.requires.code c.args.entry.0 c.requires.access
-      c.load_word-found.result c.load_word-found.new.seat.me c.load_word-found.ensures.took c.compared.new.self.thread (c.compared.ensures.thread ∙ ap (λ (n : ℕ). (step_with (effect c.args.code.now) c.args.self.now.thread.thread (Value n)).thread) (sym c.if-found-word.false)) c.compared.ensures.of _ c.compared.new.self.accesses refl c.compared.ensures.accesses in
+      c.load_word-found.result c.load_word-found.new.seat.me c.load_word-found.ensures.took c.take_equal.new.self.thread (c.take_equal.ensures.thread ∙ ap (λ (n : ℕ). (step_with (effect c.args.code.now) c.args.self.now.thread.thread (Value n)).thread) (sym c.if-found-word.false)) c.take_equal.ensures.of _ c.take_equal.new.self.accesses refl c.take_equal.ensures.accesses in
       ((c.load_word-found.ensures.seat.0 ∙ was.0, r.0), r.1),
 )

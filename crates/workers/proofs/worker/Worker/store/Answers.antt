@@ -17,9 +17,9 @@ returns-clause-goes_on g c = (
   refl,
   λ steps was.
       let one = sym (ap cost c.store_access-access.ensures.access) ∙ c.store_access-access.ensures.cost in
-      let b = c.stored.ensures.accesses in
+      let b = c.take_store.ensures.accesses in
       let r = stepped c.args.words.now.key c.args.self.now.number c.args.self.now.thread.thread steps c.args.self.now.thread.accesses c.args.self.now.seat.me was.1 c.args.code.now c.requires.code c.args.self.now.thread.thread refl
       c.store_access-access.result c.store_access-access.ensures.access c.make-answer.result c.make-answer.new.seat.me c.make-answer.ensures.made c.store_access-access.ensures.goes_on
-      c.stored.new.self.thread (c.stored.ensures.thread c.make-answer.result) c.stored.ensures.of c.stored.new.self.accesses (omega (arith, one, b)) in
+      c.take_store.new.self.thread (c.take_store.ensures.thread c.make-answer.result) c.take_store.ensures.of c.take_store.new.self.accesses (omega (arith, one, b)) in
       ((c.make-answer.ensures.seat.0 ∙ was.0, r.0), r.1),
 )

@@ -11,6 +11,6 @@ returns-clause-goes_on g c = (
   refl,
   λ steps was.
       let r = lock_loaded c.args.words.now.key c.args.self.now.number c.args.self.now.thread.thread steps c.args.self.now.thread.accesses c.args.self.now.seat.me was.1 c.args.code.now c.requires.code c.requires.access
-      c.load_lock-lock.result c.load_lock-lock.new.seat.me c.load_lock-lock.ensures.took c.waited.new.self.thread c.waited.ensures.thread c.waited.ensures.of _ c.waited.new.self.accesses refl c.waited.ensures.accesses in
+      c.load_lock-lock.result c.load_lock-lock.new.seat.me c.load_lock-lock.ensures.took c.take_wait.new.self.thread c.take_wait.ensures.thread c.take_wait.ensures.of _ c.take_wait.new.self.accesses refl c.take_wait.ensures.accesses in
       ((c.load_lock-lock.ensures.seat.0 ∙ was.0, r.0), r.1),
 )

@@ -1,0 +1,31 @@
+use Rattle.std.proofs.Common.{◌∙◌, ap, subst, sym, rules}
+use Rattle.std.specs.Prelude.{IsSomeAnd}
+use Rattle.frames.proofs.Keeping.{begins_stay_open}
+use Rattle.norec_core.specs.Cores.{IsStoring}
+use Rattle.norec_core.specs.declared.step.Answer.TheVariants.{Done}
+use Rattle.machine.proofs.keeping.Calls.{runs_of}
+use Rattle.machine.proofs.keeping.Committing.{kept_stores}
+use Rattle.machine.proofs.keeping.Seen.{thread_of}
+use Rattle.machine.specs.States.{ThreadState}
+use Rattle.machine.specs.inner.Kept.{kept}
+use Rattle.machine.proofs.thread.Thread.take_store.Goals as goal
+
+pub take_store-event-requires-clause-runs : goal.take_store-event-requires-clause-runs
+take_store-event-requires-clause-runs g c =
+    let k = kept {A = g.row.A.Denot} c.self.inside.held in
+    runs_of c.args.code.now (begins_stay_open c.args.code.now c.note_valid.ensures) k c.args.self.now.thread (ap (λ (s : ThreadState). s.thread) c.self.view_is) c.self.invariant
+    (ap (λ (s : ThreadState). s.thread.status) c.self.view_is ∙ c.requires.stores.running) c.requires.of
+
+pub take_store-event-requires-clause-stores : goal.take_store-event-requires-clause-stores
+take_store-event-requires-clause-stores g c =
+    kept_stores c.self.inside.held.frames.configuration c.args.place c.self.inside.held.core.attempt
+    (subst (λ (s : ThreadState). IsSomeAnd s.thread.attempt (λ a. IsStoring c.args.place a)) (sym c.self.view_is) c.requires.stores.stores)
+
+pub returns-clause-of : goal.returns-clause-of
+returns-clause-of g c = thread_of c.args.code.now (begins_stay_open c.args.code.now c.note_valid.ensures) _ (c.take_store-event.ensures.makes Done).of
+
+pub invariant_of-self : goal.invariant_of-self
+invariant_of-self g c = (c.take_store-event.ensures.makes Done).within
+
+pub returns-clause-again : goal.returns-clause-again
+returns-clause-again g c = search rules
