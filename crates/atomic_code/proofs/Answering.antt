@@ -12,8 +12,8 @@ use Rattle.bytecode.specs.Valid.{IsValid, bounds_of}
 use Rattle.bytecode.proofs.Fits.{fits_cells}
 use Rattle.frames.proofs.Keeping.{begins_stay_open}
 use Rattle.frames.specs.Open.{CanRestore, IsConfigurationOf, MayStand, begin_configuration, saved_in}
-use Rattle.atomic_code.specs.declared.kept.Signal.{Signal}
-use Rattle.atomic_code.specs.declared.kept.Signal.TheVariants.{Goes, Leaves}
+use Rattle.atomic_code.specs.declared.context.Signal.{Signal}
+use Rattle.atomic_code.specs.declared.context.Signal.TheVariants.{Goes, Leaves}
 use Rattle.atomic_code.specs.Threads.{AtomicThread, AreMemories, RunsAtomically, begins_of, cancelled_from}
 use Rattle.atomic_code.specs.inner.Making.{Cancels, Makes, MayPrint, at_hand, begun_in, made_irrevocable, with_memory}
 use Rattle.atomic_code.proofs.Memories.{sized}

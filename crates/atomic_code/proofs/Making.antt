@@ -15,8 +15,8 @@ use Rattle.bytecode.specs.Valid.{IsValid, bounds_of}
 use Rattle.bytecode.proofs.Fits.{fits_cells}
 use Rattle.frames.proofs.Keeping.{begins_stay_open}
 use Rattle.frames.specs.Open.{BeginsStayOpen, MayStand, AreRestored, IsSuccessor, begin_configuration, saved_in}
-use Rattle.atomic_code.specs.declared.kept.Signal.{Signal}
-use Rattle.atomic_code.specs.declared.kept.Signal.TheVariants.{Goes, Leaves}
+use Rattle.atomic_code.specs.declared.context.Signal.{Signal}
+use Rattle.atomic_code.specs.declared.context.Signal.TheVariants.{Goes, Leaves}
 use Rattle.std.specs.Prelude.{Vec}
 use Rattle.atomic_code.specs.Threads.{AtomicThread, cancelled_from, inner_by, transaction_by, open_by, begins_of, AreMemories, HasMemories, RunsAtomically}
 use Rattle.atomic_code.specs.Carried.{finding, to_find}

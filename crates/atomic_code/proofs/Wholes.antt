@@ -9,8 +9,8 @@ use Rattle.nesting.specs.Begins.{Saved}
 use Rattle.bytecode.specs.Code.{Code, Configuration, effect}
 use Rattle.bytecode.specs.Beginning.{beginning}
 use Rattle.bytecode.specs.Sequential.{Sequential, next, steps, start, outcome_of, end_of}
-use Rattle.atomic_code.specs.declared.kept.Signal.{Signal}
-use Rattle.atomic_code.specs.declared.kept.Signal.TheVariants.{Goes, Leaves, Wants}
+use Rattle.atomic_code.specs.declared.context.Signal.{Signal}
+use Rattle.atomic_code.specs.declared.context.Signal.TheVariants.{Goes, Leaves, Wants}
 use Rattle.atomic_code.specs.Threads.{AtomicThread, RunsAtomically, StandsAtomically, meaning_thread}
 use Rattle.atomic_code.specs.Carried.{finding, to_find}
 use Rattle.atomic_code.specs.inner.Making.{HasMemoryAtHand, after_step}

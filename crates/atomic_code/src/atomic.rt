@@ -6,7 +6,7 @@ ghost use Rattle.bytecode.specs.Valid.{bounds_of};
 ghost use Rattle.atomic_code.specs.Threads.{IsAtomicThreadOf, first_thread};
 ghost use Rattle.atomic_code.specs.Carried.{BreaksOff, CarriesOn, end_by, memory_of};
 
-use crate::kept::{KeptThread, Signal};
+use crate::context::{AtomicContext, Signal};
 use crate::ran::{End, Ran};
 use bytecode::Code;
 use frames::Frames;
@@ -18,7 +18,7 @@ use syntax::numbers::Status;
 #[derive(Drop)]
 pub struct AtomicThread<A: Allocator = Global> {
     alloc: A,
-    held: KeptThread<A>,
+    held: AtomicContext<A>,
     steps: u64,
 }
 
@@ -71,7 +71,7 @@ impl<A: Allocator + Copy> AtomicThread<A> {
         let frames = Frames::new(alloc, code, number)?;
         Ok(AtomicThread {
             alloc,
-            held: KeptThread {
+            held: AtomicContext {
                 frames,
                 open_in: None,
                 text: String::new(alloc),

@@ -6,7 +6,7 @@
 
 mod atomic;
 mod carry;
-mod kept;
+mod context;
 mod memory;
 mod open;
 mod ran;

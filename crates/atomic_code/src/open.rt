@@ -11,7 +11,7 @@ use std::alloc::{AllocError, Allocator};
 /// What a begin keeps: the registers of the frame on top, the number of frames, its place, and the memory that it
 /// found.
 #[derive(Drop)]
-pub(crate) struct Begun<A: Allocator> {
+pub(crate) struct OpenBegin<A: Allocator> {
     pub registers: Vec<u64, A>,
     pub frames: usize,
     pub place: u32,
@@ -22,9 +22,9 @@ pub(crate) struct Begun<A: Allocator> {
 /// irrevocable.
 #[derive(Drop)]
 pub(crate) struct Open<A: Allocator> {
-    pub outermost: Begun<A>,
+    pub outermost: OpenBegin<A>,
     pub memory: Vec<u64, A>,
-    pub inner: Vec<Begun<A>, A>,
+    pub inner: Vec<OpenBegin<A>, A>,
     pub kept: bool,
 }
 
@@ -33,14 +33,14 @@ fn save_begin<A: Allocator + Copy>(
     alloc: A,
     frames: &Frames<A>,
     found: &[u64],
-) -> Result<Begun<A>, AllocError>
+) -> Result<OpenBegin<A>, AllocError>
     requires { length frames.now.configuration.frames < 64 }
     ensures saved { IfOk result (λ b. saved_by b ≡ saved_in frames.now.configuration) }
     ensures found { IfOk result (λ b. b.found.items ≡ found.now) }
 {
     let registers = Vec::from_slice(alloc, frames.registers())?;
     let found = Vec::from_slice(alloc, found)?;
-    Ok(Begun {
+    Ok(OpenBegin {
         registers,
         frames: frames.frames(),
         place: frames.place(),
@@ -87,7 +87,7 @@ pub(crate) fn open_inner<A: Allocator + Copy>(
 }
 
 /// Closes the innermost inner transaction, if there is one: what its begin saved.
-pub(crate) fn close_inner<A: Allocator>(transaction: &mut Open<A>) -> Option<Begun<A>>
+pub(crate) fn close_inner<A: Allocator>(transaction: &mut Open<A>) -> Option<OpenBegin<A>>
     ensures some { IfSome result (λ b. transaction_of transaction.old
         ≡ with_memory (transaction_of transaction.new) (transaction_of transaction.new).mem
         (inner_of b ∷ (transaction_of transaction.new).inner)) }
@@ -112,7 +112,7 @@ fn close_inside<A: Allocator>(transaction: &mut Open<A>, count: usize)
 pub(crate) fn close_several<A: Allocator>(
     transaction: &mut Open<A>,
     levels: u32,
-) -> Option<Begun<A>>
+) -> Option<OpenBegin<A>>
     ensures some { IfSome result
         (λ b. with_memory (transaction_of transaction.old) (transaction_of transaction.old).mem
         (drop (levels - 1) (transaction_of transaction.old).inner)

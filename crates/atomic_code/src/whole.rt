@@ -11,7 +11,7 @@ ghost use Rattle.atomic_code.specs.Whole.{memories_in, outcome_in, thread_end_in
 ghost use Rattle.atomic_code.specs.inner.Making.{at_hand};
 
 use crate::carry::runs;
-use crate::kept::{KeptThread, Signal};
+use crate::context::{AtomicContext, Signal};
 use bytecode::Code;
 use frames::Frames;
 use std::alloc::{AllocError, Allocator, Global};
@@ -74,7 +74,7 @@ pub fn thread<A: Allocator + Copy, B: Allocator>(
     // The prover learns here that the code is valid.
     code.note_valid();
     let frames = Frames::new(alloc, code, number)?;
-    let mut held = KeptThread {
+    let mut held = AtomicContext {
         frames,
         open_in: None,
         text: String::new(alloc),

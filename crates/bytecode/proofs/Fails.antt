@@ -6,8 +6,8 @@ use Rattle.bytecode.specs.Code.{Code, FunctionCode, Instr}
 use Rattle.bytecode.specs.Valid.{cancel_of, cancelled_in, leads_from, IsReached, at_first, further, AsksOpen, KeepsOpen}
 use Rattle.bytecode.specs.declared.walk.Arrival.{Arrival}
 use Rattle.bytecode.specs.declared.walk.Arrival.TheVariants.{Unseen, Outside, Inside}
-use Rattle.bytecode.specs.declared.walk.Way.{Way}
-use Rattle.bytecode.specs.declared.walk.Way.TheVariants.{On, To, Both, Opens, Closes, Cancels, CancelsOuter, Ends}
+use Rattle.bytecode.specs.declared.walk.Successor.{Successor}
+use Rattle.bytecode.specs.declared.walk.Successor.TheVariants.{On, To, Both, Opens, Closes, Cancels, CancelsOuter, Ends}
 use Rattle.bytecode.specs.inner.Walking.{Arrivals, arrival_at, visit_place, way_of, reopen_begin, begin_target, cancel_to, begin_round, cancelled_at, twice, went_by}
 use Rattle.bytecode.proofs.Tables.{IsChain, some_same, IsFound}
 use Rattle.bytecode.proofs.Arrivals.{seen_table, seen_one, innermost, id_of, table, chain_grows}
@@ -43,7 +43,7 @@ begins_behind code zero bs a = a
 begins_behind code (suc n) [] a = tt
 begins_behind code (suc n) (b ∷ bs) a = begins_behind code n bs a.1
 
-begins_on : (code : Code) (q : ℕ) (i : Instr) (w : Way) (bs : List ℕ) (q' : ℕ) (bs' : List ℕ) → slice_get code.instructions q ≡ Some i → way_of i ≡ w → AreBegins code bs → Contains (leads_by code q bs w) (q', bs') → AreBegins code bs'
+begins_on : (code : Code) (q : ℕ) (i : Instr) (w : Successor) (bs : List ℕ) (q' : ℕ) (bs' : List ℕ) → slice_get code.instructions q ≡ Some i → way_of i ≡ w → AreBegins code bs → Contains (leads_by code q bs w) (q', bs') → AreBegins code bs'
 begins_on code q i On bs q' bs' e w a c = subst (AreBegins code) (ap (λ p. p.1) (only (suc q, bs) (q', bs') c)) a
 begins_on code q i (To to) bs q' bs' e w a c = subst (AreBegins code) (ap (λ p. p.1) (only (to, bs) (q', bs') c)) a
 begins_on code q i (Both to) bs q' bs' e w a c = elim (either (suc q, bs) (to, bs) (q', bs') c) [

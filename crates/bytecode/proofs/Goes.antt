@@ -6,8 +6,8 @@ use Rattle.bytecode.specs.Code.{Code, FunctionCode, Instr}
 use Rattle.bytecode.specs.Valid.{Standing, cancel_of, cancelled_in, leads_from, IsReached, further, AsksOpen}
 use Rattle.bytecode.specs.declared.walk.Arrival.{Arrival}
 use Rattle.bytecode.specs.declared.walk.Arrival.TheVariants.{Unseen, Outside, Inside}
-use Rattle.bytecode.specs.declared.walk.Way.{Way}
-use Rattle.bytecode.specs.declared.walk.Way.TheVariants.{On, To, Both, Opens, Closes, Cancels, CancelsOuter, Ends}
+use Rattle.bytecode.specs.declared.walk.Successor.{Successor}
+use Rattle.bytecode.specs.declared.walk.Successor.TheVariants.{On, To, Both, Opens, Closes, Cancels, CancelsOuter, Ends}
 use Rattle.bytecode.specs.inner.Walking.{Arrivals, arrival_at, visit_place, way_of, reopen_begin, begin_target, cancel_to, begin_round, cancelled_at, twice, went_by}
 use Rattle.bytecode.proofs.Tables.{IsChain, some_same}
 use Rattle.bytecode.proofs.Arrivals.{seen_table, seen_one, innermost, id_of, table, chain_grows}
@@ -113,7 +113,7 @@ module _ (code : Code) (f : FunctionCode) (ms : Arrivals) (work : List ℕ) (q m
   ends (d ∷ bs) s w e c h = cc c.0
 
   -- all ways on, by the instruction
-  goes_by : (w : Way) (n : Arrival) (s : State) → seen_one m ≡ 1 → way_of i ≡ w → m ≡ n → went_by code.instructions f.first ms work q n w ≡ Some s → Walked code f s.0 s.1 (suc made)
+  goes_by : (w : Successor) (n : Arrival) (s : State) → seen_one m ≡ 1 → way_of i ≡ w → m ≡ n → went_by code.instructions f.first ms work q n w ≡ Some s → Walked code f s.0 s.1 (suc made)
   goes_by On n s one w e h = one_way (suc q) begins m s one (subst (λ x. asks_by x begins) (sym w) tt) (ap (leads_by code q begins) w) chain (ap (visit_place f.first ms work (suc q)) e ∙ h)
   goes_by (To to) n s one w e h = one_way to begins m s one (subst (λ x. asks_by x begins) (sym w) tt) (ap (leads_by code q begins) w) chain (ap (visit_place f.first ms work to) e ∙ h)
   goes_by (Both to) n s one w e h = two_ways to s (visit_place f.first ms work (suc q) m) one w refl (ap (λ x. twice f.first to x (visit_place f.first ms work (suc q) x)) e ∙ h)

@@ -4,11 +4,11 @@ use Rattle.std.specs.Prelude.{Contains}
 use Rattle.std.proofs.lemmas.List.Elements.{Contains-push_cases, Contains-push}
 use Rattle.bytecode.specs.Code.{Code, Instr}
 use Rattle.bytecode.specs.Valid.{Standing, cancelled_in, leads_from, AsksOpen}
-use Rattle.bytecode.specs.declared.walk.Way.{Way}
-use Rattle.bytecode.specs.declared.walk.Way.TheVariants.{On, To, Both, Opens, Closes, Cancels, CancelsOuter, Ends}
+use Rattle.bytecode.specs.declared.walk.Successor.{Successor}
+use Rattle.bytecode.specs.declared.walk.Successor.TheVariants.{On, To, Both, Opens, Closes, Cancels, CancelsOuter, Ends}
 use Rattle.bytecode.specs.inner.Walking.{way_of}
 
-abbrev pub leads_by : Code → ℕ → List ℕ → Way → List Standing
+abbrev pub leads_by : Code → ℕ → List ℕ → Successor → List Standing
 leads_by code q bs On = (suc q, bs) ∷ []
 leads_by code q bs (To to) = (to, bs) ∷ []
 leads_by code q bs (Both to) = (suc q, bs) ∷ (to, bs) ∷ []
@@ -19,7 +19,7 @@ leads_by code q bs Cancels = cancelled_in code bs
 leads_by code q bs (CancelsOuter n) = cancelled_in code (drop (n - 1) bs)
 leads_by code q bs Ends = []
 
-abbrev pub asks_by : Way → List ℕ → Type 0
+abbrev pub asks_by : Successor → List ℕ → Type 0
 asks_by Closes bs = bs ≢ []
 asks_by Cancels bs = bs ≢ []
 asks_by (CancelsOuter n) bs = n ≤ length bs

@@ -5,4 +5,4 @@ pub mod Layout
 -- how instructions are written in words
 pub mod Spelling
 -- what a code keeps
-pub mod Kept
+pub mod Stored

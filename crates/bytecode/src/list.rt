@@ -6,7 +6,7 @@ ghost use Rattle.bytecode.specs.Flat.{instruction_from};
 ghost use Rattle.bytecode.specs.Listing.{cut_text, lines_from, listing_escape, functions_text, text_at, texts_text};
 ghost use Rattle.bytecode.specs.Listing as spec;
 ghost use Rattle.bytecode.specs.Views.{function_of};
-ghost use Rattle.bytecode.specs.inner.Kept.{AreWhole};
+ghost use Rattle.bytecode.specs.inner.Stored.{AreWhole};
 
 use crate::code::{Code, FunctionCode};
 use crate::cut::cut;

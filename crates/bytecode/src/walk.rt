@@ -28,7 +28,7 @@ pub(crate) enum Arrival {
 
 /// Where an instruction leads.
 #[derive(Clone, Copy)]
-pub(crate) enum Way {
+pub(crate) enum Successor {
     On,
     To(u32),
     Both(u32),
@@ -40,20 +40,20 @@ pub(crate) enum Way {
 }
 
 /// Where an instruction leads.
-fn way_on(instr: &Instr) -> Way
+fn way_on(instr: &Instr) -> Successor
     ensures { (arguments : List ℕ) → result ≡ way_of (instr_of arguments instr.now) }
 {
     match instr {
-        Instr::Jump(to) => Way::To(*to),
-        Instr::JumpZero(_, to) => Way::Both(*to),
-        Instr::JumpNonzero(_, to) => Way::Both(*to),
-        Instr::Begin(_) => Way::Opens,
-        Instr::Commit => Way::Closes,
-        Instr::Cancel => Way::Cancels,
-        Instr::CancelOuter(levels) => Way::CancelsOuter(*levels),
-        Instr::Return => Way::Ends,
-        Instr::ReturnValue(_) => Way::Ends,
-        _ => Way::On,
+        Instr::Jump(to) => Successor::To(*to),
+        Instr::JumpZero(_, to) => Successor::Both(*to),
+        Instr::JumpNonzero(_, to) => Successor::Both(*to),
+        Instr::Begin(_) => Successor::Opens,
+        Instr::Commit => Successor::Closes,
+        Instr::Cancel => Successor::Cancels,
+        Instr::CancelOuter(levels) => Successor::CancelsOuter(*levels),
+        Instr::Return => Successor::Ends,
+        Instr::ReturnValue(_) => Successor::Ends,
+        _ => Successor::On,
     }
 }
 
@@ -202,7 +202,7 @@ fn go_by<A: Allocator>(
     first: usize,
     at: usize,
     arrival: Arrival,
-    way: Way,
+    way: Successor,
 ) -> Result<bool, AllocError>
     requires { at < length instrs.now }
     ensures went { (arguments : List ℕ)
@@ -212,29 +212,29 @@ fn go_by<A: Allocator>(
     ensures len { length arrivals.new ≡ length arrivals.old }
 {
     match way {
-        Way::On => visit(arrivals, work, first, at + 1, arrival),
-        Way::To(to) => visit(arrivals, work, first, to as usize, arrival),
-        Way::Both(to) => {
+        Successor::On => visit(arrivals, work, first, at + 1, arrival),
+        Successor::To(to) => visit(arrivals, work, first, to as usize, arrival),
+        Successor::Both(to) => {
             if !visit(arrivals, work, first, at + 1, arrival)? {
                 return Ok(false);
             }
             visit(arrivals, work, first, to as usize, arrival)
         }
-        Way::Opens => visit(arrivals, work, first, at + 1, Arrival::Inside(at)),
-        Way::Closes => match arrival {
+        Successor::Opens => visit(arrivals, work, first, at + 1, Arrival::Inside(at)),
+        Successor::Closes => match arrival {
             Arrival::Inside(b) => reopen(arrivals, work, first, at + 1, b),
             _ => Ok(false),
         },
-        Way::Cancels => match arrival {
+        Successor::Cancels => match arrival {
             Arrival::Inside(b) => cancel(instrs, arrivals, work, first, b),
             _ => Ok(false),
         },
-        Way::CancelsOuter(levels) => match arrival {
+        Successor::CancelsOuter(levels) => match arrival {
             Arrival::Inside(b) => cancel_outer(instrs, arrivals, work, first, b, levels),
             // One of no levels asks for no begin.
             _ => Ok(levels == 0),
         },
-        Way::Ends => match arrival {
+        Successor::Ends => match arrival {
             Arrival::Outside => Ok(true),
             _ => Ok(false),
         },

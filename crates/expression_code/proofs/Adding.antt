@@ -2,8 +2,8 @@
 use Rattle.std.proofs.Common.{◌≡◌, ℕ, ◌≤◌, true, false, List, [], ◌∷◌, ◌++◌, Result, Ok, Err, OnOk, IfOk, IfErr, IsErr, IsErrAnd, sym, ap, subst, ◌∙◌, append_assoc, arith}
 use Rattle.bytecode.specs.declared.instr.Instr.{Instr}
 use Rattle.picked.specs.declared.draft.Draft.{Draft}
-use Rattle.picked.specs.declared.held.Held.{Held}
-use Rattle.picked.specs.declared.held.Tested.{Tested}
+use Rattle.picked.specs.declared.locations.ValueRegister.{ValueRegister}
+use Rattle.picked.specs.declared.locations.ConditionRegister.{ConditionRegister}
 use Rattle.picked.specs.Lists.{Lists}
 use Rattle.picked.specs.Conditions.{Condition}
 use Rattle.picked.specs.Expressions.{Emitted}
@@ -59,13 +59,13 @@ pub alone : {I E : Type 0} {old new : List I} {l : Lists} {a : Stretch I E} {e :
 alone {a = a} k none = k.code ∙ ap (λ is. is ++ a.code) none
 
 -- a value, a statement and a condition that were gathered there
-pub value_alone : {old new : List Instr} {l : Lists} {a : Emitted} {h : Held} → Adds (of_value a) old new l (Ok h) → old ≡ [] → standing new h l ≡ a
+pub value_alone : {old new : List Instr} {l : Lists} {a : Emitted} {h : ValueRegister} → Adds (of_value a) old new l (Ok h) → old ≡ [] → standing new h l ≡ a
 value_alone k none = λ j. standing (alone k none j) (k.end j) (k.lists j)
 
 pub written_alone : {old new : List Instr} {l : Lists} {w : Written} {to : ℕ} → Adds (of_written w) old new l (Ok to) → old ≡ [] → record { code = new; lists = l; to = to } ≡ w
 written_alone k none = λ j. record { code = alone k none j; lists = k.lists j; to = k.end j }
 
-pub gathered : {old new shown : List Draft} {l : Lists} {c : Condition} {t : Tested} → Adds (of_test c) old new l (Ok t) → old ≡ [] → shown ≡ new → test_in_place shown t l ≡ c
+pub gathered : {old new shown : List Draft} {l : Lists} {c : Condition} {t : ConditionRegister} → Adds (of_test c) old new l (Ok t) → old ≡ [] → shown ≡ new → test_in_place shown t l ≡ c
 gathered k none is = λ j. test_in_place ((is ∙ alone k none) j) (k.end j) (k.lists j)
 
 pub needs_more : (e : Failure) (m n : ℕ) → m ≤ n → NeedsMore e m → NeedsMore e n

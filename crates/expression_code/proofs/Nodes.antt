@@ -23,8 +23,8 @@ use Rattle.bytecode.specs.declared.instr.Instr.{Instr}
 use Rattle.lowered.specs.Expressions.{LocalScope, constant_in, converting as lowered_converting}
 use Rattle.lowered.proofs.Conversions.{IsNone, unconverted}
 use Rattle.picked.specs.declared.draft.Draft.{Draft}
-use Rattle.picked.specs.declared.held.Held.{Held}
-use Rattle.picked.specs.declared.held.Tested.{Tested}
+use Rattle.picked.specs.declared.locations.ValueRegister.{ValueRegister}
+use Rattle.picked.specs.declared.locations.ConditionRegister.{ConditionRegister}
 use Rattle.picked.specs.Lists.{Lists}
 use Rattle.picked.specs.Conditions.{Condition}
 use Rattle.picked.specs.Expressions.{Emitted, constant, converting, converted_by, constant_of, where_same, emitted_type, emitted, due, own_condition, condition, condition_of}
@@ -73,14 +73,14 @@ module _ {A : Type 0} where
 
 module _ (p : Program) (scope : LocalScope) {e x : Tree.Expr} (from : ℕ) where
   -- the value of a node
-  pub value_there : (into free : ℕ) (l : Lists) {old new : List Instr} {m : Lists} {r : Result Held Failure} → e ≡ x → Adds (of_value (emitted p scope x from into free l)) old new m r → Adds (of_value (emitted p scope e from into free l)) old new m r
+  pub value_there : (into free : ℕ) (l : Lists) {old new : List Instr} {m : Lists} {r : Result ValueRegister Failure} → e ≡ x → Adds (of_value (emitted p scope x from into free l)) old new m r → Adds (of_value (emitted p scope e from into free l)) old new m r
   value_there into free l {old = old} {new = new} {m = m} {r = r} is k = subst (λ (y : Tree.Expr). Adds (of_value (emitted p scope y from into free l)) old new m r) (sym is) k
 
   -- and its condition: that of its operator, or the test of its value, where its operator has none
-  pub test_there : (free : ℕ) (l : Lists) {old new : List Draft} {m : Lists} {r : Result Tested Failure} → e ≡ x → Adds (of_test (condition p scope x from free l)) old new m r → Adds (of_test (condition p scope e from free l)) old new m r
+  pub test_there : (free : ℕ) (l : Lists) {old new : List Draft} {m : Lists} {r : Result ConditionRegister Failure} → e ≡ x → Adds (of_test (condition p scope x from free l)) old new m r → Adds (of_test (condition p scope e from free l)) old new m r
   test_there free l {old = old} {new = new} {m = m} {r = r} is k = subst (λ (y : Tree.Expr). Adds (of_test (condition p scope y from free l)) old new m r) (sym is) k
 
-  pub value_test_there : (free : ℕ) (l : Lists) {old new : List Draft} {m : Lists} {r : Result Tested Failure} → e ≡ x → own_condition p scope x from free l ≡ None → Adds (of_test (condition_of None (emitted p scope e from free free l))) old new m r → Adds (of_test (condition p scope e from free l)) old new m r
+  pub value_test_there : (free : ℕ) (l : Lists) {old new : List Draft} {m : Lists} {r : Result ConditionRegister Failure} → e ≡ x → own_condition p scope x from free l ≡ None → Adds (of_test (condition_of None (emitted p scope e from free free l))) old new m r → Adds (of_test (condition p scope e from free l)) old new m r
   value_test_there free l {old = old} {new = new} {m = m} {r = r} is none k =
       subst (λ o. Adds (of_test (condition_of o (emitted p scope e from free free l))) old new m r) (sym (ap (λ y. own_condition p scope y from free l) is ∙ none)) k
 
@@ -96,15 +96,15 @@ due_other p scope u (Tree.Constant m s at) from into free l k = absurd (cc)
 due_other p scope u e from into free l k = refl
 
 -- a value that is converted behind its instructions is converted with them
-pub converted_behind : (o : Option (ℕ → ℕ → Instr)) (u : Scalar) (e : Emitted) (into : ℕ) → behind (of_value e) (of_value (converted_by o u (in_place e.held e.lists) into)) ≡ of_value (converted_by o u e into)
-converted_behind None u e into = λ j. record { code = append-nil e.code j; lists = e.lists; end = record { register = e.held.register; of = u; to = e.held.to } }
+pub converted_behind : (o : Option (ℕ → ℕ → Instr)) (u : Scalar) (e : Emitted) (into : ℕ) → behind (of_value e) (of_value (converted_by o u (in_place e.location e.lists) into)) ≡ of_value (converted_by o u e into)
+converted_behind None u e into = λ j. record { code = append-nil e.code j; lists = e.lists; end = record { register = e.location.register; of = u; to = e.location.to } }
 converted_behind (Some i) u e into = refl
 
 -- of a value that stands there already its type is the expression's
-pub due_there : (p : Program) (scope : LocalScope) (u : Scalar) (e : Tree.Expr) (from into free : ℕ) (l : Lists) → constant_of e ≡ None → {old mid new : List Instr} {l1 l2 : Lists} {h : Held} {r : Result Held Failure} → Adds (of_value (emitted p scope e from into free l)) old mid l1 (Ok h) → Adds (of_value (converted_by (converting h.of u) u (in_place h l1) into)) mid new l2 r → Adds (of_value (due p scope u e from into free l)) old new l2 r
+pub due_there : (p : Program) (scope : LocalScope) (u : Scalar) (e : Tree.Expr) (from into free : ℕ) (l : Lists) → constant_of e ≡ None → {old mid new : List Instr} {l1 l2 : Lists} {h : ValueRegister} {r : Result ValueRegister Failure} → Adds (of_value (emitted p scope e from into free l)) old mid l1 (Ok h) → Adds (of_value (converted_by (converting h.of u) u (in_place h l1) into)) mid new l2 r → Adds (of_value (due p scope u e from into free l)) old new l2 r
 due_there p scope u e from into free l none {new = new} {l2 = l2} {r = r} k m =
     let own = emitted_is p scope e from into free l in
-    let whole = in_turn k (λ j. of_value (converted_by (converting ((ap (λ (x : Held). x.of) k.end ∙ own) j) u) u (in_place (k.end j) (k.lists j)) into)) m in
+    let whole = in_turn k (λ j. of_value (converted_by (converting ((ap (λ (x : ValueRegister). x.of) k.end ∙ own) j) u) u (in_place (k.end j) (k.lists j)) into)) m in
     same (converted_behind (converting (emitted_type p scope e) u) u (emitted p scope e from into free l) into ∙ ap of_value (sym (due_other p scope u e from into free l none))) whole
 
 no_instruction : (s u : Scalar) → is_some (converting s u) ≡ false → IsNone (lowered_converting s u)
@@ -140,7 +140,7 @@ cast_tested p scope u a at from free l none = by (converting (emitted_type p sco
     by None none None = refl
     by (Some i) none o = absurd (cc)
 
-pub cast_test_there : (p : Program) (scope : LocalScope) {e a : Tree.Expr} {t : Scalar} {at : Span} (from free : ℕ) (l : Lists) {old new : List Draft} {m : Lists} {r : Result Tested Failure} → e ≡ Tree.Cast t a at → is_some (converting (emitted_type p scope a) t) ≡ false → Adds (of_test (condition p scope a from free l)) old new m r → Adds (of_test (condition p scope e from free l)) old new m r
+pub cast_test_there : (p : Program) (scope : LocalScope) {e a : Tree.Expr} {t : Scalar} {at : Span} (from free : ℕ) (l : Lists) {old new : List Draft} {m : Lists} {r : Result ConditionRegister Failure} → e ≡ Tree.Cast t a at → is_some (converting (emitted_type p scope a) t) ≡ false → Adds (of_test (condition p scope a from free l)) old new m r → Adds (of_test (condition p scope e from free l)) old new m r
 cast_test_there p scope {a = a} {t = t} {at = at} from free l is none k = test_there p scope from free l is (same (ap of_test (cast_tested p scope t a at from free l none)) k)
 
 -- and one that is an instruction by its value

@@ -8,7 +8,7 @@ use Rattle.syntax.specs.Tree.{Program}
 use Rattle.syntax.specs.Views.{expr_of, exprs_of, parameter_of}
 use Rattle.bytecode.specs.declared.instr.Instr.{Instr}
 use Rattle.lowered.specs.Expressions.{LocalScope, types_left}
-use Rattle.picked.specs.declared.held.Held.{Held}
+use Rattle.picked.specs.declared.locations.ValueRegister.{ValueRegister}
 use Rattle.picked.specs.Lists.{Lists}
 use Rattle.picked.specs.Expressions.{Emitted, AllEmitted, above, with_argument, handed, types_of, all_emitted}
 use Rattle.picked.proofs.Growing.{all_more}
@@ -48,22 +48,22 @@ module _ (p : Program) (scope : LocalScope) {A : Type 0} (ts : List Scalar) (es 
     abbrev First : Emitted
     First = handed p scope (drop i ts) (expr_of e) to later l
 
-    here : row i to later l ≡ with_argument First (row (i + 1) First.held.to (above later First.held.register) First.lists)
+    here : row i to later l ≡ with_argument First (row (i + 1) First.location.to (above later First.location.register) First.lists)
     unfolding row
     here =
         at_drop_more (λ xs. all_emitted p scope (drop i ts) (exprs_of xs) to later l) es i e h
         ∙ ap (λ x. all_emitted p scope (drop i ts) (exprs_of (x ∷ drop (i + 1) es)) to later l) (sym is)
-        ∙ ap (λ us. with_argument First (all_emitted p scope us (exprs_of (drop (i + 1) es)) First.held.to (above later First.held.register) First.lists)) (types_further ts i)
+        ∙ ap (λ us. with_argument First (all_emitted p scope us (exprs_of (drop (i + 1) es)) First.location.to (above later First.location.register) First.lists)) (types_further ts i)
 
-    pub next_value : (code' : List Instr) (rs' : List ℕ) (l' : Lists) (a : Held) (later' : ℕ) → Adds (of_value First) code code' l' (Ok a) → rs' ≡ rs ++ a.register ∷ [] → later' ≡ above later a.register →
+    pub next_value : (code' : List Instr) (rs' : List ℕ) (l' : Lists) (a : ValueRegister) (later' : ℕ) → Adds (of_value First) code code' l' (Ok a) → rs' ≡ rs ++ a.register ∷ [] → later' ≡ above later a.register →
         values_behind code' rs' (all_emitted p scope (drop (i + 1) ts) (exprs_of (drop (i + 1) es)) a.to later' l') ≡ whole
     unfolding row
     next_value code' rs' l' a later' k er ek =
-        let rest = row (i + 1) First.held.to (above later First.held.register) First.lists in
-        let there : values_behind code' rs' (row (i + 1) a.to later' l') ≡ values_behind (code ++ First.code) (rs ++ First.held.register ∷ []) rest =
-        (λ j. values_behind (k.code j) ((er ∙ ap (λ (x : Held). rs ++ x.register ∷ []) k.end) j) (row (i + 1) (k.end j).to ((ek ∙ ap (λ (x : Held). above later x.register) k.end) j) (k.lists j))) in
+        let rest = row (i + 1) First.location.to (above later First.location.register) First.lists in
+        let there : values_behind code' rs' (row (i + 1) a.to later' l') ≡ values_behind (code ++ First.code) (rs ++ First.location.register ∷ []) rest =
+        (λ j. values_behind (k.code j) ((er ∙ ap (λ (x : ValueRegister). rs ++ x.register ∷ []) k.end) j) (row (i + 1) (k.end j).to ((ek ∙ ap (λ (x : ValueRegister). above later x.register) k.end) j) (k.lists j))) in
         there
-        ∙ (λ j. record rest { code = append_assoc code First.code rest.code j; registers = append_assoc rs (First.held.register ∷ []) rest.registers j })
+        ∙ (λ j. record rest { code = append_assoc code First.code rest.code j; registers = append_assoc rs (First.location.register ∷ []) rest.registers j })
         ∙ sym (ap (values_behind code rs) here)
         ∙ inv
 
@@ -71,7 +71,7 @@ module _ (p : Program) (scope : LocalScope) {A : Type 0} (ts : List Scalar) (es 
     pub first_within : First.lists.registers ≤ whole.lists.registers
     unfolding row
     first_within =
-        let a = all_more p scope (drop (i + 1) ts) (exprs_of (drop (i + 1) es)) First.held.to (above later First.held.register) First.lists in
+        let a = all_more p scope (drop (i + 1) ts) (exprs_of (drop (i + 1) es)) First.location.to (above later First.location.register) First.lists in
         let b = ap (λ (w : AllEmitted). w.lists.registers) here in
         let d = ap (λ (w : AllEmitted). w.lists.registers) inv in
         omega (arith, a, b, d)

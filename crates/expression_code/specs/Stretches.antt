@@ -2,8 +2,8 @@
 use Rattle.std.specs.Prelude.{◌≡◌, ℕ, List, ◌++◌, Vec, Result, OnOk, IfOk, IfErr}
 use Rattle.bytecode.specs.declared.instr.Instr.{Instr}
 use Rattle.picked.specs.declared.draft.Draft.{Draft}
-use Rattle.picked.specs.declared.held.Held.{Held}
-use Rattle.picked.specs.declared.held.Tested.{Tested}
+use Rattle.picked.specs.declared.locations.ValueRegister.{ValueRegister}
+use Rattle.picked.specs.declared.locations.ConditionRegister.{ConditionRegister}
 use Rattle.picked.specs.Lists.{Lists}
 use Rattle.picked.specs.Conditions.{Condition, test_in}
 use Rattle.picked.specs.Expressions.{Emitted, AllEmitted}
@@ -28,10 +28,10 @@ pub record Adds {I E : Type 0} (s : Stretch I E) (old new : List I) (l : Lists) 
   pub fails : IfErr r (λ why. NeedsMore why s.lists.registers)
 
 -- what is picked for an expression, a condition, an assignment or a statement, and several values, as a stretch
-abbrev pub of_value : Emitted → Stretch Instr Held
-of_value e = record { code = e.code; lists = e.lists; end = e.held }
+abbrev pub of_value : Emitted → Stretch Instr ValueRegister
+of_value e = record { code = e.code; lists = e.lists; end = e.location }
 
-abbrev pub of_test : Condition → Stretch Draft Tested
+abbrev pub of_test : Condition → Stretch Draft ConditionRegister
 of_test c = record { code = c.code; lists = c.lists; end = test_in c }
 
 abbrev pub of_written : Written → Stretch Instr ℕ
@@ -41,10 +41,10 @@ abbrev pub of_values : AllEmitted → Stretch Instr ℕ
 of_values es = record { code = es.code; lists = es.lists; end = es.to }
 
 module _ {A : Type 0} where
-  abbrev pub AddsValue : Emitted → (old new : Vec Instr A) → OwnLists A → Result Held Failure → Type 0
+  abbrev pub AddsValue : Emitted → (old new : Vec Instr A) → OwnLists A → Result ValueRegister Failure → Type 0
   AddsValue e old new l r = Adds (of_value e) old.items new.items (lists_of l) r
 
-  abbrev pub AddsTest : Condition → (old new : Vec Draft A) → OwnLists A → Result Tested Failure → Type 0
+  abbrev pub AddsTest : Condition → (old new : Vec Draft A) → OwnLists A → Result ConditionRegister Failure → Type 0
   AddsTest c old new l r = Adds (of_test c) old.items new.items (lists_of l) r
 
   abbrev pub Writes : Written → (old new : Vec Instr A) → OwnLists A → Result ℕ Failure → Type 0

@@ -6,14 +6,14 @@ use Rattle.syntax.specs.Tree.{Program}
 use Rattle.syntax.specs.Views.{program_of}
 use Rattle.syntax.specs.Names as Source
 use Rattle.lowered.specs.Expressions.{LocalScope}
-use Rattle.expression_code.specs.declared.program.Names.{Names}
+use Rattle.expression_code.specs.declared.program.ProgramNames.{ProgramNames}
 use Rattle.expression_code.specs.declared.scope.Scope.{Scope}
 
 abbrev pub local_in : List ℕ × Scalar → Source.Local
 local_in l = record { name = l.0; of = l.1; word = 0 }
 
 module _ {A : Type 0} where
-  abbrev pub program_in : Names A → Program
+  abbrev pub program_in : ProgramNames A → Program
   program_in names = program_of names.unit.now
 
   abbrev pub scope_in : Scope A → LocalScope

@@ -4,7 +4,7 @@ ghost use Rattle.std.specs.Prelude.{◌≡◌, not};
 ghost use Rattle.syntax.specs.Views.{expr_of};
 ghost use Rattle.picked.specs.Conditions as conditions;
 
-use picked::held::Tested;
+use picked::locations::ConditionRegister;
 use std::alloc::Allocator;
 use syntax::tree::{BinaryOp, Expr};
 
@@ -30,10 +30,10 @@ pub(crate) fn zero_test<A: Allocator>(op: BinaryOp, b: &Expr<A>) -> Option<bool>
 }
 
 /// The test of the opposite condition.
-pub(crate) fn opposite(t: Tested) -> Tested
+pub(crate) fn opposite(t: ConditionRegister) -> ConditionRegister
     ensures { result ≡ record t { at_zero = not t.at_zero } }
 {
-    Tested {
+    ConditionRegister {
         register: t.register,
         at_zero: !t.at_zero,
         to: t.to,

@@ -15,7 +15,7 @@ use crate::put::{after, put, take};
 use crate::ready::constant_word;
 use bytecode::Instr;
 use lex::token::Scalar;
-use picked::held::Held;
+use picked::locations::ValueRegister;
 use std::alloc::Allocator;
 use syntax::number::number;
 
@@ -51,16 +51,16 @@ pub(crate) fn converts(own: Scalar, of: Scalar) -> bool
 fn put_extended<A: Allocator>(
     lists: &mut Lists<A>,
     code: &mut Vec<Instr, A>,
-    a: Held,
+    a: ValueRegister,
     into: usize,
-) -> Result<Held, Failure>
+) -> Result<ValueRegister, Failure>
     ensures { AddsValue (then_one (in_place a (lists_of lists.old)) (instr.Extend into a.register) into
         (Scalar.LongLong)) code.old code.new lists.new result }
 {
     let register = take(lists, into)?;
     put(code, Instr::Extend(register, a.register))?;
     let to = after(a.to, 1)?;
-    Ok(Held {
+    Ok(ValueRegister {
         register,
         of: Scalar::LongLong,
         to,
@@ -71,32 +71,32 @@ fn put_extended<A: Allocator>(
 fn put_low<A: Allocator>(
     lists: &mut Lists<A>,
     code: &mut Vec<Instr, A>,
-    a: Held,
+    a: ValueRegister,
     of: Scalar,
     into: usize,
-) -> Result<Held, Failure>
+) -> Result<ValueRegister, Failure>
     ensures { AddsValue (then_one (in_place a (lists_of lists.old)) (instr.Low into a.register) into of)
         code.old code.new lists.new result }
 {
     let register = take(lists, into)?;
     put(code, Instr::Low(register, a.register))?;
     let to = after(a.to, 1)?;
-    Ok(Held { register, of, to })
+    Ok(ValueRegister { register, of, to })
 }
 
 /// A value of a type `own` in another type.
 pub(crate) fn put_converted<A: Allocator>(
     lists: &mut Lists<A>,
     code: &mut Vec<Instr, A>,
-    a: Held,
+    a: ValueRegister,
     own: Scalar,
     of: Scalar,
     into: usize,
-) -> Result<Held, Failure>
+) -> Result<ValueRegister, Failure>
     ensures { AddsValue (converted_by (converting own of) of (in_place a (lists_of lists.old)) into)
         code.old code.new lists.new result }
 {
-    let as_it_lies = Held {
+    let as_it_lies = ValueRegister {
         register: a.register,
         of,
         to: a.to,
@@ -118,15 +118,15 @@ pub(crate) fn put_converted<A: Allocator>(
 pub(crate) fn put_widened<A: Allocator>(
     lists: &mut Lists<A>,
     code: &mut Vec<Instr, A>,
-    a: Held,
+    a: ValueRegister,
     own: Scalar,
     of: Scalar,
     into: usize,
-) -> Result<Held, Failure>
+) -> Result<ValueRegister, Failure>
     ensures { AddsValue (converted_by (widening own of) of (in_place a (lists_of lists.old)) into)
         code.old code.new lists.new result }
 {
-    let as_it_lies = Held {
+    let as_it_lies = ValueRegister {
         register: a.register,
         of,
         to: a.to,

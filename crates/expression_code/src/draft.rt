@@ -8,7 +8,7 @@ ghost use Rattle.picked.specs.Conditions as conditions;
 use crate::put::{after, put};
 use bytecode::Instr;
 use picked::draft::Draft;
-use picked::held::Tested;
+use picked::locations::ConditionRegister;
 use std::alloc::{AllocError, Allocator};
 use syntax::tree::LogicalOp;
 
@@ -72,7 +72,7 @@ fn led_on(op: LogicalOp, next: u32, one: Draft) -> Draft
 }
 
 /// The jump past the second condition of `&&` and `||`.
-fn short_jump(op: LogicalOp, t: Tested) -> Draft
+fn short_jump(op: LogicalOp, t: ConditionRegister) -> Draft
     ensures { result ≡ conditions.short_jump op t }
 {
     match op {
@@ -149,7 +149,7 @@ pub(crate) fn put_first<A: Allocator>(
     drafts: &mut Vec<Draft, A>,
     first: &[Draft],
     op: LogicalOp,
-    t: Tested,
+    t: ConditionRegister,
 ) -> Result<u32, AllocError>
     ensures code { OnOk result (drafts.new.items ≡ drafts.old.items
         ++ (map (conditions.led_on op (t.to + 1)) first.now ++ conditions.short_jump op t ∷ [])) }
@@ -165,7 +165,7 @@ pub(crate) fn put_first<A: Allocator>(
 pub fn put_test<A: Allocator>(
     code: &mut Vec<Instr, A>,
     drafts: &[Draft],
-    t: Tested,
+    t: ConditionRegister,
     unmet: u32,
 ) -> Result<(), AllocError>
     ensures { OnOk result (code.new.items ≡ code.old.items ++ conditions.going_on drafts.now t unmet) }
@@ -179,7 +179,7 @@ pub fn put_test<A: Allocator>(
 pub fn put_back<A: Allocator>(
     code: &mut Vec<Instr, A>,
     drafts: &[Draft],
-    t: Tested,
+    t: ConditionRegister,
     met: u32,
 ) -> Result<u32, AllocError>
     ensures code { OnOk result (code.new.items ≡ code.old.items ++ conditions.going_back drafts.now t met) }

@@ -26,7 +26,7 @@ use crate::draft::{keep, put_first, turn};
 use crate::fault::Failure;
 use crate::lists::Lists;
 use crate::names::{Callee, callee_of, global};
-use crate::program::Names;
+use crate::program::ProgramNames;
 use crate::put::{
     above, after, put, put_answers, put_both, put_chosen, put_compared, put_complemented,
     put_constant, put_in_transaction, put_negated, settle, take,
@@ -38,7 +38,7 @@ use bytecode::Instr;
 use global_tables::Shared;
 use lex::token::{Scalar, Span};
 use picked::draft::Draft;
-use picked::held::{Held, Tested};
+use picked::locations::{ValueRegister, ConditionRegister};
 use smallvec::SmallVec;
 use std::alloc::{AllocError, Allocator};
 use syntax::tree::{Expr, LogicalOp, Parameter, UnaryOp};
@@ -52,7 +52,7 @@ fn put_number<A: Allocator>(
     of: Scalar,
     from: u32,
     into: usize,
-) -> Result<Held, Failure>
+) -> Result<ValueRegister, Failure>
     ensures { AddsValue (constant (word_of of (pos value)) of from into (lists_of lists.old))
         code.old code.new lists.new result }
 {
@@ -66,7 +66,7 @@ fn put_read<A: Allocator + Copy>(
     g: Shared<'_, A>,
     from: u32,
     into: usize,
-) -> Result<Held, Failure>
+) -> Result<ValueRegister, Failure>
     requires { g.cell ≤ 4096 }
     ensures { AddsValue (one (instr.Read into g.entry.cell) from into g.entry.global.now.of (lists_of lists.old))
         code.old code.new lists.new result }
@@ -74,7 +74,7 @@ fn put_read<A: Allocator + Copy>(
     let register = take(lists, into)?;
     put(code, Instr::Read(register, g.cell as u32))?;
     let to = after(from, 1)?;
-    Ok(Held {
+    Ok(ValueRegister {
         register,
         of: g.global.of,
         to,
@@ -83,14 +83,14 @@ fn put_read<A: Allocator + Copy>(
 
 /// A variable's value.
 fn lower_variable<A: Allocator + Copy>(
-    names: &Names<'_, A>,
+    names: &ProgramNames<'_, A>,
     scope: &Scope<'_, A>,
     lists: &mut Lists<A>,
     code: &mut Vec<Instr, A>,
     x: &str,
     from: u32,
     into: usize,
-) -> Result<Held, Failure>
+) -> Result<ValueRegister, Failure>
     ensures { AddsValue (variable (Source.newest (scope_in scope.now) x.now)
         (Source.global_of (program_in names.now) x.now) from into (lists_of lists.old))
         code.old code.new lists.new result }
@@ -98,7 +98,7 @@ fn lower_variable<A: Allocator + Copy>(
     match scope.newest(x) {
         Some((i, of)) => {
             let register = take(lists, i)?;
-            Ok(Held {
+            Ok(ValueRegister {
                 register,
                 of,
                 to: from,
@@ -116,9 +116,9 @@ fn put_read_at<A: Allocator + Copy>(
     lists: &mut Lists<A>,
     code: &mut Vec<Instr, A>,
     g: Shared<'_, A>,
-    index: Held,
+    index: ValueRegister,
     into: usize,
-) -> Result<Held, Failure>
+) -> Result<ValueRegister, Failure>
     requires { g.cell + Source.cells (global_of g.global.now) ≤ 4096 }
     ensures { AddsValue (element (Some (shared_in g.entry)) (in_place index (lists_of lists.old)) index.to into
         (lists_of lists.old)) code.old code.new lists.new result }
@@ -130,7 +130,7 @@ fn put_read_at<A: Allocator + Copy>(
         Instr::ReadAt(register, index.register, g.cell as u32, length),
     )?;
     let to = after(index.to, 1)?;
-    Ok(Held {
+    Ok(ValueRegister {
         register,
         of: g.global.of,
         to,
@@ -249,7 +249,7 @@ fn put_call<A: Allocator + Copy>(
     registers: &[u16],
     from: u32,
     into: usize,
-) -> Result<Held, Failure>
+) -> Result<ValueRegister, Failure>
     ensures { AddsValue (call_code (Some (callee_in f.entry)) (all_in_place registers.now from (lists_of lists.old)) from
         into (lists_of lists.old)) code.old code.new lists.new result }
 {
@@ -260,7 +260,7 @@ fn put_call<A: Allocator + Copy>(
     let register = take(lists, into)?;
     put(code, Instr::Call(register, count, f.number as u32, first))?;
     let to = after(from, 1)?;
-    Ok(Held {
+    Ok(ValueRegister {
         register,
         of: f.of,
         to,
@@ -284,7 +284,7 @@ fn add_operand<A: Allocator>(
 /// written.
 #[cycle(lower_expr)]
 pub fn lower_expr<A: Allocator + Copy>(
-    names: &Names<'_, A>,
+    names: &ProgramNames<'_, A>,
     scope: &Scope<'_, A>,
     lists: &mut Lists<A>,
     code: &mut Vec<Instr, A>,
@@ -292,7 +292,7 @@ pub fn lower_expr<A: Allocator + Copy>(
     from: u32,
     into: usize,
     free: usize,
-) -> Result<Held, Failure>
+) -> Result<ValueRegister, Failure>
     ensures { AddsValue (emitted (program_in names.now) (scope_in scope.now) (expr_of e.now) from into free
         (lists_of lists.old)) code.old code.new lists.new result }
 {
@@ -405,7 +405,7 @@ pub fn lower_expr<A: Allocator + Copy>(
 /// An expression's value in the type that is due: it is converted, and a constant is set as what it is converted to.
 #[cycle(lower_expr)]
 pub fn lower_due<A: Allocator + Copy>(
-    names: &Names<'_, A>,
+    names: &ProgramNames<'_, A>,
     scope: &Scope<'_, A>,
     lists: &mut Lists<A>,
     code: &mut Vec<Instr, A>,
@@ -414,7 +414,7 @@ pub fn lower_due<A: Allocator + Copy>(
     from: u32,
     into: usize,
     free: usize,
-) -> Result<Held, Failure>
+) -> Result<ValueRegister, Failure>
     ensures { AddsValue (due (program_in names.now) (scope_in scope.now) of (expr_of e.now) from into free
         (lists_of lists.old)) code.old code.new lists.new result }
 {
@@ -432,7 +432,7 @@ pub fn lower_due<A: Allocator + Copy>(
 /// The right side of an operator in the type that is due: it is computed, or it is a constant that lies ready.
 #[cycle(lower_expr)]
 pub(crate) fn lower_operand<A: Allocator + Copy>(
-    names: &Names<'_, A>,
+    names: &ProgramNames<'_, A>,
     scope: &Scope<'_, A>,
     lists: &mut Lists<A>,
     code: &mut Vec<Instr, A>,
@@ -440,7 +440,7 @@ pub(crate) fn lower_operand<A: Allocator + Copy>(
     of: Scalar,
     from: u32,
     free: usize,
-) -> Result<Held, Failure>
+) -> Result<ValueRegister, Failure>
     ensures { AddsValue (operand (program_in names.now) (scope_in scope.now) of (expr_of e.now) from free
         (lists_of lists.old)) code.old code.new lists.new result }
 {
@@ -453,7 +453,7 @@ pub(crate) fn lower_operand<A: Allocator + Copy>(
 /// A call; its arguments' registers are gathered in `registers`.
 #[cycle(lower_expr)]
 fn lower_call<A: Allocator + Copy>(
-    names: &Names<'_, A>,
+    names: &ProgramNames<'_, A>,
     scope: &Scope<'_, A>,
     lists: &mut Lists<A>,
     code: &mut Vec<Instr, A>,
@@ -463,7 +463,7 @@ fn lower_call<A: Allocator + Copy>(
     from: u32,
     into: usize,
     free: usize,
-) -> Result<Held, Failure>
+) -> Result<ValueRegister, Failure>
     requires { registers.old.items ≡ [] }
     ensures { AddsValue (call_code (Some (callee_in f.entry))
         (all_emitted (program_in names.now) (scope_in scope.now) (taken_types (Some (callee_in f.entry)))
@@ -488,7 +488,7 @@ fn lower_call<A: Allocator + Copy>(
 /// smaller than `e`.
 #[cycle(lower_expr)]
 fn lower_logical<A: Allocator + Copy>(
-    names: &Names<'_, A>,
+    names: &ProgramNames<'_, A>,
     scope: &Scope<'_, A>,
     lists: &mut Lists<A>,
     code: &mut Vec<Instr, A>,
@@ -501,7 +501,7 @@ fn lower_logical<A: Allocator + Copy>(
     from: u32,
     into: usize,
     free: usize,
-) -> Result<Held, Failure>
+) -> Result<ValueRegister, Failure>
     requires test { test.old.items ≡ [] }
     requires parts { e.now ≡ tree.Logical op left.now right.now at }
     ensures { AddsValue (condition_value
@@ -520,7 +520,7 @@ fn lower_logical<A: Allocator + Copy>(
 /// and `at`: the parts are smaller than `e`.
 #[cycle(lower_expr)]
 fn lower_conditional<A: Allocator + Copy>(
-    names: &Names<'_, A>,
+    names: &ProgramNames<'_, A>,
     scope: &Scope<'_, A>,
     lists: &mut Lists<A>,
     code: &mut Vec<Instr, A>,
@@ -535,7 +535,7 @@ fn lower_conditional<A: Allocator + Copy>(
     from: u32,
     into: usize,
     free: usize,
-) -> Result<Held, Failure>
+) -> Result<ValueRegister, Failure>
     requires test { test.old.items ≡ [] }
     requires first { first.old.items ≡ [] }
     requires second { second.old.items ≡ [] }
@@ -559,7 +559,7 @@ fn lower_conditional<A: Allocator + Copy>(
 /// An expression's value in this type and in this very register.
 #[cycle(lower_expr)]
 fn lower_settled<A: Allocator + Copy>(
-    names: &Names<'_, A>,
+    names: &ProgramNames<'_, A>,
     scope: &Scope<'_, A>,
     lists: &mut Lists<A>,
     code: &mut Vec<Instr, A>,
@@ -568,7 +568,7 @@ fn lower_settled<A: Allocator + Copy>(
     from: u32,
     into: usize,
     free: usize,
-) -> Result<Held, Failure>
+) -> Result<ValueRegister, Failure>
     ensures code { AddsValue (value_into into
         (due (program_in names.now) (scope_in scope.now) of (expr_of e.now) from into free (lists_of lists.old)))
         code.old code.new lists.new result }
@@ -581,7 +581,7 @@ fn lower_settled<A: Allocator + Copy>(
 /// A value that is computed in a transaction of its own.
 #[cycle(lower_expr)]
 fn lower_in_transaction<A: Allocator + Copy>(
-    names: &Names<'_, A>,
+    names: &ProgramNames<'_, A>,
     scope: &Scope<'_, A>,
     lists: &mut Lists<A>,
     code: &mut Vec<Instr, A>,
@@ -589,7 +589,7 @@ fn lower_in_transaction<A: Allocator + Copy>(
     from: u32,
     into: usize,
     free: usize,
-) -> Result<Held, Failure>
+) -> Result<ValueRegister, Failure>
     ensures { AddsValue (in_own_transaction
         (emitted (program_in names.now) (scope_in scope.now) (expr_of e.now) (from + 1) into free
         (lists_of lists.old)))
@@ -604,14 +604,14 @@ fn lower_in_transaction<A: Allocator + Copy>(
 /// A condition that is tested by its value.
 #[cycle(lower_expr)]
 fn lower_value<A: Allocator + Copy>(
-    names: &Names<'_, A>,
+    names: &ProgramNames<'_, A>,
     scope: &Scope<'_, A>,
     lists: &mut Lists<A>,
     drafts: &mut Vec<Draft, A>,
     e: &Expr<A>,
     from: u32,
     free: usize,
-) -> Result<Tested, Failure>
+) -> Result<ConditionRegister, Failure>
     ensures { AddsTest (condition_of None
         (emitted (program_in names.now) (scope_in scope.now) (expr_of e.now) from free free (lists_of lists.old)))
         drafts.old drafts.new lists.new result }
@@ -619,7 +619,7 @@ fn lower_value<A: Allocator + Copy>(
     let mut code = Vec::new(names.alloc);
     let held = lower_expr(names, scope, lists, &mut code, e, from, free, free)?;
     keep(drafts, code.as_slice())?;
-    Ok(Tested {
+    Ok(ConditionRegister {
         register: held.register,
         at_zero: false,
         to: held.to,
@@ -629,14 +629,14 @@ fn lower_value<A: Allocator + Copy>(
 /// The opposite of a condition.
 #[cycle(lower_expr)]
 fn lower_opposite<A: Allocator + Copy>(
-    names: &Names<'_, A>,
+    names: &ProgramNames<'_, A>,
     scope: &Scope<'_, A>,
     lists: &mut Lists<A>,
     drafts: &mut Vec<Draft, A>,
     e: &Expr<A>,
     from: u32,
     free: usize,
-) -> Result<Tested, Failure>
+) -> Result<ConditionRegister, Failure>
     ensures { AddsTest (conditions.opposite
         (condition (program_in names.now) (scope_in scope.now) (expr_of e.now) from free (lists_of lists.old)))
         drafts.old drafts.new lists.new result }
@@ -650,7 +650,7 @@ fn lower_opposite<A: Allocator + Copy>(
 /// The first condition of `&&` and `||` and its jump; the place behind.
 #[cycle(lower_expr)]
 fn lower_first<A: Allocator + Copy>(
-    names: &Names<'_, A>,
+    names: &ProgramNames<'_, A>,
     scope: &Scope<'_, A>,
     lists: &mut Lists<A>,
     drafts: &mut Vec<Draft, A>,
@@ -671,14 +671,14 @@ fn lower_first<A: Allocator + Copy>(
 /// A condition, up to the jump that it ends in.
 #[cycle(lower_expr)]
 pub fn lower_condition<A: Allocator + Copy>(
-    names: &Names<'_, A>,
+    names: &ProgramNames<'_, A>,
     scope: &Scope<'_, A>,
     lists: &mut Lists<A>,
     drafts: &mut Vec<Draft, A>,
     e: &Expr<A>,
     from: u32,
     free: usize,
-) -> Result<Tested, Failure>
+) -> Result<ConditionRegister, Failure>
     ensures { AddsTest (condition (program_in names.now) (scope_in scope.now) (expr_of e.now) from free
         (lists_of lists.old)) drafts.old drafts.new lists.new result }
 {
@@ -721,7 +721,7 @@ pub fn lower_condition<A: Allocator + Copy>(
 /// One of several values, in the type of the parameter of its number, if there is one.
 #[cycle(lower_expr)]
 fn lower_handed<A: Allocator + Copy>(
-    names: &Names<'_, A>,
+    names: &ProgramNames<'_, A>,
     scope: &Scope<'_, A>,
     lists: &mut Lists<A>,
     code: &mut Vec<Instr, A>,
@@ -730,7 +730,7 @@ fn lower_handed<A: Allocator + Copy>(
     e: &Expr<A>,
     from: u32,
     free: usize,
-) -> Result<Held, Failure>
+) -> Result<ValueRegister, Failure>
     ensures { AddsValue (handed (program_in names.now) (scope_in scope.now)
         (drop number (types_of (map parameter_of parameters.now))) (expr_of e.now) from free (lists_of lists.old))
         code.old code.new lists.new result }
@@ -747,7 +747,7 @@ fn lower_handed<A: Allocator + Copy>(
 /// `registers`; the place behind them.
 #[cycle(lower_expr)]
 pub fn lower_all<A: Allocator + Copy>(
-    names: &Names<'_, A>,
+    names: &ProgramNames<'_, A>,
     scope: &Scope<'_, A>,
     lists: &mut Lists<A>,
     code: &mut Vec<Instr, A>,

@@ -7,7 +7,7 @@ ghost use Rattle.global_tables.specs.Tables.{shared_in};
 ghost use Rattle.expression_code.specs.inner.Tables.{callee_in};
 ghost use Rattle.expression_code.specs.Views.{program_in};
 
-use crate::program::Names;
+use crate::program::ProgramNames;
 use global_tables::{Shared, look_up};
 use lex::token::Scalar;
 use std::alloc::Allocator;
@@ -23,7 +23,7 @@ pub(crate) struct Callee<'p, A: Allocator> {
 
 /// A global of the file, with its first cell.
 pub(crate) fn global<'p, A: Allocator + Copy>(
-    names: &Names<'p, A>,
+    names: &ProgramNames<'p, A>,
     name: &str,
 ) -> Option<Shared<'p, A>>
     ensures value { option_map shared_in result ≡ Source.global_of (program_in names.now) name.now }
@@ -34,7 +34,7 @@ pub(crate) fn global<'p, A: Allocator + Copy>(
 
 /// A function that is defined in the file.
 pub(crate) fn callee_of<'p, A: Allocator + Copy>(
-    names: &Names<'p, A>,
+    names: &ProgramNames<'p, A>,
     name: &str,
 ) -> Option<Callee<'p, A>>
     ensures { option_map callee_in result ≡ Named.callee_of (program_in names.now) name.now }

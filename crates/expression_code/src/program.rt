@@ -20,7 +20,7 @@ pub(crate) type Callees<'p, A> = Table<'p, Callee<'p, A>, A>;
 /// A program for which code is made, with the tables of its names, and with at most so many cells as an accepted one
 /// has.
 #[derive(Drop)]
-pub struct Names<'p, A: Allocator> {
+pub struct ProgramNames<'p, A: Allocator> {
     /// Where memory for code is taken.
     pub alloc: A,
 

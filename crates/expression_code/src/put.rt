@@ -14,7 +14,7 @@ use crate::lists::Lists;
 use bytecode::Instr;
 use lex::token::Scalar;
 use picked::draft::Draft;
-use picked::held::{Held, Tested};
+use picked::locations::{ValueRegister, ConditionRegister};
 use std::alloc::{AllocError, Allocator};
 use syntax::tree::BinaryOp;
 use syntax::types::result_type;
@@ -87,23 +87,23 @@ pub(crate) fn put_constant<A: Allocator>(
     of: Scalar,
     from: u32,
     into: usize,
-) -> Result<Held, Failure>
+) -> Result<ValueRegister, Failure>
     ensures { AddsValue (expressions.constant value of from into (lists_of lists.old))
         code.old code.new lists.new result }
 {
     let register = take(lists, into)?;
     put(code, Instr::Constant(register, value))?;
     let to = after(from, 1)?;
-    Ok(Held { register, of, to })
+    Ok(ValueRegister { register, of, to })
 }
 
 /// A value in this very register.
 pub(crate) fn settle<A: Allocator>(
     lists: &mut Lists<A>,
     code: &mut Vec<Instr, A>,
-    held: Held,
+    held: ValueRegister,
     r: usize,
-) -> Result<Held, Failure>
+) -> Result<ValueRegister, Failure>
     ensures code { AddsValue (expressions.value_into r (in_place held (lists_of lists.old)))
         code.old code.new lists.new result }
     ensures register { IfOk result (λ now. now.register ≡ r) }
@@ -114,7 +114,7 @@ pub(crate) fn settle<A: Allocator>(
     let register = take(lists, r)?;
     put(code, Instr::Move(register, held.register))?;
     let to = after(held.to, 1)?;
-    Ok(Held {
+    Ok(ValueRegister {
         register,
         of: held.of,
         to,
@@ -206,17 +206,17 @@ pub(crate) fn put_both<A: Allocator>(
     code: &mut Vec<Instr, A>,
     op: BinaryOp,
     of: Scalar,
-    a: Held,
-    b: Held,
+    a: ValueRegister,
+    b: ValueRegister,
     into: usize,
-) -> Result<Held, Failure>
+) -> Result<ValueRegister, Failure>
     ensures { AddsValue (expressions.both op of (in_place a (lists_of lists.old)) (in_place b (lists_of lists.old))
         into) code.old code.new lists.new result }
 {
     let register = take(lists, into)?;
     put(code, computing(op, of, register, a.register, b.register))?;
     let to = after(b.to, 1)?;
-    Ok(Held {
+    Ok(ValueRegister {
         register,
         of: result_type(op, of),
         to,
@@ -246,16 +246,16 @@ fn complementing(of: Scalar, d: u16, a: u16) -> Instr
 pub(crate) fn put_negated<A: Allocator>(
     lists: &mut Lists<A>,
     code: &mut Vec<Instr, A>,
-    a: Held,
+    a: ValueRegister,
     into: usize,
-) -> Result<Held, Failure>
+) -> Result<ValueRegister, Failure>
     ensures { AddsValue (expressions.negation (in_place a (lists_of lists.old)) into)
         code.old code.new lists.new result }
 {
     let register = take(lists, into)?;
     put(code, negating(a.of, register, a.register))?;
     let to = after(a.to, 1)?;
-    Ok(Held {
+    Ok(ValueRegister {
         register,
         of: a.of,
         to,
@@ -266,16 +266,16 @@ pub(crate) fn put_negated<A: Allocator>(
 pub(crate) fn put_complemented<A: Allocator>(
     lists: &mut Lists<A>,
     code: &mut Vec<Instr, A>,
-    a: Held,
+    a: ValueRegister,
     into: usize,
-) -> Result<Held, Failure>
+) -> Result<ValueRegister, Failure>
     ensures { AddsValue (expressions.complement (in_place a (lists_of lists.old)) into)
         code.old code.new lists.new result }
 {
     let register = take(lists, into)?;
     put(code, complementing(a.of, register, a.register))?;
     let to = after(a.to, 1)?;
-    Ok(Held {
+    Ok(ValueRegister {
         register,
         of: a.of,
         to,
@@ -286,10 +286,10 @@ pub(crate) fn put_complemented<A: Allocator>(
 pub(crate) fn put_compared<A: Allocator>(
     lists: &mut Lists<A>,
     code: &mut Vec<Instr, A>,
-    a: Held,
+    a: ValueRegister,
     into: usize,
     free: usize,
-) -> Result<Held, Failure>
+) -> Result<ValueRegister, Failure>
     ensures { AddsValue (expressions.logical_negation (in_place a (lists_of lists.old)) into free)
         code.old code.new lists.new result }
 {
@@ -298,7 +298,7 @@ pub(crate) fn put_compared<A: Allocator>(
     let register = take(lists, into)?;
     put(code, Instr::Equal(register, a.register, zero_in))?;
     let to = after(a.to, 2)?;
-    Ok(Held {
+    Ok(ValueRegister {
         register,
         of: Scalar::Int,
         to,
@@ -310,9 +310,9 @@ pub(crate) fn put_answers<A: Allocator>(
     lists: &mut Lists<A>,
     code: &mut Vec<Instr, A>,
     test: &[Draft],
-    t: Tested,
+    t: ConditionRegister,
     into: usize,
-) -> Result<Held, Failure>
+) -> Result<ValueRegister, Failure>
     ensures { AddsValue (expressions.condition_value (test_in_place test.now t (lists_of lists.old)) into)
         code.old code.new lists.new result }
 {
@@ -323,7 +323,7 @@ pub(crate) fn put_answers<A: Allocator>(
     put(code, Instr::Constant(register, 1))?;
     put(code, Instr::Jump(to))?;
     put(code, Instr::Constant(register, 0))?;
-    Ok(Held {
+    Ok(ValueRegister {
         register,
         of: Scalar::Int,
         to,
@@ -335,12 +335,12 @@ pub(crate) fn put_chosen<A: Allocator>(
     code: &mut Vec<Instr, A>,
     of: Scalar,
     test: &[Draft],
-    t: Tested,
+    t: ConditionRegister,
     first: &mut Vec<Instr, A>,
-    a: Held,
+    a: ValueRegister,
     second: &mut Vec<Instr, A>,
-    b: Held,
-) -> Result<Held, Failure>
+    b: ValueRegister,
+) -> Result<ValueRegister, Failure>
     ensures { (l : Plain) → Adds (of_value (expressions.conditional_value of (test_in_place test.now t l)
         (standing first.old.items a l) (standing second.old.items b l) b.register)) code.old.items code.new.items l
         result }
@@ -350,7 +350,7 @@ pub(crate) fn put_chosen<A: Allocator>(
     append(code, first)?;
     put(code, Instr::Jump(b.to))?;
     append(code, second)?;
-    Ok(Held {
+    Ok(ValueRegister {
         register: b.register,
         of,
         to: b.to,
@@ -361,8 +361,8 @@ pub(crate) fn put_chosen<A: Allocator>(
 pub(crate) fn put_in_transaction<A: Allocator>(
     code: &mut Vec<Instr, A>,
     operand: &mut Vec<Instr, A>,
-    held: Held,
-) -> Result<Held, Failure>
+    held: ValueRegister,
+) -> Result<ValueRegister, Failure>
     ensures { (l : Plain) → Adds (of_value (expressions.in_own_transaction (standing operand.old.items held l)))
         code.old.items code.new.items l result }
 {
@@ -370,7 +370,7 @@ pub(crate) fn put_in_transaction<A: Allocator>(
     put(code, Instr::Begin(to))?;
     append(code, operand)?;
     put(code, Instr::Commit)?;
-    Ok(Held {
+    Ok(ValueRegister {
         register: held.register,
         of: held.of,
         to,

@@ -12,7 +12,7 @@ use crate::lists::Lists;
 use crate::put::put;
 use bytecode::Instr;
 use lex::token::Scalar;
-use picked::held::Held;
+use picked::locations::ValueRegister;
 use std::alloc::{AllocError, Allocator};
 use syntax::number::word_of;
 use syntax::tree::Expr;
@@ -23,13 +23,13 @@ pub(crate) fn ready<A: Allocator>(
     word: u64,
     of: Scalar,
     from: u32,
-) -> Option<Held>
+) -> Option<ValueRegister>
     ensures { result ≡ expressions.ready (lists_of lists.now).layout word of from }
 {
     let mut register = lists.writable;
     'each: for constant in lists.constants.as_slice() {
         if *constant == word {
-            return Some(Held {
+            return Some(ValueRegister {
                 register,
                 of,
                 to: from,
@@ -66,7 +66,7 @@ pub(crate) fn constant_ready<A: Allocator>(
     of: Scalar,
     e: &Expr<A>,
     from: u32,
-) -> Option<Held>
+) -> Option<ValueRegister>
     ensures { result ≡ expressions.constant_ready (lists_of lists.now).layout of (expr_of e.now) from }
 {
     match e {

@@ -5,7 +5,7 @@ ghost use Rattle.syntax.specs.Names as Source;
 ghost use Rattle.lowered.specs.Statements.{with_local};
 ghost use Rattle.expression_code.specs.Views.{scope_in};
 
-use crate::program::Names;
+use crate::program::ProgramNames;
 use lex::token::Scalar;
 use std::alloc::{AllocError, Allocator};
 
@@ -17,7 +17,7 @@ pub struct Scope<'p, A: Allocator> {
 
 impl<'p, A: Allocator + Copy> Scope<'p, A> {
     /// No locals of a program. Takes no memory.
-    pub fn new(names: &Names<'p, A>) -> Scope<'p, A>
+    pub fn new(names: &ProgramNames<'p, A>) -> Scope<'p, A>
         ensures { scope_in result ≡ [] }
     {
         Scope {

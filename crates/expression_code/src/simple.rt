@@ -23,7 +23,7 @@ use crate::expr::{lower_expr, lower_operand};
 use crate::fault::Failure;
 use crate::lists::Lists;
 use crate::names::global;
-use crate::program::Names;
+use crate::program::ProgramNames;
 use crate::put::{above, after, put, put_both, put_constant, take};
 use crate::ready::{constant_of, ready};
 use crate::scope::Scope;
@@ -31,12 +31,12 @@ use crate::value_type::value_type;
 use bytecode::Instr;
 use global_tables::Shared;
 use lex::token::Scalar;
-use picked::held::{Held, Target};
+use picked::locations::{ValueRegister, AssignmentTarget};
 use std::alloc::Allocator;
 use syntax::tree::{BinaryOp, Declarator, Expr, Simple, Start};
 use syntax::types::{operand_type, result_type};
 
-fn aim_at(target: Target, to: u32) -> Aim
+fn aim_at(target: AssignmentTarget, to: u32) -> Aim
     ensures { result ≡ record { target = target; to = to } }
 {
     Aim { target, to }
@@ -44,7 +44,7 @@ fn aim_at(target: Target, to: u32) -> Aim
 
 /// Where an assignment to a variable goes.
 fn aim_variable<A: Allocator + Copy>(
-    names: &Names<'_, A>,
+    names: &ProgramNames<'_, A>,
     scope: &Scope<'_, A>,
     lists: &mut Lists<A>,
     x: &str,
@@ -57,11 +57,11 @@ fn aim_variable<A: Allocator + Copy>(
     match scope.newest(x) {
         Some((i, of)) => {
             let register = take(lists, i)?;
-            Ok(aim_at(Target::Local(register, of), from))
+            Ok(aim_at(AssignmentTarget::Local(register, of), from))
         }
         None => match global(names, x) {
-            Some(g) => Ok(aim_at(Target::Cell(g.cell as u32, g.global.of), from)),
-            None => Ok(aim_at(Target::Nowhere, from)),
+            Some(g) => Ok(aim_at(AssignmentTarget::Cell(g.cell as u32, g.global.of), from)),
+            None => Ok(aim_at(AssignmentTarget::Nowhere, from)),
         },
     }
 }
@@ -71,14 +71,14 @@ fn put_check<A: Allocator + Copy>(
     code: &mut Vec<Instr, A>,
     check: bool,
     g: Shared<'_, A>,
-    index: Held,
+    index: ValueRegister,
 ) -> Result<Aim, Failure>
     requires { g.cell + Source.cells (global_of g.global.now) ≤ 4096 }
     ensures { (l : Plain) → Adds (of_aim (element_target check (Some (shared_in g.entry)) (in_place index l) index.to
         l)) code.old.items code.new.items l result }
 {
     let length = g.global.cell_count() as u32;
-    let target = Target::Element(index.register, g.cell as u32, length, g.global.of);
+    let target = AssignmentTarget::Element(index.register, g.cell as u32, length, g.global.of);
     if check {
         put(code, Instr::Check(index.register, length))?;
         let to = after(index.to, 1)?;
@@ -89,7 +89,7 @@ fn put_check<A: Allocator + Copy>(
 
 /// Where an assignment goes.
 fn aim<A: Allocator + Copy>(
-    names: &Names<'_, A>,
+    names: &ProgramNames<'_, A>,
     scope: &Scope<'_, A>,
     lists: &mut Lists<A>,
     code: &mut Vec<Instr, A>,
@@ -108,28 +108,28 @@ fn aim<A: Allocator + Copy>(
                 let i = lower_expr(names, scope, lists, code, index.get(), from, free, free)?;
                 put_check(code, check, g, i)
             }
-            None => Ok(aim_at(Target::Nowhere, from)),
+            None => Ok(aim_at(AssignmentTarget::Nowhere, from)),
         },
-        _ => Ok(aim_at(Target::Nowhere, from)),
+        _ => Ok(aim_at(AssignmentTarget::Nowhere, from)),
     }
 }
 
 /// The first register that a target leaves.
-fn above_target(target: Target, free: usize) -> usize
+fn above_target(target: AssignmentTarget, free: usize) -> usize
     ensures { result ≡ simples.above_target target free }
 {
     match target {
-        Target::Element(i, _, _, _) => above(free, i),
+        AssignmentTarget::Element(i, _, _, _) => above(free, i),
         _ => free,
     }
 }
 
 /// The register that the value takes.
-fn home_or(target: Target, free: usize) -> usize
+fn home_or(target: AssignmentTarget, free: usize) -> usize
     ensures { result ≡ simples.home_or target free }
 {
     match target {
-        Target::Local(i, _) => i as usize,
+        AssignmentTarget::Local(i, _) => i as usize,
         _ => free,
     }
 }
@@ -138,68 +138,68 @@ fn home_or(target: Target, free: usize) -> usize
 fn fetch<A: Allocator>(
     lists: &mut Lists<A>,
     code: &mut Vec<Instr, A>,
-    target: Target,
+    target: AssignmentTarget,
     from: u32,
     free: usize,
-) -> Result<Held, Failure>
+) -> Result<ValueRegister, Failure>
     ensures { AddsValue (target_value target from free (lists_of lists.old)) code.old code.new lists.new result }
 {
     match target {
-        Target::Local(i, of) => {
+        AssignmentTarget::Local(i, of) => {
             let register = take(lists, i as usize)?;
-            Ok(Held {
+            Ok(ValueRegister {
                 register,
                 of,
                 to: from,
             })
         }
-        Target::Cell(cell, of) => {
+        AssignmentTarget::Cell(cell, of) => {
             let register = take(lists, free)?;
             put(code, Instr::Read(register, cell))?;
             let to = after(from, 1)?;
-            Ok(Held { register, of, to })
+            Ok(ValueRegister { register, of, to })
         }
-        Target::Element(i, cell, length, of) => {
+        AssignmentTarget::Element(i, cell, length, of) => {
             let register = take(lists, free)?;
             put(code, Instr::ReadAt(register, i, cell, length))?;
             let to = after(from, 1)?;
-            Ok(Held { register, of, to })
+            Ok(ValueRegister { register, of, to })
         }
-        Target::Nowhere => put_constant(lists, code, 0, Scalar::Int, from, free),
+        AssignmentTarget::Nowhere => put_constant(lists, code, 0, Scalar::Int, from, free),
     }
 }
 
 /// A value goes to its target, where it does not lie there already; the place behind.
 fn store<A: Allocator>(
     code: &mut Vec<Instr, A>,
-    target: Target,
+    target: AssignmentTarget,
     a: u16,
     from: u32,
 ) -> Result<u32, Failure>
     ensures { (l : Plain) → Adds (of_written (target_store target a from l)) code.old.items code.new.items l result }
 {
     let instr = match target {
-        Target::Local(i, _) => {
+        AssignmentTarget::Local(i, _) => {
             if a == i {
                 return Ok(from);
             }
             Instr::Move(i, a)
         }
-        Target::Cell(cell, _) => Instr::Write(a, cell),
-        Target::Element(i, cell, length, _) => Instr::WriteAt(i, a, cell, length),
-        Target::Nowhere => return Ok(from),
+        AssignmentTarget::Cell(cell, _) => Instr::Write(a, cell),
+        AssignmentTarget::Element(i, cell, length, _) => Instr::WriteAt(i, a, cell, length),
+        AssignmentTarget::Nowhere => return Ok(from),
     };
     put(code, instr)?;
     Ok(after(from, 1)?)
 }
 
 /// The type of what lies at a target.
-fn type_at(target: Target) -> Scalar
+fn type_at(target: AssignmentTarget) -> Scalar
     ensures { result ≡ simples.type_at target }
 {
     match target {
-        Target::Local(_, of) | Target::Cell(_, of) | Target::Element(_, _, _, of) => of,
-        Target::Nowhere => Scalar::Int,
+        AssignmentTarget::Local(_, of) | AssignmentTarget::Cell(_, of) | AssignmentTarget::Element(_, _, _, of) => of,
+        AssignmentTarget::Nowhere => Scalar::Int,
     }
 }
 
@@ -207,20 +207,20 @@ fn type_at(target: Target) -> Scalar
 fn put_fitting<A: Allocator>(
     lists: &mut Lists<A>,
     code: &mut Vec<Instr, A>,
-    target: Target,
+    target: AssignmentTarget,
     own: Scalar,
-    a: Held,
+    a: ValueRegister,
     into: usize,
-) -> Result<Held, Failure>
+) -> Result<ValueRegister, Failure>
     ensures { AddsValue (simples.fitting target own (in_place a (lists_of lists.old)) into)
         code.old code.new lists.new result }
 {
     match target {
-        Target::Local(_, of) => put_converted(lists, code, a, own, of, into),
-        Target::Cell(_, of) | Target::Element(_, _, _, of) => {
+        AssignmentTarget::Local(_, of) => put_converted(lists, code, a, own, of, into),
+        AssignmentTarget::Cell(_, of) | AssignmentTarget::Element(_, _, _, of) => {
             put_widened(lists, code, a, own, of, into)
         }
-        Target::Nowhere => Ok(Held {
+        AssignmentTarget::Nowhere => Ok(ValueRegister {
             register: a.register,
             of: Scalar::Int,
             to: a.to,
@@ -230,16 +230,16 @@ fn put_fitting<A: Allocator>(
 
 /// An expression's value on its way to a target.
 fn lower_fitting<A: Allocator + Copy>(
-    names: &Names<'_, A>,
+    names: &ProgramNames<'_, A>,
     scope: &Scope<'_, A>,
     lists: &mut Lists<A>,
     code: &mut Vec<Instr, A>,
-    target: Target,
+    target: AssignmentTarget,
     e: &Expr<A>,
     from: u32,
     home: usize,
     free: usize,
-) -> Result<Held, Failure>
+) -> Result<ValueRegister, Failure>
     ensures { AddsValue (simples.placed (program_in names.now) (scope_in scope.now) target (expr_of e.now) from home
         free (lists_of lists.old)) code.old code.new lists.new result }
 {
@@ -257,7 +257,7 @@ fn lower_fitting<A: Allocator + Copy>(
 
 /// `to = value`
 fn lower_assign<A: Allocator + Copy>(
-    names: &Names<'_, A>,
+    names: &ProgramNames<'_, A>,
     scope: &Scope<'_, A>,
     lists: &mut Lists<A>,
     code: &mut Vec<Instr, A>,
@@ -285,7 +285,7 @@ fn lower_one<A: Allocator>(
     of: Scalar,
     from: u32,
     free: usize,
-) -> Result<Held, Failure>
+) -> Result<ValueRegister, Failure>
     ensures { AddsValue (emitted_one of from free (lists_of lists.old)) code.old code.new lists.new result }
 {
     match ready(lists, 1, of, from) {
@@ -296,7 +296,7 @@ fn lower_one<A: Allocator>(
 
 /// The type of the right side of an operator.
 fn type_or_int<A: Allocator + Copy>(
-    names: &Names<'_, A>,
+    names: &ProgramNames<'_, A>,
     scope: &Scope<'_, A>,
     by: Option<&Expr<A>>,
 ) -> Scalar
@@ -311,7 +311,7 @@ fn type_or_int<A: Allocator + Copy>(
 
 /// The right side of an operator in this type: a value, or else the 1 that is added or subtracted.
 fn lower_by<A: Allocator + Copy>(
-    names: &Names<'_, A>,
+    names: &ProgramNames<'_, A>,
     scope: &Scope<'_, A>,
     lists: &mut Lists<A>,
     code: &mut Vec<Instr, A>,
@@ -319,7 +319,7 @@ fn lower_by<A: Allocator + Copy>(
     by: Option<&Expr<A>>,
     from: u32,
     free: usize,
-) -> Result<Held, Failure>
+) -> Result<ValueRegister, Failure>
     ensures { AddsValue (value_or_one (program_in names.now) (scope_in scope.now) of
         (option_map expr_of (option_copied by.entry)) from free (lists_of lists.old))
         code.old code.new lists.new result }
@@ -332,16 +332,16 @@ fn lower_by<A: Allocator + Copy>(
 
 /// The old value, another one, and the operator on both, as it goes to the target.
 fn lower_changed<'e, A: Allocator + Copy>(
-    names: &Names<'_, A>,
+    names: &ProgramNames<'_, A>,
     scope: &Scope<'_, A>,
     lists: &mut Lists<A>,
     code: &mut Vec<Instr, A>,
     op: BinaryOp,
     by: Option<&'e Expr<A>>,
-    target: Target,
+    target: AssignmentTarget,
     from: u32,
     free: usize,
-) -> Result<Held, Failure>
+) -> Result<ValueRegister, Failure>
     ensures { AddsValue (changed (program_in names.now) (scope_in scope.now) op
         (option_map expr_of (option_copied by.entry)) target from free (lists_of lists.old))
         code.old code.new lists.new result }
@@ -361,7 +361,7 @@ fn lower_changed<'e, A: Allocator + Copy>(
 
 /// `to op= by`; with no `by`, `to++` or `to--`
 fn lower_adjust<'e, A: Allocator + Copy>(
-    names: &Names<'_, A>,
+    names: &ProgramNames<'_, A>,
     scope: &Scope<'_, A>,
     lists: &mut Lists<A>,
     code: &mut Vec<Instr, A>,
@@ -383,7 +383,7 @@ fn lower_adjust<'e, A: Allocator + Copy>(
 
 /// An expression that stands as a statement, or an assignment.
 pub fn lower_simple<A: Allocator + Copy>(
-    names: &Names<'_, A>,
+    names: &ProgramNames<'_, A>,
     scope: &Scope<'_, A>,
     lists: &mut Lists<A>,
     code: &mut Vec<Instr, A>,
@@ -423,7 +423,7 @@ pub fn lower_simple<A: Allocator + Copy>(
 
 /// The first value of the local in this register.
 fn lower_first<A: Allocator + Copy>(
-    names: &Names<'_, A>,
+    names: &ProgramNames<'_, A>,
     scope: &Scope<'_, A>,
     lists: &mut Lists<A>,
     code: &mut Vec<Instr, A>,
@@ -438,7 +438,7 @@ fn lower_first<A: Allocator + Copy>(
     match first {
         Some(e) => {
             let i = register as usize;
-            let target = Target::Local(register, of);
+            let target = AssignmentTarget::Local(register, of);
             let held = lower_fitting(names, scope, lists, code, target, e, from, i, i + 1)?;
             store(code, target, held.register, held.to)
         }
@@ -448,7 +448,7 @@ fn lower_first<A: Allocator + Copy>(
 
 /// A declared local is 0 and then has its first value.
 fn lower_declarator<'p, A: Allocator + Copy>(
-    names: &Names<'p, A>,
+    names: &ProgramNames<'p, A>,
     scope: &mut Scope<'p, A>,
     lists: &mut Lists<A>,
     code: &mut Vec<Instr, A>,
@@ -469,7 +469,7 @@ fn lower_declarator<'p, A: Allocator + Copy>(
 
 /// The locals of one declaration, in order.
 pub fn lower_declarators<'p, A: Allocator + Copy>(
-    names: &Names<'p, A>,
+    names: &ProgramNames<'p, A>,
     scope: &mut Scope<'p, A>,
     lists: &mut Lists<A>,
     code: &mut Vec<Instr, A>,
@@ -491,7 +491,7 @@ pub fn lower_declarators<'p, A: Allocator + Copy>(
 
 /// What the head of a `for` begins with.
 pub fn lower_start<'p, A: Allocator + Copy>(
-    names: &Names<'p, A>,
+    names: &ProgramNames<'p, A>,
     scope: &mut Scope<'p, A>,
     lists: &mut Lists<A>,
     code: &mut Vec<Instr, A>,

@@ -8,7 +8,7 @@ ghost use Rattle.picked.specs.Names as Named;
 ghost use Rattle.expression_code.specs.inner.Tables.{callee_in, called_at, AreCallees};
 
 use crate::names::Callee;
-use crate::program::{Callees, Names};
+use crate::program::{Callees, ProgramNames};
 use global_tables::place_globals;
 use lex::token::Scalar;
 use name_tables::Table;
@@ -73,14 +73,14 @@ fn number_callees<'p, A: Allocator + Copy>(
 pub fn names<'p, A: Allocator + Copy>(
     alloc: A,
     typed: &'p Typed<A>,
-) -> Result<Names<'p, A>, AllocError>
+) -> Result<ProgramNames<'p, A>, AllocError>
     ensures { IfOk result (λ n. n.unit.now ≡ typed.now.unit) }
 {
     let unit = typed.unit();
     let key = unit.key;
     let globals = place_globals(alloc, key, unit.items.as_slice())?;
     let callees = number_callees(alloc, key, unit.items.as_slice())?;
-    Ok(Names {
+    Ok(ProgramNames {
         alloc,
         unit,
         key,

@@ -8,7 +8,7 @@ ghost use Rattle.picked.specs.Expressions.{variable_type, emitted_type};
 ghost use Rattle.expression_code.specs.Views.{program_in, scope_in};
 
 use crate::names::{callee_of, global};
-use crate::program::Names;
+use crate::program::ProgramNames;
 use crate::scope::Scope;
 use lex::token::Scalar;
 use std::alloc::Allocator;
@@ -17,7 +17,7 @@ use syntax::types::{common_type, operand_type, result_type};
 
 /// The type of a variable's value.
 fn type_of_variable<A: Allocator + Copy>(
-    names: &Names<'_, A>,
+    names: &ProgramNames<'_, A>,
     scope: &Scope<'_, A>,
     x: &str,
 ) -> Scalar
@@ -36,7 +36,7 @@ fn type_of_variable<A: Allocator + Copy>(
 /// The type of an expression's value.
 #[cycle(value_type)]
 pub(crate) fn value_type<A: Allocator + Copy>(
-    names: &Names<'_, A>,
+    names: &ProgramNames<'_, A>,
     scope: &Scope<'_, A>,
     e: &Expr<A>,
 ) -> Scalar

@@ -1,6 +1,6 @@
 -- The globals of a program, by their names.
 use Rattle.std.specs.Prelude.{◌≡◌, ℕ, ◌+◌, List, [], ◌∷◌, Option, option_map}
-use Rattle.name_tables.specs.declared.kept.Table.{Table}
+use Rattle.name_tables.specs.declared.entries.Table.{Table}
 use Rattle.name_tables.specs.Known.{entries_in}
 use Rattle.name_tables.specs.Named.{first}
 use Rattle.syntax.specs.Tree.{Global, Program}

@@ -67,15 +67,15 @@ pub record IsInclude (w : List ℕ) : Type 0 where
   pub parted : starts is_part rest ≡ false
 
 -- bytes that may stand between a string's quotes
-abbrev pub Inside : List ℕ → Type 0
-Inside [] = Unit {0}
-Inside (a ∷ []) = is_plain a ≡ true
-Inside (a ∷ b ∷ w) = ((is_plain a ≡ true) × Inside (b ∷ w)) ⊎ ((a ≡ 92) × (is_escape b ≡ true) × Inside w)
+abbrev pub IsStringBody : List ℕ → Type 0
+IsStringBody [] = Unit {0}
+IsStringBody (a ∷ []) = is_plain a ≡ true
+IsStringBody (a ∷ b ∷ w) = ((is_plain a ≡ true) × IsStringBody (b ∷ w)) ⊎ ((a ≡ 92) × (is_escape b ≡ true) × IsStringBody w)
 
 -- a string, by what stands between its quotes (C11 6.4.5)
 pub record IsString (w inner : List ℕ) : Type 0 where
   pub written : w ≡ 34 ∷ (inner ++ 34 ∷ [])
-  pub inside : Inside inner
+  pub inside : IsStringBody inner
 
 -- ---- constants (C11 6.4.4.1)
 

@@ -4,7 +4,7 @@ ghost use Rattle.std.specs.Prelude.{◌≡◌, ◌≢◌, ℕ, List, ◌++◌, c
 ghost use Rattle.std.specs.Prelude.{take, MatchOption};
 ghost use Rattle.std.specs.Bool.{MatchBool};
 ghost use Rattle.lex.specs.Pieces.{ClosesComment, FirstOnLine, IsInclude};
-ghost use Rattle.lex.specs.inner.Answers.{Answers};
+ghost use Rattle.lex.specs.inner.Answers.{AnswersPiece};
 
 use crate::bytes::{blanks_len, is_blank, line_len, starts_part};
 use crate::fault::LexFault;
@@ -32,7 +32,7 @@ pub(crate) fn comment<'a>(text: &'a str, at: usize) -> Result<(Option<Kind<'a>>,
     requires within { at + 1 < length text.now }
     requires fits { length text.now < 2 ^ 62 }
     requires begins { (slice_index text.now at ≡ 47) × (slice_index text.now (at + 1) ≡ 42) }
-    ensures { Answers text.now at result }
+    ensures { AnswersPiece text.now at result }
 {
     let (_, rest) = text.as_bytes().split_at(at);
     match close(rest) {
@@ -52,7 +52,7 @@ pub(crate) fn line_comment<'a>(
     requires within { at + 1 < length text.now }
     requires fits { length text.now < 2 ^ 62 }
     requires begins { (slice_index text.now at ≡ 47) × (slice_index text.now (at + 1) ≡ 47) }
-    ensures { Answers text.now at result }
+    ensures { AnswersPiece text.now at result }
 {
     let (_, rest) = text.as_bytes().split_at(at);
     Ok((None, line_len(rest)))
@@ -107,7 +107,7 @@ pub(crate) fn directive<'a>(text: &'a str, at: usize) -> Result<(Option<Kind<'a>
     requires within { at < length text.now }
     requires fits { length text.now < 2 ^ 62 }
     requires begins { slice_index text.now at ≡ 35 }
-    ensures { Answers text.now at result }
+    ensures { AnswersPiece text.now at result }
 {
     let (before, rest) = text.as_bytes().split_at(at);
     let span = Span {

@@ -176,7 +176,7 @@ pub(crate) fn constant<'a>(text: &'a str, at: usize) -> Result<(Option<Kind<'a>>
     requires within { at < length text.now }
     requires fits { length text.now < 2 ^ 62 }
     requires begins { bytes.is_digit (slice_index text.now at) ≡ true }
-    ensures { answers.Answers text.now at result }
+    ensures { answers.AnswersPiece text.now at result }
 {
     let (_, rest) = text.as_bytes().split_at(at);
     let base = base_at(rest);

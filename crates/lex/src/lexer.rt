@@ -5,7 +5,7 @@ ghost use Rattle.lex.specs.Tokens.{toks};
 ghost use Rattle.lex.specs.Bytes.{is_letter, is_digit, is_white};
 ghost use Rattle.lex.specs.Faults.{IsFault};
 ghost use Rattle.lex.specs.Pieces.{IsLexed};
-ghost use Rattle.lex.specs.inner.Answers.{Answers};
+ghost use Rattle.lex.specs.inner.Answers.{AnswersPiece};
 
 use crate::bytes::{character_len, is_digit, is_letter, is_white};
 use crate::comment::{comment, directive, line_comment};
@@ -25,7 +25,7 @@ fn slash<'a>(text: &'a str, at: usize) -> Result<(Option<Kind<'a>>, usize), LexF
     requires within { at < length text.now }
     requires fits { length text.now < 2 ^ 62 }
     requires begins { slice_index text.now at ≡ 47 }
-    ensures { Answers text.now at result }
+    ensures { AnswersPiece text.now at result }
 {
     let bytes = text.as_bytes();
     if at + 1 < bytes.len() && bytes[at + 1] == b'*' {
@@ -41,7 +41,7 @@ fn slash<'a>(text: &'a str, at: usize) -> Result<(Option<Kind<'a>>, usize), LexF
 fn next<'a>(text: &'a str, at: usize) -> Result<(Option<Kind<'a>>, usize), LexFault>
     requires within { at < length text.now }
     requires fits { length text.now < 2 ^ 62 }
-    ensures { Answers text.now at result }
+    ensures { AnswersPiece text.now at result }
 {
     let first = text.as_bytes()[at];
     if is_white(first) {

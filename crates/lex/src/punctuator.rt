@@ -3,7 +3,7 @@
 ghost use Rattle.std.specs.Prelude.{◌≡◌, ◌<◌, ◌^◌, drop, length};
 ghost use Rattle.lex.specs.inner.Punctuators as spec;
 ghost use Rattle.lex.specs.inner.Punctuators.{NoOtherPiece};
-ghost use Rattle.lex.specs.inner.Answers.{Answers};
+ghost use Rattle.lex.specs.inner.Answers.{AnswersPiece};
 
 use crate::bytes::character_len;
 use crate::fault::LexFault;
@@ -103,7 +103,7 @@ pub(crate) fn punctuator<'a>(
     requires within { at < length text.now }
     requires fits { length text.now < 2 ^ 62 }
     requires other { NoOtherPiece (drop at text.now) }
-    ensures { Answers text.now at result }
+    ensures { AnswersPiece text.now at result }
 {
     let (_, rest) = text.as_bytes().split_at(at);
     match punctuator_at(rest) {

@@ -1,7 +1,7 @@
 //! Strings.
 
 ghost use Rattle.std.specs.Prelude.{◌≡◌, ◌+◌, ◌<◌, ◌^◌, length, slice_index, take};
-ghost use Rattle.lex.specs.inner.Answers.{Answers};
+ghost use Rattle.lex.specs.inner.Answers.{AnswersPiece};
 ghost use Rattle.lex.specs.inner.Strings.{GivesInside};
 
 use crate::bytes::{is_escape, is_plain};
@@ -35,7 +35,7 @@ pub(crate) fn string<'a>(text: &'a str, at: usize) -> Result<(Option<Kind<'a>>, 
     requires within { at < length text.now }
     requires fits { length text.now < 2 ^ 62 }
     requires begins { slice_index text.now at ≡ 34 }
-    ensures { Answers text.now at result }
+    ensures { AnswersPiece text.now at result }
 {
     let (_, behind) = text.as_bytes().split_at(at + 1);
     match inside_len(behind) {

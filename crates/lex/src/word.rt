@@ -6,7 +6,7 @@ ghost use Rattle.lex.specs.declared.token.Fixed.{Fixed};
 ghost use Rattle.lex.specs.Spelling.{spelling, Reserved};
 ghost use Rattle.lex.specs.Bytes.{is_letter};
 ghost use Rattle.lex.specs.Pieces.{IsWord};
-ghost use Rattle.lex.specs.inner.Answers.{Answers};
+ghost use Rattle.lex.specs.inner.Answers.{AnswersPiece};
 
 use crate::bytes::word_len;
 use crate::fault::LexFault;
@@ -77,7 +77,7 @@ pub(crate) fn word<'a>(text: &'a str, at: usize) -> Result<(Option<Kind<'a>>, us
     requires within { at < length text.now }
     requires fits { length text.now < 2 ^ 62 }
     requires begins { is_letter (slice_index text.now at) ≡ true }
-    ensures { Answers text.now at result }
+    ensures { AnswersPiece text.now at result }
 {
     let (_, rest) = text.as_bytes().split_at(at);
     let len = word_len(rest);

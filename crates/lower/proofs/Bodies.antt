@@ -13,7 +13,7 @@ use Rattle.syntax.specs.Views.{item_of, function_of, stmts_of}
 use Rattle.bytecode.specs.Code.{FunctionCode}
 use Rattle.lowered.specs.Expressions.{LocalScope}
 use Rattle.picked.specs.Lists.{Lists}
-use Rattle.picked.specs.declared.held.Exits.{Exits}
+use Rattle.picked.specs.declared.locations.Exits.{Exits}
 use Rattle.picked.specs.Statements.{all_written}
 use Rattle.picked.specs.Programs.{body_written, FunctionCodes, nothing_made, function_code, put_before, made_first, all_made, made_for}
 use Rattle.lower.specs.inner.Parts.{made_behind}

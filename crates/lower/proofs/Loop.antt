@@ -6,7 +6,7 @@ use Rattle.bytecode.specs.declared.instr.Instr.{Instr}
 use Rattle.bytecode.specs.declared.instr.Instr.TheVariants as own
 use Rattle.lowered.specs.Expressions.{LocalScope}
 use Rattle.lowered.specs.Statements.{locals_of_start}
-use Rattle.picked.specs.declared.held.Exits.{Exits}
+use Rattle.picked.specs.declared.locations.Exits.{Exits}
 use Rattle.picked.specs.Lists.{Lists}
 use Rattle.picked.specs.Simples.{Written, start_written}
 use Rattle.picked.specs.Statements.{for_step, for_test, looping, written}

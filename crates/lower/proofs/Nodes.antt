@@ -18,7 +18,7 @@ use Rattle.syntax.proofs.Seen.{stmt_of_declare, stmt_of_block, stmt_of_print, st
 use Rattle.bytecode.specs.declared.instr.Instr.{Instr}
 use Rattle.lowered.specs.Expressions.{LocalScope}
 use Rattle.lowered.specs.Statements.{locals_after}
-use Rattle.picked.specs.declared.held.Exits.{Exits}
+use Rattle.picked.specs.declared.locations.Exits.{Exits}
 use Rattle.picked.specs.Lists.{Lists}
 use Rattle.picked.specs.Statements.{written}
 use Rattle.expression_code.specs.declared.fault.Failure.{Failure}

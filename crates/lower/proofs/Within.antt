@@ -5,7 +5,7 @@ use Rattle.syntax.specs.Tree.{Program}
 use Rattle.syntax.specs.Formats.{Piece}
 use Rattle.lowered.specs.Expressions.{LocalScope}
 use Rattle.lowered.specs.Statements.{locals_of_start}
-use Rattle.picked.specs.declared.held.Exits.{Exits}
+use Rattle.picked.specs.declared.locations.Exits.{Exits}
 use Rattle.picked.specs.Lists.{Lists}
 use Rattle.picked.specs.Expressions.{AllEmitted, condition}
 use Rattle.picked.specs.Simples.{Written, start_written}

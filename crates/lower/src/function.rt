@@ -16,12 +16,12 @@ use crate::stmt::lower_stmts;
 use bytecode::Instr;
 use expression_code::fault::Failure;
 use expression_code::lists::Lists;
-use expression_code::program::Names;
+use expression_code::program::ProgramNames;
 use expression_code::put::{after, put};
 use expression_code::ready::set_all;
 use expression_code::scope::Scope;
 use lex::token::Scalar;
-use picked::held::Exits;
+use picked::locations::Exits;
 use std::alloc::{AllocError, Allocator};
 use syntax::tree::{Function, Parameter, Stmt};
 
@@ -41,7 +41,7 @@ fn declare_parameter<'p, A: Allocator + Copy>(
 
 /// The locals that a function begins with: its parameters, where they have names.
 fn parameter_locals<'p, A: Allocator + Copy>(
-    names: &Names<'p, A>,
+    names: &ProgramNames<'p, A>,
     parameters: &'p [Parameter<A>],
 ) -> Result<Scope<'p, A>, AllocError>
     ensures { IfOk result (λ s. scope_in s ≡ parameter_locals (map parameter_of parameters.now)) }
@@ -66,7 +66,7 @@ fn given_type(given: Option<Scalar>) -> Scalar
 /// A function's body with the constants that lie ready, and a return where that runs off its end; the place behind
 /// them.
 fn lower_body<'p, A: Allocator + Copy>(
-    names: &Names<'p, A>,
+    names: &ProgramNames<'p, A>,
     lists: &mut Lists<A>,
     code: &mut Vec<Instr, A>,
     f: &'p Function<A>,
@@ -119,7 +119,7 @@ fn cut_to<A: Allocator>(lists: &mut Lists<A>, code: &mut Vec<Instr, A>, lengths:
 
 /// A function's body as it stands; the place behind it.
 fn lower_plain<'p, A: Allocator + Copy>(
-    names: &Names<'p, A>,
+    names: &ProgramNames<'p, A>,
     lists: &mut Lists<A>,
     code: &mut Vec<Instr, A>,
     f: &'p Function<A>,
@@ -138,7 +138,7 @@ fn lower_plain<'p, A: Allocator + Copy>(
 /// A function's body that finds these constants ready, and in front of it the instructions that set them in registers
 /// from this one on; the place behind it.
 fn lower_ready<'p, A: Allocator + Copy>(
-    names: &Names<'p, A>,
+    names: &ProgramNames<'p, A>,
     lists: &mut Lists<A>,
     code: &mut Vec<Instr, A>,
     f: &'p Function<A>,
@@ -192,7 +192,7 @@ fn is_better(registers: u32, constants: &[u64]) -> bool
 /// A function's instructions; the place behind them. Its body is made as it stands, and where its loops compute with
 /// constants once more, with these in registers behind its own, where they are set once.
 pub(crate) fn lower_function<'p, A: Allocator + Copy>(
-    names: &Names<'p, A>,
+    names: &ProgramNames<'p, A>,
     lists: &mut Lists<A>,
     code: &mut Vec<Instr, A>,
     f: &'p Function<A>,

@@ -22,7 +22,7 @@ use bytecode::{Code, FunctionCode, Instr, Parts};
 use containers::{Copied, Items};
 use expression_code::fault::Failure;
 use expression_code::lists::Lists;
-use expression_code::program::Names;
+use expression_code::program::ProgramNames;
 use expression_code::tables::names;
 use lowered::laws::lowered_code_means;
 use picked::laws::{picked_code_is_valid, picked_code_stands};
@@ -46,7 +46,7 @@ struct Making<A: Allocator> {
 
 /// One definition more.
 fn lower_definition<'p, A: Allocator + Copy>(
-    names: &Names<'p, A>,
+    names: &ProgramNames<'p, A>,
     making: &mut Making<A>,
     f: &'p Function<A>,
     body: &'p [Stmt<A>],
@@ -116,7 +116,7 @@ fn copy_globals<A: Allocator + Copy>(
 
 /// One item more: a definition's code, or copies of globals. A prototype has none.
 fn lower_item<'p, A: Allocator + Copy>(
-    names: &Names<'p, A>,
+    names: &ProgramNames<'p, A>,
     making: &mut Making<A>,
     item: &'p Item<A>,
 ) -> Result<(), LowerFault>
@@ -151,7 +151,7 @@ fn lower_item<'p, A: Allocator + Copy>(
 }
 
 /// The parts of a program's code.
-fn lower_parts<'p, A: Allocator + Copy>(names: &Names<'p, A>) -> Result<Parts<A>, LowerFault>
+fn lower_parts<'p, A: Allocator + Copy>(names: &ProgramNames<'p, A>) -> Result<Parts<A>, LowerFault>
     ensures code { IfOk result (λ parts. code_of parts ≡ picked_code (program_in names.now)) }
     ensures few { IfOk result (λ parts. AllByRecursion (λ f. f.registers ≤ 65535) (map code_function parts.functions)) }
     ensures short { IfOk result (λ parts. length parts.instructions ≤ 1048576) }

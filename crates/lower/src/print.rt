@@ -15,7 +15,7 @@ use expression_code::lists::Lists;
 use expression_code::put::{after, put};
 use lex::token::Scalar;
 use std::alloc::{AllocError, Allocator};
-use syntax::format::{Unit, unit_at};
+use syntax::format::{FormatUnit, unit_at};
 
 /// The instruction that prints a number.
 fn printing(of: Scalar, r: u16) -> Instr
@@ -116,12 +116,12 @@ pub(crate) fn put_pieces<A: Allocator + Copy>(
     let mut i = 0;
     'units: while i < format.len() {
         match unit_at(format, i) {
-            Unit::Byte(c, next) => {
+            FormatUnit::Byte(c, next) => {
                 add_byte(&mut bytes, c)?;
                 i = next;
                 continue;
             }
-            Unit::Figure(of, next) => {
+            FormatUnit::Figure(of, next) => {
                 if k >= registers.len() {
                     return put_text(lists, code, bytes, to);
                 }

@@ -25,12 +25,12 @@ use expression_code::draft::{put_back, put_test};
 use expression_code::expr::{lower_all, lower_condition, lower_due};
 use expression_code::fault::Failure;
 use expression_code::lists::Lists;
-use expression_code::program::Names;
+use expression_code::program::ProgramNames;
 use expression_code::put::{after, append, put};
 use expression_code::scope::Scope;
 use expression_code::simple::{lower_declarators, lower_simple, lower_start};
 use picked::draft::Draft;
-use picked::held::{Exits, Tested};
+use picked::locations::{Exits, ConditionRegister};
 use smallvec::SmallVec;
 use std::alloc::{AllocError, Allocator};
 use syntax::tree::{Expr, ForHead, Kind, Parameter, Simple, Stmt};
@@ -108,13 +108,13 @@ fn looping(exits: Exits, break_to: u32, continue_to: u32) -> Exits
 
 /// A condition behind the locals.
 fn lower_head<A: Allocator + Copy>(
-    names: &Names<'_, A>,
+    names: &ProgramNames<'_, A>,
     scope: &Scope<'_, A>,
     lists: &mut Lists<A>,
     drafts: &mut Vec<Draft, A>,
     c: &Expr<A>,
     from: u32,
-) -> Result<Tested, Failure>
+) -> Result<ConditionRegister, Failure>
     ensures { AddsTest (condition (program_in names.now) (scope_in scope.now) (expr_of c.now) from
         (length (scope_in scope.now)) (lists_of lists.old)) drafts.old drafts.new lists.new result }
 {
@@ -124,7 +124,7 @@ fn lower_head<A: Allocator + Copy>(
 
 /// A condition, and a jump back where it holds.
 fn lower_back<A: Allocator + Copy>(
-    names: &Names<'_, A>,
+    names: &ProgramNames<'_, A>,
     scope: &Scope<'_, A>,
     lists: &mut Lists<A>,
     code: &mut Vec<Instr, A>,
@@ -144,7 +144,7 @@ fn lower_back<A: Allocator + Copy>(
 
 /// An assignment or an expression behind the locals.
 fn lower_do<A: Allocator + Copy>(
-    names: &Names<'_, A>,
+    names: &ProgramNames<'_, A>,
     scope: &Scope<'_, A>,
     lists: &mut Lists<A>,
     code: &mut Vec<Instr, A>,
@@ -160,7 +160,7 @@ fn lower_do<A: Allocator + Copy>(
 
 /// The test of a `for`; a missing condition always holds.
 fn lower_test<A: Allocator + Copy>(
-    names: &Names<'_, A>,
+    names: &ProgramNames<'_, A>,
     scope: &Scope<'_, A>,
     lists: &mut Lists<A>,
     code: &mut Vec<Instr, A>,
@@ -182,7 +182,7 @@ fn lower_test<A: Allocator + Copy>(
 
 /// The step of a `for`.
 fn lower_step<A: Allocator + Copy>(
-    names: &Names<'_, A>,
+    names: &ProgramNames<'_, A>,
     scope: &Scope<'_, A>,
     lists: &mut Lists<A>,
     code: &mut Vec<Instr, A>,
@@ -202,7 +202,7 @@ fn lower_step<A: Allocator + Copy>(
 fn put_branch<A: Allocator>(
     code: &mut Vec<Instr, A>,
     test: &[Draft],
-    t: Tested,
+    t: ConditionRegister,
     branch: &mut Vec<Instr, A>,
     to: u32,
 ) -> Result<(), AllocError>
@@ -217,7 +217,7 @@ fn put_branch<A: Allocator>(
 fn put_branches<A: Allocator>(
     code: &mut Vec<Instr, A>,
     test: &[Draft],
-    t: Tested,
+    t: ConditionRegister,
     first: &mut Vec<Instr, A>,
     other_at: u32,
     second: &mut Vec<Instr, A>,
@@ -275,7 +275,7 @@ fn put_transaction<A: Allocator>(
 
 /// A print.
 fn lower_print<A: Allocator + Copy>(
-    names: &Names<'_, A>,
+    names: &ProgramNames<'_, A>,
     scope: &Scope<'_, A>,
     lists: &mut Lists<A>,
     code: &mut Vec<Instr, A>,
@@ -316,7 +316,7 @@ fn lower_print<A: Allocator + Copy>(
 
 /// A return.
 fn lower_return<A: Allocator + Copy>(
-    names: &Names<'_, A>,
+    names: &ProgramNames<'_, A>,
     scope: &Scope<'_, A>,
     lists: &mut Lists<A>,
     code: &mut Vec<Instr, A>,
@@ -341,7 +341,7 @@ fn lower_return<A: Allocator + Copy>(
 /// A statement's instructions; the place behind them.
 #[cycle(lower_stmt)]
 pub(crate) fn lower_stmt<'p, A: Allocator + Copy>(
-    names: &Names<'p, A>,
+    names: &ProgramNames<'p, A>,
     scope: &mut Scope<'p, A>,
     lists: &mut Lists<A>,
     code: &mut Vec<Instr, A>,
@@ -483,7 +483,7 @@ pub(crate) fn lower_stmt<'p, A: Allocator + Copy>(
 /// An `if` without `else`; its condition is gathered in `test`, and its branch in `branch`.
 #[cycle(lower_stmt)]
 fn lower_if<'p, A: Allocator + Copy>(
-    names: &Names<'p, A>,
+    names: &ProgramNames<'p, A>,
     scope: &mut Scope<'p, A>,
     lists: &mut Lists<A>,
     code: &mut Vec<Instr, A>,
@@ -511,7 +511,7 @@ fn lower_if<'p, A: Allocator + Copy>(
 /// branches are smaller than it.
 #[cycle(lower_stmt)]
 fn lower_if_else<'p, A: Allocator + Copy>(
-    names: &Names<'p, A>,
+    names: &ProgramNames<'p, A>,
     scope: &mut Scope<'p, A>,
     lists: &mut Lists<A>,
     code: &mut Vec<Instr, A>,
@@ -546,7 +546,7 @@ fn lower_if_else<'p, A: Allocator + Copy>(
 /// A `while`; its body and its test are gathered in `inner`.
 #[cycle(lower_stmt)]
 fn lower_while<'p, A: Allocator + Copy>(
-    names: &Names<'p, A>,
+    names: &ProgramNames<'p, A>,
     scope: &mut Scope<'p, A>,
     lists: &mut Lists<A>,
     code: &mut Vec<Instr, A>,
@@ -573,7 +573,7 @@ fn lower_while<'p, A: Allocator + Copy>(
 /// A `do`; its body and its test are gathered in `inner`.
 #[cycle(lower_stmt)]
 fn lower_do_while<'p, A: Allocator + Copy>(
-    names: &Names<'p, A>,
+    names: &ProgramNames<'p, A>,
     scope: &mut Scope<'p, A>,
     lists: &mut Lists<A>,
     code: &mut Vec<Instr, A>,
@@ -601,7 +601,7 @@ fn lower_do_while<'p, A: Allocator + Copy>(
 /// A transaction; its statements are gathered in `inner`.
 #[cycle(lower_stmt)]
 fn lower_transaction<'p, A: Allocator + Copy>(
-    names: &Names<'p, A>,
+    names: &ProgramNames<'p, A>,
     scope: &mut Scope<'p, A>,
     lists: &mut Lists<A>,
     code: &mut Vec<Instr, A>,
@@ -629,7 +629,7 @@ fn lower_transaction<'p, A: Allocator + Copy>(
 /// A `for`: its start, pads, and its body, its step and its test, which are gathered in `inner`.
 #[cycle(lower_stmt)]
 fn lower_for<'p, A: Allocator + Copy>(
-    names: &Names<'p, A>,
+    names: &ProgramNames<'p, A>,
     scope: &mut Scope<'p, A>,
     lists: &mut Lists<A>,
     code: &mut Vec<Instr, A>,
@@ -663,7 +663,7 @@ fn lower_for<'p, A: Allocator + Copy>(
 /// A statement whose locals are forgotten behind it.
 #[cycle(lower_stmt)]
 fn lower_scoped<'p, A: Allocator + Copy>(
-    names: &Names<'p, A>,
+    names: &ProgramNames<'p, A>,
     scope: &mut Scope<'p, A>,
     lists: &mut Lists<A>,
     code: &mut Vec<Instr, A>,
@@ -684,7 +684,7 @@ fn lower_scoped<'p, A: Allocator + Copy>(
 /// Statements whose locals are forgotten behind them.
 #[cycle(lower_stmt)]
 fn lower_block<'p, A: Allocator + Copy>(
-    names: &Names<'p, A>,
+    names: &ProgramNames<'p, A>,
     scope: &mut Scope<'p, A>,
     lists: &mut Lists<A>,
     code: &mut Vec<Instr, A>,
@@ -705,7 +705,7 @@ fn lower_block<'p, A: Allocator + Copy>(
 /// Statements one after another.
 #[cycle(lower_stmt)]
 pub(crate) fn lower_stmts<'p, A: Allocator + Copy>(
-    names: &Names<'p, A>,
+    names: &ProgramNames<'p, A>,
     scope: &mut Scope<'p, A>,
     lists: &mut Lists<A>,
     code: &mut Vec<Instr, A>,

@@ -16,7 +16,7 @@ use Rattle.syntax.specs.Laws.{shape}
 use Rattle.syntax.specs.declared.numbers.Status.TheVariants.{Running}
 use Rattle.syntax.specs.Behaviours.{Memory, IsMemory, Outcome, Ended, Means}
 use Rattle.syntax.specs.Actions.{Outside, Answer, Gives, Action, go_on, ◌>>=◌, ◌>>◌, tick, or_astray, locals, put_locals}
-use Rattle.syntax.specs.Meaning.{End, Next, Breaks, Continues, Returns, Cancels, CancelsOuter, stmts, call_locals, result_of, calls}
+use Rattle.syntax.specs.Meaning.{Completion, Next, Breaks, Continues, Returns, Cancels, CancelsOuter, stmts, call_locals, result_of, calls}
 use Rattle.syntax.specs.Threads.{outcome_of, first_state, thread}
 use Rattle.syntax.specs.Typing.{IsTypedProgram}
 use Rattle.syntax.proofs.Words.{word_below}
@@ -222,11 +222,11 @@ module _ (p : Program) (code : Code) (are : HasCellsOf code p) where
       Agrees (effect code) N K (holding a sh text (configuration code q rs frames)) (λ n. after (Gives v (state n ls (context_of a sh) text)))
 
   -- what follows a body
-  abbrev leaving : List Local → Option Scalar → End → Action Value
+  abbrev leaving : List Local → Option Scalar → Completion → Action Value
   leaving outer u end = put_locals outer >> result_of u end
 
   body_ends : (N K : ℕ) (layout : Layout) (a : Around) (ls : List Local) (frames : List Frame) (u : Option Scalar) (after : Answer Value → Outcome) (scope later : LocalScope) (last : ℕ) → InstructionAt code last (Instr.Return None) → IsSeen a after → GoesReturn N K a after ls frames u →
-      (end : End) (sh : Shared) (text : List ℕ) (ls1 : List Local) (rs : List ℕ) (q : ℕ) → IsGood code a sh → ArrivedAt p code layout (no_exits u) (HereAt p code layout later) (MoreAt p code layout scope) last end q ls1 rs →
+      (end : Completion) (sh : Shared) (text : List ℕ) (ls1 : List Local) (rs : List ℕ) (q : ℕ) → IsGood code a sh → ArrivedAt p code layout (no_exits u) (HereAt p code layout later) (MoreAt p code layout scope) last end q ls1 rs →
       Agrees (effect code) N K (holding a sh text (configuration code q rs frames)) (λ n. after (go_on (Gives end (state n ls1 (context_of a sh) text)) (leaving ls u)))
   body_ends N K layout a ls frames u after scope later last i s go Next sh text ls1 rs q good arrived =
       go (value_in_type (unwrap_or u Int) (flag false)) sh text rs q None (subst (λ y. InstructionAt code y (Instr.Return None)) (sym arrived.0) i) (sym (ap (λ (v : Value). v.word) (truth_converted Int (unwrap_or u Int) false))) refl (word_below (unwrap_or u Int) (number_of (flag false))) good

@@ -25,7 +25,7 @@ use Rattle.syntax.specs.Types.{type_of, running_scope}
 use Rattle.syntax.specs.Laws.{shape}
 use Rattle.syntax.specs.Behaviours.{Memory, Outcome}
 use Rattle.syntax.specs.Actions.{Outside, Inside, State, Answer, Gives, Stops, Action, pure, stop, go_on, ◌>>=◌, ◌>>◌, tick, trap, or_trap, or_astray, locals}
-use Rattle.syntax.specs.Meaning.{Spot, InLocal, InCell, End, Returns, fetch, close_inner, close, transaction, value_at, value_transaction, Caller, spot_from, expr, exprs}
+use Rattle.syntax.specs.Meaning.{Spot, InLocal, InCell, Completion, Returns, fetch, close_inner, close, transaction, value_at, value_transaction, Caller, spot_from, expr, exprs}
 use Rattle.std.specs.Option.{option_or}
 use Rattle.std.specs.Prelude.{bytes_eq, neg_ℤ}
 use Rattle.syntax.specs.Numbers.{fit_result}
@@ -478,7 +478,7 @@ module _ (p : Program) (call : Caller) (code : Code) (layout : Layout) (frames :
           (λ w sh2 text2 rs2 d. leads a sh2 text2 c.last to rs2 c.then_leads (goes_after a after ls to home free r t old new k go w sh2 text2 rs2 d)))
 
   -- a value that is computed in a transaction of its own: its body's end is the value
-  returning : Value → Action End
+  returning : Value → Action Completion
   returning v = pure (Returns v)
 
   -- a value that is known in a transaction is known outside it
@@ -502,7 +502,7 @@ module _ (p : Program) (call : Caller) (code : Code) (layout : Layout) (frames :
       (begins_outermost code found founds lefts memory kept text mode (configuration code from old frames) (configuration code (suc from) old frames) (configuration code to old frames) (effect_at code from (Instr.Begin to) old frames c.begins)
       (ih N K (suc from) c.last free r t (Within held) (record { founds = founds; lefts = lefts; memory = found; kept = false }) text ls old after1 c.computes h (g.0, (λ d. (refl, d)), (λ d. cc)) seen1
       (λ v sh1 text1 new d.
-      let after2 : Answer End → Outcome = λ q. after (go_on q value_at) in
+      let after2 : Answer Completion → Outcome = λ q. after (go_on q value_at) in
       let sh2 : Shared = record { founds = founds; lefts = lefts ++ sh1.memory ∷ []; memory = sh1.memory; kept = sh1.kept } in
       leaves_outermost code after2 (Gives (Returns v)) mode found sh1.memory founds lefts sh1 text1 ls ls (configuration code c.last new frames) (configuration code (suc c.last) new frames) (configuration code to old frames)
       (next_commit code mode found founds lefts sh1 text1 (configuration code c.last new frames) (configuration code (suc c.last) new frames) (configuration code to old frames) (effect_at code c.last Instr.Commit new frames c.commits))

@@ -11,7 +11,7 @@ use Rattle.syntax.specs.Tree.{Program}
 use Rattle.syntax.specs.Names.{Local}
 use Rattle.syntax.specs.Behaviours.{Memory, Outcome, Stopped}
 use Rattle.syntax.specs.Actions.{Outside, Inside, State, Answer, Gives, go_on, tick}
-use Rattle.syntax.specs.Meaning.{End, CancelsOuter, close_inner}
+use Rattle.syntax.specs.Meaning.{Completion, CancelsOuter, close_inner}
 use Rattle.bytecode.specs.Code.{Code, Configuration, Frame, Instr, effect}
 use Rattle.bytecode.specs.Sequential.{Sequential, OpenTransaction, InnerTransaction, next, outcome_of, sequential_step, cancel_step, outside}
 use Rattle.lowered.specs.Expressions.{InstructionAt, Layout}
@@ -30,7 +30,7 @@ module _ (code : Code) where
     pub free : drop n h.inner ≡ [] → sh.kept ≡ false
 
   -- where an outer cancel goes on, by how many transactions lie inside the outer one
-  abbrev pub OuterGoes : ℕ → ℕ → Around → (Answer End → Outcome) → Option ℕ → Type 0
+  abbrev pub OuterGoes : ℕ → ℕ → Around → (Answer Completion → Outcome) → Option ℕ → Type 0
   OuterGoes N K a after None = Unit {0}
   OuterGoes N K Bare after (Some n) = ⊥
   OuterGoes N K (Within h) after (Some n) =
@@ -38,12 +38,12 @@ module _ (code : Code) where
       × ((sh : Shared) (text : List ℕ) (ls : List Local) (s : Sequential Configuration) → IsGood code (Within h) sh → IsCancelling n h sh text s → Agrees (effect code) N K s (λ k. after (Gives CancelsOuter (state k ls (Inside h.mode sh.memory) text))))
 
   -- the same where what follows leaves an outer cancel as it is, but for the locals
-  pub outer_as : (N K : ℕ) (a : Around) (after after' : Answer End → Outcome) (change : List Local → List Local) → ((k : ℕ) (ls : List Local) (m : Memory) (mode : Mode) (text : List ℕ) → after' (Gives CancelsOuter (state k ls (Inside mode m) text)) ≡ after (Gives CancelsOuter (state k (change ls) (Inside mode m) text))) → (o : Option ℕ) → OuterGoes N K a after o → OuterGoes N K a after' o
+  pub outer_as : (N K : ℕ) (a : Around) (after after' : Answer Completion → Outcome) (change : List Local → List Local) → ((k : ℕ) (ls : List Local) (m : Memory) (mode : Mode) (text : List ℕ) → after' (Gives CancelsOuter (state k ls (Inside mode m) text)) ≡ after (Gives CancelsOuter (state k (change ls) (Inside mode m) text))) → (o : Option ℕ) → OuterGoes N K a after o → OuterGoes N K a after' o
   outer_as N K a after after' change e None g = tt
   outer_as N K Bare after after' change e (Some n) g = absurd g
   outer_as N K (Within h) after after' change e (Some n) g = (g.0, λ sh text ls s good c. same (effect code) (λ k. after (Gives CancelsOuter (state k (change ls) (Inside h.mode sh.memory) text))) (λ k. e k ls sh.memory h.mode text) (g.1 sh text (change ls) s good c))
 
-  pub outer_fewer : {N K N' K' : ℕ} (a : Around) (after : Answer End → Outcome) → N' ≤ N → K' ≤ K → (o : Option ℕ) → OuterGoes N K a after o → OuterGoes N' K' a after o
+  pub outer_fewer : {N K N' K' : ℕ} (a : Around) (after : Answer Completion → Outcome) → N' ≤ N → K' ≤ K → (o : Option ℕ) → OuterGoes N K a after o → OuterGoes N' K' a after o
   outer_fewer a after b d None g = tt
   outer_fewer Bare after b d (Some n) g = absurd g
   outer_fewer (Within h) after b d (Some n) g = (g.0, λ sh text ls s good c. fewer (effect code) b d (g.1 sh text ls s good c))
@@ -54,7 +54,7 @@ module _ (code : Code) where
   through_step k mode m d c sh text [] true f = absurd (cc (f refl))
   through_step k mode m d c sh text (l ∷ ls) kept f = refl
 
-  pub through_plain : (N K : ℕ) (k : Held) (mode : Mode) (m : Memory) (d : Configuration) (sh0 : Shared) (mine : List Local) (after : Answer End → Outcome) → IsGood code (Within k) sh0 → (o : Option ℕ) → OuterGoes N K (Within k) after o → OuterGoes N K (Within (inner_held code k mode m d)) (λ q. after (close_inner k.mode (Plain mode) mine m q)) (option_map suc o)
+  pub through_plain : (N K : ℕ) (k : Held) (mode : Mode) (m : Memory) (d : Configuration) (sh0 : Shared) (mine : List Local) (after : Answer Completion → Outcome) → IsGood code (Within k) sh0 → (o : Option ℕ) → OuterGoes N K (Within k) after o → OuterGoes N K (Within (inner_held code k mode m d)) (λ q. after (close_inner k.mode (Plain mode) mine m q)) (option_map suc o)
   through_plain N K k mode m d sh0 mine after g0 None g = tt
   through_plain N K k mode m d sh0 mine after g0 (Some n) g = (
     g.0,
@@ -62,7 +62,7 @@ module _ (code : Code) where
         (record { seen = c.seen; next_is = c.next_is ∙ through_step k mode m d s.configuration sh text (drop n k.inner) sh.kept c.free; free = c.free }),
   )
 
-  pub through_bare : (N K : ℕ) (h : Held) (after after' : Answer End → Outcome) (o : Option ℕ) → OuterGoes N K Bare after o → OuterGoes N K (Within h) after' (option_map suc o)
+  pub through_bare : (N K : ℕ) (h : Held) (after after' : Answer Completion → Outcome) (o : Option ℕ) → OuterGoes N K Bare after o → OuterGoes N K (Within h) after' (option_map suc o)
   through_bare N K h after after' None g = tt
   through_bare N K h after after' (Some n) g = absurd g
 
@@ -78,7 +78,7 @@ module _ (code : Code) where
       ap (λ x. sequential_step (holding (Within h) sh text (configuration code q rs frames)) false Running (holding (Within h) sh text (configuration code q rs frames)).inside x) (effect_at code q (Instr.CancelOuter (suc (suc n))) rs frames i)
       ∙ ap (λ k. cancel_step (holding (Within h) sh text (configuration code q rs frames)) (opened h sh) (drop k h.inner) sh.kept) one_less
 
-  pub outer_follows : {N K : ℕ} (p : Program) (layout : Layout) (frames : List Frame) (o : Option ℕ) (q : ℕ) → OuterCancelCode code layout p o q → (a : Around) (sh : Shared) (text : List ℕ) (ls : List Local) (rs : List ℕ) (after : Answer End → Outcome) → IsGood code a sh → OuterGoes N K a after o → Agrees (effect code) N K (holding a sh text (configuration code q rs frames)) (λ n. after (Gives CancelsOuter (state n ls (context_of a sh) text)))
+  pub outer_follows : {N K : ℕ} (p : Program) (layout : Layout) (frames : List Frame) (o : Option ℕ) (q : ℕ) → OuterCancelCode code layout p o q → (a : Around) (sh : Shared) (text : List ℕ) (ls : List Local) (rs : List ℕ) (after : Answer Completion → Outcome) → IsGood code a sh → OuterGoes N K a after o → Agrees (effect code) N K (holding a sh text (configuration code q rs frames)) (λ n. after (Gives CancelsOuter (state n ls (context_of a sh) text)))
   outer_follows p layout frames None q c a sh text ls rs after good g = absurd c
   outer_follows p layout frames (Some n) q c Bare sh text ls rs after good g = absurd g
   outer_follows p layout frames (Some n) q c (Within h) sh text ls rs after good g =

@@ -17,7 +17,7 @@ use Rattle.syntax.specs.declared.numbers.Status.TheVariants.{Running, Trapped as
 use Rattle.syntax.specs.Behaviours.{Memory, IsMemory, Outcome, Stopped}
 use Rattle.syntax.proofs.Words.{some_below}
 use Rattle.syntax.specs.Actions.{Context, Outside, Inside, State, Answer, Stops, Action, stop, go_on, tick, trap, lefts_in, print_piece, ◌>>◌}
-use Rattle.syntax.specs.Meaning.{End, mode_of, close_inner, enter}
+use Rattle.syntax.specs.Meaning.{Completion, mode_of, close_inner, enter}
 use Rattle.bytecode.specs.Effects.{Effect}
 use Rattle.bytecode.specs.Sequential.{Sequential, InnerTransaction, next, outcome_of, sequential_step, cancel_step, print_step, outside}
 use Rattle.bytecode.specs.Code.{Code, Configuration, Frame, Instr, bounds_of, effect, effect_of}
@@ -80,8 +80,8 @@ on_seen a after rest s = record { spent = s.spent; wants = s.wants; trapped = s.
 -- a transaction inside another: an atomic one holds only atomic ones
 abbrev pub Enters : Mode → Kind → Type 0
 Enters o kind =
-    (((m : Memory) (run : Action End) (s : State) → enter (Inside o m) kind run s ≡ close_inner o kind s.locals m (run (record s { context = Inside (mode_of kind) m }))) × (o ≡ Atomic → mode_of kind ≡ Atomic))
-    ⊎ ((m : Memory) (run : Action End) (s : State) → enter (Inside o m) kind run s ≡ Stops Astray s)
+    (((m : Memory) (run : Action Completion) (s : State) → enter (Inside o m) kind run s ≡ close_inner o kind s.locals m (run (record s { context = Inside (mode_of kind) m }))) × (o ≡ Atomic → mode_of kind ≡ Atomic))
+    ⊎ ((m : Memory) (run : Action Completion) (s : State) → enter (Inside o m) kind run s ≡ Stops Astray s)
 
 pub enters : (o : Mode) (kind : Kind) → Enters o kind
 enters Relaxed kind = inl ((λ m run s. refl), (λ e. absurd (apart e)))

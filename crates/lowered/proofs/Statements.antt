@@ -14,7 +14,7 @@ use Rattle.syntax.specs.Numbers.{modulus, residue, number_of, word_of, value_in_
 use Rattle.syntax.specs.Names.{Local, newest, word_at, with_word, global_of, cells, GlobalCells}
 use Rattle.syntax.specs.Behaviours.{Outcome}
 use Rattle.syntax.specs.Actions.{Inside, State, Answer, Gives, Action, pure, go_on, ◌>>=◌, ◌>>◌, trap, or_trap}
-use Rattle.syntax.specs.Meaning.{Spot, InLocal, InCell, fetch, assign, End, Next, op_of, int_one, Caller, spot_from, expr, spot, changed, assigned, simple}
+use Rattle.syntax.specs.Meaning.{Spot, InLocal, InCell, fetch, assign, Completion, Next, op_of, int_one, Caller, spot_from, expr, spot, changed, assigned, simple}
 use Rattle.syntax.proofs.Words.{residue_below, word_below}
 use Rattle.syntax.proofs.Memories.{written_memory}
 use Rattle.bytecode.specs.Effects.{Effect}
@@ -87,7 +87,7 @@ module _ (p : Program) (call : Caller) (code : Code) (layout : Layout) (frames :
       C u from to free r t → Holds scope ls layout free old → IsGood code a sh → IsSeen a after → GoesTaken p call code layout frames N K a after ls to None free r u t old → Goes N K a sh text ls from old (λ s. after (run s))
 
   -- after a simple statement
-  abbrev pub GoesNext : ℕ → ℕ → (a : Around) → (Answer End → Outcome) → LocalScope → (to : ℕ) → Type 0
+  abbrev pub GoesNext : ℕ → ℕ → (a : Around) → (Answer Completion → Outcome) → LocalScope → (to : ℕ) → Type 0
   GoesNext N K a after scope to =
       (sh : Shared) (text : List ℕ) (ls : List Local) (rs : List ℕ) → IsGood code a sh → Holds scope ls layout (length scope) rs →
       Goes N K a sh text ls to rs (λ s. after (Gives Next s))
@@ -106,7 +106,7 @@ module _ (p : Program) (call : Caller) (code : Code) (layout : Layout) (frames :
   stored_below cell t w bounded = subst (λ n. w % n < n) (sym bounded) (residue_below t w)
 
   -- a cell is written
-  cell_written : {N K : ℕ} (scope : LocalScope) (a : Around) (sh : Shared) (text : List ℕ) (ls : List Local) (after : Answer End → Outcome) (i : Instr) (q ra cell : ℕ) (t : Scalar) (rs : List ℕ) (v : Value) → InstructionAt code q i → effect_of code (configuration code q rs frames) (Some i) ≡ Effect.Write cell (word_for_cell code cell (slice_index rs ra)) (configuration code (suc q) rs frames) → IsBounded code cell t → residue t (slice_index rs ra) ≡ (value_in_type t v).word → Holds scope ls layout (length scope) rs → IsGood code a sh → IsSeen a after → GoesNext N K a after scope (suc q) → Goes N K a sh text ls q rs (λ s. after (go_on (assign (InCell cell t) v s) (λ u. pure Next)))
+  cell_written : {N K : ℕ} (scope : LocalScope) (a : Around) (sh : Shared) (text : List ℕ) (ls : List Local) (after : Answer Completion → Outcome) (i : Instr) (q ra cell : ℕ) (t : Scalar) (rs : List ℕ) (v : Value) → InstructionAt code q i → effect_of code (configuration code q rs frames) (Some i) ≡ Effect.Write cell (word_for_cell code cell (slice_index rs ra)) (configuration code (suc q) rs frames) → IsBounded code cell t → residue t (slice_index rs ra) ≡ (value_in_type t v).word → Holds scope ls layout (length scope) rs → IsGood code a sh → IsSeen a after → GoesNext N K a after scope (suc q) → Goes N K a sh text ls q rs (λ s. after (go_on (assign (InCell cell t) v s) (λ u. pure Next)))
   cell_written scope Bare sh text ls after i q ra cell t rs v at e bounded here h g s go = astray (effect code) 0 (s.astray _)
   cell_written scope (Within k) sh text ls after i q ra cell t rs v at e bounded here h g s go =
       let w : ℕ = word_for_cell code cell (slice_index rs ra) in
@@ -116,7 +116,7 @@ module _ (p : Program) (call : Caller) (code : Code) (layout : Layout) (frames :
       (go (record sh { memory = slice_set sh.memory cell w }) text ls rs (written_memory (bounds_of code) sh.memory cell w (stored_below cell t (slice_index rs ra) bounded) g.0, g.1, g.2) h))
 
   -- a target is written
-  assigns : {N K : ℕ} (tg : Target) (at : Spot) (scope : LocalScope) (later : ℕ) (a : Around) (sh : Shared) (text : List ℕ) (ls : List Local) (after : Answer End → Outcome) (q ra : ℕ) (old rs : List ℕ) (v : Value) → length scope ≤ later → IsAt scope tg old at → Spares tg later → InstructionAt code q (assigning tg ra) → Keeps layout (home_of tg) later old rs → Lies tg (slice_index rs ra) v → Holds scope ls layout (length scope) old → IsGood code a sh → IsSeen a after → GoesNext N K a after scope (suc q) → Goes N K a sh text ls q rs (λ s. after (go_on (assign at v s) (λ u. pure Next)))
+  assigns : {N K : ℕ} (tg : Target) (at : Spot) (scope : LocalScope) (later : ℕ) (a : Around) (sh : Shared) (text : List ℕ) (ls : List Local) (after : Answer Completion → Outcome) (q ra : ℕ) (old rs : List ℕ) (v : Value) → length scope ≤ later → IsAt scope tg old at → Spares tg later → InstructionAt code q (assigning tg ra) → Keeps layout (home_of tg) later old rs → Lies tg (slice_index rs ra) v → Holds scope ls layout (length scope) old → IsGood code a sh → IsSeen a after → GoesNext N K a after scope (suc q) → Goes N K a sh text ls q rs (λ s. after (go_on (assign at v s) (λ u. pure Next)))
   assigns (LocalAt l) at scope later a sh text ls after q ra old rs v room is_at sp i k here h g s go =
       let w : ℕ = slice_index rs ra in
       let len : length ls ≡ length scope = length_like scope ls h.like in
@@ -141,7 +141,7 @@ module _ (p : Program) (call : Caller) (code : Code) (layout : Layout) (frames :
       (is_at.2.1 (slice_index rs ri) is_at.1) here (lowered scope ls layout later old rs room h k) g s go)
 
   -- a value goes to its target, or lies there already
-  stored_at : {N K : ℕ} (tg : Target) (at : Spot) (scope : LocalScope) (later : ℕ) (a : Around) (sh : Shared) (text : List ℕ) (ls : List Local) (after : Answer End → Outcome) (q to ra : ℕ) (old rs : List ℕ) (v : Value) → length scope ≤ later → IsAt scope tg old at → Spares tg later → StoreCode code layout p tg ra q to → Keeps layout (home_of tg) later old rs → Lies tg (slice_index rs ra) v → Holds scope ls layout (length scope) old → IsGood code a sh → IsSeen a after → GoesNext N K a after scope to → Goes N K a sh text ls q rs (λ s. after (go_on (assign at v s) (λ u. pure Next)))
+  stored_at : {N K : ℕ} (tg : Target) (at : Spot) (scope : LocalScope) (later : ℕ) (a : Around) (sh : Shared) (text : List ℕ) (ls : List Local) (after : Answer Completion → Outcome) (q to ra : ℕ) (old rs : List ℕ) (v : Value) → length scope ≤ later → IsAt scope tg old at → Spares tg later → StoreCode code layout p tg ra q to → Keeps layout (home_of tg) later old rs → Lies tg (slice_index rs ra) v → Holds scope ls layout (length scope) old → IsGood code a sh → IsSeen a after → GoesNext N K a after scope to → Goes N K a sh text ls q rs (λ s. after (go_on (assign at v s) (λ u. pure Next)))
   stored_at {N = N} {K = K} tg at scope later a sh text ls after q to ra old rs v room is_at sp (inl c) k here h g s go =
       assigns tg at scope later a sh text ls after q ra old rs v room is_at sp c.1 k here h g s (subst (λ x. GoesNext N K a after scope x) c.0 go)
   stored_at {N = N} {K = K} (LocalAt l) at scope later a sh text ls after q to ra old rs v room is_at sp (inr c) k here h g s go =
@@ -166,7 +166,7 @@ module _ (p : Program) (call : Caller) (code : Code) (layout : Layout) (frames :
       (go rs (ap (residue t) there ∙ sym (cell_residue x t v.word below tt) ∙ ap (λ o. word_of t (number_of (record { of = o; word = v.word }))) (sym d.typed_so)) d.keeps)
 
   -- a value in a register goes to its target, once it is converted
-  pub stores : {N K : ℕ} (tg : Target) (at : Spot) (scope : LocalScope) (later : ℕ) (a : Around) (sh : Shared) (text : List ℕ) (ls : List Local) (after : Answer End → Outcome) (q to ra : ℕ) (t : Scalar) (old rs : List ℕ) (v : Value) → length scope ≤ later → IsAt scope tg old at → Spares tg later → StoredCode code layout p tg t ra q to later → Computed p call code layout frames a t ra (home_of tg) later old v sh rs → length rs ≡ registers_in layout → Holds scope ls layout (length scope) old → IsSeen a after → GoesNext N K a after scope to → Goes N K a sh text ls q rs (λ s. after (go_on (assign at v s) (λ u. pure Next)))
+  pub stores : {N K : ℕ} (tg : Target) (at : Spot) (scope : LocalScope) (later : ℕ) (a : Around) (sh : Shared) (text : List ℕ) (ls : List Local) (after : Answer Completion → Outcome) (q to ra : ℕ) (t : Scalar) (old rs : List ℕ) (v : Value) → length scope ≤ later → IsAt scope tg old at → Spares tg later → StoredCode code layout p tg t ra q to later → Computed p call code layout frames a t ra (home_of tg) later old v sh rs → length rs ≡ registers_in layout → Holds scope ls layout (length scope) old → IsSeen a after → GoesNext N K a after scope to → Goes N K a sh text ls q rs (λ s. after (go_on (assign at v s) (λ u. pure Next)))
   stores (LocalAt l) at scope later a sh text ls after q to ra t old rs v room is_at sp c d len h s go =
       comes p call code layout frames t l.1 v a sh text (λ n. after (go_on (assign at v (state n ls (context_of a sh) text)) (λ u. pure Next))) q c.mid (Some l.0) later ra c.r old rs c.converts d len
       (λ new here keeps. stored_at (LocalAt l) at scope later a sh text ls after c.mid to c.r old new v room is_at sp c.stores keeps here h d.good s go)
@@ -184,7 +184,7 @@ module _ (p : Program) (call : Caller) (code : Code) (layout : Layout) (frames :
   constant_lies (ElementOf g ri) x n w e = ap (residue g.global.of) e ∙ residue_same g.global.of (constant_in g.global.of x n) (word_below g.global.of (number_of (record { of = x; word = word_of x (pos n) })))
 
   -- an expression's value goes to its target, whatever follows
-  pub expr_stores : {N K : ℕ} (e : Expr) (tg : Target) (at : Spot) (scope : LocalScope) (later : ℕ) (a : Around) (sh : Shared) (text : List ℕ) (ls : List Local) (after : Answer End → Outcome) (whole : Answer (Unit {0}) → Outcome) (from to : ℕ) (old : List ℕ) → ((v : Value) (s : State) → whole (assign at v s) ≡ after (go_on (assign at v s) (λ u. pure Next))) → length scope ≤ later → IsAt scope tg old at → Spares tg later → ExprStored code layout p scope tg e from to later → Holds scope ls layout (length scope) old → IsGood code a sh → IsSeen a after → IsSeen a whole → GoesNext N K a after scope to → Goes N K a sh text ls from old (λ s. whole (go_on (expr p call e s) (assign at)))
+  pub expr_stores : {N K : ℕ} (e : Expr) (tg : Target) (at : Spot) (scope : LocalScope) (later : ℕ) (a : Around) (sh : Shared) (text : List ℕ) (ls : List Local) (after : Answer Completion → Outcome) (whole : Answer (Unit {0}) → Outcome) (from to : ℕ) (old : List ℕ) → ((v : Value) (s : State) → whole (assign at v s) ≡ after (go_on (assign at v s) (λ u. pure Next))) → length scope ≤ later → IsAt scope tg old at → Spares tg later → ExprStored code layout p scope tg e from to later → Holds scope ls layout (length scope) old → IsGood code a sh → IsSeen a after → IsSeen a whole → GoesNext N K a after scope to → Goes N K a sh text ls from old (λ s. whole (go_on (expr p call e s) (assign at)))
   expr_stores (Constant n x y) tg at scope later a sh text ls after whole from to old is room is_at sp c h g s s1 go =
       let v : Value = record { of = x; word = word_of x (pos n) } in
       same (effect code) (λ m. after (go_on (assign at v (state m ls (context_of a sh) text)) (λ u. pure Next))) (λ m. is v (state m ls (context_of a sh) text))
@@ -279,17 +279,17 @@ module _ (p : Program) (call : Caller) (code : Code) (layout : Layout) (frames :
       (i.2.1 (slice_index old ri) i.1) h.size_is (keeps_all layout None free old) good s go)
 
   -- an assignment, and one with an operator
-  abbrev ended : Action (Unit {0}) → Action End
+  abbrev ended : Action (Unit {0}) → Action Completion
   ended run = run >> pure Next
 
-  assigned_follows : {N K : ℕ} (scope : LocalScope) (lhs e : Expr) (from to : ℕ) → AssignCode code layout p scope lhs e from to → (a : Around) (sh : Shared) (text : List ℕ) (ls : List Local) (old : List ℕ) (after : Answer End → Outcome) → Holds scope ls layout (length scope) old → IsGood code a sh → IsSeen a after → GoesNext N K a after scope to → Goes N K a sh text ls from old (λ s. after ((spot p call lhs >>= λ at. ended (assigned p call at (expr p call e) None)) s))
+  assigned_follows : {N K : ℕ} (scope : LocalScope) (lhs e : Expr) (from to : ℕ) → AssignCode code layout p scope lhs e from to → (a : Around) (sh : Shared) (text : List ℕ) (ls : List Local) (old : List ℕ) (after : Answer Completion → Outcome) → Holds scope ls layout (length scope) old → IsGood code a sh → IsSeen a after → GoesNext N K a after scope to → Goes N K a sh text ls from old (λ s. after ((spot p call lhs >>= λ at. ended (assigned p call at (expr p call e) None)) s))
   assigned_follows scope lhs e from to c a sh text ls old after h good s go =
-      let rest : Spot → Action End = λ at. ended (assigned p call at (expr p call e) None) in
+      let rest : Spot → Action Completion = λ at. ended (assigned p call at (expr p call e) None) in
       spot_follows scope lhs c.target from c.mid c.goes_to a sh text ls old (λ q. after (go_on q rest)) h good (on_seen a after rest s)
       (λ at sh1 text1 rs1 is_at h1 good1. expr_stores e c.target at scope c.later a sh1 text1 ls after (λ q. after (go_on q (λ u. pure Next))) c.mid to rs1 (λ v s1. refl) c.room is_at c.spares c.stores h1 good1 s (on_seen a after (λ u. pure Next) s) go)
 
   -- once the target is known
-  changed_from : {N K : ℕ} (scope : LocalScope) (lhs : Expr) (op : BinaryOp) (by : Action Value) (C : Due) → FollowTaken scope by C → (from to : ℕ) (c : ChangeCode code layout p scope lhs op C from to) (at : Spot) (a : Around) (sh1 : Shared) (text1 : List ℕ) (ls : List Local) (rs1 : List ℕ) (after : Answer End → Outcome) → IsAt scope c.target rs1 at → Holds scope ls layout (length scope) rs1 → IsGood code a sh1 → IsSeen a after → GoesNext N K a after scope to → Goes N K a sh1 text1 ls c.mid rs1 (λ s. after (ended (changed p call at by op) s))
+  changed_from : {N K : ℕ} (scope : LocalScope) (lhs : Expr) (op : BinaryOp) (by : Action Value) (C : Due) → FollowTaken scope by C → (from to : ℕ) (c : ChangeCode code layout p scope lhs op C from to) (at : Spot) (a : Around) (sh1 : Shared) (text1 : List ℕ) (ls : List Local) (rs1 : List ℕ) (after : Answer Completion → Outcome) → IsAt scope c.target rs1 at → Holds scope ls layout (length scope) rs1 → IsGood code a sh1 → IsSeen a after → GoesNext N K a after scope to → Goes N K a sh1 text1 ls c.mid rs1 (λ s. after (ended (changed p call at by op) s))
   changed_from {N = N} {K = K} scope lhs op by C follow from to c at a sh1 text1 ls rs1 after is_at h1 good1 s go =
       let after1 : Answer (Unit {0}) → Outcome = λ q. after (go_on q (λ u. pure Next)) in
       let seen1 : IsSeen a after1 = on_seen a after (λ u. pure Next) s in
@@ -306,7 +306,7 @@ module _ (p : Program) (call : Caller) (code : Code) (layout : Layout) (frames :
       operates p call code layout frames op o1 v b.ta b.tb b.ra b.rb a sh4 text4 ls (λ q. after1 (go_on q (assign at))) b.last c.done (home_of c.target) c.later c.r c.t rs1 rs4 e.typed_so f.typed_so (kept_at layout b.later b.ra rs3 rs4 b.apart f.keeps ∙ e.here) f.here b.operates (keeps.size ∙ h1.size_is) (keeps_more layout (home_of c.target) c.later rs1 rs4 keeps) f.good (on_seen a after1 (assign at) seen1)
       (λ new sh5 text5 rs5 g. stores c.target at scope c.later a sh5 text5 ls after c.done to c.r c.t rs1 rs5 new c.room is_at c.spares c.stores g (g.keeps.size ∙ h1.size_is) h1 s go))))
 
-  changed_follows : {N K : ℕ} (scope : LocalScope) (lhs : Expr) (op : BinaryOp) (by : Action Value) (C : Due) → FollowTaken scope by C → (from to : ℕ) → ChangeCode code layout p scope lhs op C from to → (a : Around) (sh : Shared) (text : List ℕ) (ls : List Local) (old : List ℕ) (after : Answer End → Outcome) → Holds scope ls layout (length scope) old → IsGood code a sh → IsSeen a after → GoesNext N K a after scope to → Goes N K a sh text ls from old (λ s. after ((spot p call lhs >>= λ at. ended (changed p call at by op)) s))
+  changed_follows : {N K : ℕ} (scope : LocalScope) (lhs : Expr) (op : BinaryOp) (by : Action Value) (C : Due) → FollowTaken scope by C → (from to : ℕ) → ChangeCode code layout p scope lhs op C from to → (a : Around) (sh : Shared) (text : List ℕ) (ls : List Local) (old : List ℕ) (after : Answer Completion → Outcome) → Holds scope ls layout (length scope) old → IsGood code a sh → IsSeen a after → GoesNext N K a after scope to → Goes N K a sh text ls from old (λ s. after ((spot p call lhs >>= λ at. ended (changed p call at by op)) s))
   changed_follows {N = N} {K = K} scope lhs op by C follow from to c a sh text ls old after h good s go = by_target c.goes_to
     where
       by_target : TargetCode code layout p scope lhs from c.mid (length scope) c.target ⊎ ReadTarget code layout p scope lhs from c.mid (length scope) c.target → Goes N K a sh text ls from old (λ s. after ((spot p call lhs >>= λ at. ended (changed p call at by op)) s))
@@ -356,7 +356,7 @@ module _ (p : Program) (call : Caller) (code : Code) (layout : Layout) (frames :
       cond_follows p call code layout frames cf are scope e N K from met unmet c.free a sh text ls old after c.leads (raised scope ls layout c.free old c.room h) good s
       (λ v b sh1 text1 rs1 z below k g. go v b sh1 text1 rs1 z (lowered scope ls layout c.free old rs1 c.room h k) g)
 
-  pub simple_follows : {N K : ℕ} (scope : LocalScope) (st : Simple) (from to : ℕ) → SimpleCode code layout p scope st from to → (a : Around) (sh : Shared) (text : List ℕ) (ls : List Local) (old : List ℕ) (after : Answer End → Outcome) → Holds scope ls layout (length scope) old → IsGood code a sh → IsSeen a after → GoesNext N K a after scope to → Goes N K a sh text ls from old (λ s. after (simple p call st s))
+  pub simple_follows : {N K : ℕ} (scope : LocalScope) (st : Simple) (from to : ℕ) → SimpleCode code layout p scope st from to → (a : Around) (sh : Shared) (text : List ℕ) (ls : List Local) (old : List ℕ) (after : Answer Completion → Outcome) → Holds scope ls layout (length scope) old → IsGood code a sh → IsSeen a after → GoesNext N K a after scope to → Goes N K a sh text ls from old (λ s. after (simple p call st s))
   simple_follows scope (Evaluate e) from to c a sh text ls old after h good s go =
       value_follows scope e from to c.0 c.1 a sh text ls old (λ q. after (go_on q (λ v. pure Next))) h good (on_seen a after (λ v. pure Next) s)
       (λ v sh1 text1 rs1 b i h1 good1. go sh1 text1 ls rs1 good1 h1)

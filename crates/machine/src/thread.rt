@@ -14,10 +14,10 @@ ghost use Rattle.machine.specs.Standing.{IsThreadOf};
 ghost use Rattle.machine.specs.Loads.{counted_thread};
 ghost use Rattle.machine.specs.States.{BeginsNext, ComparesEntry, ComparesNext, IsLeft, IsPrepared, IsWordOf, StandsAt};
 ghost use Rattle.machine.specs.States.{StandsStill, StoresNext, SwapsNext, WaitsNext, first_thread, thread_has_lock};
-ghost use Rattle.machine.specs.inner.Kept.{cost_if};
+ghost use Rattle.machine.specs.inner.Contexts.{cost_if};
 
 use crate::event::Event;
-use crate::kept::KeptThread;
+use crate::context::ThreadContext;
 use crate::loads::Loads;
 use crate::validation::is_validated;
 use bytecode::Code;
@@ -33,7 +33,7 @@ use syntax::numbers::Status;
 /// and makes all room that the step needs, `step_with` takes the answer, and neither fails nor takes memory.
 #[derive(Drop)]
 pub struct Thread<A: Allocator = Global> {
-    held: KeptThread<A>,
+    held: ThreadContext<A>,
     accesses: u64,
     prepared: Option<Access>,
 }
@@ -44,10 +44,10 @@ impl<A: Allocator> Model for Thread<A> {
     ghost Value = { ThreadState };
 
     ghost use Rattle.machine.specs.Standing.{begins_of};
-    ghost use Rattle.machine.specs.inner.Kept.{AreWithin, kept, ready, machine_thread};
+    ghost use Rattle.machine.specs.inner.Contexts.{AreWithin, context_of, ready, machine_thread};
 
     ghost view = { λ t. record {
-      thread = machine_thread (kept t.held);
+      thread = machine_thread (context_of t.held);
       prepared = t.prepared;
       accesses = t.accesses;
       ready = ready t.held;
@@ -90,7 +90,7 @@ impl<A: Allocator + Copy> Thread<A> {
         let core = Core::new(alloc);
         let text = String::new(alloc);
         Ok(Thread {
-            held: KeptThread {
+            held: ThreadContext {
                 frames,
                 core,
                 trapping: false,

@@ -8,10 +8,10 @@ ghost use Rattle.norec_core.specs.declared.step.Answer.TheVariants.{Value};
 ghost use Rattle.norec_core.specs.Cores.{ComparesWith, IsComparing, IsWaiting};
 ghost use Rattle.machine.specs.Threads.{step_with as told_spec};
 ghost use Rattle.machine.specs.States.{IsValidated, MayValidate, asks};
-ghost use Rattle.machine.specs.inner.Kept.{kept, machine_thread, RunsInContext, Makes};
+ghost use Rattle.machine.specs.inner.Contexts.{context_of, machine_thread, RunsInContext, Makes};
 
 use crate::event::Event;
-use crate::kept::{KeptThread, go_back};
+use crate::context::{ThreadContext, go_back};
 use bytecode::Code;
 use frames::Doing;
 use std::alloc::Allocator;
@@ -29,17 +29,17 @@ pub(crate) fn is_validated(doing: Doing) -> bool
     }
 }
 
-impl<A: Allocator + Copy> KeptThread<A> {
+impl<A: Allocator + Copy> ThreadContext<A> {
     /// A step that waits for an even lock, with the lock's value that was loaded.
     #[inline(always)]
     pub(crate) fn take_wait<B: Allocator>(&mut self, code: &Code<B>, lock: u64)
         requires valid { IsValid code.now }
         requires running { self.old.status ≡ Running }
-        requires runs { RunsInContext code.now (kept self.old) }
-        requires operation { IsSomeAnd (asks (effect code.now) (machine_thread (kept self.old))) IsValidated }
+        requires runs { RunsInContext code.now (context_of self.old) }
+        requires operation { IsSomeAnd (asks (effect code.now) (machine_thread (context_of self.old))) IsValidated }
         requires waits { IsSomeAnd self.old.core.attempt (λ a. IsWaiting a) }
-        ensures makes { Makes code.now (told_spec (effect code.now) (machine_thread (kept self.old)) (Value lock))
-            (kept self.new) Event.Quiet }
+        ensures makes { Makes code.now (told_spec (effect code.now) (machine_thread (context_of self.old)) (Value lock))
+            (context_of self.new) Event.Quiet }
         ensures still { self.new.frames.configuration ≡ self.old.frames.configuration }
     {
         // The prover names by it the code.
@@ -59,14 +59,14 @@ impl<A: Allocator + Copy> KeptThread<A> {
     )
         requires valid { IsValid code.now }
         requires running { self.old.status ≡ Running }
-        requires runs { RunsInContext code.now (kept self.old) }
-        requires operation { IsSomeAnd (asks (effect code.now) (machine_thread (kept self.old))) IsValidated }
+        requires runs { RunsInContext code.now (context_of self.old) }
+        requires operation { IsSomeAnd (asks (effect code.now) (machine_thread (context_of self.old))) IsValidated }
         requires entry { IsSomeAnd self.old.core.attempt (λ a. ComparesWith time place (Some entry) a) }
         requires next { place + 1 < 2 ^ 64 }
         requires word { entry.1 < 2 ^ 64 }
-        ensures makes { Makes code.now (told_spec (effect code.now) (machine_thread (kept self.old)) (Value entry.1))
-            (kept self.new) Event.Quiet }
-        ensures operation { IsSomeAnd (asks (effect code.now) (machine_thread (kept self.new))) IsValidated }
+        ensures makes { Makes code.now (told_spec (effect code.now) (machine_thread (context_of self.old)) (Value entry.1))
+            (context_of self.new) Event.Quiet }
+        ensures operation { IsSomeAnd (asks (effect code.now) (machine_thread (context_of self.new))) IsValidated }
         ensures next { IsSomeAnd self.new.core.attempt (λ a. IsComparing time (place + 1) a) }
         ensures running { self.new.status ≡ Running }
         ensures still { self.new.frames.configuration ≡ self.old.frames.configuration }
@@ -89,13 +89,13 @@ impl<A: Allocator + Copy> KeptThread<A> {
     )
         requires valid { IsValid code.now }
         requires running { self.old.status ≡ Running }
-        requires runs { RunsInContext code.now (kept self.old) }
-        requires operation { IsSomeAnd (asks (effect code.now) (machine_thread (kept self.old))) IsValidated }
+        requires runs { RunsInContext code.now (context_of self.old) }
+        requires operation { IsSomeAnd (asks (effect code.now) (machine_thread (context_of self.old))) IsValidated }
         requires entry { IsSomeAnd self.old.core.attempt (λ a. ComparesWith time place (Some entry) a) }
         requires differs { word ≢ entry.1 }
         requires word { word < 2 ^ 64 }
-        ensures { Makes code.now (told_spec (effect code.now) (machine_thread (kept self.old)) (Value word))
-            (kept self.new) Event.Abort }
+        ensures { Makes code.now (told_spec (effect code.now) (machine_thread (context_of self.old)) (Value word))
+            (context_of self.new) Event.Abort }
     {
         // The prover names by it the code.
         let _code = code;
@@ -115,11 +115,11 @@ impl<A: Allocator + Copy> KeptThread<A> {
     )
         requires valid { IsValid code.now }
         requires running { self.old.status ≡ Running }
-        requires runs { RunsInContext code.now (kept self.old) }
-        requires operation { IsSomeAnd (asks (effect code.now) (machine_thread (kept self.old))) IsValidated }
+        requires runs { RunsInContext code.now (context_of self.old) }
+        requires operation { IsSomeAnd (asks (effect code.now) (machine_thread (context_of self.old))) IsValidated }
         requires entry { IsSomeAnd self.old.core.attempt (λ a. ComparesWith time place None a) }
-        ensures makes { Makes code.now (told_spec (effect code.now) (machine_thread (kept self.old)) (Value lock))
-            (kept self.new) Event.Quiet }
+        ensures makes { Makes code.now (told_spec (effect code.now) (machine_thread (context_of self.old)) (Value lock))
+            (context_of self.new) Event.Quiet }
         ensures still { self.new.frames.configuration ≡ self.old.frames.configuration }
     {
         // The prover names by it the code.

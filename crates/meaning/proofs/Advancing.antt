@@ -5,7 +5,7 @@ use Rattle.syntax.specs.declared.numbers.Halt.{Halt}
 use Rattle.syntax.specs.Behaviours.{Memory, Ended, Stopped}
 use Rattle.syntax.specs.Names.{Local, definition_of}
 use Rattle.syntax.specs.Actions.{Context, Outside, State, Answer, Gives, Stops, Action, go_on, spend, tick, lefts_in, locals, put_locals, pure, or_astray, ◌>>=◌, ◌>>◌}
-use Rattle.syntax.specs.Meaning.{End, Next, calls, call_locals, invoke, result_of, stmts}
+use Rattle.syntax.specs.Meaning.{Completion, Next, calls, call_locals, invoke, result_of, stmts}
 use Rattle.syntax.specs.Tree.{Function, Program, Scalar, Stmts, Unsigned}
 use Rattle.syntax.specs.declared.numbers.Value.{Value}
 use Rattle.std.specs.Prelude.{codes}
@@ -17,12 +17,12 @@ use Rattle.meaning.specs.declared.left.Left.TheVariants as left
 use Rattle.meaning.specs.declared.left.Task.{Task}
 use Rattle.meaning.specs.declared.left.Stepped.{Stepped}
 use Rattle.meaning.specs.declared.left.Stepped.TheVariants as to
-use Rattle.meaning.specs.declared.machine.End.{End as OwnEnd}
+use Rattle.meaning.specs.declared.machine.StmtCompletion.{StmtCompletion as OwnEnd}
 use Rattle.meaning.specs.declared.standing.Point.{Point}
 use Rattle.meaning.specs.declared.standing.Shown.{Shown}
 use Rattle.meaning.specs.declared.standing.Thread.{Thread}
 use Rattle.meaning.specs.declared.standing.Stop.{Stop}
-use Rattle.meaning.specs.declared.program.Source.{Source}
+use Rattle.meaning.specs.declared.program.ProgramTables.{ProgramTables}
 use Rattle.meaning.specs.declared.machine.Local.{Local as OwnLocal}
 use Rattle.meaning.specs.inner.Machine.{end_of, items_in, local_in, program_in}
 use Rattle.meaning.specs.Frames.{StateExtension, context_framed, extended_state}
@@ -35,7 +35,7 @@ use Rattle.meaning.proofs.GoesOn.{gone_on_last, stopped_is, went_is}
 abbrev state : ℕ → List Local → List Memory → List Memory → List ℕ → State
 state n ls founds lefts text = record { ticks = n; locals = ls; context = Outside founds lefts; text = text }
 
-module _ {A : Type 0} (source : Source A) where
+module _ {A : Type 0} (source : ProgramTables A) where
   -- what was shown on the way stands round the new point
   reached : (founds : List Memory) (shown more all : Shown A) (at : Point A) → all.lefts.items ≡ shown.lefts.items ++ more.lefts.items → all.text.items ≡ shown.text.items ++ more.text.items →
       extended_state (frame_of founds shown) (state_at at more) ≡ extended_state (frame_of founds all) (bare at)
@@ -45,13 +45,13 @@ module _ {A : Type 0} (source : Source A) where
       λ i. state at.ticks (items_in at.locals) (memories_in at.due.items ++ founds) (many i) (long i)
 
   -- the piece at the end is the innermost one
-  at_last : (all ls : List (Left A)) (l : Left A) (e : End) (s : State) → all ≡ ls ++ l ∷ [] → left_gone_on source all e s ≡ gone_on (map (resumed source) ls ++ resumed source l ∷ []) e s
+  at_last : (all ls : List (Left A)) (l : Left A) (e : Completion) (s : State) → all ≡ ls ++ l ∷ [] → left_gone_on source all e s ≡ gone_on (map (resumed source) ls ++ resumed source l ∷ []) e s
   at_last all ls l e s h = ap (λ ks. gone_on ks e s) (ap (map (resumed source)) h ∙ map-append (resumed source) ls (l ∷ []))
 
-  last_goes : (ls : List (Left A)) (l : Left A) (e : End) (s : State) → left_gone_on source (ls ++ l ∷ []) e s ≡ go_on (resumed source l e s) (left_gone_on source ls)
+  last_goes : (ls : List (Left A)) (l : Left A) (e : Completion) (s : State) → left_gone_on source (ls ++ l ∷ []) e s ≡ go_on (resumed source l e s) (left_gone_on source ls)
   last_goes ls l e s = ap (λ ks. gone_on ks e s) (map-append (resumed source) ls (l ∷ [])) ∙ gone_on_last (map (resumed source) ls) (resumed source l) e s
 
-  behind : (ls : List (Left A)) (l : Left A) (r : Answer End) → go_on r (left_gone_on source (ls ++ l ∷ [])) ≡ go_on (go_on r (resumed source l)) (left_gone_on source ls)
+  behind : (ls : List (Left A)) (l : Left A) (r : Answer Completion) → go_on r (left_gone_on source (ls ++ l ∷ [])) ≡ go_on (go_on r (resumed source l)) (left_gone_on source ls)
   behind ls l (Gives e s) = last_goes ls l e s
   behind ls l (Stops why s) = refl
 
@@ -151,11 +151,11 @@ uncounted : (q : Answer Value) → go_on (go_on q (λ _. pure Next)) (λ _. tick
 uncounted (Gives v s) = refl
 uncounted (Stops why s) = refl
 
-ends_call : (of : Option Scalar) (r : Answer End) → go_on (go_on r (call_left of [])) (λ _. tick) ≡ go_on (go_on r (λ end. put_locals [] >> result_of of end)) (λ _. tick)
+ends_call : (of : Option Scalar) (r : Answer Completion) → go_on (go_on r (call_left of [])) (λ _. tick) ≡ go_on (go_on r (λ end. put_locals [] >> result_of of end)) (λ _. tick)
 ends_call of (Gives end s) = uncounted (result_of of end (record s { locals = [] }))
 ends_call of (Stops why s) = refl
 
-module _ {A : Type 0} (source : Source A) where
+module _ {A : Type 0} (source : ProgramTables A) where
   -- a call of which all is still to do
   pub begins_left : (first second third : List (Left A)) (of : Option Scalar) (outer : Vec OwnLocal A) (t : Task A) → first ≡ [] → second ≡ first ++ left.Call of outer ∷ [] → third ≡ second ++ left.Next t ∷ [] → outer.items ≡ [] →
       (now : State) → left_gone_on source third Next now ≡ go_on (does_task source t now) (call_left of [])

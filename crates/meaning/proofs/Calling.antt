@@ -8,7 +8,7 @@ use Rattle.syntax.specs.declared.numbers.Halt.TheVariants.{Trapped}
 use Rattle.syntax.specs.declared.numbers.Trap.TheVariants.{Frames}
 use Rattle.syntax.specs.Names.{Local}
 use Rattle.syntax.specs.Actions.{State, Answer, Gives, Stops, Action, pure, stop, go_on, tick, put_locals, ◌>>=◌, ◌>>◌}
-use Rattle.syntax.specs.Meaning.{End, Next, calls, exprs, result_of, stmts}
+use Rattle.syntax.specs.Meaning.{Completion, Next, calls, exprs, result_of, stmts}
 use Rattle.meaning.specs.inner.Calls.{Begins, begin_call}
 use Rattle.meaning.specs.inner.Going.{Follow, Nests, call_alone, call_begun, call_left, call_of, follows, frame_at, frame_begun}
 use Rattle.meaning.proofs.Going.{on_both}
@@ -21,10 +21,10 @@ on_pair (Gives x s) f rest g other h = h x s
 on_pair (Stops why s) f rest g other h = refl
 
 -- a call's value counts no more
-abbrev no_value : Value → Action End
+abbrev no_value : Value → Action Completion
 no_value v = pure Next
 
-leaves_call : (of : Option Scalar) (outer : List Local) (r : Answer End) → go_on (go_on r (λ end. put_locals outer >> result_of of end)) no_value ≡ go_on r (call_left of outer)
+leaves_call : (of : Option Scalar) (outer : List Local) (r : Answer Completion) → go_on (go_on r (λ end. put_locals outer >> result_of of end)) no_value ≡ go_on r (call_left of outer)
 leaves_call of outer r = sym (twice r (λ end. put_locals outer >> result_of of end) no_value)
 
 module _ (p : Program) where

@@ -8,7 +8,7 @@ use Rattle.syntax.specs.Names.{Local}
 use Rattle.syntax.specs.declared.numbers.Halt.TheVariants.{Trapped, Wants, Spent, Astray}
 use Rattle.syntax.specs.Behaviours.{Memory}
 use Rattle.syntax.specs.Actions.{Context, Outside, Inside, State, Answer, Gives, Stops, Action, go_on, ◌>>=◌, spend, tick, load_at, store_at, may_print_at, memory_in, write}
-use Rattle.syntax.specs.Meaning.{End, after_turn, turns, Left, undoes, left_or, left_by, leave_inner, close_inner, inner, close, enter, mode_of, begin_at}
+use Rattle.syntax.specs.Meaning.{Completion, after_turn, turns, Left, undoes, left_or, left_by, leave_inner, close_inner, inner, close, enter, mode_of, begin_at}
 use Rattle.syntax.proofs.Kept.{IsAlwaysKept}
 use Rattle.meaning.specs.Frames.{StateExtension, context_framed, extended_state, Alike, IsFramed}
 
@@ -48,11 +48,11 @@ state n ls p t = record { ticks = n; locals = ls; context = p; text = t }
 write_alike : (f : StateExtension) (text : List ℕ) (s : State) → Alike f (write text s) (write text (extended_state f s))
 write_alike f text s = ap (λ t. Gives tt (state s.ticks s.locals (context_framed f s.context) t)) (append_assoc f.text s.text text)
 
-after_turn_alike : (f : StateExtension) (rest : Action End) → ((s : State) → Alike f (rest s) (rest (extended_state f s))) → (o : Option End) (s : State) → Alike f (after_turn rest o s) (after_turn rest o (extended_state f s))
+after_turn_alike : (f : StateExtension) (rest : Action Completion) → ((s : State) → Alike f (rest s) (rest (extended_state f s))) → (o : Option Completion) (s : State) → Alike f (after_turn rest o s) (after_turn rest o (extended_state f s))
 after_turn_alike f rest h None s = h s
 after_turn_alike f rest h (Some end) s = refl
 
-turns_alike : (turn : Action (Option End)) → IsFramed turn → (f : StateExtension) (n : ℕ) (s : State) → Alike f (turns n turn s) (turns n turn (extended_state f s))
+turns_alike : (turn : Action (Option Completion)) → IsFramed turn → (f : StateExtension) (n : ℕ) (s : State) → Alike f (turns n turn s) (turns n turn (extended_state f s))
 turns_alike turn h f zero s = refl
 turns_alike turn h f (suc n) s =
     on_alike f (tick s) (tick (extended_state f s)) (λ _. turn >>= after_turn (turns n turn)) (tick_framed.alike f s)
@@ -62,14 +62,14 @@ memory_framed : (f : StateExtension) (p : Context) → memory_in (context_framed
 memory_framed f (Outside founds lefts) = refl
 memory_framed f (Inside mode m) = refl
 
-abbrev left_with : End → List Local → Memory → Left
+abbrev left_with : Completion → List Local → Memory → Left
 left_with end ls m = record { end = end; locals = ls; memory = m }
 
-left_framed : (f : StateExtension) (undone : Bool) (mine : List Local) (found : Memory) (end : End) (now : State) → left_or undone mine found end (extended_state f now) ≡ left_or undone mine found end now
+left_framed : (f : StateExtension) (undone : Bool) (mine : List Local) (found : Memory) (end : Completion) (now : State) → left_or undone mine found end (extended_state f now) ≡ left_or undone mine found end now
 left_framed f true mine found end now = refl
 left_framed f false mine found end now = ap (λ m. left_with end now.locals m) (memory_framed f now.context)
 
-close_inner_alike : (outer : Mode) (kind : Kind) (mine : List Local) (found : Memory) (f : StateExtension) (r more : Answer End) → Alike f r more → Alike f (close_inner outer kind mine found r) (close_inner outer kind mine found more)
+close_inner_alike : (outer : Mode) (kind : Kind) (mine : List Local) (found : Memory) (f : StateExtension) (r more : Answer Completion) → Alike f r more → Alike f (close_inner outer kind mine found r) (close_inner outer kind mine found more)
 close_inner_alike outer kind mine found f (Gives end now) more e =
     ap (close_inner outer kind mine found) e ∙ ap (λ l. leave_inner outer l (extended_state f now)) (left_framed f (undoes end kind) mine found end now)
 close_inner_alike outer kind mine found f (Stops (Trapped t) s) more e = ap (close_inner outer kind mine found) e
@@ -77,12 +77,12 @@ close_inner_alike outer kind mine found f (Stops Astray s) more e = ap (close_in
 close_inner_alike outer kind mine found f (Stops Spent s) more e = ap (close_inner outer kind mine found) e
 close_inner_alike outer kind mine found f (Stops Wants s) more e = λ n. ap (close_inner outer kind mine found) (e n)
 
-inner_alike : (f : StateExtension) (outer : Mode) (kind : Kind) (found : Memory) (run : Action End) → IsFramed run → (s : State) → Alike f (inner outer kind found run s) (inner outer kind found run (extended_state f s))
+inner_alike : (f : StateExtension) (outer : Mode) (kind : Kind) (found : Memory) (run : Action Completion) → IsFramed run → (s : State) → Alike f (inner outer kind found run s) (inner outer kind found run (extended_state f s))
 inner_alike f outer kind found run h s =
     let start = state s.ticks s.locals (Inside (mode_of kind) found) s.text in
     close_inner_alike outer kind s.locals found f (run start) (run (extended_state f start)) (h.alike f start)
 
-abbrev leave_at : ℕ → State → List Memory → List Memory → Left → Answer End
+abbrev leave_at : ℕ → State → List Memory → List Memory → Left → Answer Completion
 leave_at n now founds lefts left =
     go_on (spend n (record now { context = Outside founds lefts }))
     (λ u then_. Gives left.end (record then_ { locals = left.locals; context = Outside founds (lefts ++ left.memory ∷ []) }))
@@ -92,7 +92,7 @@ leave_alike f zero now founds lefts left = refl
 leave_alike f (suc n) now founds lefts left =
     ap (λ ls. Gives left.end (state n left.locals (Outside (founds ++ f.founds) ls) (f.text ++ now.text))) (append_assoc f.lefts lefts (left.memory ∷ []))
 
-close_alike : (kind : Kind) (f : StateExtension) (founds lefts : List Memory) (mine : List Local) (found : Memory) (r more : Answer End) → Alike f r more → Alike f (close kind founds lefts mine found r) (close kind (founds ++ f.founds) (f.lefts ++ lefts) mine found more)
+close_alike : (kind : Kind) (f : StateExtension) (founds lefts : List Memory) (mine : List Local) (found : Memory) (r more : Answer Completion) → Alike f r more → Alike f (close kind founds lefts mine found r) (close kind (founds ++ f.founds) (f.lefts ++ lefts) mine found more)
 close_alike kind f founds lefts mine found (Gives end now) more e =
     let left = left_by kind mine found end now in
     let same = ap (close kind (founds ++ f.founds) (f.lefts ++ lefts) mine found) e ∙ ap (λ l. leave_at now.ticks (extended_state f now) (founds ++ f.founds) (f.lefts ++ lefts) l) (left_framed f (undoes end kind) mine found end now) in
@@ -105,10 +105,10 @@ close_alike kind f founds lefts mine found (Stops Spent s) more e = ap (close ki
 close_alike kind f founds lefts mine found (Stops Wants s) more e = λ n. ap (close kind (founds ++ f.founds) (f.lefts ++ lefts) mine found) (e n)
 
 -- a transaction that finds no memory finds none where there is no further one
-wants_alike : (f : StateExtension) (founds lefts : List Memory) (kind : Kind) (run : Action End) (s : State) → founds ≡ [] → enter (Outside founds lefts) kind run s ≡ Stops Wants s
+wants_alike : (f : StateExtension) (founds lefts : List Memory) (kind : Kind) (run : Action Completion) (s : State) → founds ≡ [] → enter (Outside founds lefts) kind run s ≡ Stops Wants s
 wants_alike f founds lefts kind run s none = ap (λ fs. enter (Outside fs lefts) kind run s) none
 
-enter_alike : (f : StateExtension) (kind : Kind) (run : Action End) → IsFramed run → (p : Context) (n : ℕ) (ls : List Local) (t : List ℕ) → Alike f (enter p kind run (state n ls p t)) (enter (context_framed f p) kind run (extended_state f (state n ls p t)))
+enter_alike : (f : StateExtension) (kind : Kind) (run : Action Completion) → IsFramed run → (p : Context) (n : ℕ) (ls : List Local) (t : List ℕ) → Alike f (enter p kind run (state n ls p t)) (enter (context_framed f p) kind run (extended_state f (state n ls p t)))
 enter_alike f kind run h (Outside [] lefts) n ls t = λ none. wants_alike f f.founds (f.lefts ++ lefts) kind run (extended_state f (state n ls (Outside [] lefts) t)) none
 enter_alike f kind run h (Outside (found ∷ founds) lefts) n ls t =
     let start = state n ls (Inside (mode_of kind) found) t in

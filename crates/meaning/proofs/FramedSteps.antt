@@ -7,7 +7,7 @@ use Rattle.syntax.specs.declared.numbers.Trap.TheVariants.{Frames}
 use Rattle.syntax.specs.Tree.{Program, Stmt, Expr, Exprs, Simple, Start, Declarator}
 use Rattle.syntax.specs.Names.{Local, definition_of}
 use Rattle.syntax.specs.Actions.{Action, pure, locals, put_locals, tick, or_astray, ◌>>=◌, ◌>>◌}
-use Rattle.syntax.specs.Meaning.{End, Next, Breaks, Continues, Returns, Cancels, CancelsOuter, InLocal, call_locals, expr, exprs, stmt, after_body, holds, stepped, simple, first_value, declare, start_with, result_of, calls}
+use Rattle.syntax.specs.Meaning.{Completion, Next, Breaks, Continues, Returns, Cancels, CancelsOuter, InLocal, call_locals, expr, exprs, stmt, after_body, holds, stepped, simple, first_value, declare, start_with, result_of, calls}
 use Rattle.syntax.proofs.Kept.{each_expr_holds, each_simple_holds, each_stmt_holds}
 use Rattle.meaning.specs.inner.Going.{Follow, Ends, ticks_left, drop_names, call_left, when_next, scope_begun, loop_begun, test_of, behind_of, turns_begun, either_begun, for_begun, frame_begun, call_begun}
 use Rattle.meaning.specs.inner.Calls.{begin_call}
@@ -32,7 +32,7 @@ tick_framed = framed_kept.tick_holds
 pub then_framed : {A B : Type 0} {run : Action A} {rest : Action B} → IsFramed run → IsFramed rest → IsFramed (run >> rest)
 then_framed g h = on_framed g (λ _. h)
 
-pub after_body_framed : {go : Action (Option End)} → IsFramed go → (end : End) → IsFramed (after_body go end)
+pub after_body_framed : {go : Action (Option Completion)} → IsFramed go → (end : Completion) → IsFramed (after_body go end)
 after_body_framed h Next = h
 after_body_framed h Breaks = pure_framed (Some Next)
 after_body_framed h Continues = h
@@ -40,7 +40,7 @@ after_body_framed h (Returns v) = pure_framed (Some (Returns v))
 after_body_framed h Cancels = pure_framed (Some Cancels)
 after_body_framed h CancelsOuter = pure_framed (Some CancelsOuter)
 
-pub when_next_framed : {run : Action Follow} → IsFramed run → (end : End) → IsFramed (when_next run end)
+pub when_next_framed : {run : Action Follow} → IsFramed run → (end : Completion) → IsFramed (when_next run end)
 when_next_framed h Next = h
 when_next_framed h Breaks = pure_framed (Ends Breaks)
 when_next_framed h Continues = pure_framed (Ends Continues)
@@ -48,7 +48,7 @@ when_next_framed h (Returns v) = pure_framed (Ends (Returns v))
 when_next_framed h Cancels = pure_framed (Ends Cancels)
 when_next_framed h CancelsOuter = pure_framed (Ends CancelsOuter)
 
-result_framed : (of : Option Scalar) (end : End) → IsFramed (result_of of end)
+result_framed : (of : Option Scalar) (end : Completion) → IsFramed (result_of of end)
 result_framed of Next = pure_framed _
 result_framed of (Returns v) = pure_framed _
 result_framed of Breaks = framed_kept.astray_holds
@@ -56,20 +56,20 @@ result_framed of Continues = framed_kept.astray_holds
 result_framed of Cancels = framed_kept.astray_holds
 result_framed of CancelsOuter = framed_kept.astray_holds
 
-pub cut_framed : (n : ℕ) (end : End) → IsFramed (drop_names n end)
+pub cut_framed : (n : ℕ) (end : Completion) → IsFramed (drop_names n end)
 cut_framed n end = on_framed locals_framed (λ all. then_framed (put_framed _) (pure_framed end))
 
-pub call_left_framed : (of : Option Scalar) (ls : List Local) (end : End) → IsFramed (call_left of ls end)
+pub call_left_framed : (of : Option Scalar) (ls : List Local) (end : Completion) → IsFramed (call_left of ls end)
 call_left_framed of ls end = then_framed (put_framed ls) (then_framed (result_framed of end) (pure_framed Next))
 
-pub scope_framed : (run : Action End) → IsFramed (scope_begun run)
+pub scope_framed : (run : Action Completion) → IsFramed (scope_begun run)
 scope_framed run = on_framed locals_framed (λ outer. pure_framed _)
 
 or_astray_framed : {A : Type 0} (o : Option A) → IsFramed (or_astray o)
 or_astray_framed (Some a) = pure_framed a
 or_astray_framed None = framed_kept.astray_holds
 
-pub loop_framed : (turn : Action (Option End)) → IsFramed (loop_begun turn)
+pub loop_framed : (turn : Action (Option Completion)) → IsFramed (loop_begun turn)
 loop_framed turn = on_framed ticks_framed (λ n. pure_framed _)
 
 module _ (p : Program) (k : ℕ) where
@@ -110,7 +110,7 @@ module _ (p : Program) (k : ℕ) where
   pub either_framed : (c : Expr) (a : Stmt) (b : Option Stmt) → IsFramed (either_begun p (calls p k) c a b)
   either_framed c a b = on_framed (expr_framed c) (λ v. pure_framed _)
 
-  pub for_framed : (start : Start) (turn : Action (Option End)) → IsFramed (for_begun p (calls p k) start turn)
+  pub for_framed : (start : Start) (turn : Action (Option Completion)) → IsFramed (for_begun p (calls p k) start turn)
   for_framed start turn = on_framed locals_framed (λ outer. then_framed (start_framed start) (on_framed ticks_framed (λ n. pure_framed _)))
 
   test_framed : (st : Stmt) → IsFramed (test_of p (calls p k) st)
@@ -140,5 +140,5 @@ module _ (p : Program) where
   pub call_framed : (k : ℕ) (x : List ℕ) (es : Exprs) → IsFramed (call_begun p k x es)
   call_framed k x es = then_framed tick_framed (on_framed (exprs_framed p k es) (λ vs. then_framed tick_framed (frame_framed k x vs)))
 
-pub whole_framed : {run : Action End} → IsFramed run → IsFramed (run >>= (λ end. pure (Ends end)))
+pub whole_framed : {run : Action Completion} → IsFramed run → IsFramed (run >>= (λ end. pure (Ends end)))
 whole_framed h = on_framed h (λ end. pure_framed (Ends end))

@@ -3,14 +3,14 @@ use Rattle.std.proofs.Common.{◌≡◌, List, [], ◌∷◌, ◌++◌, sym, ap,
 use Rattle.syntax.specs.declared.numbers.Halt.{Halt}
 use Rattle.syntax.specs.declared.numbers.Halt.TheVariants.{Trapped, Wants, Spent, Astray}
 use Rattle.syntax.specs.Actions.{State, Answer, Gives, Stops, Action, go_on}
-use Rattle.syntax.specs.Meaning.{End}
+use Rattle.syntax.specs.Meaning.{Completion}
 use Rattle.meaning.specs.Frames.{StateExtension, extended_state, Alike}
 use Rattle.meaning.specs.inner.Going.{Follow, follows, gone_on, IsStep}
 use Rattle.meaning.proofs.Going.{same_answer}
 use Rattle.meaning.proofs.Sequences.{twice}
 
 -- the piece at the end comes first
-pub gone_on_last : (pieces : List (End → Action End)) (piece : End → Action End) (e : End) (s : State) → gone_on (pieces ++ piece ∷ []) e s ≡ go_on (piece e s) (gone_on pieces)
+pub gone_on_last : (pieces : List (Completion → Action Completion)) (piece : Completion → Action Completion) (e : Completion) (s : State) → gone_on (pieces ++ piece ∷ []) e s ≡ go_on (piece e s) (gone_on pieces)
 gone_on_last [] piece e s = sym (same_answer (piece e s))
 gone_on_last (x ∷ xs) piece e s = ap (λ r. go_on r x) (gone_on_last xs piece e s) ∙ sym (twice (piece e s) (gone_on xs) x)
 
@@ -21,7 +21,7 @@ stops_framed f Wants s more none e = e none
 stops_framed f Spent s more none e = e
 stops_framed f Astray s more none e = e
 
-module _ (piece : End → Action End) (pieces : List (End → Action End)) (e : End) (run : Action Follow) (step : IsStep piece e run) (f : StateExtension) (s now : State) where
+module _ (piece : Completion → Action Completion) (pieces : List (Completion → Action Completion)) (e : Completion) (run : Action Follow) (step : IsStep piece e run) (f : StateExtension) (s now : State) where
   first_is : gone_on (pieces ++ piece ∷ []) e (extended_state f s) ≡ go_on (go_on (run (extended_state f s)) follows) (gone_on pieces)
   first_is = gone_on_last pieces piece e (extended_state f s) ∙ ap (λ r. go_on r (gone_on pieces)) (step.does (extended_state f s))
 

@@ -6,7 +6,7 @@ use Rattle.syntax.specs.Tree.{Program, Stmt, Stmts, Expr, Start}
 use Rattle.syntax.specs.Numbers.{is_zero}
 use Rattle.syntax.specs.declared.numbers.Value.{Value}
 use Rattle.syntax.specs.Actions.{State, Answer, Gives, Stops, Action, pure, go_on, tick, ◌>>=◌, ◌>>◌}
-use Rattle.syntax.specs.Meaning.{Caller, End, Next, expr, stmt, stmts, in_scope, after_body, after_turn, turns, loop, holds, stepped, start_with}
+use Rattle.syntax.specs.Meaning.{Caller, Completion, Next, expr, stmt, stmts, in_scope, after_body, after_turn, turns, loop, holds, stepped, start_with}
 use Rattle.meaning.specs.inner.Does.{if_of, loop_condition}
 use Rattle.meaning.specs.inner.Going.{Ends, Goes, Nests, follows, drop_names, apart_begun, otherwise, either_begun, for_begun, turn_of, turn_begun, turns_begun, body_left, follow_turn}
 use Rattle.meaning.proofs.Sequences.{twice}
@@ -24,30 +24,30 @@ pub same_answer : {X : Type 0} (r : Answer X) → go_on r pure ≡ r
 same_answer (Gives x s) = refl
 same_answer (Stops why s) = refl
 
-pub same_end : (r : Answer End) → r ≡ go_on (go_on r (λ end. pure (Ends end))) follows
+pub same_end : (r : Answer Completion) → r ≡ go_on (go_on r (λ end. pure (Ends end))) follows
 same_end (Gives end s) = refl
 same_end (Stops why s) = refl
 
-pub turned_is : (rest : Action End) (o : Option End) (s : State) → after_turn rest o s ≡ follows (follow_turn rest o) s
+pub turned_is : (rest : Action Completion) (o : Option Completion) (s : State) → after_turn rest o s ≡ follows (follow_turn rest o) s
 turned_is rest None s = refl
 turned_is rest (Some end) s = refl
 
 -- a body where the test holds, and what comes behind it
-goes_is : (body : Action End) (behind : Action (Option End)) (rest : Action End) (goes : Bool) (s : State) →
+goes_is : (body : Action Completion) (behind : Action (Option Completion)) (rest : Action Completion) (goes : Bool) (s : State) →
     go_on ((if goes then (body >>= after_body behind) else pure (Some Next)) s) (after_turn rest) ≡ follows (if goes then Nests (body_left behind rest) body else Ends Next) s
 goes_is body behind rest true s = sym (twice (body s) (after_body behind) (after_turn rest))
 goes_is body behind rest false s = refl
 
-tested_turn : (body : Action End) (behind : Action (Option End)) (rest : Action End) (r : Answer Bool) →
+tested_turn : (body : Action Completion) (behind : Action (Option Completion)) (rest : Action Completion) (r : Answer Bool) →
     go_on (go_on r (λ goes. if goes then (body >>= after_body behind) else pure (Some Next))) (after_turn rest) ≡ go_on (go_on r (λ goes. pure (if goes then Nests (body_left behind rest) body else Ends Next))) follows
 tested_turn body behind rest (Gives goes s) = goes_is body behind rest goes s
 tested_turn body behind rest (Stops why s) = refl
 
-while_tests : (body : Action End) (z : Bool) (s : State) → (if z then pure (Some Next) else (body >>= after_body (pure None))) s ≡ (if not z then (body >>= after_body (pure None)) else pure (Some Next)) s
+while_tests : (body : Action Completion) (z : Bool) (s : State) → (if z then pure (Some Next) else (body >>= after_body (pure None))) s ≡ (if not z then (body >>= after_body (pure None)) else pure (Some Next)) s
 while_tests body true s = refl
 while_tests body false s = refl
 
-while_is : (body : Action End) (r : Answer Value) →
+while_is : (body : Action Completion) (r : Answer Value) →
     go_on r (λ v. if is_zero v then pure (Some Next) else (body >>= after_body (pure None))) ≡ go_on (go_on r (λ v. pure (not (is_zero v)))) (λ goes. if goes then (body >>= after_body (pure None)) else pure (Some Next))
 while_is body (Gives v s) = while_tests body (is_zero v) s
 while_is body (Stops why s) = refl
@@ -57,7 +57,7 @@ module _ (p : Program) (call : Caller) where
   apart_is Stmts.[] s = refl
   apart_is (Stmts.◌∷◌ st ss) s = refl
 
-  one_is : (a : Stmt) (b : Option Stmt) (other : Action End) (z : Bool) (s : State) → other s ≡ follows (otherwise p call b) s →
+  one_is : (a : Stmt) (b : Option Stmt) (other : Action Completion) (z : Bool) (s : State) → other s ≡ follows (otherwise p call b) s →
       (if z then other else in_scope (stmt p call a)) s ≡ follows (if z then otherwise p call b else Goes (in_scope (stmt p call a))) s
   one_is a b other true s h = h
   one_is a b other false s h = refl
@@ -72,12 +72,12 @@ module _ (p : Program) (call : Caller) where
       (λ u now. on_both (expr p call c now) (λ v. if is_zero v then in_scope (stmt p call b) else in_scope (stmt p call a)) (λ v. pure (if is_zero v then otherwise p call (Some b) else Goes (in_scope (stmt p call a)))) follows
       (λ v then_. one_is a (Some b) (in_scope (stmt p call b)) (is_zero v) then_ refl))
 
-  for_opened : (n : ℕ) (turn : Action (Option End)) (r : Answer End) →
+  for_opened : (n : ℕ) (turn : Action (Option Completion)) (r : Answer Completion) →
       go_on (go_on r (λ _. loop turn)) (drop_names n) ≡ go_on (go_on r (λ _ now. Gives (Nests (drop_names n) (turns now.ticks turn)) now)) follows
   for_opened n turn (Gives e s) = refl
   for_opened n turn (Stops why s) = refl
 
-  pub for_is : (start : Start) (turn : Action (Option End)) (s : State) →
+  pub for_is : (start : Start) (turn : Action (Option Completion)) (s : State) →
       go_on (tick s) (λ _. in_scope (start_with p call start >> loop turn)) ≡ go_on (go_on (tick s) (λ _. for_begun p call start turn)) follows
   for_is start turn s =
       on_both (tick s) (λ _. in_scope (start_with p call start >> loop turn)) (λ _. for_begun p call start turn) follows

@@ -5,9 +5,9 @@ use Rattle.syntax.specs.declared.tree.Stmt.{Stmt as OwnStmt}
 use Rattle.syntax.specs.Tree.{Exprs, Program, Stmt}
 use Rattle.syntax.specs.Views.{expr_of, start_of, stmt_of, stmts_of}
 use Rattle.syntax.specs.Actions.{State, pure, go_on, tick}
-use Rattle.syntax.specs.Meaning.{Caller, End, Next, stmt, stmts, in_scope, on_next, after_body, after_turn, loop}
-use Rattle.meaning.specs.declared.left.Way.{Way}
-use Rattle.meaning.specs.declared.left.Way.TheVariants as way
+use Rattle.syntax.specs.Meaning.{Caller, Completion, Next, stmt, stmts, in_scope, on_next, after_body, after_turn, loop}
+use Rattle.meaning.specs.declared.left.Direction.{Direction}
+use Rattle.meaning.specs.declared.left.Direction.TheVariants as way
 use Rattle.meaning.specs.declared.left.Task.{Task}
 use Rattle.meaning.specs.declared.left.Task.TheVariants as task
 use Rattle.meaning.specs.declared.left.Left.{Left}
@@ -16,7 +16,7 @@ use Rattle.meaning.specs.declared.left.Parts.{Parts}
 use Rattle.meaning.specs.declared.left.Parts.TheVariants as parts
 use Rattle.meaning.specs.declared.loops.Loop.{Loop}
 use Rattle.meaning.specs.declared.loops.Loop.TheVariants as kind
-use Rattle.meaning.specs.declared.program.Source.{Source}
+use Rattle.meaning.specs.declared.program.ProgramTables.{ProgramTables}
 use Rattle.meaning.specs.inner.Machine.{program_in, items_in}
 use Rattle.meaning.specs.inner.Does.{called, does_stmts}
 use Rattle.meaning.specs.Frames.{IsFramed}
@@ -40,8 +40,8 @@ module _ {A : Type 0} (p : Program) (call : Caller) where
       let all : take (length (y ∷ ss) - 1) (drop 1 (y ∷ ss)) ≡ ss = take_all (length (y ∷ ss) - 1) ss (omega arith) in
       λ i. Nests (on_next (stmts p call (stmts_of (all i)))) (stmt p call (stmt_of (is i)))
 
-module _ {A : Type 0} (source : Source A) where
-  by_framed : (w : Way) (frames : ℕ) (s : Stmt) → IsFramed (begun_by source w frames s)
+module _ {A : Type 0} (source : ProgramTables A) where
+  by_framed : (w : Direction) (frames : ℕ) (s : Stmt) → IsFramed (begun_by source w frames s)
   by_framed way.Whole frames s = whole_framed (stmt_framed (program_in source) frames s)
   by_framed way.Scoped frames s = scope_framed _
   by_framed (way.Turns n) frames s = turns_framed (program_in source) frames s n
@@ -50,13 +50,13 @@ module _ {A : Type 0} (source : Source A) where
   begun_framed (task.Apart frames ss) = pure_framed _
   begun_framed (task.Alone w frames s) = by_framed w frames (stmt_of s.now)
 
-  step_framed : (l : Left A) (e : End) → IsFramed (step_of source l e)
+  step_framed : (l : Left A) (e : Completion) → IsFramed (step_of source l e)
   step_framed (left.Next t) e = when_next_framed (begun_framed t) e
   step_framed (left.Body frames s n) e = on_framed (after_body_framed (behind_framed (program_in source) frames (stmt_of s.now)) e) (λ o. pure_framed (follow_turn (turns_in source frames (stmt_of s.now) n) o))
   step_framed (left.Scope n) e = whole_framed (cut_framed n e)
   step_framed (left.Call of outer) e = whole_framed (call_left_framed of (items_in outer) e)
 
-  by_is : (w : Way) (frames : ℕ) (st : Stmt) (s : State) → does_by source w frames st s ≡ go_on (begun_by source w frames st s) follows
+  by_is : (w : Direction) (frames : ℕ) (st : Stmt) (s : State) → does_by source w frames st s ≡ go_on (begun_by source w frames st s) follows
   by_is way.Whole frames st s = same_end (stmt (program_in source) (called source frames) st s)
   by_is way.Scoped frames st s = refl
   by_is (way.Turns n) frames st s = turns_is (program_in source) (called source frames) st n s
@@ -65,7 +65,7 @@ module _ {A : Type 0} (source : Source A) where
   task_is (task.Apart frames ss) s = apart_is (program_in source) (called source frames) (stmts_of ss.now) s
   task_is (task.Alone w frames st) s = by_is w frames (stmt_of st.now) s
 
-  resumed_is : (l : Left A) (e : End) (s : State) → resumed source l e s ≡ go_on (step_of source l e s) follows
+  resumed_is : (l : Left A) (e : Completion) (s : State) → resumed source l e s ≡ go_on (step_of source l e s) follows
   resumed_is (left.Next t) Next s = task_is t s
   resumed_is (left.Next t) e s = refl
   resumed_is (left.Body frames st n) e s =
@@ -74,7 +74,7 @@ module _ {A : Type 0} (source : Source A) where
   resumed_is (left.Scope n) e s = same_end (drop_names n e s)
   resumed_is (left.Call of outer) e s = same_end (call_left of (items_in outer) e s)
 
-  pub own_step : (l : Left A) (e : End) → IsStep (resumed source l) e (step_of source l e)
+  pub own_step : (l : Left A) (e : Completion) → IsStep (resumed source l) e (step_of source l e)
   own_step l e = record { does = resumed_is l e; framed = step_framed l e }
 
   -- a statement by its parts
@@ -101,7 +101,7 @@ module _ {A : Type 0} (source : Source A) where
     parted_is (parts.Either c a b) s = either_is (program_in source) (called source frames) (expr_of c.now) (stmt_of a.now) (option_map stmt_of b.now) s
     parted_is (parts.Repeats w) s = looped_is w s
 
-    pub open_step : (l : Left A) (t : Task A) (st : Stmt) (q : Parts A) (e : End) → l ≡ left.Next t → e ≡ Next → does_task source t ≡ stmt (program_in source) (called source frames) st → st ≡ stmt_in q → IsStep (resumed source l) e (opened source frames st q)
+    pub open_step : (l : Left A) (t : Task A) (st : Stmt) (q : Parts A) (e : Completion) → l ≡ left.Next t → e ≡ Next → does_task source t ≡ stmt (program_in source) (called source frames) st → st ≡ stmt_in q → IsStep (resumed source l) e (opened source frames st q)
     open_step l t st q e is next does parts = record {
       does = λ s.
           ap (λ k. resumed source k e s) is ∙ ap (λ d. resumed source (left.Next t) d s) next ∙ ap (λ run. run s) does
@@ -110,7 +110,7 @@ module _ {A : Type 0} (source : Source A) where
     }
 
     -- one that is nothing but a call
-    pub call_step : (l : Left A) (t : Task A) (st : Stmt) (x : List ℕ) (es : Exprs) (e : End) → l ≡ left.Next t → e ≡ Next → does_task source t ≡ stmt (program_in source) (called source frames) st → stmt (program_in source) (called source frames) st ≡ call_alone (program_in source) (called source frames) x es → IsStep (resumed source l) e (call_begun (program_in source) frames x es)
+    pub call_step : (l : Left A) (t : Task A) (st : Stmt) (x : List ℕ) (es : Exprs) (e : Completion) → l ≡ left.Next t → e ≡ Next → does_task source t ≡ stmt (program_in source) (called source frames) st → stmt (program_in source) (called source frames) st ≡ call_alone (program_in source) (called source frames) x es → IsStep (resumed source l) e (call_begun (program_in source) frames x es)
     call_step l t st x es e is next does calls = record {
       does = λ s.
           ap (λ k. resumed source k e s) is ∙ ap (λ d. resumed source (left.Next t) d s) next ∙ ap (λ run. run s) (does ∙ calls)

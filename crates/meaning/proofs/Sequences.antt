@@ -12,9 +12,9 @@ use Rattle.syntax.specs.Tree.{Program, Scalar, Expr, Stmt}
 use Rattle.syntax.specs.Views.{expr_of, exprs_of, stmt_of, stmts_of, declarator_of}
 use Rattle.syntax.specs.Names.{Local}
 use Rattle.syntax.specs.Actions.{State, Answer, Gives, Stops, Action, pure, go_on, tick, ◌>>=◌}
-use Rattle.syntax.specs.Meaning.{Caller, End, Next, expr, exprs, stmt, stmts, declare, in_scope, on_next, after_body, after_turn, turns}
-use Rattle.meaning.specs.declared.machine.End.{End as OwnEnd}
-use Rattle.meaning.specs.declared.machine.End.TheVariants as end
+use Rattle.syntax.specs.Meaning.{Caller, Completion, Next, expr, exprs, stmt, stmts, declare, in_scope, on_next, after_body, after_turn, turns}
+use Rattle.meaning.specs.declared.machine.StmtCompletion.{StmtCompletion as OwnEnd}
+use Rattle.meaning.specs.declared.machine.StmtCompletion.TheVariants as end
 use Rattle.meaning.specs.inner.Machine.{end_of}
 use Rattle.meaning.specs.inner.Does.{declared_one, joined_to, left_or, loop_condition, while_turn}
 
@@ -31,7 +31,7 @@ twice (Gives x s) f rest = refl
 twice (Stops why s) f rest = refl
 
 -- an end that is not the next statement's
-pub left_at : (rest : Action End) (e : OwnEnd) (s : State) → (e ≡ end.Next → ⊥) → on_next rest (end_of e) s ≡ Gives (end_of e) s
+pub left_at : (rest : Action Completion) (e : OwnEnd) (s : State) → (e ≡ end.Next → ⊥) → on_next rest (end_of e) s ≡ Gives (end_of e) s
 left_at rest end.Next s differs = absurd (differs refl)
 left_at rest e s differs = refl
 
@@ -51,22 +51,22 @@ module _ {A : Type 0} (p : Program) (call : Caller) where
       at_drop_more (λ xs. stmts p call (stmts_of xs) s) ss i x h
       ∙ ap (λ y. go_on (stmt p call (stmt_of y) s) (on_next (stmts p call (stmts_of (drop (i + 1) ss))))) (sym is)
 
-  pub stmts_next : (ss : List (S.Stmt A)) (i : ℕ) (x : S.Stmt A) (s now : State) (e : OwnEnd) (whole : Answer End) → i < length ss → x ≡ get_or ss i x →
+  pub stmts_next : (ss : List (S.Stmt A)) (i : ℕ) (x : S.Stmt A) (s now : State) (e : OwnEnd) (whole : Answer Completion) → i < length ss → x ≡ get_or ss i x →
       stmts p call (stmts_of (drop i ss)) s ≡ whole → stmt p call (stmt_of x) s ≡ Gives (end_of e) now → e ≡ end.Next → stmts p call (stmts_of (drop (i + 1) ss)) now ≡ whole
   stmts_next ss i x s now e whole h is inv d next =
       sym (stmts_more ss i x s h is ∙ after _ (on_next (stmts p call (stmts_of (drop (i + 1) ss)))) (end_of e) now d ∙ ap (λ k. on_next (stmts p call (stmts_of (drop (i + 1) ss))) (end_of k) now) next) ∙ inv
 
-  pub stmts_left : (ss : List (S.Stmt A)) (i : ℕ) (x : S.Stmt A) (s now : State) (e : OwnEnd) (whole : Answer End) → i < length ss → x ≡ get_or ss i x →
+  pub stmts_left : (ss : List (S.Stmt A)) (i : ℕ) (x : S.Stmt A) (s now : State) (e : OwnEnd) (whole : Answer Completion) → i < length ss → x ≡ get_or ss i x →
       stmts p call (stmts_of (drop i ss)) s ≡ whole → stmt p call (stmt_of x) s ≡ Gives (end_of e) now → (e ≡ end.Next → ⊥) → whole ≡ Gives (end_of e) now
   stmts_left ss i x s now e whole h is inv d differs =
       sym inv ∙ stmts_more ss i x s h is ∙ after _ (on_next (stmts p call (stmts_of (drop (i + 1) ss)))) (end_of e) now d ∙ left_at (stmts p call (stmts_of (drop (i + 1) ss))) e now differs
 
-  pub stmts_halt : (ss : List (S.Stmt A)) (i : ℕ) (x : S.Stmt A) (s now : State) (why : Halt) (whole : Answer End) → i < length ss → x ≡ get_or ss i x →
+  pub stmts_halt : (ss : List (S.Stmt A)) (i : ℕ) (x : S.Stmt A) (s now : State) (why : Halt) (whole : Answer Completion) → i < length ss → x ≡ get_or ss i x →
       stmts p call (stmts_of (drop i ss)) s ≡ whole → stmt p call (stmt_of x) s ≡ Stops why now → whole ≡ Stops why now
   stmts_halt ss i x s now why whole h is inv d =
       sym inv ∙ stmts_more ss i x s h is ∙ halts _ (on_next (stmts p call (stmts_of (drop (i + 1) ss)))) why now d
 
-  pub stmts_end : (ss : List (S.Stmt A)) (i : ℕ) (s : State) (whole : Answer End) → length ss ≤ i → stmts p call (stmts_of (drop i ss)) s ≡ whole → whole ≡ Gives Next s
+  pub stmts_end : (ss : List (S.Stmt A)) (i : ℕ) (s : State) (whole : Answer Completion) → length ss ≤ i → stmts p call (stmts_of (drop i ss)) s ≡ whole → whole ≡ Gives Next s
   stmts_end ss i s whole h inv = sym inv ∙ at_drop_all (λ xs. stmts p call (stmts_of xs) s) ss i h
 
   -- the arguments that are left
@@ -105,23 +105,23 @@ module _ {A : Type 0} (p : Program) (call : Caller) where
       at_drop_more (λ xs. declare p call t (map declarator_of xs) s) ds i x h
       ∙ ap (λ y. go_on (declared_one p call t (declarator_of y) s) (λ _. declare p call t (map declarator_of (drop (i + 1) ds)))) (sym is)
 
-  pub declare_next : (t : Scalar) (ds : List (R.Declarator A)) (i : ℕ) (x : R.Declarator A) (s now : State) (u : Unit {0}) (whole : Answer End) → i < length ds → x ≡ get_or ds i x →
+  pub declare_next : (t : Scalar) (ds : List (R.Declarator A)) (i : ℕ) (x : R.Declarator A) (s now : State) (u : Unit {0}) (whole : Answer Completion) → i < length ds → x ≡ get_or ds i x →
       declare p call t (map declarator_of (drop i ds)) s ≡ whole → declared_one p call t (declarator_of x) s ≡ Gives u now →
       declare p call t (map declarator_of (drop (i + 1) ds)) now ≡ whole
   declare_next t ds i x s now u whole h is inv d =
       sym (declare_more t ds i x s h is ∙ after _ (λ _. declare p call t (map declarator_of (drop (i + 1) ds))) u now d) ∙ inv
 
-  pub declare_halt : (t : Scalar) (ds : List (R.Declarator A)) (i : ℕ) (x : R.Declarator A) (s now : State) (why : Halt) (whole : Answer End) → i < length ds → x ≡ get_or ds i x →
+  pub declare_halt : (t : Scalar) (ds : List (R.Declarator A)) (i : ℕ) (x : R.Declarator A) (s now : State) (why : Halt) (whole : Answer Completion) → i < length ds → x ≡ get_or ds i x →
       declare p call t (map declarator_of (drop i ds)) s ≡ whole → declared_one p call t (declarator_of x) s ≡ Stops why now → whole ≡ Stops why now
   declare_halt t ds i x s now why whole h is inv d =
       sym inv ∙ declare_more t ds i x s h is ∙ halts _ (λ _. declare p call t (map declarator_of (drop (i + 1) ds))) why now d
 
 -- a stretch that gives something drops the names behind those of before
-pub scoped_gives : (run : Action End) (s now : State) (e : End) (ls : List Local) → run s ≡ Gives e now → take (length s.locals) now.locals ≡ ls → in_scope run s ≡ Gives e (record now { locals = ls })
+pub scoped_gives : (run : Action Completion) (s now : State) (e : Completion) (ls : List Local) → run s ≡ Gives e now → take (length s.locals) now.locals ≡ ls → in_scope run s ≡ Gives e (record now { locals = ls })
 scoped_gives run s now e ls h k =
     ap (λ q. go_on q (λ end now. Gives end (record now { locals = take (length s.locals) now.locals }))) h ∙ ap (λ ks. Gives e (record now { locals = ks })) k
 
-pub scoped_stops : (run : Action End) (s now : State) (why : Halt) → run s ≡ Stops why now → in_scope run s ≡ Stops why now
+pub scoped_stops : (run : Action Completion) (s now : State) (why : Halt) → run s ≡ Stops why now → in_scope run s ≡ Stops why now
 scoped_stops run s now why h = ap (λ q. go_on q (λ end now. Gives end (record now { locals = take (length s.locals) now.locals }))) h
 
 take_map : {X Y : Type 0} (f : X → Y) (n : ℕ) (xs : List X) → take n (map f xs) ≡ map f (take n xs)
@@ -133,7 +133,7 @@ pub truncated : {X Y : Type 0} (f : X → Y) (xs ys zs : List X) (n : ℕ) → n
 truncated f xs ys zs n e k = ap (λ i. take i (map f ys)) (length-map xs f ∙ sym e) ∙ take_map f n ys ∙ ap (map f) (sym k)
 
 -- turns of a loop: what is left of them, after a tick
-module _ (turn : Action (Option End)) (n k : ℕ) (s now : State) (whole : Answer End) where
+module _ (turn : Action (Option Completion)) (n k : ℕ) (s now : State) (whole : Answer Completion) where
   next_turn : turns n turn s ≡ whole → n ≡ suc k → whole ≡ go_on (tick s) (λ _. turn >>= after_turn (turns k turn))
   next_turn inv more = sym inv ∙ ap (λ i. turns i turn s) more
 
@@ -151,15 +151,15 @@ module _ (turn : Action (Option End)) (n k : ℕ) (s now : State) (whole : Answe
     turns_ended o e d some = ticked ∙ after _ (after_turn (turns k turn)) (option_map end_of o) now d ∙ ap (λ x. after_turn (turns k turn) (option_map end_of x) now) some
 
 -- a test before a body: it ends the loop, or the body runs
-abbrev or_body : Action (Option End) → Option End → Action (Option End)
+abbrev or_body : Action (Option Completion) → Option Completion → Action (Option Completion)
 or_body body None = body
 or_body body (Some e) = pure (Some e)
 
-tested_here : (body : Action (Option End)) (z : Bool) (s : State) → (if z then pure (Some Next) else body) s ≡ or_body body (if z then Some Next else None) s
+tested_here : (body : Action (Option Completion)) (z : Bool) (s : State) → (if z then pure (Some Next) else body) s ≡ or_body body (if z then Some Next else None) s
 tested_here body true s = refl
 tested_here body false s = refl
 
-tested_first : (body : Action (Option End)) (r : Answer Value) → go_on r (λ v. if is_zero v then pure (Some Next) else body) ≡ go_on (go_on r (λ v. pure (if is_zero v then Some Next else None))) (or_body body)
+tested_first : (body : Action (Option Completion)) (r : Answer Value) → go_on r (λ v. if is_zero v then pure (Some Next) else body) ≡ go_on (go_on r (λ v. pure (if is_zero v then Some Next else None))) (or_body body)
 tested_first body (Gives v s) = tested_here body (is_zero v) s
 tested_first body (Stops why s) = refl
 
@@ -168,7 +168,7 @@ left_behind None s = refl
 left_behind (Some e) s = refl
 
 module _ (p : Program) (call : Caller) (c : Expr) (a : Stmt) (s now : State) where
-  abbrev body_turn : Action (Option End)
+  abbrev body_turn : Action (Option Completion)
   body_turn = in_scope (stmt p call a) >>= after_body (pure None)
 
   pub while_stops : (why : Halt) → loop_condition p call c s ≡ Stops why now → while_turn p call c a s ≡ Stops why now

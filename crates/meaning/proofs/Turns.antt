@@ -14,7 +14,7 @@ use Rattle.meaning.specs.declared.standing.Thread.{Thread}
 use Rattle.meaning.specs.declared.standing.Stop.{Stop}
 use Rattle.meaning.specs.Outcomes.{memories_in, thread_end_in}
 use Rattle.meaning.specs.InOrder.{IsInOrder, report_in, text_and_end}
-use Rattle.meaning.specs.declared.program.Source.{Source}
+use Rattle.meaning.specs.declared.program.ProgramTables.{ProgramTables}
 use Rattle.meaning.specs.inner.Machine.{program_in}
 use Rattle.meaning.specs.inner.Standing.{IsStop, end_by, rest}
 use Rattle.meaning.proofs.Advancing.{seen_is}
@@ -90,7 +90,7 @@ enters_by does ticks t m n all further (inr (some, left, more)) =
     ∙ ap (λ (fs : List Memory). record { memory = last_left m (drop (length (does t founds ticks).lefts) (does t fs ticks).lefts); founds = set all t fs }) more
     ∙ sym (ap (λ e. if_wanting does ticks e (finds does ticks t founds now) now) some)
 
-module _ {A : Type 0} (source : Source A) (ticks : ℕ) where
+module _ {A : Type 0} (source : ProgramTables A) (ticks : ℕ) where
   pub rested : (t : ℕ) (m : Memory) (s : Standing A) → IsKnown source ticks t s → thread_end_in s.end ≢ Stopped Wants → TakesTurn (program_in source) ticks t m (memories_in s.founds.items) m (memories_in s.founds.items)
   unfolding TakesTurn
   rested t m s known h = inl ((λ e. h (ap (λ o. o.end) known.seen ∙ e)), refl, refl)
@@ -182,11 +182,11 @@ on_ok (Ok x) f h = f h
 on_ok (Err e) f h = tt
 
 -- where the entries lead, by what is known of each thread
-stands : {A : Type 0} (source : Source A) (ticks : ℕ) (order : List ℕ) (start : Progress) (m : Memory) (xs : List (Standing A)) → AreKnown source ticks 0 xs → entries (does_in (program_in source)) ticks order start ≡ record { memory = m; founds = founds_in xs } →
+stands : {A : Type 0} (source : ProgramTables A) (ticks : ℕ) (order : List ℕ) (start : Progress) (m : Memory) (xs : List (Standing A)) → AreKnown source ticks 0 xs → entries (does_in (program_in source)) ticks order start ≡ record { memory = m; founds = founds_in xs } →
     let last = entries (does_in (program_in source)) ticks order start in (last.memory ≡ m) × (outcomes (does_in (program_in source)) ticks 0 last.founds ≡ map (λ s. seen_in s) xs)
 stands source ticks order start m xs known gone = (ap (λ w. w.memory) gone, ap (λ w. outcomes (does_in (program_in source)) ticks 0 w.founds) gone ∙ sym (outcomes_known source ticks 0 xs known))
 
-in_order_by : {A : Type 0} (source : Source A) (threads ticks : ℕ) (order : List ℕ) (m : Memory) (xs : List (Standing A)) → AreKnown source ticks 0 xs →
+in_order_by : {A : Type 0} (source : ProgramTables A) (threads ticks : ℕ) (order : List ℕ) (m : Memory) (xs : List (Standing A)) → AreKnown source ticks 0 xs →
     entries (does_in (program_in source)) ticks order (record { memory = initial_memory (program_in source); founds = replicate threads [] }) ≡ record { memory = m; founds = founds_in xs } →
     in_order (thread (program_in source)) (initial_memory (program_in source)) threads ticks order ≡ record { memory = m; threads = map (λ s. seen_in s) xs }
 unfolding does_in
@@ -194,7 +194,7 @@ in_order_by source threads ticks order m xs known gone =
     let h = stands source ticks order (record { memory = initial_memory (program_in source); founds = replicate threads [] }) m xs known gone in
     λ i. record { memory = h.0 i; threads = h.1 i }
 
-pub in_this_order : {A : Type 0} (source : Source A) (threads ticks : ℕ) (order : List ℕ) (m : Memory) (xs : List (Standing A)) (o : SourceOutcome A) → AreKnown source ticks 0 xs →
+pub in_this_order : {A : Type 0} (source : ProgramTables A) (threads ticks : ℕ) (order : List ℕ) (m : Memory) (xs : List (Standing A)) (o : SourceOutcome A) → AreKnown source ticks 0 xs →
     entries (does_in (program_in source)) ticks order (record { memory = initial_memory (program_in source); founds = replicate threads [] }) ≡ record { memory = m; founds = founds_in xs } →
     o.memory.items ≡ m → map report_in o.threads.items ≡ map (λ s. text_and_end (seen_in s)) xs → IsInOrder (program_in source) threads ticks order o
 in_this_order source threads ticks order m xs o known gone memory reports =

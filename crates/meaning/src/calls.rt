@@ -13,9 +13,9 @@ ghost use Rattle.meaning.specs.inner.Machine.{end_of, MeansAs, MeansWord, MeansW
 
 use crate::arithmetic::convert;
 use crate::expr::eval;
-use crate::machine::{End, Halted, Local, Machine, tick, trap};
+use crate::machine::{StmtCompletion, Halted, Local, Machine, tick, trap};
 use crate::names::definition;
-use crate::program::Source;
+use crate::program::ProgramTables;
 use crate::stmt::stmts;
 use crate::word::{Word, convert_word, flag, unpack};
 use lex::token::Scalar;
@@ -65,13 +65,13 @@ fn type_or_int(of: Option<Scalar>) -> Scalar
 pub(crate) fn result_of<A: Allocator>(
     m: &mut Machine<A>,
     of: Option<Scalar>,
-    end: End,
+    end: StmtCompletion,
 ) -> Result<Word, Halted>
     ensures { MeansWord result (meaning.result_of of (end_of end) (state_in m.old)) m.new }
 {
     match end {
-        End::Next => Ok(convert_word(type_or_int(of), flag(false))),
-        End::Returns(w) => Ok(convert_word(type_or_int(of), w)),
+        StmtCompletion::Next => Ok(convert_word(type_or_int(of), flag(false))),
+        StmtCompletion::Returns(w) => Ok(convert_word(type_or_int(of), w)),
         _ => {
             m.why = Some(Halt::Astray);
             Err(Halted {})
@@ -89,7 +89,7 @@ pub(crate) struct Begun<'p, A: Allocator> {
 
 /// The call of a function by its name: its definition is looked up, and its parameters get the arguments.
 pub(crate) fn begin<'p, A: Allocator + Copy>(
-    source: &Source<'p, A>,
+    source: &ProgramTables<'p, A>,
     f: &str,
     values: &[Value],
     m: &mut Machine<'p, '_, A>,
@@ -119,7 +119,7 @@ pub(crate) fn begin<'p, A: Allocator + Copy>(
 /// A call's arguments, its tick, and then the function.
 #[cycle(run)]
 pub(crate) fn call<'p, A: Allocator + Copy>(
-    source: &Source<'p, A>,
+    source: &ProgramTables<'p, A>,
     frames: u64,
     f: &Name<A>,
     args: &'p [Expr<A>],
@@ -137,7 +137,7 @@ pub(crate) fn call<'p, A: Allocator + Copy>(
 /// The values of arguments, in their order.
 #[cycle(run)]
 pub(crate) fn values<'p, A: Allocator + Copy>(
-    source: &Source<'p, A>,
+    source: &ProgramTables<'p, A>,
     frames: u64,
     args: &'p [Expr<A>],
     m: &mut Machine<'p, '_, A>,
@@ -159,7 +159,7 @@ pub(crate) fn values<'p, A: Allocator + Copy>(
 /// A function's body, with locals of its own, where a frame may come to live.
 #[cycle(run)]
 pub(crate) fn enter_function<'p, A: Allocator + Copy>(
-    source: &Source<'p, A>,
+    source: &ProgramTables<'p, A>,
     frames: u64,
     f: &str,
     values: &[Value],

@@ -11,7 +11,7 @@ ghost use Rattle.meaning.specs.inner.Does.{called, does_expr};
 use crate::calls::call;
 use crate::machine::{Halted, Machine, Spot, fetch, operate, operate_unary};
 use crate::places::{element_cell, common_value, variable};
-use crate::program::Source;
+use crate::program::ProgramTables;
 use crate::transactions::value_transaction;
 use crate::word::{Word, constant, convert_word, flag, is_zero};
 use std::alloc::Allocator;
@@ -20,7 +20,7 @@ use syntax::tree::{Expr, LogicalOp, Name};
 /// What an expression gives.
 #[cycle(run)]
 pub(crate) fn eval<'p, A: Allocator + Copy>(
-    source: &Source<'p, A>,
+    source: &ProgramTables<'p, A>,
     frames: u64,
     e: &'p Expr<A>,
     m: &mut Machine<'p, '_, A>,
@@ -58,7 +58,7 @@ pub(crate) fn eval<'p, A: Allocator + Copy>(
 /// The right operand counts only where the left one does not decide.
 #[cycle(run)]
 fn logical<'p, A: Allocator + Copy>(
-    source: &Source<'p, A>,
+    source: &ProgramTables<'p, A>,
     frames: u64,
     op: LogicalOp,
     a: &'p Expr<A>,
@@ -92,7 +92,7 @@ fn logical<'p, A: Allocator + Copy>(
 /// One of two branches, converted to their common type.
 #[cycle(run)]
 fn conditional<'p, A: Allocator + Copy>(
-    source: &Source<'p, A>,
+    source: &ProgramTables<'p, A>,
     frames: u64,
     c: &'p Expr<A>,
     a: &'p Expr<A>,
@@ -115,7 +115,7 @@ fn conditional<'p, A: Allocator + Copy>(
 /// The cell of an element, its index computed and tested.
 #[cycle(run)]
 pub(crate) fn element<'p, A: Allocator + Copy>(
-    source: &Source<'p, A>,
+    source: &ProgramTables<'p, A>,
     frames: u64,
     x: &Name<A>,
     i: &'p Expr<A>,

@@ -16,8 +16,8 @@ ghost use Rattle.meaning.specs.inner.Does.{called, does_turn};
 use crate::calls::{Begun, begin as begin_body, result_of, values};
 use crate::expr::eval;
 use crate::loops::{Loop, holds, left_by_body, for_start, for_step, loop_test};
-use crate::machine::{End, Halted, Local, Machine, tick};
-use crate::program::Source;
+use crate::machine::{StmtCompletion, Halted, Local, Machine, tick};
+use crate::program::ProgramTables;
 use crate::stmt::stmt;
 use crate::transactions::copy_locals;
 use crate::word::is_zero;
@@ -30,7 +30,7 @@ use syntax::tree::{Expr, Name, Simple, Start, Stmt};
 
 /// How a statement is to be done.
 #[derive(Clone, Copy)]
-pub(crate) enum Way {
+pub(crate) enum Direction {
     /// In one step.
     Whole,
     /// In one step, with names of its own.
@@ -45,7 +45,7 @@ pub(crate) enum Task<'p, A: Allocator> {
     /// Statements one after another, in steps.
     Apart(u64, &'p [Stmt<A>]),
     /// A statement.
-    Alone(Way, u64, &'p Stmt<A>),
+    Alone(Direction, u64, &'p Stmt<A>),
 }
 
 /// What a thread has still to do behind something else, by the end that this comes to.
@@ -64,7 +64,7 @@ pub(crate) enum Left<'p, A: Allocator> {
 /// How a thread goes on after a step: with an end, with a task, or with a task and what comes behind it.
 #[derive(Drop)]
 pub(crate) enum Stepped<'p, A: Allocator> {
-    Ends(End),
+    Ends(StmtCompletion),
     Goes(Task<'p, A>),
     Nests(Left<'p, A>, Task<'p, A>),
 }
@@ -109,15 +109,15 @@ fn begin_apart<'p, A: Allocator>(frames: u64, ss: &'p [Stmt<A>]) -> Stepped<'p, 
     match ss {
         [s, rest @ ..] => Stepped::Nests(
             Left::Next(Task::Apart(frames, rest)),
-            Task::Alone(Way::Whole, frames, s),
+            Task::Alone(Direction::Whole, frames, s),
         ),
-        [] => Stepped::Ends(End::Next),
+        [] => Stepped::Ends(StmtCompletion::Next),
     }
 }
 
 /// One of two statements, by the condition, behind the tick.
 fn begin_either<'p, A: Allocator + Copy>(
-    source: &Source<'p, A>,
+    source: &ProgramTables<'p, A>,
     frames: u64,
     c: &'p Expr<A>,
     a: &'p Stmt<A>,
@@ -130,17 +130,17 @@ fn begin_either<'p, A: Allocator + Copy>(
 {
     let v = eval(source, frames, c, m)?;
     if !is_zero(v) {
-        return Ok(Stepped::Goes(Task::Alone(Way::Scoped, frames, a)));
+        return Ok(Stepped::Goes(Task::Alone(Direction::Scoped, frames, a)));
     }
     match b {
-        Some(b) => Ok(Stepped::Goes(Task::Alone(Way::Scoped, frames, b.get()))),
-        None => Ok(Stepped::Ends(End::Next)),
+        Some(b) => Ok(Stepped::Goes(Task::Alone(Direction::Scoped, frames, b.get()))),
+        None => Ok(Stepped::Ends(StmtCompletion::Next)),
     }
 }
 
 /// A `for` behind its tick: what it begins with, and then as many turns as there are ticks.
 fn begin_for<'p, A: Allocator + Copy>(
-    source: &Source<'p, A>,
+    source: &ProgramTables<'p, A>,
     frames: u64,
     start: &'p Start<A>,
     s: &'p Stmt<A>,
@@ -154,13 +154,13 @@ fn begin_for<'p, A: Allocator + Copy>(
     for_start(source, frames, start, m)?;
     Ok(Stepped::Nests(
         Left::Scope(outer),
-        Task::Alone(Way::Turns(m.ticks), frames, s),
+        Task::Alone(Direction::Turns(m.ticks), frames, s),
     ))
 }
 
 /// The first step of a loop behind its tick.
 fn begin_loop<'p, A: Allocator + Copy>(
-    source: &Source<'p, A>,
+    source: &ProgramTables<'p, A>,
     frames: u64,
     which: &Loop<'p, A>,
     s: &'p Stmt<A>,
@@ -174,14 +174,14 @@ fn begin_loop<'p, A: Allocator + Copy>(
     match which {
         Loop::For(head, _) => begin_for(source, frames, &head.start, s, m),
         Loop::While(_, _) | Loop::DoWhile(_, _) => {
-            Ok(Stepped::Goes(Task::Alone(Way::Turns(m.ticks), frames, s)))
+            Ok(Stepped::Goes(Task::Alone(Direction::Turns(m.ticks), frames, s)))
         }
     }
 }
 
 /// The first step of a statement that is made of others.
 pub(crate) fn open<'p, A: Allocator + Copy>(
-    source: &Source<'p, A>,
+    source: &ProgramTables<'p, A>,
     frames: u64,
     s: &'p Stmt<A>,
     parts: &Parts<'p, A>,
@@ -241,7 +241,7 @@ fn trap_frames<'p, A: Allocator>(m: &mut Machine<'p, '_, A>) -> Result<Stepped<'
 
 /// A function is entered: its body, behind which the caller's names come back.
 fn begin_frame<'p, A: Allocator + Copy>(
-    source: &Source<'p, A>,
+    source: &ProgramTables<'p, A>,
     frames: u64,
     f: &str,
     values: &[Value],
@@ -260,7 +260,7 @@ fn begin_frame<'p, A: Allocator + Copy>(
 
 /// The first step of a statement that is nothing but a call.
 pub(crate) fn open_call<'p, A: Allocator + Copy>(
-    source: &Source<'p, A>,
+    source: &ProgramTables<'p, A>,
     frames: u64,
     f: &Name<A>,
     args: &'p [Expr<A>],
@@ -277,7 +277,7 @@ pub(crate) fn open_call<'p, A: Allocator + Copy>(
 
 /// Whether a turn's body is done, by the test before it.
 fn goes<'p, A: Allocator + Copy>(
-    source: &Source<'p, A>,
+    source: &ProgramTables<'p, A>,
     frames: u64,
     which: &Loop<'p, A>,
     m: &mut Machine<'p, '_, A>,
@@ -308,7 +308,7 @@ fn body_of<'p, A: Allocator + Copy>(which: &Loop<'p, A>) -> &'p Stmt<A>
 
 /// The next of so many turns: its tick, its test, and then its body, behind which the others are left.
 fn begin_turns<'p, A: Allocator + Copy>(
-    source: &Source<'p, A>,
+    source: &ProgramTables<'p, A>,
     frames: u64,
     s: &'p Stmt<A>,
     turns: u64,
@@ -330,20 +330,20 @@ fn begin_turns<'p, A: Allocator + Copy>(
     if goes(source, frames, &which, m)? {
         Ok(Stepped::Nests(
             Left::Body(frames, s, turns - 1),
-            Task::Alone(Way::Scoped, frames, body_of(&which)),
+            Task::Alone(Direction::Scoped, frames, body_of(&which)),
         ))
     } else {
-        Ok(Stepped::Ends(End::Next))
+        Ok(Stepped::Ends(StmtCompletion::Next))
     }
 }
 
 /// What follows the body of a turn where the loop goes on.
 fn behind<'p, A: Allocator + Copy>(
-    source: &Source<'p, A>,
+    source: &ProgramTables<'p, A>,
     frames: u64,
     which: &Loop<'p, A>,
     m: &mut Machine<'p, '_, A>,
-) -> Result<Option<End>, Halted>
+) -> Result<Option<StmtCompletion>, Halted>
     ensures { MeansTurn result
         (going.behind_of (program_in source.now) (called source.now frames) (lefts.loop_in which.now) (state_in m.old))
         m.new }
@@ -357,12 +357,12 @@ fn behind<'p, A: Allocator + Copy>(
 
 /// What follows the body of a turn, by its end.
 fn after_body<'p, A: Allocator + Copy>(
-    source: &Source<'p, A>,
+    source: &ProgramTables<'p, A>,
     frames: u64,
     s: &'p Stmt<A>,
-    end: End,
+    end: StmtCompletion,
     m: &mut Machine<'p, '_, A>,
-) -> Result<Option<End>, Halted>
+) -> Result<Option<StmtCompletion>, Halted>
     ensures { MeansTurn result
         (meaning.after_body (going.behind_of (program_in source.now) (called source.now frames) (stmt_of s.now))
         (end_of end) (state_in m.old)) m.new }
@@ -379,11 +379,11 @@ fn after_body<'p, A: Allocator + Copy>(
 
 /// What comes behind a loop's body, by its end.
 fn leave_body<'p, A: Allocator + Copy>(
-    source: &Source<'p, A>,
+    source: &ProgramTables<'p, A>,
     frames: u64,
     s: &'p Stmt<A>,
     turns: u64,
-    end: End,
+    end: StmtCompletion,
     m: &mut Machine<'p, '_, A>,
 ) -> Result<Stepped<'p, A>, Halted>
     ensures { MeansStepped source.now result
@@ -391,7 +391,7 @@ fn leave_body<'p, A: Allocator + Copy>(
 {
     match after_body(source, frames, s, end, m)? {
         Some(end) => Ok(Stepped::Ends(end)),
-        None => Ok(Stepped::Goes(Task::Alone(Way::Turns(turns), frames, s))),
+        None => Ok(Stepped::Goes(Task::Alone(Direction::Turns(turns), frames, s))),
     }
 }
 
@@ -400,9 +400,9 @@ fn leave_call<'p, A: Allocator + Copy>(
     alloc: A,
     of: Option<Scalar>,
     outer: &[Local<'p>],
-    end: End,
+    end: StmtCompletion,
     m: &mut Machine<'p, '_, A>,
-) -> Result<End, Halted>
+) -> Result<StmtCompletion, Halted>
     ensures { MeansEnd result (call_left of (map local_in outer.now) (end_of end) (state_in m.old)) m.new }
 {
     let Ok(mine) = copy_locals(alloc, outer) else {
@@ -411,13 +411,13 @@ fn leave_call<'p, A: Allocator + Copy>(
     };
     m.locals = mine;
     result_of(m, of, end)?;
-    Ok(End::Next)
+    Ok(StmtCompletion::Next)
 }
 
 /// A statement's first step.
 fn begin_alone<'p, A: Allocator + Copy>(
-    source: &Source<'p, A>,
-    way: Way,
+    source: &ProgramTables<'p, A>,
+    way: Direction,
     frames: u64,
     s: &'p Stmt<A>,
     m: &mut Machine<'p, '_, A>,
@@ -426,21 +426,21 @@ fn begin_alone<'p, A: Allocator + Copy>(
         m.new }
 {
     match way {
-        Way::Whole => {
+        Direction::Whole => {
             let end = stmt(source, frames, s, m)?;
             Ok(Stepped::Ends(end))
         }
-        Way::Scoped => Ok(Stepped::Nests(
+        Direction::Scoped => Ok(Stepped::Nests(
             Left::Scope(m.locals.len()),
-            Task::Alone(Way::Whole, frames, s),
+            Task::Alone(Direction::Whole, frames, s),
         )),
-        Way::Turns(turns) => begin_turns(source, frames, s, turns, m),
+        Direction::Turns(turns) => begin_turns(source, frames, s, turns, m),
     }
 }
 
 /// A task's first step.
 fn begin<'p, A: Allocator + Copy>(
-    source: &Source<'p, A>,
+    source: &ProgramTables<'p, A>,
     task: &Task<'p, A>,
     m: &mut Machine<'p, '_, A>,
 ) -> Result<Stepped<'p, A>, Halted>
@@ -454,16 +454,16 @@ fn begin<'p, A: Allocator + Copy>(
 
 /// What a thread does next, by the end of what it has done.
 pub(crate) fn step<'p, A: Allocator + Copy>(
-    source: &Source<'p, A>,
+    source: &ProgramTables<'p, A>,
     left: &Left<'p, A>,
-    end: End,
+    end: StmtCompletion,
     m: &mut Machine<'p, '_, A>,
 ) -> Result<Stepped<'p, A>, Halted>
     ensures { MeansStepped source.now result (lefts.step_of source.now left.now (end_of end) (state_in m.old)) m.new }
 {
     match left {
         Left::Next(task) => match end {
-            End::Next => begin(source, task, m),
+            StmtCompletion::Next => begin(source, task, m),
             end => Ok(Stepped::Ends(end)),
         },
         Left::Body(frames, s, turns) => leave_body(source, *frames, s, *turns, end, m),

@@ -10,8 +10,8 @@ ghost use Rattle.meaning.specs.inner.Does.{called, does_turn, do_turn, for_all, 
 ghost use Rattle.meaning.specs.inner.Does.{loop_condition as tested_due, while_turn};
 
 use crate::expr::eval;
-use crate::machine::{End, Halted, Machine, tick};
-use crate::program::Source;
+use crate::machine::{StmtCompletion, Halted, Machine, tick};
+use crate::program::ProgramTables;
 use crate::simple::{declare, simple};
 use crate::stmt::scoped_stmt;
 use crate::word::is_zero;
@@ -28,13 +28,13 @@ pub(crate) enum Loop<'p, A: Allocator> {
 }
 
 /// The end of a loop that its body's end is, if it is one.
-pub(crate) fn left_by_body(end: End) -> Option<End>
-    ensures { (go : act.Action (Option meaning.End)) → (s : State)
+pub(crate) fn left_by_body(end: StmtCompletion) -> Option<StmtCompletion>
+    ensures { (go : act.Action (Option meaning.Completion)) → (s : State)
         → meaning.after_body go (end_of end) s ≡ left_or go result s }
 {
     match end {
-        End::Next | End::Continues => None,
-        End::Breaks => Some(End::Next),
+        StmtCompletion::Next | StmtCompletion::Continues => None,
+        StmtCompletion::Breaks => Some(StmtCompletion::Next),
         end => Some(end),
     }
 }
@@ -43,11 +43,11 @@ pub(crate) fn left_by_body(end: End) -> Option<End>
 #[cycle(run)]
 #[inline(never)]
 pub(crate) fn repeat<'p, A: Allocator + Copy>(
-    source: &Source<'p, A>,
+    source: &ProgramTables<'p, A>,
     frames: u64,
     which: &Loop<'p, A>,
     m: &mut Machine<'p, '_, A>,
-) -> Result<End, Halted>
+) -> Result<StmtCompletion, Halted>
     ensures { MeansEnd result (meaning.loop (does_turn source.now frames which.now) (state_in m.old)) m.new }
 {
     let most = m.ticks;
@@ -64,11 +64,11 @@ pub(crate) fn repeat<'p, A: Allocator + Copy>(
 /// One turn of a loop.
 #[cycle(run)]
 fn turn<'p, A: Allocator + Copy>(
-    source: &Source<'p, A>,
+    source: &ProgramTables<'p, A>,
     frames: u64,
     which: &Loop<'p, A>,
     m: &mut Machine<'p, '_, A>,
-) -> Result<Option<End>, Halted>
+) -> Result<Option<StmtCompletion>, Halted>
     ensures { MeansTurn result (does_turn source.now frames which.now (state_in m.old)) m.new }
 {
     match which {
@@ -81,12 +81,12 @@ fn turn<'p, A: Allocator + Copy>(
 /// One turn of a loop that tests before its body.
 #[cycle(run)]
 fn turn_while<'p, A: Allocator + Copy>(
-    source: &Source<'p, A>,
+    source: &ProgramTables<'p, A>,
     frames: u64,
     c: &'p Expr<A>,
     a: &'p Stmt<A>,
     m: &mut Machine<'p, '_, A>,
-) -> Result<Option<End>, Halted>
+) -> Result<Option<StmtCompletion>, Halted>
     ensures { MeansTurn result
         (while_turn (program_in source.now) (called source.now frames) (expr_of c.now) (stmt_of a.now) (state_in m.old))
         m.new }
@@ -101,17 +101,17 @@ fn turn_while<'p, A: Allocator + Copy>(
 /// A test before or behind a body.
 #[cycle(run)]
 pub(crate) fn loop_test<'p, A: Allocator + Copy>(
-    source: &Source<'p, A>,
+    source: &ProgramTables<'p, A>,
     frames: u64,
     c: &'p Expr<A>,
     m: &mut Machine<'p, '_, A>,
-) -> Result<Option<End>, Halted>
+) -> Result<Option<StmtCompletion>, Halted>
     ensures { MeansTurn result
         (tested_due (program_in source.now) (called source.now frames) (expr_of c.now) (state_in m.old)) m.new }
 {
     let v = eval(source, frames, c, m)?;
     if is_zero(v) {
-        return Ok(Some(End::Next));
+        return Ok(Some(StmtCompletion::Next));
     }
     Ok(None)
 }
@@ -119,12 +119,12 @@ pub(crate) fn loop_test<'p, A: Allocator + Copy>(
 /// One turn of a loop that tests behind its body.
 #[cycle(run)]
 fn turn_do<'p, A: Allocator + Copy>(
-    source: &Source<'p, A>,
+    source: &ProgramTables<'p, A>,
     frames: u64,
     a: &'p Stmt<A>,
     c: &'p Expr<A>,
     m: &mut Machine<'p, '_, A>,
-) -> Result<Option<End>, Halted>
+) -> Result<Option<StmtCompletion>, Halted>
     ensures { MeansTurn result
         (do_turn (program_in source.now) (called source.now frames) (stmt_of a.now) (expr_of c.now) (state_in m.old))
         m.new }
@@ -139,19 +139,19 @@ fn turn_do<'p, A: Allocator + Copy>(
 /// One turn of a `for`.
 #[cycle(run)]
 fn turn_for<'p, A: Allocator + Copy>(
-    source: &Source<'p, A>,
+    source: &ProgramTables<'p, A>,
     frames: u64,
     head: &'p ForHead<A>,
     a: &'p Stmt<A>,
     m: &mut Machine<'p, '_, A>,
-) -> Result<Option<End>, Halted>
+) -> Result<Option<StmtCompletion>, Halted>
     ensures { MeansTurn result
         (for_turn (program_in source.now) (called source.now frames) (option_map expr_of head.now.condition)
         (option_map simple_of head.now.step) (stmt_of a.now) (state_in m.old)) m.new }
 {
     let more = holds(source, frames, &head.condition, m)?;
     if !more {
-        return Ok(Some(End::Next));
+        return Ok(Some(StmtCompletion::Next));
     }
     let end = scoped_stmt(source, frames, a, m)?;
     match left_by_body(end) {
@@ -163,7 +163,7 @@ fn turn_for<'p, A: Allocator + Copy>(
 /// Whether a condition holds: a missing one does.
 #[cycle(run)]
 pub(crate) fn holds<'p, A: Allocator + Copy>(
-    source: &Source<'p, A>,
+    source: &ProgramTables<'p, A>,
     frames: u64,
     c: &'p Option<Expr<A>>,
     m: &mut Machine<'p, '_, A>,
@@ -183,11 +183,11 @@ pub(crate) fn holds<'p, A: Allocator + Copy>(
 /// The step of a `for`.
 #[cycle(run)]
 pub(crate) fn for_step<'p, A: Allocator + Copy>(
-    source: &Source<'p, A>,
+    source: &ProgramTables<'p, A>,
     frames: u64,
     step: &'p Option<Simple<A>>,
     m: &mut Machine<'p, '_, A>,
-) -> Result<Option<End>, Halted>
+) -> Result<Option<StmtCompletion>, Halted>
     ensures { MeansTurn result
         (meaning.stepped (program_in source.now) (called source.now frames) (option_map simple_of step.now)
         (state_in m.old)) m.new }
@@ -205,12 +205,12 @@ pub(crate) fn for_step<'p, A: Allocator + Copy>(
 #[cycle(run)]
 #[inline(never)]
 pub(crate) fn for_scoped<'p, A: Allocator + Copy>(
-    source: &Source<'p, A>,
+    source: &ProgramTables<'p, A>,
     frames: u64,
     head: &'p ForHead<A>,
     a: &'p Stmt<A>,
     m: &mut Machine<'p, '_, A>,
-) -> Result<End, Halted>
+) -> Result<StmtCompletion, Halted>
     ensures { MeansEnd result
         (meaning.in_scope (for_all (program_in source.now) (called source.now frames) (start_of head.now.start)
         (option_map expr_of head.now.condition) (option_map simple_of head.now.step) (stmt_of a.now)) (state_in m.old))
@@ -225,12 +225,12 @@ pub(crate) fn for_scoped<'p, A: Allocator + Copy>(
 /// What a `for` begins with, and then its turns.
 #[cycle(run)]
 fn for_run<'p, A: Allocator + Copy>(
-    source: &Source<'p, A>,
+    source: &ProgramTables<'p, A>,
     frames: u64,
     head: &'p ForHead<A>,
     a: &'p Stmt<A>,
     m: &mut Machine<'p, '_, A>,
-) -> Result<End, Halted>
+) -> Result<StmtCompletion, Halted>
     ensures { MeansEnd result
         (for_all (program_in source.now) (called source.now frames) (start_of head.now.start)
         (option_map expr_of head.now.condition) (option_map simple_of head.now.step) (stmt_of a.now) (state_in m.old))
@@ -243,17 +243,17 @@ fn for_run<'p, A: Allocator + Copy>(
 /// What a `for` begins with.
 #[cycle(run)]
 pub(crate) fn for_start<'p, A: Allocator + Copy>(
-    source: &Source<'p, A>,
+    source: &ProgramTables<'p, A>,
     frames: u64,
     start: &'p Start<A>,
     m: &mut Machine<'p, '_, A>,
-) -> Result<End, Halted>
+) -> Result<StmtCompletion, Halted>
     ensures { MeansEnd result
         (meaning.start_with (program_in source.now) (called source.now frames) (start_of start.now) (state_in m.old))
         m.new }
 {
     match start {
-        Start::Nothing => Ok(End::Next),
+        Start::Nothing => Ok(StmtCompletion::Next),
         Start::Declare(d) => declare(source, frames, d.of, d.declarators.as_slice(), m),
         Start::Do(s) => simple(source, frames, s, m),
     }

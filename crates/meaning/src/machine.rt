@@ -49,7 +49,7 @@ pub(crate) struct Halted {}
 
 /// How a statement ends.
 #[derive(Clone, Copy)]
-pub(crate) enum End {
+pub(crate) enum StmtCompletion {
     Next,
     Breaks,
     Continues,

@@ -12,7 +12,7 @@ ghost use Rattle.meaning.specs.inner.File.{defined_in, known_of};
 ghost use Rattle.global_tables.specs.Tables.{shared_in};
 
 use crate::machine::{Local, newest};
-use crate::program::Source;
+use crate::program::ProgramTables;
 use global_tables::{Shared, look_up};
 use lex::token::Scalar;
 use std::alloc::Allocator;
@@ -28,7 +28,7 @@ pub(crate) struct Defined<'p, A: Allocator> {
 
 /// A global of the file, with its first cell.
 pub(crate) fn global<'p, A: Allocator + Copy>(
-    source: &Source<'p, A>,
+    source: &ProgramTables<'p, A>,
     name: &str,
 ) -> Option<Shared<'p, A>>
     ensures value { option_map shared_in result ≡ Names.global_of (program_in source.now) name.now }
@@ -59,7 +59,7 @@ fn defined_by<'p, A: Allocator>(item: &'p Item<A>, name: &str) -> Option<Defined
 
 /// A function's definition, with its body.
 pub(crate) fn definition<'p, A: Allocator + Copy>(
-    source: &Source<'p, A>,
+    source: &ProgramTables<'p, A>,
     name: &str,
 ) -> Option<Defined<'p, A>>
     ensures { option_map defined_in result ≡ Names.definition_of (program_in source.now) name.now }
@@ -97,7 +97,7 @@ impl<'p, A: Allocator> Symbol<'p, A> {
 }
 
 /// What a name is first declared as in the file.
-fn file_symbol<'p, A: Allocator + Copy>(source: &Source<'p, A>, name: &str) -> Symbol<'p, A>
+fn file_symbol<'p, A: Allocator + Copy>(source: &ProgramTables<'p, A>, name: &str) -> Symbol<'p, A>
     ensures { known_of result ≡ file_scope (program_in source.now) name.now }
 {
     match source.symbols.get(name) {
@@ -108,7 +108,7 @@ fn file_symbol<'p, A: Allocator + Copy>(source: &Source<'p, A>, name: &str) -> S
 
 /// What a name is known as while these locals live.
 fn symbol_of<'p, A: Allocator + Copy>(
-    source: &Source<'p, A>,
+    source: &ProgramTables<'p, A>,
     locals: &[Local],
     name: &str,
 ) -> Symbol<'p, A>
@@ -159,7 +159,7 @@ fn call_type<A: Allocator>(s: &Symbol<A>) -> Option<Scalar>
 
 /// The type of an expression while these locals live.
 pub(crate) fn type_of<A: Allocator + Copy>(
-    source: &Source<A>,
+    source: &ProgramTables<A>,
     locals: &[Local],
     e: &Expr<A>,
 ) -> Option<Scalar>

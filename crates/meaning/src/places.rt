@@ -13,7 +13,7 @@ ghost use Rattle.meaning.specs.inner.Word.{value_of};
 
 use crate::machine::{Halted, Machine, Spot, fetch, newest, spot_trap};
 use crate::names::{global, type_of};
-use crate::program::Source;
+use crate::program::ProgramTables;
 use crate::word::{Word, convert_word, unpack};
 use std::alloc::Allocator;
 use syntax::numbers::{Halt, Trap};
@@ -22,7 +22,7 @@ use syntax::types::common_of;
 
 /// Where the value of a name stands.
 pub(crate) fn name_place<'p, A: Allocator + Copy>(
-    source: &Source<'p, A>,
+    source: &ProgramTables<'p, A>,
     x: &Name<A>,
     m: &mut Machine<'p, '_, A>,
 ) -> Result<Spot, Halted>
@@ -43,7 +43,7 @@ pub(crate) fn name_place<'p, A: Allocator + Copy>(
 
 /// What a variable holds.
 pub(crate) fn variable<'p, A: Allocator + Copy>(
-    source: &Source<'p, A>,
+    source: &ProgramTables<'p, A>,
     x: &Name<A>,
     m: &mut Machine<'p, '_, A>,
 ) -> Result<Word, Halted>
@@ -57,7 +57,7 @@ pub(crate) fn variable<'p, A: Allocator + Copy>(
 
 /// The cell of an element by its index, which is tested.
 pub(crate) fn element_cell<'p, A: Allocator + Copy>(
-    source: &Source<'p, A>,
+    source: &ProgramTables<'p, A>,
     x: &Name<A>,
     index: Word,
     m: &mut Machine<'p, '_, A>,
@@ -80,7 +80,7 @@ pub(crate) fn element_cell<'p, A: Allocator + Copy>(
 
 /// A value of the type to which two branches are converted.
 pub(crate) fn common_value<'p, A: Allocator + Copy>(
-    source: &Source<'p, A>,
+    source: &ProgramTables<'p, A>,
     a: &Expr<A>,
     b: &Expr<A>,
     w: Word,

@@ -13,7 +13,7 @@ use crate::machine::{Context, Halted, Machine, tick};
 use itoa::Buffer;
 use lex::token::Scalar;
 use std::alloc::Allocator;
-use syntax::format::{Unit, unit_at};
+use syntax::format::{FormatUnit, unit_at};
 use syntax::number::number;
 use syntax::numbers::{Halt, Value};
 use syntax::tree::Mode;
@@ -93,13 +93,13 @@ pub(crate) fn print_pieces<A: Allocator>(
     let mut i = 0;
     'bytes: while i < format.len() {
         match unit_at(format, i) {
-            Unit::Byte(c, next) => {
+            FormatUnit::Byte(c, next) => {
                 put_byte(m, begun, c)?;
                 begun = true;
                 i = next;
                 continue;
             }
-            Unit::Figure(t, next) => {
+            FormatUnit::Figure(t, next) => {
                 put_figure(m, t, values, k)?;
                 begun = false;
                 k += 1;

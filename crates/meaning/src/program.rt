@@ -22,7 +22,7 @@ pub(crate) type Symbols<'p, A> = Table<'p, Symbol<'p, A>, A>;
 
 /// A program that runs, with the tables of its names, and with at most so many cells as an accepted one has.
 #[derive(Drop)]
-pub(crate) struct Source<'p, A: Allocator> {
+pub(crate) struct ProgramTables<'p, A: Allocator> {
     pub alloc: A,
     pub unit: &'p Unit<A>,
     pub definitions: Definitions<'p, A>,

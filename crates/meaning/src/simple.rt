@@ -11,9 +11,9 @@ ghost use Rattle.meaning.specs.inner.Word.{value_of};
 ghost use Rattle.meaning.specs.inner.Does.{called, declared_one};
 
 use crate::expr::{element, eval};
-use crate::machine::{End, Halted, Local, Machine, Spot, assign, fetch, operate};
+use crate::machine::{StmtCompletion, Halted, Local, Machine, Spot, assign, fetch, operate};
 use crate::places::name_place;
-use crate::program::Source;
+use crate::program::ProgramTables;
 use crate::word::{Word, flag};
 use lex::token::Scalar;
 use std::alloc::Allocator;
@@ -27,20 +27,20 @@ fn rewrite<A: Allocator>(
     op: BinaryOp,
     old: Word,
     by: Word,
-) -> Result<End, Halted>
+) -> Result<StmtCompletion, Halted>
     ensures { MeansEnd result
         (act.go_on (act.go_on (act.or_trap (binary op (value_of old) (value_of by)) (state_in m.old))
         (meaning.assign (spot_of at))) (λ _. act.pure meaning.Next)) m.new }
 {
     let new = operate(m, op, old, by)?;
     assign(m, at, new)?;
-    Ok(End::Next)
+    Ok(StmtCompletion::Next)
 }
 
 /// Where the left side of an assignment stands.
 #[cycle(run)]
 fn target<'p, A: Allocator + Copy>(
-    source: &Source<'p, A>,
+    source: &ProgramTables<'p, A>,
     frames: u64,
     e: &'p Expr<A>,
     m: &mut Machine<'p, '_, A>,
@@ -61,12 +61,12 @@ fn target<'p, A: Allocator + Copy>(
 /// What an assignment without an operator does.
 #[cycle(run)]
 fn simple_assignment<'p, A: Allocator + Copy>(
-    source: &Source<'p, A>,
+    source: &ProgramTables<'p, A>,
     frames: u64,
     to: &'p Expr<A>,
     e: &'p Expr<A>,
     m: &mut Machine<'p, '_, A>,
-) -> Result<End, Halted>
+) -> Result<StmtCompletion, Halted>
     ensures { MeansEnd result
         (meaning.simple (program_in source.now) (called source.now frames)
         (tree.Assign (expr_of to.now) None (expr_of e.now)) (state_in m.old)) m.new }
@@ -74,19 +74,19 @@ fn simple_assignment<'p, A: Allocator + Copy>(
     let at = target(source, frames, to, m)?;
     let v = eval(source, frames, e, m)?;
     assign(m, at, v)?;
-    Ok(End::Next)
+    Ok(StmtCompletion::Next)
 }
 
 /// What an assignment with an operator does: the old value is read first.
 #[cycle(run)]
 fn compound_assignment<'p, A: Allocator + Copy>(
-    source: &Source<'p, A>,
+    source: &ProgramTables<'p, A>,
     frames: u64,
     to: &'p Expr<A>,
     op: BinaryOp,
     e: &'p Expr<A>,
     m: &mut Machine<'p, '_, A>,
-) -> Result<End, Halted>
+) -> Result<StmtCompletion, Halted>
     ensures { MeansEnd result
         (meaning.simple (program_in source.now) (called source.now frames)
         (tree.Assign (expr_of to.now) (Some op) (expr_of e.now)) (state_in m.old)) m.new }
@@ -100,18 +100,18 @@ fn compound_assignment<'p, A: Allocator + Copy>(
 /// What an expression, an assignment or a step does.
 #[cycle(run)]
 pub(crate) fn simple<'p, A: Allocator + Copy>(
-    source: &Source<'p, A>,
+    source: &ProgramTables<'p, A>,
     frames: u64,
     s: &'p Simple<A>,
     m: &mut Machine<'p, '_, A>,
-) -> Result<End, Halted>
+) -> Result<StmtCompletion, Halted>
     ensures { MeansEnd result
         (meaning.simple (program_in source.now) (called source.now frames) (simple_of s.now) (state_in m.old)) m.new }
 {
     match s {
         Simple::Evaluate(e) => {
             eval(source, frames, e, m)?;
-            Ok(End::Next)
+            Ok(StmtCompletion::Next)
         }
         Simple::Assign(to, op, e) => match op {
             None => simple_assignment(source, frames, to, e, m),
@@ -128,12 +128,12 @@ pub(crate) fn simple<'p, A: Allocator + Copy>(
 /// New locals, each with its first value.
 #[cycle(run)]
 pub(crate) fn declare<'p, A: Allocator + Copy>(
-    source: &Source<'p, A>,
+    source: &ProgramTables<'p, A>,
     frames: u64,
     t: Scalar,
     ds: &'p [Declarator<A>],
     m: &mut Machine<'p, '_, A>,
-) -> Result<End, Halted>
+) -> Result<StmtCompletion, Halted>
     ensures { MeansEnd result
         (meaning.declare (program_in source.now) (called source.now frames) t (map declarator_of ds.now)
         (state_in m.old)) m.new }
@@ -141,13 +141,13 @@ pub(crate) fn declare<'p, A: Allocator + Copy>(
     'declarators: for d in ds {
         declare_one(source, frames, t, d, m)?;
     }
-    Ok(End::Next)
+    Ok(StmtCompletion::Next)
 }
 
 /// A new local, which is 0 and then its first value.
 #[cycle(run)]
 fn declare_one<'p, A: Allocator + Copy>(
-    source: &Source<'p, A>,
+    source: &ProgramTables<'p, A>,
     frames: u64,
     t: Scalar,
     d: &'p Declarator<A>,

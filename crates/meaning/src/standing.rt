@@ -9,16 +9,16 @@ ghost use Rattle.syntax.specs.Meaning as meaning;
 ghost use Rattle.syntax.specs.Views.{exprs_of, stmt_of};
 ghost use Rattle.meaning.specs.declared.left.Left.TheVariants as lefts;
 ghost use Rattle.meaning.specs.declared.left.Task.TheVariants as tasks;
-ghost use Rattle.meaning.specs.declared.left.Way.TheVariants as ways;
+ghost use Rattle.meaning.specs.declared.left.Direction.TheVariants as ways;
 ghost use Rattle.meaning.specs.inner.Going.{Follow, IsStep, call_begun, follows};
 ghost use Rattle.meaning.specs.inner.Left.{follow_of, left_gone_on, opened, resumed, step_of};
 ghost use Rattle.meaning.specs.inner.Machine.{Happened, end_of, halt_of, program_in, state_in};
 ghost use Rattle.meaning.specs.inner.Standing.{IsGone, IsStop, bare, rest};
 
 use crate::calls::{Begun, begin};
-use crate::left::{Left, Parts, Stepped, Task, Way, call_alone, open, open_call, parts_of, step};
-use crate::machine::{Context, End, Local, Machine};
-use crate::program::Source;
+use crate::left::{Left, Parts, Stepped, Task, Direction, call_alone, open, open_call, parts_of, step};
+use crate::machine::{Context, StmtCompletion, Local, Machine};
+use crate::program::ProgramTables;
 use crate::threads::start;
 use crate::transactions::{copy_locals, copy_memory};
 use lex::token::Scalar;
@@ -45,7 +45,7 @@ pub(crate) struct Shown<A: Allocator> {
 #[derive(Drop)]
 pub(crate) struct Thread<'p, A: Allocator> {
     pub left: Vec<Left<'p, A>, A>,
-    pub end: End,
+    pub end: StmtCompletion,
     pub at: Point<'p, A>,
     pub shown: Shown<A>,
 }
@@ -148,9 +148,9 @@ fn stop_machine<'p, A: Allocator>(m: Machine<'p, '_, A>) -> Result<Gone<'p, A>, 
 
 /// A step from a point.
 fn go<'p, A: Allocator + Copy>(
-    source: &Source<'p, A>,
+    source: &ProgramTables<'p, A>,
     left: &Left<'p, A>,
-    end: End,
+    end: StmtCompletion,
     at: &Point<'p, A>,
 ) -> Result<Gone<'p, A>, AllocError>
     ensures { IfOk result (λ g. IsGone source.now g (step_of source.now left.now (end_of end) (bare at.now))) }
@@ -164,7 +164,7 @@ fn go<'p, A: Allocator + Copy>(
 
 /// The first step of a statement that is made of others, from a point.
 fn go_open<'p, A: Allocator + Copy>(
-    source: &Source<'p, A>,
+    source: &ProgramTables<'p, A>,
     frames: u64,
     s: &'p Stmt<A>,
     parts: &Parts<'p, A>,
@@ -182,7 +182,7 @@ fn go_open<'p, A: Allocator + Copy>(
 
 /// The first step of a statement that is nothing but a call, from a point.
 fn go_call<'p, A: Allocator + Copy>(
-    source: &Source<'p, A>,
+    source: &ProgramTables<'p, A>,
     frames: u64,
     f: &Name<A>,
     args: &'p [Expr<A>],
@@ -203,7 +203,7 @@ fn go_call<'p, A: Allocator + Copy>(
 fn push_next<'p, A: Allocator + Copy>(
     left: &mut Vec<Left<'p, A>, A>,
     next: Stepped<'p, A>,
-) -> Result<End, AllocError>
+) -> Result<StmtCompletion, AllocError>
     ensures { IfOk result (λ e. (source : Source A) (s : act.State)
         → left_gone_on source left.new.items (end_of e) s ≡ act.go_on (follows (follow_of source next.entry) s)
         (left_gone_on source left.old.items)) }
@@ -212,12 +212,12 @@ fn push_next<'p, A: Allocator + Copy>(
         Stepped::Ends(end) => Ok(end),
         Stepped::Goes(task) => {
             left.push(Left::Next(task))?;
-            Ok(End::Next)
+            Ok(StmtCompletion::Next)
         }
         Stepped::Nests(outer, task) => {
             left.push(outer)?;
             left.push(Left::Next(task))?;
-            Ok(End::Next)
+            Ok(StmtCompletion::Next)
         }
     }
 }
@@ -246,14 +246,14 @@ fn arrive<'p, A: Allocator + Copy>(
 /// The statement that is next and wants a memory, with its frames.
 fn wanting<'p, A: Allocator + Copy>(
     left: &Left<'p, A>,
-    end: End,
+    end: StmtCompletion,
     why: Halt,
 ) -> Option<(u64, &'p Stmt<A>)>
     ensures left { IfSome result (λ w. left.now ≡ lefts.Next (tasks.Alone ways.Whole w.0 w.1)) }
     ensures end { IfSome result (λ w. end_of end ≡ meaning.Next) }
 {
     match (left, end, why) {
-        (Left::Next(Task::Alone(Way::Whole, frames, s)), End::Next, Halt::Wants) => Some((
+        (Left::Next(Task::Alone(Direction::Whole, frames, s)), StmtCompletion::Next, Halt::Wants) => Some((
             *frames, s,
         )),
         _ => None,
@@ -263,9 +263,9 @@ fn wanting<'p, A: Allocator + Copy>(
 /// A step of a thread: a statement that wants a memory as a whole is done by its parts, or by the body that it calls,
 /// if it has such.
 fn try_step<'p, A: Allocator + Copy>(
-    source: &Source<'p, A>,
+    source: &ProgramTables<'p, A>,
     left: &Left<'p, A>,
-    end: End,
+    end: StmtCompletion,
     at: &Point<'p, A>,
 ) -> Result<Gone<'p, A>, AllocError>
     ensures { IfOk result (λ g. (run : act.Action Follow) × IsStep (resumed source.now left.now) (end_of end) run
@@ -306,7 +306,7 @@ fn at_end<A: Allocator + Copy>(alloc: A, ticks: u64) -> Stop<A>
 
 /// One step of a thread, or why it goes no further.
 fn advance<'p, A: Allocator + Copy>(
-    source: &Source<'p, A>,
+    source: &ProgramTables<'p, A>,
     thread: &mut Thread<'p, A>,
 ) -> Result<Option<Stop<A>>, AllocError>
     ensures same { OnOk result ((founds : List Memory)
@@ -333,7 +333,7 @@ fn advance<'p, A: Allocator + Copy>(
 
 /// A thread goes on to where it goes no further.
 pub(crate) fn run<'p, A: Allocator + Copy>(
-    source: &Source<'p, A>,
+    source: &ProgramTables<'p, A>,
     thread: &mut Thread<'p, A>,
 ) -> Result<Stop<A>, AllocError>
     ensures same { OnOk result ((founds : List Memory)
@@ -351,7 +351,7 @@ pub(crate) fn run<'p, A: Allocator + Copy>(
 
 /// A thread before its first tick.
 pub(crate) fn stand<'p, A: Allocator + Copy>(
-    source: &Source<'p, A>,
+    source: &ProgramTables<'p, A>,
     ticks: u64,
     t: u32,
 ) -> Result<Thread<'p, A>, AllocError>
@@ -371,7 +371,7 @@ pub(crate) fn stand<'p, A: Allocator + Copy>(
     left.push(Left::Next(Task::Apart(63, body)))?;
     Ok(Thread {
         left,
-        end: End::Next,
+        end: StmtCompletion::Next,
         at: Point {
             ticks,
             locals: mine,

@@ -12,9 +12,9 @@ ghost use Rattle.meaning.specs.inner.Does.{called, does_stmt, does_stmts, if_of}
 use crate::calls::values;
 use crate::expr::eval;
 use crate::loops::{Loop, for_scoped, repeat};
-use crate::machine::{End, Halted, Machine, tick};
+use crate::machine::{StmtCompletion, Halted, Machine, tick};
 use crate::print::{may_print, print_pieces};
-use crate::program::Source;
+use crate::program::ProgramTables;
 use crate::simple::{declare, simple};
 use crate::transactions::{Body, transaction};
 use crate::word::{flag, is_zero};
@@ -25,16 +25,16 @@ use syntax::tree::{Expr, Stmt};
 /// What a statement does.
 #[cycle(run)]
 pub(crate) fn stmt<'p, A: Allocator + Copy>(
-    source: &Source<'p, A>,
+    source: &ProgramTables<'p, A>,
     frames: u64,
     s: &'p Stmt<A>,
     m: &mut Machine<'p, '_, A>,
-) -> Result<End, Halted>
+) -> Result<StmtCompletion, Halted>
     ensures { MeansEnd result (does_stmt source.now frames s.now (state_in m.old)) m.new }
 {
     tick(m)?;
     match s {
-        Stmt::Empty => Ok(End::Next),
+        Stmt::Empty => Ok(StmtCompletion::Next),
         Stmt::Declare(d) => declare(source, frames, d.of, d.declarators.as_slice(), m),
         Stmt::Do(s) => simple(source, frames, s, m),
         Stmt::Block(ss) => block(source, frames, ss.as_slice(), m),
@@ -51,44 +51,44 @@ pub(crate) fn stmt<'p, A: Allocator + Copy>(
         Stmt::While(c, a) => repeat(source, frames, &Loop::While(c, a.get()), m),
         Stmt::DoWhile(a, c) => repeat(source, frames, &Loop::DoWhile(a.get(), c), m),
         Stmt::For(head, a) => for_scoped(source, frames, head.get(), a.get(), m),
-        Stmt::Break(_) => Ok(End::Breaks),
-        Stmt::Continue(_) => Ok(End::Continues),
+        Stmt::Break(_) => Ok(StmtCompletion::Breaks),
+        Stmt::Continue(_) => Ok(StmtCompletion::Continues),
         Stmt::Return(e, _) => return_end(source, frames, e, m),
         Stmt::Transaction(kind, ss, _) => {
             transaction(source, frames, *kind, &Body::Block(ss.as_slice()), m)
         }
-        Stmt::Cancel(_) => Ok(End::Cancels),
-        Stmt::CancelOuter(_) => Ok(End::CancelsOuter),
+        Stmt::Cancel(_) => Ok(StmtCompletion::Cancels),
+        Stmt::CancelOuter(_) => Ok(StmtCompletion::CancelsOuter),
     }
 }
 
 /// What statements do, one after another, up to the first that goes elsewhere.
 #[cycle(run)]
 pub(crate) fn stmts<'p, A: Allocator + Copy>(
-    source: &Source<'p, A>,
+    source: &ProgramTables<'p, A>,
     frames: u64,
     ss: &'p [Stmt<A>],
     m: &mut Machine<'p, '_, A>,
-) -> Result<End, Halted>
+) -> Result<StmtCompletion, Halted>
     ensures { MeansEnd result (does_stmts source.now frames ss.now (state_in m.old)) m.new }
 {
     'statements: for s in ss {
         match stmt(source, frames, s, m)? {
-            End::Next => {}
+            StmtCompletion::Next => {}
             end => return Ok(end),
         }
     }
-    Ok(End::Next)
+    Ok(StmtCompletion::Next)
 }
 
 /// Statements with names of their own.
 #[cycle(run)]
 pub(crate) fn block<'p, A: Allocator + Copy>(
-    source: &Source<'p, A>,
+    source: &ProgramTables<'p, A>,
     frames: u64,
     ss: &'p [Stmt<A>],
     m: &mut Machine<'p, '_, A>,
-) -> Result<End, Halted>
+) -> Result<StmtCompletion, Halted>
     ensures { MeansEnd result (meaning.in_scope (does_stmts source.now frames ss.now) (state_in m.old)) m.new }
 {
     let outer = m.locals.len();
@@ -100,11 +100,11 @@ pub(crate) fn block<'p, A: Allocator + Copy>(
 /// A statement with names of its own.
 #[cycle(run)]
 pub(crate) fn scoped_stmt<'p, A: Allocator + Copy>(
-    source: &Source<'p, A>,
+    source: &ProgramTables<'p, A>,
     frames: u64,
     s: &'p Stmt<A>,
     m: &mut Machine<'p, '_, A>,
-) -> Result<End, Halted>
+) -> Result<StmtCompletion, Halted>
     ensures { MeansEnd result (meaning.in_scope (does_stmt source.now frames s.now) (state_in m.old)) m.new }
 {
     let outer = m.locals.len();
@@ -117,12 +117,12 @@ pub(crate) fn scoped_stmt<'p, A: Allocator + Copy>(
 #[cycle(run)]
 #[inline(never)]
 fn print_output<'p, A: Allocator + Copy>(
-    source: &Source<'p, A>,
+    source: &ProgramTables<'p, A>,
     frames: u64,
     format: &[u8],
     args: &'p [Expr<A>],
     m: &mut Machine<'p, '_, A>,
-) -> Result<End, Halted>
+) -> Result<StmtCompletion, Halted>
     ensures { (at format_at : Span) (begun : act.State) → act.tick begun ≡ act.Gives tt (state_in m.old)
         → MeansEnd result (meaning.stmt (program_in source.now) (called source.now frames)
         (tree.Print at format.now format_at (exprs_of args.now)) begun) m.new }
@@ -130,19 +130,19 @@ fn print_output<'p, A: Allocator + Copy>(
     may_print(m)?;
     let values = values(source, frames, args, m)?;
     print_pieces(m, format, values.as_slice())?;
-    Ok(End::Next)
+    Ok(StmtCompletion::Next)
 }
 
 /// One of two statements, or of one and nothing, behind the statement's tick.
 #[cycle(run)]
 fn either<'p, A: Allocator + Copy>(
-    source: &Source<'p, A>,
+    source: &ProgramTables<'p, A>,
     frames: u64,
     c: &'p Expr<A>,
     a: &'p Stmt<A>,
     b: &'p Option<Boxed<Stmt<A>, A>>,
     m: &mut Machine<'p, '_, A>,
-) -> Result<End, Halted>
+) -> Result<StmtCompletion, Halted>
     ensures { (begun : act.State) → act.tick begun ≡ act.Gives tt (state_in m.old)
         → MeansEnd result (meaning.stmt (program_in source.now) (called source.now frames)
         (if_of (expr_of c.now) (stmt_of a.now) (option_map stmt_of b.now)) begun) m.new }
@@ -153,27 +153,27 @@ fn either<'p, A: Allocator + Copy>(
     }
     match b {
         Some(b) => scoped_stmt(source, frames, b.get(), m),
-        None => Ok(End::Next),
+        None => Ok(StmtCompletion::Next),
     }
 }
 
 /// The end that leaves a function, behind the statement's tick.
 #[cycle(run)]
 fn return_end<'p, A: Allocator + Copy>(
-    source: &Source<'p, A>,
+    source: &ProgramTables<'p, A>,
     frames: u64,
     e: &'p Option<Expr<A>>,
     m: &mut Machine<'p, '_, A>,
-) -> Result<End, Halted>
+) -> Result<StmtCompletion, Halted>
     ensures { (at : Span) (begun : act.State) → act.tick begun ≡ act.Gives tt (state_in m.old)
         → MeansEnd result (meaning.stmt (program_in source.now) (called source.now frames)
         (tree.Return (option_map expr_of e.now) at) begun) m.new }
 {
     match e {
-        None => Ok(End::Returns(flag(false))),
+        None => Ok(StmtCompletion::Returns(flag(false))),
         Some(e) => {
             let v = eval(source, frames, e, m)?;
-            Ok(End::Returns(v))
+            Ok(StmtCompletion::Returns(v))
         }
     }
 }

@@ -11,7 +11,7 @@ ghost use Rattle.name_tables.specs.Known.{entries_in};
 ghost use Rattle.name_tables.specs.Named.{first};
 
 use crate::names::Symbol;
-use crate::program::{Definitions, Source, Symbols};
+use crate::program::{Definitions, ProgramTables, Symbols};
 use global_tables::place_globals;
 use name_tables::Table;
 use std::alloc::{AllocError, Allocator};
@@ -115,7 +115,7 @@ fn place_symbols<'p, A: Allocator + Copy>(
 pub(crate) fn source<'p, A: Allocator + Copy>(
     alloc: A,
     typed: &'p Typed<A>,
-) -> Result<Source<'p, A>, AllocError>
+) -> Result<ProgramTables<'p, A>, AllocError>
     ensures { IfOk result (λ s. s.unit.now ≡ typed.now.unit) }
 {
     let unit = typed.unit();
@@ -123,7 +123,7 @@ pub(crate) fn source<'p, A: Allocator + Copy>(
     let definitions = number_definitions(alloc, key, unit.items.as_slice())?;
     let globals = place_globals(alloc, key, unit.items.as_slice())?;
     let symbols = place_symbols(alloc, key, unit.items.as_slice())?;
-    Ok(Source {
+    Ok(ProgramTables {
         alloc,
         unit,
         definitions,

@@ -13,7 +13,7 @@ ghost use Rattle.meaning.specs.inner.Machine.{Means, context_in, program_in, sta
 use crate::calls::enter_function;
 use crate::machine::{Context, Halted, Machine, tick};
 use crate::outcome::{ThreadEnd, ThreadOutcome};
-use crate::program::Source;
+use crate::program::ProgramTables;
 use crate::tables::source;
 use lex::token::Scalar;
 use separation::Accepted;
@@ -24,7 +24,7 @@ use syntax::numbers::{Halt, Value};
 
 /// `worker(t)`, in the first of 64 frames, and then the tick of the thread's end.
 fn work<'p, A: Allocator + Copy>(
-    source: &Source<'p, A>,
+    source: &ProgramTables<'p, A>,
     t: u32,
     m: &mut Machine<'p, '_, A>,
 ) -> Result<(), Halted>

@@ -11,8 +11,8 @@ ghost use Rattle.meaning.specs.inner.Machine.{local_in, end_of, Means, MeansEnd,
 ghost use Rattle.meaning.specs.inner.Machine.{items_in, left_too, Happened, halt_of};
 
 use crate::expr::eval;
-use crate::machine::{Context, End, Halted, Local, Machine, tick};
-use crate::program::Source;
+use crate::machine::{Context, StmtCompletion, Halted, Local, Machine, tick};
+use crate::program::ProgramTables;
 use crate::stmt::block;
 use crate::word::Word;
 use std::alloc::{AllocError, Allocator};
@@ -88,12 +88,12 @@ fn mode_of(kind: Kind) -> Mode
 }
 
 /// Whether a transaction of this kind is undone where its body ends so: an outer cancel undoes an outer one alone.
-fn is_undone(end: End, kind: Kind) -> bool
+fn is_undone(end: StmtCompletion, kind: Kind) -> bool
     ensures { result ≡ meaning.undoes (end_of end) kind }
 {
     match end {
-        End::Cancels => true,
-        End::CancelsOuter => match kind {
+        StmtCompletion::Cancels => true,
+        StmtCompletion::CancelsOuter => match kind {
             Kind::Outer => true,
             Kind::Plain(_) => false,
         },
@@ -108,9 +108,9 @@ fn leave_inner<'p, A: Allocator + Copy>(
     kind: Kind,
     before: Vec<Local<'p>, A>,
     found: Vec<u64, A>,
-    end: End,
+    end: StmtCompletion,
     m: &mut Machine<'p, '_, A>,
-) -> End
+) -> StmtCompletion
     ensures { meaning.leave_inner outer
         (meaning.left_by kind (items_in before.entry) found.items (end_of end) (state_in m.old)) (state_in m.old)
         ≡ act.Gives (end_of result) (state_in m.new) }
@@ -118,7 +118,7 @@ fn leave_inner<'p, A: Allocator + Copy>(
     if is_undone(end, kind) {
         m.locals = before;
         m.context = Context::Inside(outer, found);
-        return End::Next;
+        return StmtCompletion::Next;
     }
     let inside = mem::replace(&mut m.context, Context::Inside(outer, Vec::new(alloc)));
     m.context = Context::Inside(outer, memory_of(alloc, inside));
@@ -133,9 +133,9 @@ fn leave<'p, 'f, A: Allocator + Copy>(
     lefts: Vec<Vec<u64, A>, A>,
     mine: Vec<Local<'p>, A>,
     found: &[u64],
-    end: End,
+    end: StmtCompletion,
     m: &mut Machine<'p, 'f, A>,
-) -> Result<End, Halted>
+) -> Result<StmtCompletion, Halted>
     ensures { MeansEnd result
         (meaning.leave (memories_in founds.now) (memories_in lefts.items)
         (meaning.left_by kind (items_in mine.entry) found.now (end_of end) (state_in m.old)) (state_in m.old))
@@ -150,7 +150,7 @@ fn leave<'p, 'f, A: Allocator + Copy>(
             return Err(Halted {});
         };
         return match add_left(m, memory) {
-            Ok(()) => Ok(End::Next),
+            Ok(()) => Ok(StmtCompletion::Next),
             Err(_) => {
                 m.why = None;
                 Err(Halted {})
@@ -224,11 +224,11 @@ fn begin_value<A: Allocator>(m: &mut Machine<A>) -> Result<(), Halted>
 }
 
 /// What an expression gives that is a transaction, by its body's end.
-fn value_at<A: Allocator>(m: &mut Machine<A>, end: End) -> Result<Word, Halted>
+fn value_at<A: Allocator>(m: &mut Machine<A>, end: StmtCompletion) -> Result<Word, Halted>
     ensures { MeansWord result (meaning.value_at (end_of end) (state_in m.old)) m.new }
 {
     match end {
-        End::Returns(v) => Ok(v),
+        StmtCompletion::Returns(v) => Ok(v),
         _ => {
             m.why = Some(Halt::Astray);
             Err(Halted {})
@@ -240,7 +240,7 @@ fn value_at<A: Allocator>(m: &mut Machine<A>, end: End) -> Result<Word, Halted>
 #[cycle(run)]
 #[inline(never)]
 pub(crate) fn value_transaction<'p, A: Allocator + Copy>(
-    source: &Source<'p, A>,
+    source: &ProgramTables<'p, A>,
     frames: u64,
     mode: Mode,
     e: &'p Expr<A>,
@@ -259,12 +259,12 @@ pub(crate) fn value_transaction<'p, A: Allocator + Copy>(
 #[cycle(run)]
 #[inline(never)]
 pub(crate) fn transaction<'p, A: Allocator + Copy>(
-    source: &Source<'p, A>,
+    source: &ProgramTables<'p, A>,
     frames: u64,
     kind: Kind,
     body: &Body<'p, A>,
     m: &mut Machine<'p, '_, A>,
-) -> Result<End, Halted>
+) -> Result<StmtCompletion, Halted>
     ensures { MeansEnd result (meaning.transaction kind (does_body source.now frames body.now) (state_in m.old)) m.new }
 {
     let none = Context::Inside(Mode::Atomic, Vec::new(source.alloc));
@@ -278,14 +278,14 @@ pub(crate) fn transaction<'p, A: Allocator + Copy>(
 #[cycle(run)]
 #[inline(never)]
 fn outermost<'p, 'f, A: Allocator + Copy>(
-    source: &Source<'p, A>,
+    source: &ProgramTables<'p, A>,
     frames: u64,
     kind: Kind,
     founds: &'f [Vec<u64, A>],
     lefts: Vec<Vec<u64, A>, A>,
     body: &Body<'p, A>,
     m: &mut Machine<'p, 'f, A>,
-) -> Result<End, Halted>
+) -> Result<StmtCompletion, Halted>
     ensures { MeansEnd result (let before = act.Outside (memories_in founds.now) (memories_in lefts.items)
         in meaning.enter before kind (does_body source.now frames body.now)
         (record (state_in m.old) { context = before })) m.new }
@@ -326,14 +326,14 @@ fn outermost<'p, 'f, A: Allocator + Copy>(
 #[cycle(run)]
 #[inline(never)]
 fn nested_transaction<'p, A: Allocator + Copy>(
-    source: &Source<'p, A>,
+    source: &ProgramTables<'p, A>,
     frames: u64,
     outer: Mode,
     found: Vec<u64, A>,
     kind: Kind,
     body: &Body<'p, A>,
     m: &mut Machine<'p, '_, A>,
-) -> Result<End, Halted>
+) -> Result<StmtCompletion, Halted>
     ensures { MeansEnd result (let before = act.Inside outer found.items
         in meaning.enter before kind (does_body source.now frames body.now)
         (record (state_in m.old) { context = before })) m.new }
@@ -360,18 +360,18 @@ fn nested_transaction<'p, A: Allocator + Copy>(
 /// What a transaction does between its begin and its end.
 #[cycle(run)]
 fn run_body<'p, A: Allocator + Copy>(
-    source: &Source<'p, A>,
+    source: &ProgramTables<'p, A>,
     frames: u64,
     body: &Body<'p, A>,
     m: &mut Machine<'p, '_, A>,
-) -> Result<End, Halted>
+) -> Result<StmtCompletion, Halted>
     ensures { MeansEnd result (does_body source.now frames body.now (state_in m.old)) m.new }
 {
     match body {
         Body::Block(ss) => block(source, frames, ss, m),
         Body::Value(e) => {
             let v = eval(source, frames, e, m)?;
-            Ok(End::Returns(v))
+            Ok(StmtCompletion::Returns(v))
         }
     }
 }

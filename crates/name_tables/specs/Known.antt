@@ -1,15 +1,15 @@
 -- What tables and scopes hold, as lists of names with what these stand for, in order of declaration.
 use denote.Ref.{Bor}
 use Rattle.std.specs.Prelude.{ℕ, List, map}
-use Rattle.name_tables.specs.declared.kept.Local.{Local}
-use Rattle.name_tables.specs.declared.kept.Table.{Table}
-use Rattle.name_tables.specs.declared.kept.Scope.{Scope}
+use Rattle.name_tables.specs.declared.entries.LocalEntry.{LocalEntry}
+use Rattle.name_tables.specs.declared.entries.Table.{Table}
+use Rattle.name_tables.specs.declared.entries.Scope.{Scope}
 
 module _ {V : Type 0} where
   abbrev pub entry_of : Bor (List ℕ) × V → List ℕ × V
   entry_of e = (e.0.now, e.1)
 
-  abbrev pub local_of : Local V → List ℕ × V
+  abbrev pub local_of : LocalEntry V → List ℕ × V
   local_of l = (l.name.now, l.value)
 
 module _ {V A : Type 0} where

@@ -6,9 +6,9 @@
 #![tactic(auto)]
 
 mod hasher;
-mod kept;
+mod entries;
 mod scope;
 mod table;
 
 pub use hasher::Keyed;
-pub use kept::{Scope, Table};
+pub use entries::{Scope, Table};

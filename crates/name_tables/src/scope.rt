@@ -10,7 +10,7 @@ ghost use Rattle.name_tables.specs.Known.{locals_in};
 ghost use Rattle.name_tables.specs.inner.Places.{number_at};
 
 use crate::hasher::Keyed;
-use crate::kept::{Local, Scope};
+use crate::entries::{LocalEntry, Scope};
 use indexmap::IndexMap;
 use std::alloc::{AllocError, Allocator};
 
@@ -61,7 +61,7 @@ impl<'a, V: Copy + Drop, A: Allocator + Copy> Scope<'a, V, A> {
         ensures err { OnErr result (locals_in self.new ≡ locals_in self.old) }
     {
         let hidden = number_of(&self.numbers, name);
-        self.locals.push(Local {
+        self.locals.push(LocalEntry {
             name,
             value,
             hidden,

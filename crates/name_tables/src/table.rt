@@ -6,7 +6,7 @@ ghost use Rattle.name_tables.specs.Named.{first, place, declared};
 ghost use Rattle.name_tables.specs.Known.{entries_in};
 
 use crate::hasher::Keyed;
-use crate::kept::Table;
+use crate::entries::Table;
 use indexmap::IndexMap;
 use std::alloc::{AllocError, Allocator};
 

@@ -12,7 +12,7 @@ ghost use Rattle.norec_core.specs.declared.step.Op.{Op as Operation};
 ghost use Rattle.norec_core.specs.declared.step.Answer.TheVariants.{Value};
 
 use super::step::{Access, Answer, Op, Outcome, ReadStep, Stop};
-use super::steps::Steps;
+use super::steps::CoreSteps;
 use nesting::Saved;
 use std::alloc::{Allocator, Global};
 use std::marker::Model;
@@ -27,7 +27,7 @@ const LAST_SNAPSHOT: u64 = u64::MAX - 1;
 /// operation is prepared again until it is done or the attempt is dropped.
 #[derive(Drop)]
 pub struct Core<A: Allocator = Global> {
-    steps: Steps<A>,
+    steps: CoreSteps<A>,
     /// The operation that was prepared last, and whether its step is still to be told.
     op: Op,
     is_asked: bool,
@@ -35,7 +35,7 @@ pub struct Core<A: Allocator = Global> {
 
 impl<A: Allocator> Model for Core<A> {
     ghost use Rattle.norec_core.specs.Cores.{CoreState};
-    ghost use Rattle.norec_core.specs.inner.Runs.{asked_of, attempt_of, IsPrepared};
+    ghost use Rattle.norec_core.specs.inner.Runs.{asked_of, attempt_of, IsReadyFor};
 
     ghost Value = { CoreState };
 
@@ -47,7 +47,7 @@ impl<A: Allocator> Model for Core<A> {
       write_room = c.steps.write_room;
     } };
 
-    ghost invariant = { λ c. IsPrepared (asked_of c.is_asked c.op) c.steps };
+    ghost invariant = { λ c. IsReadyFor (asked_of c.is_asked c.op) c.steps };
 }
 
 impl<A: Allocator + Copy> Core<A> {
@@ -57,7 +57,7 @@ impl<A: Allocator + Copy> Core<A> {
         ensures asked { result.asked ≡ None }
     {
         Core {
-            steps: Steps::new(alloc),
+            steps: CoreSteps::new(alloc),
             op: Op::Release,
             is_asked: false,
         }

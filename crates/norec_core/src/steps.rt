@@ -20,7 +20,7 @@ use std::marker::Model;
 
 /// The attempt of a thread, if one is under way, and where it stands.
 #[derive(Drop)]
-pub(crate) struct Steps<A: Allocator> {
+pub(crate) struct CoreSteps<A: Allocator> {
     logs: Attempt<A>,
     begun: bool,
     /// Whether an attempt stands at an operation without the lock.
@@ -30,7 +30,7 @@ pub(crate) struct Steps<A: Allocator> {
     phase: Phase,
 }
 
-impl<A: Allocator> Model for Steps<A> {
+impl<A: Allocator> Model for CoreSteps<A> {
     ghost use Rattle.std.specs.Prelude.{◌≡◌, ◌↔◌, ◌%◌, true};
     ghost use Rattle.norec_core.specs.inner.Runs.{Run, attempt_by, IsPlain, IsStanding};
 
@@ -49,12 +49,12 @@ impl<A: Allocator> Model for Steps<A> {
         × (s.plain ≡ true ↔ IsPlain s.begun s.logs.kept s.phase) };
 }
 
-impl<A: Allocator + Copy> Steps<A> {
+impl<A: Allocator + Copy> CoreSteps<A> {
     /// No attempt is under way. It takes no memory yet.
-    pub(crate) fn new(alloc: A) -> Steps<A>
+    pub(crate) fn new(alloc: A) -> CoreSteps<A>
         ensures { result.begun ≡ false }
     {
-        Steps {
+        CoreSteps {
             logs: Attempt::new(alloc),
             begun: false,
             plain: false,

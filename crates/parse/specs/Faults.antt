@@ -5,7 +5,7 @@ use Rattle.lex.specs.Tokens.{Tok}
 use Rattle.syntax.specs.declared.tree.Unit.{Unit as Tree}
 use Rattle.syntax.specs.Views.{program_of}
 use Rattle.syntax.specs.Phrases.{IsUnexpected, IsUnfinished, IsTooDeep}
-use Rattle.syntax.specs.Grammar.{Source, Spells, source_depth, deepest_program}
+use Rattle.syntax.specs.Grammar.{ParsedSource, Spells, source_depth, deepest_program}
 use Rattle.parse.specs.declared.fault.ParseFault.{ParseFault}
 use Rattle.parse.specs.declared.fault.ParseFault.TheVariants as fault
 
@@ -22,7 +22,7 @@ span_of (fault.TooDeep at) = Some at
 span_of (fault.Unfinished at) = Some at
 
 -- the program that a unit holds, and where its last token ends
-abbrev pub source_of : {A : Type 0} → Tree A → Source
+abbrev pub source_of : {A : Type 0} → Tree A → ParsedSource
 source_of u = record { program = program_of u; ends = u.end }
 
 -- what a fault says of the tokens; want of memory says nothing
@@ -33,7 +33,7 @@ IsParseFaultOf ts (fault.TooDeep at) = IsTooDeep Spells source_depth deepest_pro
 IsParseFaultOf ts (fault.Unfinished at) = IsUnfinished Spells ts at
 
 -- this program was found, if memory sufficed
-abbrev pub Finds : {A : Type 0} → Source → Result (Tree A) ParseFault → Type 0
+abbrev pub Finds : {A : Type 0} → ParsedSource → Result (Tree A) ParseFault → Type 0
 Finds s (Ok u) = source_of u ≡ s
 Finds s (Err fault.OutOfMemory) = Unit {0}
 Finds s (Err (fault.Unexpected at)) = ⊥

@@ -18,16 +18,16 @@ use crate::list::{Element, further, one};
 use containers::Items;
 use lex::token::{Fixed, Kind, Punctuator, Scalar, Span, Token};
 use std::alloc::Allocator;
-use syntax::tree::{First, Global, Item, Name};
+use syntax::tree::{Initializer, Global, Item, Name};
 
 /// A constant's value and type, where it stands, and the tokens after it.
 type Placed<'t, 'a> = (((u64, Scalar), Span), &'t [Token<'a>]);
 
 /// First values, and the tokens after them.
-type Firsts<'t, 'a, A> = (Items<First, A>, &'t [Token<'a>]);
+type Firsts<'t, 'a, A> = (Items<Initializer, A>, &'t [Token<'a>]);
 
 /// An array's length or none, first values, and the tokens after them.
-type Sized<'t, 'a, A> = ((Option<(u64, Span)>, Items<First, A>), &'t [Token<'a>]);
+type Sized<'t, 'a, A> = ((Option<(u64, Span)>, Items<Initializer, A>), &'t [Token<'a>]);
 
 /// A constant, with its type and its place.
 fn constant<'t, 'a>(tokens: &'t [Token<'a>]) -> Result<Placed<'t, 'a>, Failure<'t, 'a>>
@@ -70,12 +70,12 @@ fn array_length<'t, 'a>(
 }
 
 /// `[-] constant`
-fn initialiser<'t, 'a>(tokens: &'t [Token<'a>]) -> Result<(First, &'t [Token<'a>]), Failure<'t, 'a>>
+fn initialiser<'t, 'a>(tokens: &'t [Token<'a>]) -> Result<(Initializer, &'t [Token<'a>]), Failure<'t, 'a>>
     ensures { Gives (λ x. (x.0, toks x.1.now)) result (initialiser (toks tokens.now)) }
 {
     if !is_next(tokens, Fixed::Punctuator(Punctuator::Minus)) {
         let (((value, of), span), rest) = constant(tokens)?;
-        let first = First {
+        let first = Initializer {
             negative: false,
             value,
             of,
@@ -85,7 +85,7 @@ fn initialiser<'t, 'a>(tokens: &'t [Token<'a>]) -> Result<(First, &'t [Token<'a>
     }
     let (minus, rest) = spot(tokens, Fixed::Punctuator(Punctuator::Minus))?;
     let (((value, of), at), rest) = constant(rest)?;
-    let first = First {
+    let first = Initializer {
         negative: true,
         value,
         of,

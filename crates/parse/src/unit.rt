@@ -4,7 +4,7 @@ ghost use Rattle.std.specs.Prelude.{◌≡◌, ◌≤◌, ◌<◌, ◌^◌, List
 ghost use Rattle.lex.specs.Tokens.{Tok, toks};
 ghost use Rattle.syntax.specs.Views.{item_of};
 ghost use Rattle.syntax.specs.Phrases.{end_of};
-ghost use Rattle.syntax.specs.Grammar.{Source, Spells, source_depth, deepest_program};
+ghost use Rattle.syntax.specs.Grammar.{ParsedSource, Spells, source_depth, deepest_program};
 ghost use Rattle.parse.specs.inner.Reading.{Gives};
 ghost use Rattle.parse.specs.inner.Items.{shared_from, item_at, whole_program};
 ghost use Rattle.parse.specs.inner.Headings.{heading_of};
@@ -120,9 +120,9 @@ pub fn parse<A: Allocator + Copy>(alloc: A, tokens: &[Token<'_>]) -> Result<Unit
     // Which fault comes, and at which token.
     ensures fault { IfErr result (λ f. IsParseFaultOf (toks tokens.now) f) }
     // What is spelled within the depth is found.
-    ensures complete { (s : Source) → Spells s (toks tokens.now) → source_depth s ≤ deepest_program → Finds s result }
+    ensures complete { (s : ParsedSource) → Spells s (toks tokens.now) → source_depth s ≤ deepest_program → Finds s result }
     // What is spelled deeper is refused.
-    ensures refused { (s : Source) → Spells s (toks tokens.now) → deepest_program < source_depth s → IsErr result }
+    ensures refused { (s : ParsedSource) → Spells s (toks tokens.now) → deepest_program < source_depth s → IsErr result }
 {
     match program(alloc, tokens, DEEPEST) {
         Ok(items) => Ok(Unit {
@@ -143,5 +143,5 @@ pub fn parse<A: Allocator + Copy>(alloc: A, tokens: &[Token<'_>]) -> Result<Unit
 
 /// No list of tokens spells two programs.
 pub fn one_tree()
-    ensures { (ts : List Tok) (a b : Source) → Spells a ts → Spells b ts → a ≡ b }
+    ensures { (ts : List Tok) (a b : ParsedSource) → Spells a ts → Spells b ts → a ≡ b }
 {}

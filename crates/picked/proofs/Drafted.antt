@@ -4,7 +4,7 @@ use Rattle.std.proofs.lemmas.List.{length-append, length-map, map-append}
 use Rattle.syntax.specs.declared.tree.LogicalOp.{LogicalOp}
 use Rattle.syntax.specs.declared.tree.LogicalOp.TheVariants.{AndThen, OrElse}
 use Rattle.bytecode.specs.declared.instr.Instr.{Instr}
-use Rattle.picked.specs.declared.held.Tested.{Tested}
+use Rattle.picked.specs.declared.locations.ConditionRegister.{ConditionRegister}
 use Rattle.picked.specs.declared.draft.Draft.{Draft}
 use Rattle.picked.specs.declared.draft.Draft.TheVariants as draft
 use Rattle.picked.specs.Conditions.{Condition, test_in, jump_if, jump_if_not, instruction_of_draft, opposite_draft, led_on, short_jump, going_on, going_back, first_of}
@@ -62,13 +62,13 @@ first_or m u a =
 pub completed_length : (m u : ℕ) (ds : List Draft) → length (map (instruction_of_draft m u) ds) ≡ length ds
 completed_length m u ds = length-map ds (instruction_of_draft m u)
 
-pub on_length : (ds : List Draft) (t : Tested) (u : ℕ) → length (going_on ds t u) ≡ length ds + 1
+pub on_length : (ds : List Draft) (t : ConditionRegister) (u : ℕ) → length (going_on ds t u) ≡ length ds + 1
 on_length ds t u =
     let a : length (going_on ds t u) ≡ length (map (instruction_of_draft (t.to + 1) u) ds) + 1 = length-append (map (instruction_of_draft (t.to + 1) u) ds) (jump_if_not t.at_zero t.register u ∷ []) in
     let b = completed_length (t.to + 1) u ds in
     omega (arith, a, b)
 
-pub back_length : (ds : List Draft) (t : Tested) (m : ℕ) → length (going_back ds t m) ≡ length ds + 1
+pub back_length : (ds : List Draft) (t : ConditionRegister) (m : ℕ) → length (going_back ds t m) ≡ length ds + 1
 back_length ds t m =
     let a : length (going_back ds t m) ≡ length (map (instruction_of_draft m (t.to + 1)) ds) + 1 = length-append (map (instruction_of_draft m (t.to + 1)) ds) (jump_if t.at_zero t.register m ∷ []) in
     let b = completed_length m (t.to + 1) ds in

@@ -9,7 +9,7 @@ use Rattle.syntax.specs.Names.{newest, global_of, GlobalCells}
 use Rattle.bytecode.specs.declared.instr.Instr.{Instr}
 use Rattle.bytecode.specs.declared.instr.Instr.TheVariants as own
 use Rattle.lowered.specs.Expressions.{LocalScope, types_left, argument_order}
-use Rattle.picked.specs.declared.held.Held.{Held}
+use Rattle.picked.specs.declared.locations.ValueRegister.{ValueRegister}
 use Rattle.picked.specs.Lists.{Lists, with_register, holding}
 use Rattle.picked.specs.Names.{Callee, callee_of}
 use Rattle.picked.specs.Conditions.{Condition, zero_test, zero_tested}
@@ -42,19 +42,19 @@ called_more (Some f) args from into l h =
     omega (arith, h, a, b)
 
 pub settled_more : (r : ℕ) (e : Emitted) → e.lists.registers ≤ (value_into r e).lists.registers
-settled_more r e = by (e.held.register == r)
+settled_more r e = by (e.location.register == r)
   where
-    by : (b : Bool) → e.lists.registers ≤ (if b then e else then_one e (own.Move r e.held.register) r e.held.of).lists.registers
+    by : (b : Bool) → e.lists.registers ≤ (if b then e else then_one e (own.Move r e.location.register) r e.location.of).lists.registers
     by true = omega arith
     by false = used_more r e.lists
 
 pub compared_more : (e : Emitted) (into free : ℕ) → e.lists.registers ≤ (logical_negation e into free).lists.registers
 compared_more e into free =
-    let a = used_more (above free e.held.register) e.lists in
-    let b = used_more into (with_register (above free e.held.register) e.lists) in
+    let a = used_more (above free e.location.register) e.lists in
+    let b = used_more into (with_register (above free e.location.register) e.lists) in
     omega (arith, a, b)
 
-pub ready_more : (o : Option Held) (l : Lists) (e : Emitted) → l.registers ≤ e.lists.registers → l.registers ≤ (ready_or o l e).lists.registers
+pub ready_more : (o : Option ValueRegister) (l : Lists) (e : Emitted) → l.registers ≤ e.lists.registers → l.registers ≤ (ready_or o l e).lists.registers
 ready_more None l e h = h
 ready_more (Some held) l e h = omega arith
 
@@ -104,8 +104,8 @@ module _ (p : Program) (scope : LocalScope) where
     emitted_more (Unary Not e at) from into free l =
         let made = emitted p scope e from free free l in
         let a = emitted_more e from free free l in
-        let b = used_more (above free made.held.register) made.lists in
-        let c = used_more into (with_register (above free made.held.register) made.lists) in
+        let b = used_more (above free made.location.register) made.lists in
+        let c = used_more into (with_register (above free made.location.register) made.lists) in
         omega (arith, a, b, c)
     emitted_more (Unary Complement e at) from into free l =
         let a = emitted_more e from free free l in let b = used_more into (emitted p scope e from free free l).lists in omega (arith, a, b)
@@ -113,12 +113,12 @@ module _ (p : Program) (scope : LocalScope) where
         let t = operand_type op (emitted_type p scope a) (emitted_type p scope b) in
         let u = operand_type op (emitted_type p scope b) (emitted_type p scope a) in
         let left = due p scope t a from free free l in
-        let later = above free left.held.register in
+        let later = above free left.location.register in
         let x = in_type_more (emitted_type p scope a) t a (emitted p scope a from free free l) from free l (emitted_more a from free free l) in
-        let found = constant_ready left.lists.layout u b left.held.to in
-        let made = emitted p scope b left.held.to later later left.lists in
-        let computed = in_type (emitted_type p scope b) u b made left.held.to later left.lists in
-        let y = ready_more found left.lists computed (in_type_more (emitted_type p scope b) u b made left.held.to later left.lists (emitted_more b left.held.to later later left.lists)) in
+        let found = constant_ready left.lists.layout u b left.location.to in
+        let made = emitted p scope b left.location.to later later left.lists in
+        let computed = in_type (emitted_type p scope b) u b made left.location.to later left.lists in
+        let y = ready_more found left.lists computed (in_type_more (emitted_type p scope b) u b made left.location.to later left.lists (emitted_more b left.location.to later later left.lists)) in
         let z = used_more into (ready_or found left.lists computed).lists in
         omega (arith, x, y, z)
     emitted_more (Logical op a b at) from into free l =
@@ -133,7 +133,7 @@ module _ (p : Program) (scope : LocalScope) where
         let t = common (emitted_type p scope a) (emitted_type p scope b) in
         let made = emitted p scope a (test.to + 1) into free test.lists in
         let first = due p scope t a (test.to + 1) into free test.lists in
-        let next = (value_into into first).held.to + 1 in
+        let next = (value_into into first).location.to + 1 in
         let other = emitted p scope b next into free (value_into into first).lists in
         let second = due p scope t b next into free (value_into into first).lists in
         let u = by_parts c from free l (own_more c from free l) (emitted_more c from free free l) in
@@ -163,7 +163,7 @@ module _ (p : Program) (scope : LocalScope) where
         let made = emitted p scope e from free free l in
         let first = in_first_type (emitted_type p scope e) ts e made from free l in
         let a = in_first_more (emitted_type p scope e) ts e made from free l (emitted_more e from free free l) in
-        let b = all_more (types_left ts) es first.held.to (above free first.held.register) first.lists in
+        let b = all_more (types_left ts) es first.location.to (above free first.location.register) first.lists in
         omega (arith, a, b)
 
   pub due_more : (u : Scalar) (e : Expr) (from into free : ℕ) (l : Lists) → l.registers ≤ (due p scope u e from into free l).lists.registers

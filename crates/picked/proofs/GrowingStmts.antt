@@ -10,9 +10,9 @@ use Rattle.syntax.specs.Meaning.{op_of}
 use Rattle.bytecode.specs.declared.instr.Instr.TheVariants as own
 use Rattle.lowered.specs.Expressions.{LocalScope}
 use Rattle.lowered.specs.Statements.{with_local, locals_of_start, locals_after}
-use Rattle.picked.specs.declared.held.Target.{Target}
-use Rattle.picked.specs.declared.held.Target.TheVariants as target
-use Rattle.picked.specs.declared.held.Exits.{Exits}
+use Rattle.picked.specs.declared.locations.AssignmentTarget.{AssignmentTarget}
+use Rattle.picked.specs.declared.locations.AssignmentTarget.TheVariants as target
+use Rattle.picked.specs.declared.locations.Exits.{Exits}
 use Rattle.picked.specs.Lists.{Lists, with_register}
 use Rattle.picked.specs.Expressions.{Emitted, above, converting, converted_by, both, constant, ready, emitted_type, emitted, all_emitted, condition}
 use Rattle.picked.specs.Simples.{nothing_written, one_written, variable_target, element_target, aimed, above_target, target_value, home_or, target_store, type_at, taking, expr_fitting, value_or_one, type_or_int, changed, assigned, adjusted, simple_written, first_written, declarator_written, declared_written, start_written}
@@ -28,13 +28,13 @@ element_more : (check : Bool) (g : Option GlobalCells) (i : Emitted) (from : ℕ
 element_more check (Some g) i from l h = h
 element_more check None i from l h = omega arith
 
-pub fetched_more : (t : Target) (from free : ℕ) (l : Lists) → l.registers ≤ (target_value t from free l).lists.registers
+pub fetched_more : (t : AssignmentTarget) (from free : ℕ) (l : Lists) → l.registers ≤ (target_value t from free l).lists.registers
 fetched_more (target.Local i t) from free l = used_more i l
 fetched_more (target.Cell c t) from free l = used_more free l
 fetched_more (target.Element i c n t) from free l = used_more free l
 fetched_more target.Nowhere from free l = used_more free l
 
-pub stored_same : (t : Target) (a from : ℕ) (l : Lists) → (target_store t a from l).lists.registers ≡ l.registers
+pub stored_same : (t : AssignmentTarget) (a from : ℕ) (l : Lists) → (target_store t a from l).lists.registers ≡ l.registers
 stored_same (target.Local i t) a from l = by (a == i)
   where
     by : (b : Bool) → (if b then nothing_written from l else one_written (own.Move i a) from l).lists.registers ≡ l.registers
@@ -44,7 +44,7 @@ stored_same (target.Cell c t) a from l = refl
 stored_same (target.Element i c n t) a from l = refl
 stored_same target.Nowhere a from l = refl
 
-pub expr_fitting_more : (t : Target) (s : Scalar) (e' : Expr) (e : Emitted) (from into : ℕ) (l : Lists) → l.registers ≤ e.lists.registers → l.registers ≤ (expr_fitting t s e' e from into l).lists.registers
+pub expr_fitting_more : (t : AssignmentTarget) (s : Scalar) (e' : Expr) (e : Emitted) (from into : ℕ) (l : Lists) → l.registers ≤ e.lists.registers → l.registers ≤ (expr_fitting t s e' e from into l).lists.registers
 expr_fitting_more t s (Constant n x at) e from into l h = used_more into l
 expr_fitting_more t s e' e from into l h = let a = converted_more (taking t s) (type_at t) e into in omega (arith, h, a)
 
@@ -74,22 +74,22 @@ module _ (p : Program) (scope : LocalScope) where
       let made = expr_fitting t.target (emitted_type p scope e) e first t.to home t.lists in
       let a = aimed_more true lhs from free l in
       let b = expr_fitting_more t.target (emitted_type p scope e) e first t.to home t.lists (emitted_more p scope e t.to home later t.lists) in
-      let c = stored_same t.target made.held.register made.held.to made.lists in
+      let c = stored_same t.target made.location.register made.location.to made.lists in
       omega (arith, a, b, c)
 
-  pub changed_more : (op : BinaryOp) (by : Option Expr) (t : Target) (from free : ℕ) (l : Lists) → l.registers ≤ (changed p scope op by t from free l).lists.registers
+  pub changed_more : (op : BinaryOp) (by : Option Expr) (t : AssignmentTarget) (from free : ℕ) (l : Lists) → l.registers ≤ (changed p scope op by t from free l).lists.registers
   changed_more op by t from free l =
       let s = type_at t in
       let u = operand_type op s (type_or_int p scope by) in
       let first = target_value t from free l in
       let old = converted_by (converting s u) u first free in
       let v = operand_type op (type_or_int p scope by) s in
-      let other = value_or_one p scope v by old.held.to (above free old.held.register) old.lists in
+      let other = value_or_one p scope v by old.location.to (above free old.location.register) old.lists in
       let home = home_or t free in
       let whole = both op u old other home in
       let a = fetched_more t from free l in
       let b = converted_more (converting s u) u first free in
-      let c = one_more v by old.held.to (above free old.held.register) old.lists in
+      let c = one_more v by old.location.to (above free old.location.register) old.lists in
       let d = used_more home other.lists in
       let e = converted_more (taking t (result_type op u)) s whole home in
       omega (arith, a, b, c, d, e)
@@ -101,7 +101,7 @@ module _ (p : Program) (scope : LocalScope) where
       let made = changed p scope op by t.target t.to later t.lists in
       let a = aimed_more false lhs from free l in
       let b = changed_more op by t.target t.to later t.lists in
-      let c = stored_same t.target made.held.register made.held.to made.lists in
+      let c = stored_same t.target made.location.register made.location.to made.lists in
       omega (arith, a, b, c)
 
   pub simple_more : (s : Simple) (from free : ℕ) (l : Lists) → l.registers ≤ (simple_written p scope s from free l).lists.registers
@@ -117,7 +117,7 @@ module _ (p : Program) where
       let first = emitted p scope e from i (suc i) l in
       let made = expr_fitting (target.Local i t) (emitted_type p scope e) e first from i l in
       let a = expr_fitting_more (target.Local i t) (emitted_type p scope e) e first from i l (emitted_more p scope e from i (suc i) l) in
-      let b = stored_same (target.Local i t) made.held.register made.held.to made.lists in
+      let b = stored_same (target.Local i t) made.location.register made.location.to made.lists in
       omega (arith, a, b)
 
   pub declarator_more : (t : Scalar) (d : Declarator) (scope : LocalScope) (from : ℕ) (l : Lists) → l.registers ≤ (declarator_written p t d scope from l).lists.registers

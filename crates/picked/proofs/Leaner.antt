@@ -11,9 +11,9 @@ use Rattle.bytecode.specs.declared.instr.Instr.TheVariants as own
 use Rattle.lowered.specs.Expressions.{LocalScope, Layout}
 use Rattle.lowered.specs.Programs.{parameter_locals}
 use Rattle.lowered.specs.Statements.{with_local, locals_of_start, locals_after}
-use Rattle.picked.specs.declared.held.Target.{Target}
-use Rattle.picked.specs.declared.held.Target.TheVariants as target
-use Rattle.picked.specs.declared.held.Exits.{Exits}
+use Rattle.picked.specs.declared.locations.AssignmentTarget.{AssignmentTarget}
+use Rattle.picked.specs.declared.locations.AssignmentTarget.TheVariants as target
+use Rattle.picked.specs.declared.locations.Exits.{Exits}
 use Rattle.picked.specs.Lists.{Lists, with_register}
 use Rattle.picked.specs.Expressions.{Emitted, above, constant, ready, converting, converted_by, both, emitted_type, emitted, due, all_emitted, condition}
 use Rattle.picked.specs.Simples.{nothing_written, one_written, variable_target, element_target, aimed, above_target, target_value, home_or, target_store, type_at, taking, expr_fitting, value_or_one, type_or_int, changed, assigned, adjusted, simple_written, first_written, declarator_written, declared_written, start_written}
@@ -36,23 +36,23 @@ element_leaner : (check : Bool) (g : Option GlobalCells) (i j : Emitted) (from t
 element_leaner check (Some g) i j from to l m h k = k
 element_leaner check None i j from to l m h k = h
 
-same_element : (check : Bool) (g : Option GlobalCells) (i j : Emitted) (from to : ℕ) (l m : Lists) → i.held.register ≡ j.held.register → (element_target check g i from l).target ≡ (element_target check g j to m).target
+same_element : (check : Bool) (g : Option GlobalCells) (i j : Emitted) (from to : ℕ) (l m : Lists) → i.location.register ≡ j.location.register → (element_target check g i from l).target ≡ (element_target check g j to m).target
 same_element check (Some g) i j from to l m same = ap (λ (r : ℕ). target.Element r g.cell (cells g.global) g.global.of) same
 same_element check None i j from to l m same = refl
 
-fetched_leaner : (t : Target) (from to free : ℕ) (l m : Lists) → IsLeaner l m → IsLeaner (target_value t from free l).lists (target_value t to free m).lists
+fetched_leaner : (t : AssignmentTarget) (from to free : ℕ) (l m : Lists) → IsLeaner l m → IsLeaner (target_value t from free l).lists (target_value t to free m).lists
 fetched_leaner (target.Local i t) from to free l m h = used_leaner i l m h
 fetched_leaner (target.Cell c t) from to free l m h = used_leaner free l m h
 fetched_leaner (target.Element i c n t) from to free l m h = used_leaner free l m h
 fetched_leaner target.Nowhere from to free l m h = used_leaner free l m h
 
-same_fetched : (t : Target) (from to free : ℕ) (l m : Lists) → (target_value t from free l).held.register ≡ (target_value t to free m).held.register
+same_fetched : (t : AssignmentTarget) (from to free : ℕ) (l m : Lists) → (target_value t from free l).location.register ≡ (target_value t to free m).location.register
 same_fetched (target.Local i t) from to free l m = refl
 same_fetched (target.Cell c t) from to free l m = refl
 same_fetched (target.Element i c n t) from to free l m = refl
 same_fetched target.Nowhere from to free l m = refl
 
-pub stored_keeps : (t : Target) (a from : ℕ) (l : Lists) → (target_store t a from l).lists ≡ l
+pub stored_keeps : (t : AssignmentTarget) (a from : ℕ) (l : Lists) → (target_store t a from l).lists ≡ l
 stored_keeps (target.Local i t) a from l = by (a == i)
   where
     by : (b : Bool) → (if b then nothing_written from l else one_written (own.Move i a) from l).lists ≡ l
@@ -62,12 +62,12 @@ stored_keeps (target.Cell c t) a from l = refl
 stored_keeps (target.Element i c n t) a from l = refl
 stored_keeps target.Nowhere a from l = refl
 
-stored_leaner : (t t' : Target) (a b from to : ℕ) (l m : Lists) → IsLeaner l m → IsLeaner (target_store t a from l).lists (target_store t' b to m).lists
+stored_leaner : (t t' : AssignmentTarget) (a b from to : ℕ) (l m : Lists) → IsLeaner l m → IsLeaner (target_store t a from l).lists (target_store t' b to m).lists
 stored_leaner t t' a b from to l m h =
     subst (λ (x : Lists). IsLeaner x (target_store t' b to m).lists) (sym (stored_keeps t a from l))
     (subst (λ (x : Lists). IsLeaner l x) (sym (stored_keeps t' b to m)) h)
 
-expr_fitting_leaner : (t : Target) (s : Scalar) (e' : Expr) (e d : Emitted) (from to into : ℕ) (l m : Lists) → IsLeaner l m → IsLeaner e.lists d.lists → IsLeaner (expr_fitting t s e' e from into l).lists (expr_fitting t s e' d to into m).lists
+expr_fitting_leaner : (t : AssignmentTarget) (s : Scalar) (e' : Expr) (e d : Emitted) (from to into : ℕ) (l m : Lists) → IsLeaner l m → IsLeaner e.lists d.lists → IsLeaner (expr_fitting t s e' e from into l).lists (expr_fitting t s e' d to into m).lists
 expr_fitting_leaner t s (Constant n x at) e d from to into l m h k = used_leaner into l m h
 expr_fitting_leaner t s e' e d from to into l m h k = converted_leaner (taking t s) (type_at t) e d into k
 
@@ -104,29 +104,29 @@ module _ (p : Program) (scope : LocalScope) where
       let t' = aimed p scope true lhs to free m in
       let s = emitted_type p scope e in
       let a = aimed_leaner true lhs from to free l m h in
-      let made = λ (x : Target). expr_fitting x s e (emitted p scope e t.to (home_or x (above_target x free)) (above_target x free) t.lists) t.to (home_or x (above_target x free)) t.lists in
-      let other = λ (x : Target). expr_fitting x s e (emitted p scope e t'.to (home_or x (above_target x free)) (above_target x free) t'.lists) t'.to (home_or x (above_target x free)) t'.lists in
+      let made = λ (x : AssignmentTarget). expr_fitting x s e (emitted p scope e t.to (home_or x (above_target x free)) (above_target x free) t.lists) t.to (home_or x (above_target x free)) t.lists in
+      let other = λ (x : AssignmentTarget). expr_fitting x s e (emitted p scope e t'.to (home_or x (above_target x free)) (above_target x free) t'.lists) t'.to (home_or x (above_target x free)) t'.lists in
       let later = above_target t.target free in
       let home = home_or t.target later in
       let b = expr_fitting_leaner t.target s e (emitted p scope e t.to home later t.lists) (emitted p scope e t'.to home later t'.lists) t.to t'.to home t.lists t'.lists a (emitted_leaner p scope e t.to t'.to home later t.lists t'.lists a) in
-      let c = subst (λ (x : Target). IsLeaner (made t.target).lists (other x).lists) (same_aim true lhs from to free l m) b in
-      stored_leaner t.target t'.target (made t.target).held.register (other t'.target).held.register (made t.target).held.to (other t'.target).held.to (made t.target).lists (other t'.target).lists c
+      let c = subst (λ (x : AssignmentTarget). IsLeaner (made t.target).lists (other x).lists) (same_aim true lhs from to free l m) b in
+      stored_leaner t.target t'.target (made t.target).location.register (other t'.target).location.register (made t.target).location.to (other t'.target).location.to (made t.target).lists (other t'.target).lists c
 
   -- the old value, another one behind it, and the operator on both
-  changed_leaner : (op : BinaryOp) (by : Option Expr) (t : Target) (from to free : ℕ) (l m : Lists) → IsLeaner l m → IsLeaner (changed p scope op by t from free l).lists (changed p scope op by t to free m).lists
+  changed_leaner : (op : BinaryOp) (by : Option Expr) (t : AssignmentTarget) (from to free : ℕ) (l m : Lists) → IsLeaner l m → IsLeaner (changed p scope op by t from free l).lists (changed p scope op by t to free m).lists
   changed_leaner op by t from to free l m h =
       let s = type_at t in
       let u = operand_type op s (type_or_int p scope by) in
       let v = operand_type op (type_or_int p scope by) s in
       let old = converted_by (converting s u) u (target_value t from free l) free in
       let old' = converted_by (converting s u) u (target_value t to free m) free in
-      let right = value_or_one p scope v by old.held.to (above free old.held.register) old.lists in
-      let right' = λ (r : ℕ). value_or_one p scope v by old'.held.to (above free r) old'.lists in
+      let right = value_or_one p scope v by old.location.to (above free old.location.register) old.lists in
+      let right' = λ (r : ℕ). value_or_one p scope v by old'.location.to (above free r) old'.lists in
       let home = home_or t free in
       let a = converted_leaner (converting s u) u (target_value t from free l) (target_value t to free m) free (fetched_leaner t from to free l m h) in
-      let b = one_leaner v by old.held.to old'.held.to (above free old.held.register) old.lists old'.lists a in
+      let b = one_leaner v by old.location.to old'.location.to (above free old.location.register) old.lists old'.lists a in
       let c = subst (λ (r : ℕ). IsLeaner right.lists (right' r).lists) (converted_register (converting s u) u (target_value t from free l) (target_value t to free m) free (same_fetched t from to free l m)) b in
-      converted_leaner (taking t (result_type op u)) s (both op u old right home) (both op u old' (right' old'.held.register) home) home (used_leaner home right.lists (right' old'.held.register).lists c)
+      converted_leaner (taking t (result_type op u)) s (both op u old right home) (both op u old' (right' old'.location.register) home) home (used_leaner home right.lists (right' old'.location.register).lists c)
 
   adjusted_leaner : (op : BinaryOp) (lhs : Expr) (by : Option Expr) (from to free : ℕ) (l m : Lists) → IsLeaner l m → IsLeaner (adjusted p scope op lhs by from free l).lists (adjusted p scope op lhs by to free m).lists
   adjusted_leaner op lhs by from to free l m h =
@@ -134,10 +134,10 @@ module _ (p : Program) (scope : LocalScope) where
       let t' = aimed p scope false lhs to free m in
       let a = aimed_leaner false lhs from to free l m h in
       let made = changed p scope op by t.target t.to (above_target t.target free) t.lists in
-      let other = λ (x : Target). changed p scope op by x t'.to (above_target x free) t'.lists in
+      let other = λ (x : AssignmentTarget). changed p scope op by x t'.to (above_target x free) t'.lists in
       let b = changed_leaner op by t.target t.to t'.to (above_target t.target free) t.lists t'.lists a in
-      let c = subst (λ (x : Target). IsLeaner made.lists (other x).lists) (same_aim false lhs from to free l m) b in
-      stored_leaner t.target t'.target made.held.register (other t'.target).held.register made.held.to (other t'.target).held.to made.lists (other t'.target).lists c
+      let c = subst (λ (x : AssignmentTarget). IsLeaner made.lists (other x).lists) (same_aim false lhs from to free l m) b in
+      stored_leaner t.target t'.target made.location.register (other t'.target).location.register made.location.to (other t'.target).location.to made.lists (other t'.target).lists c
 
   simple_leaner : (s : Simple) (from to free : ℕ) (l m : Lists) → IsLeaner l m → IsLeaner (simple_written p scope s from free l).lists (simple_written p scope s to free m).lists
   simple_leaner (Evaluate e) from to free l m h = emitted_leaner p scope e from to free free l m h
@@ -154,7 +154,7 @@ module _ (p : Program) where
       let first' = emitted p scope e to i (suc i) m in
       let made = expr_fitting (target.Local i t) s e first from i l in
       let other = expr_fitting (target.Local i t) s e first' to i m in
-      stored_leaner (target.Local i t) (target.Local i t) made.held.register other.held.register made.held.to other.held.to made.lists other.lists (expr_fitting_leaner (target.Local i t) s e first first' from to i l m h (emitted_leaner p scope e from to i (suc i) l m h))
+      stored_leaner (target.Local i t) (target.Local i t) made.location.register other.location.register made.location.to other.location.to made.lists other.lists (expr_fitting_leaner (target.Local i t) s e first first' from to i l m h (emitted_leaner p scope e from to i (suc i) l m h))
 
   declarator_leaner : (t : Scalar) (d : Declarator) (scope : LocalScope) (from to : ℕ) (l m : Lists) → IsLeaner l m → IsLeaner (declarator_written p t d scope from l).lists (declarator_written p t d scope to m).lists
   declarator_leaner t d scope from to l m h =

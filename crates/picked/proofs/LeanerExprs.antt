@@ -9,7 +9,7 @@ use Rattle.syntax.specs.Names.{newest, global_of, GlobalCells}
 use Rattle.bytecode.specs.declared.instr.Instr.{Instr}
 use Rattle.bytecode.specs.declared.instr.Instr.TheVariants as own
 use Rattle.lowered.specs.Expressions.{LocalScope, Layout, constant_in, types_left, argument_order}
-use Rattle.picked.specs.declared.held.Held.{Held}
+use Rattle.picked.specs.declared.locations.ValueRegister.{ValueRegister}
 use Rattle.picked.specs.Lists.{Lists, with_register}
 use Rattle.picked.specs.Names.{Callee, callee_of}
 use Rattle.picked.specs.Conditions.{Condition, zero_test, zero_tested}
@@ -43,10 +43,10 @@ pub no_constant_ready : (layout : Layout) (u : Scalar) (e : Expr) (from : ℕ) �
 no_constant_ready layout u (Constant n t at) from h = none_ready layout (constant_in u t n) u from h
 no_constant_ready layout u e from h = refl
 
-pub right_leaner : (o o' : Option Held) (l m : Lists) (e e' : Emitted) → o ≡ None → IsLeaner l m → IsLeaner e.lists e'.lists → l.registers ≤ e.lists.registers → IsLeaner (ready_or o l e).lists (ready_or o' m e').lists
-right_leaner o o' l m e e' none h k more = subst (λ (x : Option Held). IsLeaner (ready_or x l e).lists (ready_or o' m e').lists) (sym none) (by o')
+pub right_leaner : (o o' : Option ValueRegister) (l m : Lists) (e e' : Emitted) → o ≡ None → IsLeaner l m → IsLeaner e.lists e'.lists → l.registers ≤ e.lists.registers → IsLeaner (ready_or o l e).lists (ready_or o' m e').lists
+right_leaner o o' l m e e' none h k more = subst (λ (x : Option ValueRegister). IsLeaner (ready_or x l e).lists (ready_or o' m e').lists) (sym none) (by o')
   where
-    by : (x : Option Held) → IsLeaner e.lists (ready_or x m e').lists
+    by : (x : Option ValueRegister) → IsLeaner e.lists (ready_or x m e').lists
     by None = k
     by (Some held) = let a = h.registers in record { registers = omega (arith, a, more); nothing = k.nothing }
 
@@ -56,7 +56,7 @@ variable_leaner (Some x) g from to into l m h = used_leaner x.0 l m h
 variable_leaner None (Some g) from to into l m h = used_leaner into l m h
 variable_leaner None None from to into l m h = used_leaner into l m h
 
-variable_register : (x : Option (ℕ × Scalar)) (g : Option GlobalCells) (from to into : ℕ) (l m : Lists) → (variable x g from into l).held.register ≡ (variable x g to into m).held.register
+variable_register : (x : Option (ℕ × Scalar)) (g : Option GlobalCells) (from to into : ℕ) (l m : Lists) → (variable x g from into l).location.register ≡ (variable x g to into m).location.register
 variable_register (Some x) g from to into l m = refl
 variable_register None (Some g) from to into l m = refl
 variable_register None None from to into l m = refl
@@ -65,7 +65,7 @@ element_leaner : (g : Option GlobalCells) (i j : Emitted) (from to into : ℕ) (
 element_leaner (Some g) i j from to into l m h k = used_leaner into i.lists j.lists k
 element_leaner None i j from to into l m h k = used_leaner into l m h
 
-element_register : (g : Option GlobalCells) (i j : Emitted) (from to into : ℕ) (l m : Lists) → (element g i from into l).held.register ≡ (element g j to into m).held.register
+element_register : (g : Option GlobalCells) (i j : Emitted) (from to into : ℕ) (l m : Lists) → (element g i from into l).location.register ≡ (element g j to into m).location.register
 element_register (Some g) i j from to into l m = refl
 element_register None i j from to into l m = refl
 
@@ -81,28 +81,28 @@ called_leaner (Some f) args others from to into l m e h k =
       nothing = k.nothing;
     }
 
-called_register : (f : Option Callee) (args others : AllEmitted) (from to into : ℕ) (l m : Lists) → (call_code f args from into l).held.register ≡ (call_code f others to into m).held.register
+called_register : (f : Option Callee) (args others : AllEmitted) (from to into : ℕ) (l m : Lists) → (call_code f args from into l).location.register ≡ (call_code f others to into m).location.register
 called_register None args others from to into l m = refl
 called_register (Some f) args others from to into l m = refl
 
-settled_leaner : (r : ℕ) (e d : Emitted) → e.held.register ≡ d.held.register → IsLeaner e.lists d.lists → IsLeaner (value_into r e).lists (value_into r d).lists
+settled_leaner : (r : ℕ) (e d : Emitted) → e.location.register ≡ d.location.register → IsLeaner e.lists d.lists → IsLeaner (value_into r e).lists (value_into r d).lists
 settled_leaner r e d same h =
-    subst (λ (x : ℕ). IsLeaner (value_into r e).lists (if x == r then d else then_one d (own.Move r d.held.register) r d.held.of).lists) same (by (e.held.register == r))
+    subst (λ (x : ℕ). IsLeaner (value_into r e).lists (if x == r then d else then_one d (own.Move r d.location.register) r d.location.of).lists) same (by (e.location.register == r))
   where
-    by : (b : Bool) → IsLeaner (if b then e else then_one e (own.Move r e.held.register) r e.held.of).lists (if b then d else then_one d (own.Move r d.held.register) r d.held.of).lists
+    by : (b : Bool) → IsLeaner (if b then e else then_one e (own.Move r e.location.register) r e.location.of).lists (if b then d else then_one d (own.Move r d.location.register) r d.location.of).lists
     by true = h
     by false = used_leaner r e.lists d.lists h
 
-compared_leaner : (e d : Emitted) (into free : ℕ) → e.held.register ≡ d.held.register → IsLeaner e.lists d.lists → IsLeaner (logical_negation e into free).lists (logical_negation d into free).lists
+compared_leaner : (e d : Emitted) (into free : ℕ) → e.location.register ≡ d.location.register → IsLeaner e.lists d.lists → IsLeaner (logical_negation e into free).lists (logical_negation d into free).lists
 compared_leaner e d into free same h =
-    let a = used_both (above free e.held.register) (above free d.held.register) e.lists d.lists (ap (λ r. above free r) same) h in
-    used_leaner into (with_register (above free e.held.register) e.lists) (with_register (above free d.held.register) d.lists) a
+    let a = used_both (above free e.location.register) (above free d.location.register) e.lists d.lists (ap (λ r. above free r) same) h in
+    used_leaner into (with_register (above free e.location.register) e.lists) (with_register (above free d.location.register) d.lists) a
 
 pub converted_leaner : (o : Option (ℕ → ℕ → Instr)) (u : Scalar) (e d : Emitted) (into : ℕ) → IsLeaner e.lists d.lists → IsLeaner (converted_by o u e into).lists (converted_by o u d into).lists
 converted_leaner None u e d into h = h
 converted_leaner (Some i) u e d into h = used_leaner into e.lists d.lists h
 
-pub converted_register : (o : Option (ℕ → ℕ → Instr)) (u : Scalar) (e d : Emitted) (into : ℕ) → e.held.register ≡ d.held.register → (converted_by o u e into).held.register ≡ (converted_by o u d into).held.register
+pub converted_register : (o : Option (ℕ → ℕ → Instr)) (u : Scalar) (e d : Emitted) (into : ℕ) → e.location.register ≡ d.location.register → (converted_by o u e into).location.register ≡ (converted_by o u d into).location.register
 converted_register None u e d into same = same
 converted_register (Some i) u e d into same = refl
 
@@ -110,7 +110,7 @@ in_type_leaner : (s u : Scalar) (e' : Expr) (e d : Emitted) (from to into : ℕ)
 in_type_leaner s u (Constant n t at) e d from to into l m h k = used_leaner into l m h
 in_type_leaner s u e' e d from to into l m h k = converted_leaner (converting s u) u e d into k
 
-in_type_register : (s u : Scalar) (e' : Expr) (e d : Emitted) (from to into : ℕ) (l m : Lists) → e.held.register ≡ d.held.register → (in_type s u e' e from into l).held.register ≡ (in_type s u e' d to into m).held.register
+in_type_register : (s u : Scalar) (e' : Expr) (e d : Emitted) (from to into : ℕ) (l m : Lists) → e.location.register ≡ d.location.register → (in_type s u e' e from into l).location.register ≡ (in_type s u e' d to into m).location.register
 in_type_register s u (Constant n t at) e d from to into l m same = refl
 in_type_register s u e' e d from to into l m same = converted_register (converting s u) u e d into same
 
@@ -118,7 +118,7 @@ in_first_leaner : (s : Scalar) (ts : List Scalar) (e' : Expr) (e d : Emitted) (f
 in_first_leaner s [] e' e d from to into l m h k = k
 in_first_leaner s (u ∷ us) e' e d from to into l m h k = in_type_leaner s u e' e d from to into l m h k
 
-in_first_register : (s : Scalar) (ts : List Scalar) (e' : Expr) (e d : Emitted) (from to into : ℕ) (l m : Lists) → e.held.register ≡ d.held.register → (in_first_type s ts e' e from into l).held.register ≡ (in_first_type s ts e' d to into m).held.register
+in_first_register : (s : Scalar) (ts : List Scalar) (e' : Expr) (e d : Emitted) (from to into : ℕ) (l m : Lists) → e.location.register ≡ d.location.register → (in_first_type s ts e' e from into l).location.register ≡ (in_first_type s ts e' d to into m).location.register
 in_first_register s [] e' e d from to into l m same = same
 in_first_register s (u ∷ us) e' e d from to into l m same = in_type_register s u e' e d from to into l m same
 
@@ -139,7 +139,7 @@ same_leaner (Some i) o o' h = tt
 
 module _ (p : Program) (scope : LocalScope) where
   -- a value lies in the same register, whatever the place and the lists
-  pub same_register : (e : Expr) (from to into free : ℕ) (l m : Lists) → (emitted p scope e from into free l).held.register ≡ (emitted p scope e to into free m).held.register
+  pub same_register : (e : Expr) (from to into free : ℕ) (l m : Lists) → (emitted p scope e from into free l).location.register ≡ (emitted p scope e to into free m).location.register
   same_register (Variable x) from to into free l m = variable_register (newest scope x.text) (global_of p x.text) from to into l m
   same_register (Constant n t at) from to into free l m = refl
   same_register (Element x i at) from to into free l m = element_register (global_of p x.text) (emitted p scope i from free free l) (emitted p scope i to free free m) from to into l m
@@ -155,7 +155,7 @@ module _ (p : Program) (scope : LocalScope) where
   same_register (Conditional c a b at) from to into free l m = refl
   same_register (InTransaction mode keyword e at) from to into free l m = same_register e (from + 1) (to + 1) into free l m
 
-  pub due_register : (u : Scalar) (e : Expr) (from to into free : ℕ) (l m : Lists) → (due p scope u e from into free l).held.register ≡ (due p scope u e to into free m).held.register
+  pub due_register : (u : Scalar) (e : Expr) (from to into free : ℕ) (l m : Lists) → (due p scope u e from into free l).location.register ≡ (due p scope u e to into free m).location.register
   due_register u e from to into free l m = in_type_register (emitted_type p scope e) u e (emitted p scope e from into free l) (emitted p scope e to into free m) from to into l m (same_register e from to into free l m)
 
   pub same_registers : (ts : List Scalar) (es : Exprs) (from to free : ℕ) (l m : Lists) → (all_emitted p scope ts es from free l).registers ≡ (all_emitted p scope ts es to free m).registers
@@ -165,9 +165,9 @@ module _ (p : Program) (scope : LocalScope) where
       let made' = emitted p scope e to free free m in
       let first = in_first_type (emitted_type p scope e) ts e made from free l in
       let other = in_first_type (emitted_type p scope e) ts e made' to free m in
-      let rest = same_registers (types_left ts) es first.held.to other.held.to (above free first.held.register) first.lists other.lists in
-      ap (λ rs. first.held.register ∷ rs) rest
-      ∙ ap (λ r. r ∷ (all_emitted p scope (types_left ts) es other.held.to (above free r) other.lists).registers) (in_first_register (emitted_type p scope e) ts e made made' from to free l m (same_register e from to free free l m))
+      let rest = same_registers (types_left ts) es first.location.to other.location.to (above free first.location.register) first.lists other.lists in
+      ap (λ rs. first.location.register ∷ rs) rest
+      ∙ ap (λ r. r ∷ (all_emitted p scope (types_left ts) es other.location.to (above free r) other.lists).registers) (in_first_register (emitted_type p scope e) ts e made made' from to free l m (same_register e from to free free l m))
 
   by_parts : (e : Expr) (from to free : ℕ) (l m : Lists) → BothLeaner (own_condition p scope e from free l) (own_condition p scope e to free m) → IsLeaner (emitted p scope e from free free l).lists (emitted p scope e to free free m).lists → IsLeaner (condition p scope e from free l).lists (condition p scope e to free m).lists
   by_parts e from to free l m h k = tested_leaner (own_condition p scope e from free l) (own_condition p scope e to free m) (emitted p scope e from free free l) (emitted p scope e to free free m) h k
@@ -195,14 +195,14 @@ module _ (p : Program) (scope : LocalScope) where
         let v = operand_type op (emitted_type p scope b) (emitted_type p scope a) in
         let left = due p scope t a from free free l in
         let other = due p scope t a to free free m in
-        let later = above free left.held.register in
+        let later = above free left.location.register in
         let x = in_type_leaner (emitted_type p scope a) t a (emitted p scope a from free free l) (emitted p scope a to free free m) from to free l m h (emitted_leaner a from to free free l m h) in
-        let y = in_type_leaner (emitted_type p scope b) v b (emitted p scope b left.held.to later later left.lists) (emitted p scope b other.held.to later later other.lists) left.held.to other.held.to later left.lists other.lists x (emitted_leaner b left.held.to other.held.to later later left.lists other.lists x) in
-        used_leaner into (operand p scope v b left.held.to later left.lists).lists (operand p scope v b other.held.to (above free other.held.register) other.lists).lists
-        (subst (λ (r : ℕ). IsLeaner (operand p scope v b left.held.to later left.lists).lists (operand p scope v b other.held.to (above free r) other.lists).lists) (due_register t a from to free free l m)
-        (right_leaner (constant_ready left.lists.layout v b left.held.to) (constant_ready other.lists.layout v b other.held.to) left.lists other.lists
-        (due p scope v b left.held.to later later left.lists) (due p scope v b other.held.to later later other.lists)
-        (no_constant_ready left.lists.layout v b left.held.to x.nothing) x y (due_more p scope v b left.held.to later later left.lists)))
+        let y = in_type_leaner (emitted_type p scope b) v b (emitted p scope b left.location.to later later left.lists) (emitted p scope b other.location.to later later other.lists) left.location.to other.location.to later left.lists other.lists x (emitted_leaner b left.location.to other.location.to later later left.lists other.lists x) in
+        used_leaner into (operand p scope v b left.location.to later left.lists).lists (operand p scope v b other.location.to (above free other.location.register) other.lists).lists
+        (subst (λ (r : ℕ). IsLeaner (operand p scope v b left.location.to later left.lists).lists (operand p scope v b other.location.to (above free r) other.lists).lists) (due_register t a from to free free l m)
+        (right_leaner (constant_ready left.lists.layout v b left.location.to) (constant_ready other.lists.layout v b other.location.to) left.lists other.lists
+        (due p scope v b left.location.to later later left.lists) (due p scope v b other.location.to later later other.lists)
+        (no_constant_ready left.lists.layout v b left.location.to x.nothing) x y (due_more p scope v b left.location.to later later left.lists)))
     emitted_leaner (Logical op a b at) from to into free l m h =
         let first = condition p scope a from free l in
         let other = condition p scope a to free m in
@@ -215,8 +215,8 @@ module _ (p : Program) (scope : LocalScope) where
         let t = common (emitted_type p scope a) (emitted_type p scope b) in
         let first = due p scope t a (test.to + 1) into free test.lists in
         let first' = due p scope t a (other.to + 1) into free other.lists in
-        let u = (value_into into first).held.to + 1 in
-        let u' = (value_into into first').held.to + 1 in
+        let u = (value_into into first).location.to + 1 in
+        let u' = (value_into into first').location.to + 1 in
         let x = by_parts c from to free l m (own_leaner c from to free l m h) (emitted_leaner c from to free free l m h) in
         let y = in_type_leaner (emitted_type p scope a) t a (emitted p scope a (test.to + 1) into free test.lists) (emitted p scope a (other.to + 1) into free other.lists) (test.to + 1) (other.to + 1) into test.lists other.lists x (emitted_leaner a (test.to + 1) (other.to + 1) into free test.lists other.lists x) in
         let z = settled_leaner into first first' (due_register t a (test.to + 1) (other.to + 1) into free test.lists other.lists) y in
@@ -249,8 +249,8 @@ module _ (p : Program) (scope : LocalScope) where
         let first = in_first_type (emitted_type p scope e) ts e made from free l in
         let other = in_first_type (emitted_type p scope e) ts e made' to free m in
         let x = in_first_leaner (emitted_type p scope e) ts e made made' from to free l m h (emitted_leaner e from to free free l m h) in
-        subst (λ (r : ℕ). IsLeaner (all_emitted p scope (types_left ts) es first.held.to (above free first.held.register) first.lists).lists (all_emitted p scope (types_left ts) es other.held.to (above free r) other.lists).lists) (in_first_register (emitted_type p scope e) ts e made made' from to free l m (same_register e from to free free l m))
-        (all_leaner (types_left ts) es first.held.to other.held.to (above free first.held.register) first.lists other.lists x)
+        subst (λ (r : ℕ). IsLeaner (all_emitted p scope (types_left ts) es first.location.to (above free first.location.register) first.lists).lists (all_emitted p scope (types_left ts) es other.location.to (above free r) other.lists).lists) (in_first_register (emitted_type p scope e) ts e made made' from to free l m (same_register e from to free free l m))
+        (all_leaner (types_left ts) es first.location.to other.location.to (above free first.location.register) first.lists other.lists x)
 
   pub condition_leaner : (e : Expr) (from to free : ℕ) (l m : Lists) → IsLeaner l m → IsLeaner (condition p scope e from free l).lists (condition p scope e to free m).lists
   condition_leaner e from to free l m h = by_parts e from to free l m (own_leaner e from to free l m h) (emitted_leaner e from to free free l m h)

@@ -9,9 +9,9 @@ use Rattle.syntax.specs.Formats.{Piece, Literal, Figure, pieces}
 use Rattle.syntax.specs.Meaning.{op_of}
 use Rattle.lowered.specs.Expressions.{LocalScope}
 use Rattle.lowered.specs.Statements.{with_local, locals_of_start, locals_after}
-use Rattle.picked.specs.declared.held.Target.{Target}
-use Rattle.picked.specs.declared.held.Target.TheVariants as target
-use Rattle.picked.specs.declared.held.Exits.{Exits}
+use Rattle.picked.specs.declared.locations.AssignmentTarget.{AssignmentTarget}
+use Rattle.picked.specs.declared.locations.AssignmentTarget.TheVariants as target
+use Rattle.picked.specs.declared.locations.Exits.{Exits}
 use Rattle.picked.specs.Lists.{Lists, with_register}
 use Rattle.picked.specs.Expressions.{Emitted, above, converting, converted_by, both, constant, ready, emitted_type, emitted, all_emitted, condition}
 use Rattle.picked.specs.Simples.{variable_target, element_target, aimed, above_target, target_value, home_or, target_store, type_at, taking, expr_fitting, value_or_one, type_or_int, changed, assigned, adjusted, simple_written, first_written, declarator_written, declared_written, start_written}
@@ -29,16 +29,16 @@ element_longer : (check : Bool) (g : Option GlobalCells) (i : Emitted) (from : �
 element_longer check (Some g) i from l h = h
 element_longer check None i from l h = grows_same l
 
-fetched_longer : (t : Target) (from free : ℕ) (l : Lists) → Grows l (target_value t from free l).lists
+fetched_longer : (t : AssignmentTarget) (from free : ℕ) (l : Lists) → Grows l (target_value t from free l).lists
 fetched_longer (target.Local i t) from free l = used_longer i l
 fetched_longer (target.Cell c t) from free l = used_longer free l
 fetched_longer (target.Element i c n t) from free l = used_longer free l
 fetched_longer target.Nowhere from free l = used_longer free l
 
-stored_longer : (t : Target) (a from : ℕ) (l m : Lists) → Grows l m → Grows l (target_store t a from m).lists
+stored_longer : (t : AssignmentTarget) (a from : ℕ) (l m : Lists) → Grows l m → Grows l (target_store t a from m).lists
 stored_longer t a from l m h = subst (λ (x : Lists). Grows l x) (sym (stored_keeps t a from m)) h
 
-expr_fitting_longer : (t : Target) (s : Scalar) (e' : Expr) (e : Emitted) (from into : ℕ) (l : Lists) → Grows l e.lists → Grows l (expr_fitting t s e' e from into l).lists
+expr_fitting_longer : (t : AssignmentTarget) (s : Scalar) (e' : Expr) (e : Emitted) (from into : ℕ) (l : Lists) → Grows l e.lists → Grows l (expr_fitting t s e' e from into l).lists
 expr_fitting_longer t s (Constant n x at) e from into l h = used_longer into l
 expr_fitting_longer t s e' e from into l h = converted_longer (taking t s) (type_at t) e into l h
 
@@ -68,21 +68,21 @@ module _ (p : Program) (scope : LocalScope) where
       let home = home_or t.target later in
       let first = emitted p scope e t.to home later t.lists in
       let made = expr_fitting t.target (emitted_type p scope e) e first t.to home t.lists in
-      stored_longer t.target made.held.register made.held.to l made.lists
+      stored_longer t.target made.location.register made.location.to l made.lists
       (grows_further l t.lists made.lists (aimed_longer true lhs from free l)
       (expr_fitting_longer t.target (emitted_type p scope e) e first t.to home t.lists (emitted_longer p scope e t.to home later t.lists)))
 
-  changed_longer : (op : BinaryOp) (by : Option Expr) (t : Target) (from free : ℕ) (l : Lists) → Grows l (changed p scope op by t from free l).lists
+  changed_longer : (op : BinaryOp) (by : Option Expr) (t : AssignmentTarget) (from free : ℕ) (l : Lists) → Grows l (changed p scope op by t from free l).lists
   changed_longer op by t from free l =
       let s = type_at t in
       let u = operand_type op s (type_or_int p scope by) in
       let first = target_value t from free l in
       let old = converted_by (converting s u) u first free in
       let v = operand_type op (type_or_int p scope by) s in
-      let other = value_or_one p scope v by old.held.to (above free old.held.register) old.lists in
+      let other = value_or_one p scope v by old.location.to (above free old.location.register) old.lists in
       let home = home_or t free in
       let a = converted_longer (converting s u) u first free l (fetched_longer t from free l) in
-      let b = grows_further l old.lists other.lists a (one_longer v by old.held.to (above free old.held.register) old.lists) in
+      let b = grows_further l old.lists other.lists a (one_longer v by old.location.to (above free old.location.register) old.lists) in
       converted_longer (taking t (result_type op u)) s (both op u old other home) home l (grows_used l other.lists home b)
 
   adjusted_longer : (op : BinaryOp) (lhs : Expr) (by : Option Expr) (from free : ℕ) (l : Lists) → Grows l (adjusted p scope op lhs by from free l).lists
@@ -90,7 +90,7 @@ module _ (p : Program) (scope : LocalScope) where
       let t = aimed p scope false lhs from free l in
       let later = above_target t.target free in
       let made = changed p scope op by t.target t.to later t.lists in
-      stored_longer t.target made.held.register made.held.to l made.lists
+      stored_longer t.target made.location.register made.location.to l made.lists
       (grows_further l t.lists made.lists (aimed_longer false lhs from free l) (changed_longer op by t.target t.to later t.lists))
 
   simple_longer : (s : Simple) (from free : ℕ) (l : Lists) → Grows l (simple_written p scope s from free l).lists
@@ -105,7 +105,7 @@ module _ (p : Program) where
   first_longer scope i t (Some e) from l =
       let first = emitted p scope e from i (suc i) l in
       let made = expr_fitting (target.Local i t) (emitted_type p scope e) e first from i l in
-      stored_longer (target.Local i t) made.held.register made.held.to l made.lists (expr_fitting_longer (target.Local i t) (emitted_type p scope e) e first from i l (emitted_longer p scope e from i (suc i) l))
+      stored_longer (target.Local i t) made.location.register made.location.to l made.lists (expr_fitting_longer (target.Local i t) (emitted_type p scope e) e first from i l (emitted_longer p scope e from i (suc i) l))
 
   declarator_longer : (t : Scalar) (d : Declarator) (scope : LocalScope) (from : ℕ) (l : Lists) → Grows l (declarator_written p t d scope from l).lists
   declarator_longer t d scope from l =

@@ -9,7 +9,7 @@ use Rattle.syntax.specs.Names.{newest, global_of, GlobalCells}
 use Rattle.bytecode.specs.declared.instr.Instr.{Instr}
 use Rattle.bytecode.specs.declared.instr.Instr.TheVariants as own
 use Rattle.lowered.specs.Expressions.{LocalScope, types_left, argument_order}
-use Rattle.picked.specs.declared.held.Held.{Held}
+use Rattle.picked.specs.declared.locations.ValueRegister.{ValueRegister}
 use Rattle.picked.specs.Lists.{Lists, with_register, holding}
 use Rattle.picked.specs.Names.{Callee, callee_of}
 use Rattle.picked.specs.Conditions.{Condition, zero_test, zero_tested}
@@ -19,7 +19,7 @@ use Rattle.picked.proofs.stands.Standing.{Grows, grows_same, grows_further, grow
 pub used_longer : (r : ℕ) (l : Lists) → Grows l (with_register r l)
 used_longer r l = grows_used l l r (grows_same l)
 
-pub ready_longer : (o : Option Held) (l : Lists) (e : Emitted) → Grows l e.lists → Grows l (ready_or o l e).lists
+pub ready_longer : (o : Option ValueRegister) (l : Lists) (e : Emitted) → Grows l e.lists → Grows l (ready_or o l e).lists
 ready_longer None l e h = h
 ready_longer (Some held) l e h = grows_same l
 
@@ -45,15 +45,15 @@ called_longer None args from into l h = used_longer into l
 called_longer (Some f) args from into l h = handed_longer (argument_order f.parameters args.registers) into l args.lists h
 
 settled_longer : (r : ℕ) (e : Emitted) (l : Lists) → Grows l e.lists → Grows l (value_into r e).lists
-settled_longer r e l h = by (e.held.register == r)
+settled_longer r e l h = by (e.location.register == r)
   where
-    by : (b : Bool) → Grows l (if b then e else then_one e (own.Move r e.held.register) r e.held.of).lists
+    by : (b : Bool) → Grows l (if b then e else then_one e (own.Move r e.location.register) r e.location.of).lists
     by true = h
     by false = grows_used l e.lists r h
 
 compared_longer : (e : Emitted) (into free : ℕ) (l : Lists) → Grows l e.lists → Grows l (logical_negation e into free).lists
 compared_longer e into free l h =
-    let zero_in = above free e.held.register in grows_used l (with_register zero_in e.lists) into (grows_used l e.lists zero_in h)
+    let zero_in = above free e.location.register in grows_used l (with_register zero_in e.lists) into (grows_used l e.lists zero_in h)
 
 pub converted_longer : (o : Option (ℕ → ℕ → Instr)) (u : Scalar) (e : Emitted) (into : ℕ) (l : Lists) → Grows l e.lists → Grows l (converted_by o u e into).lists
 converted_longer None u e into l h = h
@@ -103,12 +103,12 @@ module _ (p : Program) (scope : LocalScope) where
         let t = operand_type op (emitted_type p scope a) (emitted_type p scope b) in
         let u = operand_type op (emitted_type p scope b) (emitted_type p scope a) in
         let left = due p scope t a from free free l in
-        let later = above free left.held.register in
-        let made = emitted p scope b left.held.to later later left.lists in
-        let computed = in_type (emitted_type p scope b) u b made left.held.to later left.lists in
-        let other = operand p scope u b left.held.to later left.lists in
+        let later = above free left.location.register in
+        let made = emitted p scope b left.location.to later later left.lists in
+        let computed = in_type (emitted_type p scope b) u b made left.location.to later left.lists in
+        let other = operand p scope u b left.location.to later left.lists in
         let x = in_type_longer (emitted_type p scope a) t a (emitted p scope a from free free l) from free l (emitted_longer a from free free l) in
-        let y = ready_longer (constant_ready left.lists.layout u b left.held.to) left.lists computed (in_type_longer (emitted_type p scope b) u b made left.held.to later left.lists (emitted_longer b left.held.to later later left.lists)) in
+        let y = ready_longer (constant_ready left.lists.layout u b left.location.to) left.lists computed (in_type_longer (emitted_type p scope b) u b made left.location.to later left.lists (emitted_longer b left.location.to later later left.lists)) in
         grows_used l other.lists into (grows_further l left.lists other.lists x y)
     emitted_longer (Logical op a b at) from into free l =
         let first = condition p scope a from free l in
@@ -121,9 +121,9 @@ module _ (p : Program) (scope : LocalScope) where
         let t = common (emitted_type p scope a) (emitted_type p scope b) in
         let one = due p scope t a (test.to + 1) into free test.lists in
         let first = value_into into one in
-        let second = due p scope t b (first.held.to + 1) into free first.lists in
+        let second = due p scope t b (first.location.to + 1) into free first.lists in
         let x = in_type_longer (emitted_type p scope a) t a (emitted p scope a (test.to + 1) into free test.lists) (test.to + 1) into test.lists (emitted_longer a (test.to + 1) into free test.lists) in
-        let y = in_type_longer (emitted_type p scope b) t b (emitted p scope b (first.held.to + 1) into free first.lists) (first.held.to + 1) into first.lists (emitted_longer b (first.held.to + 1) into free first.lists) in
+        let y = in_type_longer (emitted_type p scope b) t b (emitted p scope b (first.location.to + 1) into free first.lists) (first.location.to + 1) into first.lists (emitted_longer b (first.location.to + 1) into free first.lists) in
         let u = by_parts c from free l (own_longer c from free l) (emitted_longer c from free free l) in
         let v = settled_longer into one test.lists x in
         let w = settled_longer into second first.lists y in
@@ -149,8 +149,8 @@ module _ (p : Program) (scope : LocalScope) where
     all_longer ts (Exprs.◌∷◌ e es) from free l =
         let made = emitted p scope e from free free l in
         let first = in_first_type (emitted_type p scope e) ts e made from free l in
-        let rest = all_emitted p scope (types_left ts) es first.held.to (above free first.held.register) first.lists in
-        grows_further l first.lists rest.lists (in_first_longer (emitted_type p scope e) ts e made from free l (emitted_longer e from free free l)) (all_longer (types_left ts) es first.held.to (above free first.held.register) first.lists)
+        let rest = all_emitted p scope (types_left ts) es first.location.to (above free first.location.register) first.lists in
+        grows_further l first.lists rest.lists (in_first_longer (emitted_type p scope e) ts e made from free l (emitted_longer e from free free l)) (all_longer (types_left ts) es first.location.to (above free first.location.register) first.lists)
 
   pub condition_longer : (e : Expr) (from free : ℕ) (l : Lists) → Grows l (condition p scope e from free l).lists
   condition_longer e from free l = by_parts e from free l (own_longer e from free l) (emitted_longer e from free free l)

@@ -9,8 +9,8 @@ use Rattle.syntax.specs.declared.tree.LogicalOp.TheVariants.{AndThen, OrElse}
 use Rattle.syntax.specs.Tree.{Expr, Constant}
 use Rattle.bytecode.specs.declared.instr.Instr.{Instr}
 use Rattle.bytecode.specs.declared.instr.Instr.TheVariants as own
-use Rattle.picked.specs.declared.held.Held.{Held}
-use Rattle.picked.specs.declared.held.Tested.{Tested}
+use Rattle.picked.specs.declared.locations.ValueRegister.{ValueRegister}
+use Rattle.picked.specs.declared.locations.ConditionRegister.{ConditionRegister}
 use Rattle.picked.specs.declared.draft.Draft.{Draft}
 use Rattle.picked.specs.declared.draft.Draft.TheVariants as draft
 use Rattle.picked.specs.Lists.{Lists}
@@ -24,7 +24,7 @@ pub record Condition : Type 0 where
   pub at_zero : Bool
   pub to : ℕ
 
-abbrev pub test_in : Condition → Tested
+abbrev pub test_in : Condition → ConditionRegister
 test_in c = record { register = c.register; at_zero = c.at_zero; to = c.to }
 
 -- a jump that is taken where a register is 0, or where it is not, and the opposite one
@@ -58,22 +58,22 @@ led_on OrElse next (draft.ToMet at_zero r) = draft.ToMet at_zero r
 led_on OrElse next (draft.ToUnmet at_zero r) = draft.Whole (jump_if at_zero r next)
 
 -- its jump past the second one
-abbrev pub short_jump : LogicalOp → Tested → Draft
+abbrev pub short_jump : LogicalOp → ConditionRegister → Draft
 short_jump AndThen t = draft.ToUnmet (not t.at_zero) t.register
 short_jump OrElse t = draft.ToMet t.at_zero t.register
 
 -- a condition with its jump: behind it stands what is done where it holds, or where it does not
-abbrev pub going_on : List Draft → Tested → (unmet : ℕ) → List Instr
+abbrev pub going_on : List Draft → ConditionRegister → (unmet : ℕ) → List Instr
 going_on code t unmet = map (instruction_of_draft (t.to + 1) unmet) code ++ jump_if_not t.at_zero t.register unmet ∷ []
 
-abbrev pub going_back : List Draft → Tested → (met : ℕ) → List Instr
+abbrev pub going_back : List Draft → ConditionRegister → (met : ℕ) → List Instr
 going_back code t met = map (instruction_of_draft met (t.to + 1)) code ++ jump_if t.at_zero t.register met ∷ []
 
 -- the test of a value
-abbrev pub tested_by : Held → Tested
+abbrev pub tested_by : ValueRegister → ConditionRegister
 tested_by h = record { register = h.register; at_zero = false; to = h.to }
 
-abbrev pub by_value : List Instr → Lists → Held → Condition
+abbrev pub by_value : List Instr → Lists → ValueRegister → Condition
 by_value code l held = record {
   code = map draft.Whole code;
   lists = l;

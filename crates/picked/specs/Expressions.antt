@@ -19,7 +19,7 @@ use Rattle.bytecode.specs.declared.instr.Instr.{Instr}
 use Rattle.bytecode.specs.declared.instr.Instr.TheVariants as own
 use Rattle.bytecode.specs.declared.limits.TheConstants.{MOST_REGISTERS}
 use Rattle.lowered.specs.Expressions.{LocalScope, Layout, constant_in, types_left, argument_order}
-use Rattle.picked.specs.declared.held.Held.{Held}
+use Rattle.picked.specs.declared.locations.ValueRegister.{ValueRegister}
 use Rattle.picked.specs.Lists.{Lists, with_register, holding}
 use Rattle.picked.specs.Names.{Callee, callee_of}
 use Rattle.picked.specs.Conditions.{Condition, test_in, going_on, by_value, opposite, logical_condition, zero_test, zero_tested}
@@ -85,7 +85,7 @@ converting s u = None
 pub record Emitted : Type 0 where
   pub code : List Instr
   pub lists : Lists
-  pub held : Held
+  pub location : ValueRegister
 
 -- and the registers of several values
 pub record AllEmitted : Type 0 where
@@ -100,13 +100,13 @@ above free r = max free (suc r)
 
 -- one instruction that writes a register
 abbrev pub one : Instr → (from r : ℕ) → Scalar → Lists → Emitted
-one i from r t l = record { code = i ∷ []; lists = with_register r l; held = record { register = r; of = t; to = from + 1 } }
+one i from r t l = record { code = i ∷ []; lists = with_register r l; location = record { register = r; of = t; to = from + 1 } }
 
 abbrev pub then_one : Emitted → Instr → ℕ → Scalar → Emitted
 then_one e i r t = record {
   code = e.code ++ i ∷ [];
   lists = with_register r e.lists;
-  held = record { register = r; of = t; to = e.held.to + 1 };
+  location = record { register = r; of = t; to = e.location.to + 1 };
 }
 
 abbrev pub constant : ℕ → Scalar → (from into : ℕ) → Lists → Emitted
@@ -117,23 +117,23 @@ abbrev pub ready_from : ℕ → List ℕ → ℕ → Option ℕ
 ready_from r [] w = None
 ready_from r (x ∷ xs) w = if x == w then Some r else if r == MOST_REGISTERS then None else ready_from (suc r) xs w
 
-abbrev pub ready : Layout → (w : ℕ) → Scalar → (from : ℕ) → Option Held
+abbrev pub ready : Layout → (w : ℕ) → Scalar → (from : ℕ) → Option ValueRegister
 ready layout w t from =
     option_map (λ r. record { register = r; of = t; to = from }) (ready_from layout.writable layout.constants w)
 
 -- a constant that lies ready in the type that is due, as the right side of an operator
-abbrev pub constant_ready : Layout → Scalar → Expr → ℕ → Option Held
+abbrev pub constant_ready : Layout → Scalar → Expr → ℕ → Option ValueRegister
 constant_ready layout u (Constant n t at) from = ready layout (constant_in u t n) u from
 constant_ready layout u e from = None
 
 -- a value that lies ready, or else one that is computed
-abbrev pub ready_or : Option Held → Lists → Emitted → Emitted
+abbrev pub ready_or : Option ValueRegister → Lists → Emitted → Emitted
 ready_or None l e = e
-ready_or (Some held) l e = record { code = []; lists = l; held = held }
+ready_or (Some held) l e = record { code = []; lists = l; location = held }
 
 -- a local's own register
 abbrev pub in_local : ℕ → Scalar → ℕ → Lists → Emitted
-in_local i t from l = record { code = []; lists = with_register i l; held = record { register = i; of = t; to = from } }
+in_local i t from l = record { code = []; lists = with_register i l; location = record { register = i; of = t; to = from } }
 
 abbrev pub variable : Option (ℕ × Scalar) → Option GlobalCells → (from into : ℕ) → Lists → Emitted
 variable (Some x) g from into l = in_local x.0 x.1 from l
@@ -142,13 +142,13 @@ variable None None from into l = constant 0 Int from into l
 
 abbrev pub element : Option GlobalCells → Emitted → (from into : ℕ) → Lists → Emitted
 element (Some g) i from into l =
-    then_one i (own.ReadAt into i.held.register g.cell (cells g.global)) into g.global.of
+    then_one i (own.ReadAt into i.location.register g.cell (cells g.global)) into g.global.of
 element None i from into l = constant 0 Int from into l
 
 -- a value by a conversion: it lies where it lay, or one instruction makes it
 abbrev pub converted_by : Option (ℕ → ℕ → Instr) → Scalar → Emitted → (into : ℕ) → Emitted
-converted_by None u e into = record e { held = record { register = e.held.register; of = u; to = e.held.to } }
-converted_by (Some i) u e into = then_one e (i into e.held.register) into u
+converted_by None u e into = record e { location = record { register = e.location.register; of = u; to = e.location.to } }
+converted_by (Some i) u e into = then_one e (i into e.location.register) into u
 
 -- the value and the type of a constant
 abbrev pub constant_of : Expr → Option (ℕ × Scalar)
@@ -168,33 +168,33 @@ in_first_type s (u ∷ us) e' e from into l = in_type s u e' e from into l
 -- a value that is computed in a transaction of its own
 abbrev pub in_own_transaction : Emitted → Emitted
 in_own_transaction e = record {
-  code = own.Begin (e.held.to + 1) ∷ e.code ++ own.Commit ∷ [];
+  code = own.Begin (e.location.to + 1) ∷ e.code ++ own.Commit ∷ [];
   lists = e.lists;
-  held = record { register = e.held.register; of = e.held.of; to = e.held.to + 1 };
+  location = record { register = e.location.register; of = e.location.of; to = e.location.to + 1 };
 }
 
 abbrev pub negation : Emitted → ℕ → Emitted
-negation e into = then_one e (negating e.held.of into e.held.register) into e.held.of
+negation e into = then_one e (negating e.location.of into e.location.register) into e.location.of
 
 abbrev pub complement : Emitted → ℕ → Emitted
-complement e into = then_one e (complementing e.held.of into e.held.register) into e.held.of
+complement e into = then_one e (complementing e.location.of into e.location.register) into e.location.of
 
 -- `!`: whether it is 0
 abbrev pub logical_negation : Emitted → (into free : ℕ) → Emitted
 logical_negation e into free =
-    let zero_in = above free e.held.register in
+    let zero_in = above free e.location.register in
     record {
-      code = e.code ++ own.Constant zero_in 0 ∷ own.Equal into e.held.register zero_in ∷ [];
+      code = e.code ++ own.Constant zero_in 0 ∷ own.Equal into e.location.register zero_in ∷ [];
       lists = with_register into (with_register zero_in e.lists);
-      held = record { register = into; of = Int; to = e.held.to + 2 };
+      location = record { register = into; of = Int; to = e.location.to + 2 };
     }
 
 -- an operator on two values, which computes in this type
 abbrev pub both : BinaryOp → Scalar → Emitted → Emitted → ℕ → Emitted
 both op t a b into = record {
-  code = a.code ++ b.code ++ computing op t into a.held.register b.held.register ∷ [];
+  code = a.code ++ b.code ++ computing op t into a.location.register b.location.register ∷ [];
   lists = with_register into b.lists;
-  held = record { register = into; of = result_type op t; to = b.held.to + 1 };
+  location = record { register = into; of = result_type op t; to = b.location.to + 1 };
 }
 
 -- the int 1 where a condition holds, and 0 where it does not
@@ -206,24 +206,24 @@ condition_value c into =
           going_on c.code (test_in c) (last + 3)
           ++ own.Constant into 1 ∷ own.Jump (last + 4) ∷ own.Constant into 0 ∷ [];
       lists = with_register into c.lists;
-      held = record { register = into; of = Int; to = last + 4 };
+      location = record { register = into; of = Int; to = last + 4 };
     }
 
 -- a value in this very register
 abbrev pub value_into : ℕ → Emitted → Emitted
-value_into r e = if e.held.register == r then e else then_one e (own.Move r e.held.register) r e.held.of
+value_into r e = if e.location.register == r then e else then_one e (own.Move r e.location.register) r e.location.of
 
 -- a condition, and one of two values of this type that lie in one register
 abbrev pub conditional_value : Scalar → Condition → Emitted → Emitted → ℕ → Emitted
 conditional_value t c a b into = record {
-  code = going_on c.code (test_in c) (a.held.to + 1) ++ a.code ++ own.Jump b.held.to ∷ b.code;
+  code = going_on c.code (test_in c) (a.location.to + 1) ++ a.code ++ own.Jump b.location.to ∷ b.code;
   lists = b.lists;
-  held = record { register = into; of = t; to = b.held.to };
+  location = record { register = into; of = t; to = b.location.to };
 }
 
 -- a condition as its operator has it, or else by its value
 abbrev pub condition_of : Option Condition → Emitted → Condition
-condition_of None e = by_value e.code e.lists e.held
+condition_of None e = by_value e.code e.lists e.location
 condition_of (Some c) e = c
 
 -- a condition under a cast, which is tested as it is where no instruction converts it
@@ -242,7 +242,7 @@ abbrev pub with_argument : Emitted → AllEmitted → AllEmitted
 with_argument e es = record {
   code = e.code ++ es.code;
   lists = es.lists;
-  registers = e.held.register ∷ es.registers;
+  registers = e.location.register ∷ es.registers;
   to = es.to;
 }
 
@@ -255,7 +255,7 @@ call_code (Some f) args from into l =
     record {
       code = args.code ++ own.Call into (length handed) f.number (length made) ∷ [];
       lists = with_register into (holding (length handed) (record args.lists { arguments = made ++ handed }));
-      held = record { register = into; of = f.of; to = args.to + 1 };
+      location = record { register = into; of = f.of; to = args.to + 1 };
     }
 
 -- the types of what is emitted for variables, elements and calls
@@ -314,10 +314,10 @@ module _ (p : Program) (scope : LocalScope) where
         let t = operand_type op (emitted_type a) (emitted_type b) in
         let u = operand_type op (emitted_type b) (emitted_type a) in
         let left = in_type (emitted_type a) t a (emitted a from free free l) from free l in
-        let later = above free left.held.register in
-        let y = emitted b left.held.to later later left.lists in
-        let computed = in_type (emitted_type b) u b y left.held.to later left.lists in
-        both op t left (ready_or (constant_ready left.lists.layout u b left.held.to) left.lists computed) into
+        let later = above free left.location.register in
+        let y = emitted b left.location.to later later left.lists in
+        let computed = in_type (emitted_type b) u b y left.location.to later left.lists in
+        both op t left (ready_or (constant_ready left.lists.layout u b left.location.to) left.lists computed) into
     emitted (Logical op a b at) from into free l =
         condition_value
         (joining op (λ to m. condition_of (own_condition a to free m) (emitted a to free free m))
@@ -328,8 +328,8 @@ module _ (p : Program) (scope : LocalScope) where
         let t = common (emitted_type a) (emitted_type b) in
         let x = emitted a (test.to + 1) into free test.lists in
         let first = value_into into (in_type (emitted_type a) t a x (test.to + 1) into test.lists) in
-        let y = emitted b (first.held.to + 1) into free first.lists in
-        let second = value_into into (in_type (emitted_type b) t b y (first.held.to + 1) into first.lists) in
+        let y = emitted b (first.location.to + 1) into free first.lists in
+        let second = value_into into (in_type (emitted_type b) t b y (first.location.to + 1) into first.lists) in
         conditional_value t test first second into
     emitted (InTransaction mode keyword e at) from into free l =
         in_own_transaction (emitted e (from + 1) into free l)
@@ -354,7 +354,7 @@ module _ (p : Program) (scope : LocalScope) where
     all_emitted ts (Exprs.◌∷◌ e es) from free l =
         let first = in_first_type (emitted_type e) ts e (emitted e from free free l) from free l in
         with_argument first
-        (all_emitted (types_left ts) es first.held.to (above free first.held.register) first.lists)
+        (all_emitted (types_left ts) es first.location.to (above free first.location.register) first.lists)
 
   -- an expression's value in this type, in a register of its own or another one
   abbrev pub due : Scalar → Expr → (from into free : ℕ) → Lists → Emitted
@@ -382,4 +382,4 @@ module _ (p : Program) (scope : LocalScope) where
       let test = condition c from free l in
       let t = common (emitted_type a) (emitted_type b) in
       let first = value_into into (due t a (test.to + 1) into free test.lists) in
-      conditional_value t test first (value_into into (due t b (first.held.to + 1) into free first.lists)) into
+      conditional_value t test first (value_into into (due t b (first.location.to + 1) into free first.lists)) into

@@ -9,7 +9,7 @@ use Rattle.bytecode.specs.declared.instr.Instr.{Instr}
 use Rattle.bytecode.specs.declared.instr.Instr.TheVariants as own
 use Rattle.bytecode.specs.Code.{FunctionCode, Code}
 use Rattle.bytecode.specs.Views.{instr_of}
-use Rattle.picked.specs.declared.held.Exits.{Exits}
+use Rattle.picked.specs.declared.locations.Exits.{Exits}
 use Rattle.picked.specs.Lists.{Lists}
 use Rattle.bytecode.specs.declared.limits.TheConstants.{MOST_REGISTERS}
 use Rattle.lowered.specs.Expressions.{Layout}

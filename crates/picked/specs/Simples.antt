@@ -11,8 +11,8 @@ use Rattle.syntax.specs.Numbers.{operand_type, result_type}
 use Rattle.syntax.specs.Meaning.{op_of}
 use Rattle.bytecode.specs.declared.instr.Instr.{Instr}
 use Rattle.bytecode.specs.declared.instr.Instr.TheVariants as own
-use Rattle.picked.specs.declared.held.Target.{Target}
-use Rattle.picked.specs.declared.held.Target.TheVariants as target
+use Rattle.picked.specs.declared.locations.AssignmentTarget.{AssignmentTarget}
+use Rattle.picked.specs.declared.locations.AssignmentTarget.TheVariants as target
 use Rattle.picked.specs.Lists.{Lists, with_register}
 use Rattle.lowered.specs.Expressions.{LocalScope, constant_in}
 use Rattle.lowered.specs.Statements.{with_local}
@@ -29,13 +29,13 @@ pub record Written : Type 0 where
 pub record Aimed : Type 0 where
   pub code : List Instr
   pub lists : Lists
-  pub target : Target
+  pub target : AssignmentTarget
   pub to : ℕ
 
 abbrev pub nothing_written : ℕ → Lists → Written
 nothing_written from l = record { code = []; lists = l; to = from }
 
-abbrev pub aimed_at : Target → ℕ → Lists → Aimed
+abbrev pub aimed_at : AssignmentTarget → ℕ → Lists → Aimed
 aimed_at t from l = record { code = []; lists = l; target = t; to = from }
 
 abbrev pub variable_target : Option (ℕ × Scalar) → Option GlobalCells → ℕ → Lists → Aimed
@@ -55,26 +55,26 @@ checks false = 0
 abbrev pub element_target : Bool → Option GlobalCells → Emitted → ℕ → Lists → Aimed
 element_target check None i from l = aimed_at target.Nowhere from l
 element_target check (Some g) i from l = record {
-  code = i.code ++ checked_by check i.held.register (cells g.global);
+  code = i.code ++ checked_by check i.location.register (cells g.global);
   lists = i.lists;
-  target = target.Element i.held.register g.cell (cells g.global) g.global.of;
-  to = i.held.to + checks check;
+  target = target.Element i.location.register g.cell (cells g.global) g.global.of;
+  to = i.location.to + checks check;
 }
 
 -- the first register that a target leaves
-abbrev pub above_target : Target → ℕ → ℕ
+abbrev pub above_target : AssignmentTarget → ℕ → ℕ
 above_target (target.Element i cell n t) free = above free i
 above_target t free = free
 
 -- the old value
-abbrev pub target_value : Target → (from free : ℕ) → Lists → Emitted
+abbrev pub target_value : AssignmentTarget → (from free : ℕ) → Lists → Emitted
 target_value (target.Local i t) from free l = in_local i t from l
 target_value (target.Cell c t) from free l = one (own.Read free c) from free t l
 target_value (target.Element i c n t) from free l = one (own.ReadAt free i c n) from free t l
 target_value target.Nowhere from free l = constant 0 Int from free l
 
 -- the register that the value takes: a local's own, or else a free one
-abbrev pub home_or : Target → ℕ → ℕ
+abbrev pub home_or : AssignmentTarget → ℕ → ℕ
 home_or (target.Local i t) free = i
 home_or t free = free
 
@@ -82,14 +82,14 @@ abbrev pub one_written : Instr → ℕ → Lists → Written
 one_written i from l = record { code = i ∷ []; lists = l; to = from + 1 }
 
 -- a value goes to its target, where it does not lie there already
-abbrev pub target_store : Target → ℕ → ℕ → Lists → Written
+abbrev pub target_store : AssignmentTarget → ℕ → ℕ → Lists → Written
 target_store (target.Local i t) a from l = if a == i then nothing_written from l else one_written (own.Move i a) from l
 target_store (target.Cell c t) a from l = one_written (own.Write a c) from l
 target_store (target.Element i c n t) a from l = one_written (own.WriteAt i a c n) from l
 target_store target.Nowhere a from l = nothing_written from l
 
 -- the type of what lies at a target
-abbrev pub type_at : Target → Scalar
+abbrev pub type_at : AssignmentTarget → Scalar
 type_at (target.Local i t) = t
 type_at (target.Cell c t) = t
 type_at (target.Element i c n t) = t
@@ -101,18 +101,18 @@ widening Int LongLong = Some own.Extend
 widening s u = None
 
 -- the instruction that a value of this type asks for on its way to a target
-abbrev pub taking : Target → Scalar → Option (ℕ → ℕ → Instr)
+abbrev pub taking : AssignmentTarget → Scalar → Option (ℕ → ℕ → Instr)
 taking (target.Local i t) s = converting s t
 taking (target.Cell c t) s = widening s t
 taking (target.Element i c n t) s = widening s t
 taking target.Nowhere s = None
 
 -- a value of type s on its way to a target
-abbrev pub fitting : Target → Scalar → Emitted → (into : ℕ) → Emitted
+abbrev pub fitting : AssignmentTarget → Scalar → Emitted → (into : ℕ) → Emitted
 fitting t s e into = converted_by (taking t s) (type_at t) e into
 
 -- an expression's value on its way to a target: a constant is set as what it is converted to
-abbrev pub expr_fitting : Target → Scalar → Expr → Emitted → (from into : ℕ) → Lists → Emitted
+abbrev pub expr_fitting : AssignmentTarget → Scalar → Expr → Emitted → (from into : ℕ) → Lists → Emitted
 expr_fitting t s (Constant n x at) e from into l = constant (constant_in (type_at t) x n) (type_at t) from into l
 expr_fitting t s e' e from into l = fitting t s e into
 
@@ -121,10 +121,10 @@ abbrev pub and_then : Written → Written → Written
 and_then a b = record { code = a.code ++ b.code; lists = b.lists; to = b.to }
 
 abbrev pub code_of_value : Emitted → Written
-code_of_value e = record { code = e.code; lists = e.lists; to = e.held.to }
+code_of_value e = record { code = e.code; lists = e.lists; to = e.location.to }
 
-abbrev pub then_stored : Target → Emitted → Written
-then_stored t e = and_then (code_of_value e) (target_store t e.held.register e.held.to e.lists)
+abbrev pub then_stored : AssignmentTarget → Emitted → Written
+then_stored t e = and_then (code_of_value e) (target_store t e.location.register e.location.to e.lists)
 
 abbrev pub behind : Aimed → Written → Written
 behind t w = record { code = t.code ++ w.code; lists = w.lists; to = w.to }
@@ -152,7 +152,7 @@ module _ (p : Program) (scope : LocalScope) where
   type_or_int (Some e) = emitted_type p scope e
 
   -- an expression's value on its way to a target
-  abbrev pub placed : Target → Expr → (from home free : ℕ) → Lists → Emitted
+  abbrev pub placed : AssignmentTarget → Expr → (from home free : ℕ) → Lists → Emitted
   placed t e from home free l =
       expr_fitting t (emitted_type p scope e) e (emitted p scope e from home free l) from home l
 
@@ -163,13 +163,13 @@ module _ (p : Program) (scope : LocalScope) where
       behind t (then_stored t.target (placed t.target e t.to (home_or t.target later) later t.lists))
 
   -- the old value, another one, and the operator on both, as it goes into the old one's place
-  abbrev pub changed : BinaryOp → Option Expr → Target → (from free : ℕ) → Lists → Emitted
+  abbrev pub changed : BinaryOp → Option Expr → AssignmentTarget → (from free : ℕ) → Lists → Emitted
   changed op by t from free l =
       let s = type_at t in
       let u = operand_type op s (type_or_int by) in
       let old = converted_by (converting s u) u (target_value t from free l) free in
       let v = operand_type op (type_or_int by) s in
-      let other = value_or_one v by old.held.to (above free old.held.register) old.lists in
+      let other = value_or_one v by old.location.to (above free old.location.register) old.lists in
       let home = home_or t free in
       fitting t (result_type op u) (both op u old other home) home
 

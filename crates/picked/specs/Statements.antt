@@ -12,7 +12,7 @@ use Rattle.bytecode.specs.declared.instr.Instr.{Instr}
 use Rattle.bytecode.specs.declared.instr.Instr.TheVariants as own
 use Rattle.lowered.specs.Expressions.{LocalScope}
 use Rattle.lowered.specs.Statements.{locals_of_start, locals_after}
-use Rattle.picked.specs.declared.held.Exits.{Exits}
+use Rattle.picked.specs.declared.locations.Exits.{Exits}
 use Rattle.picked.specs.Lists.{Lists}
 use Rattle.picked.specs.Expressions.{Emitted, AllEmitted, due, all_emitted, condition}
 use Rattle.picked.specs.Conditions.{Condition, test_in, going_on, going_back}
@@ -89,7 +89,7 @@ abbrev pub transaction_code : Written → Written
 transaction_code a = record { code = own.Begin (a.to + 1) ∷ a.code ++ own.Commit ∷ []; lists = a.lists; to = a.to + 1 }
 
 abbrev pub return_code : ℕ → Emitted → Written
-return_code n e = and_then (code_of_value e) (left_by n (own.ReturnValue e.held.register) e.held.to e.lists)
+return_code n e = and_then (code_of_value e) (left_by n (own.ReturnValue e.location.register) e.location.to e.lists)
 
 abbrev pub printing : Scalar → ℕ → Instr
 printing Int r = own.PrintSigned r

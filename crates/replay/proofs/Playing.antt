@@ -15,8 +15,8 @@ use Rattle.world.proofs.Stepping.{further_more, further_none, next_accesses, nex
 use Rattle.replay.specs.declared.line.Line.{Line}
 use Rattle.replay.specs.declared.line.TheConstants.{MOST_STEPS}
 use Rattle.replay.specs.Replays.{IsReplay, events_in, events_of, first_world, is_done, is_over, is_cut_off, is_quiet, line_after, lines_left, simulation_after, steps_of, steps_with, told_event}
-use Rattle.replay.specs.declared.play.Halt.{Halt}
-use Rattle.replay.specs.declared.play.Halt.TheVariants.{Stopped, Refused}
+use Rattle.replay.specs.declared.play.ReplayHalt.{ReplayHalt}
+use Rattle.replay.specs.declared.play.ReplayHalt.TheVariants.{Stopped, Refused}
 use Rattle.replay.specs.inner.Playing.{ComesTo, Going, HaltsAt, HaltsIn, HasPlayed, IsCut, Plays}
 
 module _ (code : Code) where
@@ -146,9 +146,9 @@ module _ (code : Code) (threads : ℕ) (lines : List Line) where
   }
 
   -- one that was not played to its end
-  pub ends_cut : (room : ℕ) (line : Line) (rest : List Line) (before now : Simulation) (halt : Halt) (reason : StopReason) (events : List (ℕ × ℕ × Event)) → HasPlayed code threads lines room (line ∷ rest) before → HaltsIn line room halt before now events → halt ≡ Stopped reason → ComesTo code threads lines (Some (line.thread, reason)) now × (events ≡ events_of now)
+  pub ends_cut : (room : ℕ) (line : Line) (rest : List Line) (before now : Simulation) (halt : ReplayHalt) (reason : StopReason) (events : List (ℕ × ℕ × Event)) → HasPlayed code threads lines room (line ∷ rest) before → HaltsIn line room halt before now events → halt ≡ Stopped reason → ComesTo code threads lines (Some (line.thread, reason)) now × (events ≡ events_of now)
   ends_cut room line rest before now halt reason events h halts is =
-      let cut = subst (λ (v : Halt). HaltsIn line room v before now events) is halts in
+      let cut = subst (λ (v : ReplayHalt). HaltsIn line room v before now events) is halts in
       ((room, line, rest, before, h, cut.0, cut.1, refl), cut.2)
 
   module _ {A : Type 0} (r : Report A) (now : Simulation) (explained : IsExplained now) (events : r.events.items ≡ events_of now) (trace : r.trace.items ≡ now.trace) where
@@ -192,7 +192,7 @@ module _ (code : Code) (threads : ℕ) (lines : List Line) where
         }
 
 -- a step that was not made cuts its line
-pub halted : (line : Line) (room : ℕ) (halt : Halt) (before now next : Simulation) (events : List (ℕ × ℕ × Event)) → IsCut line room before now → HaltsAt line.thread halt now next events → HaltsIn line room halt before next events
+pub halted : (line : Line) (room : ℕ) (halt : ReplayHalt) (before now next : Simulation) (events : List (ℕ × ℕ × Event)) → IsCut line room before now → HaltsAt line.thread halt now next events → HaltsIn line room halt before next events
 halted line room (Stopped reason) before now next events cut h = (
   subst (IsCut line room before) (sym h.0) cut,
   subst (λ (v : Simulation). StopsFor v line.thread reason) (sym h.0) h.1,

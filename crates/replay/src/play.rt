@@ -20,7 +20,7 @@ use world::{Report, StopReason, World, WorldFault};
 type Events<A> = Vec<(u64, u32, Event), A>;
 
 /// Why a line was not made to its end.
-enum Halt {
+enum ReplayHalt {
     /// A step was not made.
     Stopped(StopReason),
     /// The growth of the events was refused.
@@ -59,7 +59,7 @@ fn step<A: Allocator + Copy>(
     world: &mut World<A>,
     events: &mut Events<A>,
     t: u32,
-) -> Result<u32, Halt>
+) -> Result<u32, ReplayHalt>
     requires thread { t < world.old.threads }
     requires events { events.old.items ≡ events_of world.old }
     ensures ok { OnOk result (world.new ≡ further world.old (t ∷ [])) }
@@ -71,8 +71,8 @@ fn step<A: Allocator + Copy>(
     let before = world.accesses();
     let event = match world.step(t) {
         Ok(event) => event,
-        Err(Stop::OutOfMemory) => return Err(Halt::Stopped(StopReason::OutOfMemory)),
-        Err(Stop::SequenceUsedUp) => return Err(Halt::Stopped(StopReason::SequenceUsedUp)),
+        Err(Stop::OutOfMemory) => return Err(ReplayHalt::Stopped(StopReason::OutOfMemory)),
+        Err(Stop::SequenceUsedUp) => return Err(ReplayHalt::Stopped(StopReason::SequenceUsedUp)),
     };
     let accesses = world.accesses();
     let made = (accesses - before) as u32;
@@ -81,7 +81,7 @@ fn step<A: Allocator + Copy>(
     }
     match events.push((accesses, t, event)) {
         Ok(()) => Ok(made),
-        Err(_) => Err(Halt::Refused),
+        Err(_) => Err(ReplayHalt::Refused),
     }
 }
 
@@ -98,7 +98,7 @@ fn play<A: Allocator + Copy>(
     events: &mut Events<A>,
     line: Line,
     room: u32,
-) -> Result<u32, Halt>
+) -> Result<u32, ReplayHalt>
     requires events { events.old.items ≡ events_of world.old }
     ensures plays { IfOk result (λ left. Plays line room left world.old world.new) }
     ensures events { OnOk result (events.new.items ≡ events_of world.new) }
@@ -112,7 +112,7 @@ fn play<A: Allocator + Copy>(
             return Ok(left);
         }
         if line.thread >= threads {
-            return Err(Halt::Stopped(StopReason::Stranger));
+            return Err(ReplayHalt::Stopped(StopReason::Stranger));
         }
         if is_cut_off(world, line) {
             return Ok(left);
@@ -151,8 +151,8 @@ fn play_all<A: Allocator + Copy>(
         let line = line_at(lines, at);
         match play(world, events, line, room) {
             Ok(left) => room = left,
-            Err(Halt::Refused) => return Err(AllocError),
-            Err(Halt::Stopped(reason)) => return Ok(Some((line.thread, reason))),
+            Err(ReplayHalt::Refused) => return Err(AllocError),
+            Err(ReplayHalt::Stopped(reason)) => return Ok(Some((line.thread, reason))),
         }
     }
     Ok(None)

@@ -11,7 +11,7 @@ use crate::line::Line;
 
 /// What a row says.
 #[derive(Clone, Copy)]
-pub(crate) enum Row {
+pub(crate) enum ScheduleRow {
     /// Nothing: it has spaces alone.
     Blank,
     /// Which steps are made.
@@ -96,7 +96,7 @@ fn number(digits: &[u8]) -> Option<u32>
 
 /// The parts of a row.
 #[derive(Clone, Copy)]
-struct Parts<'a> {
+struct RowParts<'a> {
     thread: &'a [u8],
     /// Whether a space stands behind the thread.
     apart: bool,
@@ -107,14 +107,14 @@ struct Parts<'a> {
 }
 
 /// Cuts a row.
-fn cut_row(row: &[u8]) -> Parts<'_>
+fn cut_row(row: &[u8]) -> RowParts<'_>
     ensures { IsCut row.now result.thread.now result.apart result.accesses result.count.now result.over.now }
 {
     let (thread, behind) = cut(past(row));
     let next = past(behind);
     let (accesses, next_digits) = letter(next);
     let (count, over) = cut(next_digits);
-    Parts {
+    RowParts {
         thread,
         apart: next.len() < behind.len(),
         accesses,
@@ -124,28 +124,28 @@ fn cut_row(row: &[u8]) -> Parts<'_>
 }
 
 /// What a row says.
-pub(crate) fn read_row(row: &[u8]) -> Row
+pub(crate) fn read_row(row: &[u8]) -> ScheduleRow
     ensures { IsRow row.now result }
 {
     if past(row).is_empty() {
-        return Row::Blank;
+        return ScheduleRow::Blank;
     }
     let parts = cut_row(row);
     if !parts.apart {
-        return Row::Bad;
+        return ScheduleRow::Bad;
     }
     if !parts.over.is_empty() {
-        return Row::Bad;
+        return ScheduleRow::Bad;
     }
     let Some(thread) = number(parts.thread) else {
-        return Row::Bad;
+        return ScheduleRow::Bad;
     };
     match number(parts.count) {
-        Some(count) => Row::Steps(Line {
+        Some(count) => ScheduleRow::Steps(Line {
             thread,
             count,
             accesses: parts.accesses,
         }),
-        None => Row::Bad,
+        None => ScheduleRow::Bad,
     }
 }

@@ -5,7 +5,7 @@ ghost use Rattle.std.specs.Str.Lines.{lines};
 ghost use Rattle.replay.specs.Schedules.{AreLines, IsFaultOfRows};
 
 use crate::line::{Line, MOST_STEPS};
-use crate::row::{Row, read_row};
+use crate::row::{ScheduleRow, read_row};
 use std::alloc::{AllocError, Allocator};
 use thiserror::Error;
 
@@ -54,9 +54,9 @@ fn read_rows<A: Allocator + Copy>(alloc: A, rows: &[&str]) -> Result<Vec<Line, A
     let mut left = MOST_STEPS;
     'rows: for at in 0..rows.len() {
         match read_row(rows[at].as_bytes()) {
-            Row::Blank => {}
-            Row::Bad => return Err(ScheduleFault::BadLine(at + 1)),
-            Row::Steps(line) => {
+            ScheduleRow::Blank => {}
+            ScheduleRow::Bad => return Err(ScheduleFault::BadLine(at + 1)),
+            ScheduleRow::Steps(line) => {
                 if line.count > left {
                     return Err(ScheduleFault::TooLong);
                 }

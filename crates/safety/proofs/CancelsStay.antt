@@ -8,7 +8,7 @@ use Rattle.syntax.specs.Tree.{Stmt, Stmts, Empty, Declare, Do, Block, Print, If,
 use Rattle.syntax.specs.Names.{definition_or, definition_of}
 use Rattle.syntax.specs.Typing.{names_of, parameter_names}
 use Rattle.syntax.specs.Actions.{Answer, Gives, Stops}
-use Rattle.syntax.specs.Meaning.{End, Next, Breaks, Continues, Returns, Cancels as CancelEnd, CancelsOuter as OuterEnd, stmts, calls}
+use Rattle.syntax.specs.Meaning.{Completion, Next, Breaks, Continues, Returns, Cancels as CancelEnd, CancelsOuter as OuterEnd, stmts, calls}
 use Rattle.syntax.specs.Laws.{WhereGiven}
 use Rattle.syntax.proofs.Ends.{Fits, JumpsFit, AllJumpsFit, stmts_end}
 use Rattle.safety.specs.Sites.{Cancels, CancelsOuter, Site, Around, with_names, in_transaction, kind_site, expr_sites, simple_sites, sites_if_any, start_sites, names_of_start, stmt_sites, stmts_sites, body_sites, sites_of}
@@ -109,7 +109,7 @@ mutual
       let a' = with_names (names_of s) a in
       (cancels_fit s a (front (stmt_sites s a) (stmts_sites ss a') h), all_cancels_fit ss a' (back (stmt_sites s a) (stmts_sites ss a') h))
 
-no_cancel : (end : End) → Fits true false false end → (end ≢ CancelEnd) × (end ≢ OuterEnd)
+no_cancel : (end : Completion) → Fits true false false end → (end ≢ CancelEnd) × (end ≢ OuterEnd)
 no_cancel Next h = (λ e. cc, λ e. cc)
 no_cancel Breaks h = (λ e. cc, λ e. cc)
 no_cancel Continues h = (λ e. cc, λ e. cc)
@@ -126,6 +126,6 @@ cancels_stay p safe x d e frames s = stays (stmts p (calls p frames) d.1 s) ((st
       outer = λ m c k. (All-contains (KeepsOuter p) (sites_of p x) m (safe.outer x) (definition_sites p x d e m c)).1 k;
     }
 
-    stays : (r : Answer End) → WhereGiven r (λ end now. Fits true false false end) → WhereGiven r (λ end now. (end ≢ CancelEnd) × (end ≢ OuterEnd))
+    stays : (r : Answer Completion) → WhereGiven r (λ end now. Fits true false false end) → WhereGiven r (λ end now. (end ≢ CancelEnd) × (end ≢ OuterEnd))
     stays (Gives end now) f = no_cancel end f
     stays (Stops why now) f = tt

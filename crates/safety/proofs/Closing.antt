@@ -7,7 +7,7 @@ use Rattle.std.proofs.lemmas.List.Elements.{Contains-push, Contains-append_left,
 use Rattle.std.proofs.lemmas.List.Sums.{sum_by-set, count_by-le-length}
 use Rattle.std.proofs.lemmas.Grind.{common_steps}
 use Rattle.std.proofs.lemmas.Bool.{cases_lt, cases_eq}
-use Rattle.safety.specs.inner.Graphs.{callers_at, IsReached, State, enqueue, all_visited}
+use Rattle.safety.specs.inner.Graphs.{callers_at, IsReached, SearchState, enqueue, all_visited}
 use Rattle.safety.specs.inner.Closing.{IsWithin, IsMember, IsQueued, IsClosing, IsClosed}
 
 pub one_is : (x y : ℕ) → Contains (x ∷ []) y → y ≡ x
@@ -29,8 +29,8 @@ member_more members i k less h = elim (cases_eq k i) [
 ]
 
 module _ (callers : List (List ℕ)) where
-  module _ (s : State) (i : ℕ) where
-    abbrev put : State
+  module _ (s : SearchState) (i : ℕ) where
+    abbrev put : SearchState
     put = record { members = set s.members i true; queue = s.queue ++ i ∷ [] }
 
     put_keeps : IsQueued callers s → i < length s.members → get_or s.members i true ≡ false → IsReached callers i → IsQueued callers put
@@ -77,14 +77,14 @@ module _ (callers : List (List ℕ)) where
     more_by false = (i ∷ [], refl)
 
   -- what visiting numbers one by one leaves
-  record AreVisited (s t : State) (all : List ℕ) : Type 0 where
+  record AreVisited (s t : SearchState) (all : List ℕ) : Type 0 where
     known : IsQueued callers t
     grows : (k : ℕ) → IsMember s.members k → IsMember t.members k
     more : List ℕ
     longer : t.queue ≡ s.queue ++ more
     member : (i : ℕ) → Contains all i → IsMember t.members i
 
-  all_keep : (all : List ℕ) (s : State) → IsQueued callers s → ((i : ℕ) → Contains all i → (i < length callers) × IsReached callers i) → AreVisited s (all_visited s all) all
+  all_keep : (all : List ℕ) (s : SearchState) → IsQueued callers s → ((i : ℕ) → Contains all i → (i < length callers) × IsReached callers i) → AreVisited s (all_visited s all) all
   all_keep [] s h right = record { known = h; grows = λ k m. m; more = []; longer = sym (append-nil s.queue); member = λ i c. absurd (omega (arith, c.1)) }
   all_keep (i ∷ all) s h right =
       let here = right i (0, omega arith, refl) in
@@ -104,7 +104,7 @@ module _ (callers : List (List ℕ)) where
       }
 
   -- one number of the queue more
-  pub closing_more : (s t : State) (at next : ℕ) → IsWithin callers → IsClosing callers at s → at < length s.queue → next ≡ get_or s.queue at 0 → t ≡ all_visited s (callers_at callers next) → IsClosing callers (at + 1) t
+  pub closing_more : (s t : SearchState) (at next : ℕ) → IsWithin callers → IsClosing callers at s → at < length s.queue → next ≡ get_or s.queue at 0 → t ≡ all_visited s (callers_at callers next) → IsClosing callers (at + 1) t
   closing_more s t at next within h less is visits =
       let mine : Contains s.queue next = (at, less, get_or_default s.queue at next 0 less ∙ sym is) in
       let done = all_keep (callers_at callers next) s h.known (λ i c. (within next i c, let way = h.known.reached next mine in (next ∷ way.0, (c, way.1)))) in
@@ -122,17 +122,17 @@ module _ (callers : List (List ℕ)) where
       older : (k : ℕ) → k < length s.queue → (q more : List ℕ) → q ≡ s.queue ++ more → get_or q k 0 ≡ get_or s.queue k 0
       older k less q more e = ap (λ xs. get_or xs k 0) e ∙ get_or_append_left s.queue more 0 k less
 
-  pub queue_fits : (s : State) → IsQueued callers s → length s.queue ≤ length callers
+  pub queue_fits : (s : SearchState) → IsQueued callers s → length s.queue ≤ length callers
   queue_fits s h = let le = count_by-le-length (λ b. b) s.members in omega (arith, le, h.count, h.same)
 
-  pub finished : (s : State) (at : ℕ) → IsClosing callers at s → length s.queue ≤ at → IsClosed callers s.members
+  pub finished : (s : SearchState) (at : ℕ) → IsClosing callers at s → length s.queue ≤ at → IsClosed callers s.members
   finished s at h le = record {
     begun = h.begun;
     closed = λ j i m c. (let there = h.known.queued j m in h.done there.0 i (omega (arith, there.1, le)) (subst (λ q. Contains (callers_at callers q) i) (sym (get_or_default s.queue there.0 0 j there.1 ∙ there.2)) c));
     reached = λ i m. h.known.reached i (h.known.queued i m);
   }
 
-  pub next_within : (s : State) (at next : ℕ) → IsClosing callers at s → at < length s.queue → next ≡ get_or s.queue at 0 → next < length callers
+  pub next_within : (s : SearchState) (at next : ℕ) → IsClosing callers at s → at < length s.queue → next ≡ get_or s.queue at 0 → next < length callers
   next_within s at next h less is =
       let mine : Contains s.queue next = (at, less, get_or_default s.queue at next 0 less ∙ sym is) in
       let member = member_within s.members next (h.known.member next mine) in
@@ -161,9 +161,9 @@ module _ (callers : List (List ℕ)) where
       no : false ≡ true → ⊥
       no e = cc
 
-  pub begins : (n : ℕ) (s : State) → n ≡ length callers → 0 < length callers → s ≡ enqueue (record { members = replicate n false; queue = [] }) 0 → IsClosing callers 0 s
+  pub begins : (n : ℕ) (s : SearchState) → n ≡ length callers → 0 < length callers → s ≡ enqueue (record { members = replicate n false; queue = [] }) 0 → IsClosing callers 0 s
   begins n s e some is =
-      let start : State = record { members = replicate n false; queue = [] } in
+      let start : SearchState = record { members = replicate n false; queue = [] } in
       let less : 0 < length start.members = (let size = length_members n in omega (arith, size, e, some)) in
       subst (IsClosing callers 0) (sym is) (record {
         known = visited_keeps start 0 (nothing_known n e) less ([], refl);

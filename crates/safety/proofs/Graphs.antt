@@ -10,7 +10,7 @@ use Rattle.std.specs.Option.{option_or}
 use Rattle.name_tables.specs.Named.{first, declared}
 use Rattle.name_tables.proofs.Firsts.{first_declared}
 use Rattle.safety.specs.Links.{Link}
-use Rattle.safety.specs.inner.Graphs.{IsNumbered, IsNumber, IsEdge, callers_at, HasLinks, Extends}
+use Rattle.safety.specs.inner.Graphs.{IsNumbered, IsNumber, IsEdge, callers_at, HasLinks, ExtendsMap}
 use Rattle.safety.specs.inner.Closing.{IsWithin}
 use Rattle.safety.proofs.Closing.{one_is}
 
@@ -26,7 +26,7 @@ padded [] (suc j) = refl
 padded (c ∷ cs) zero = refl
 padded (c ∷ cs) (suc j) = padded cs j
 
-pub number_more : (old new : List ℕ → Option ℕ) → Extends old new → (o : Option (List ℕ)) (j : ℕ) → IsNumber old o j → IsNumber new o j
+pub number_more : (old new : List ℕ → Option ℕ) → ExtendsMap old new → (o : Option (List ℕ)) (j : ℕ) → IsNumber old o j → IsNumber new o j
 number_more old new h None j e = e
 number_more old new h (Some x) j e = h x j e
 
@@ -35,7 +35,7 @@ module _ (old new : List ℕ → Option ℕ) (callers : List (List ℕ)) (name :
   at_name : (x : List ℕ) → bytes_eq name x ≡ true → name ≡ x
   at_name x e = (bytes_eq-Decides name x).0 e
 
-  pub extended : Extends old new
+  pub extended : ExtendsMap old new
   extended x k e = by (bytes_eq name x) refl
     where
       by : (b : Bool) → bytes_eq name x ≡ b → new x ≡ Some k

@@ -5,7 +5,7 @@ ghost use Rattle.name_tables.specs.Named.{first};
 ghost use Rattle.name_tables.specs.Known.{entries_in};
 ghost use Rattle.safety.specs.Links as Links;
 ghost use Rattle.safety.specs.Sets.{link_of, links_of};
-ghost use Rattle.safety.specs.inner.Graphs.{IsNumbered, HasLinks, Extends, IsNumber, callers_at};
+ghost use Rattle.safety.specs.inner.Graphs.{IsNumbered, HasLinks, ExtendsMap, IsNumber, callers_at};
 
 use crate::set::Link;
 use containers::Items;
@@ -44,7 +44,7 @@ fn number<'a, A: Allocator + Copy>(
     ensures numbered { OnOk result (IsNumbered (first (entries_in graph.new.numbers)) graph.new.callers.items) }
     ensures number { IfOk result (λ k. first (entries_in graph.new.numbers) name.now ≡ Some k) }
     ensures extends { OnOk result
-        (Extends (first (entries_in graph.old.numbers)) (first (entries_in graph.new.numbers))) }
+        (ExtendsMap (first (entries_in graph.old.numbers)) (first (entries_in graph.new.numbers))) }
     ensures links { (links : List Links.Link) →
         HasLinks links (first (entries_in graph.old.numbers)) graph.old.callers.items →
         OnOk result (HasLinks links (first (entries_in graph.new.numbers)) graph.new.callers.items) }
@@ -71,7 +71,7 @@ fn number_of_callee<'a, A: Allocator + Copy>(
     ensures number { IfOk result
         (λ k. IsNumber (first (entries_in graph.new.numbers)) (option_map (λ f. f.now) callee.entry) k) }
     ensures extends { OnOk result
-        (Extends (first (entries_in graph.old.numbers)) (first (entries_in graph.new.numbers))) }
+        (ExtendsMap (first (entries_in graph.old.numbers)) (first (entries_in graph.new.numbers))) }
     ensures links { (links : List Links.Link) →
         HasLinks links (first (entries_in graph.old.numbers)) graph.old.callers.items →
         OnOk result (HasLinks links (first (entries_in graph.new.numbers)) graph.new.callers.items) }

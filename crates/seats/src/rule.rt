@@ -83,9 +83,9 @@ impl Play<(), View> for Told {
 }
 
 /// The new seat has the first part.
-pub(crate) struct First;
+pub(crate) struct FirstRule;
 
-impl Split<View> for First {
+impl Split<View> for FirstRule {
     ghost use Rattle.seats.specs.Views.{first_of, without_first};
 
     ghost left = { without_first };

@@ -5,7 +5,7 @@ ghost use Rattle.seats.specs.Views.{first_of, without_first};
 ghost use Rattle.seats.specs.Rule.{Floored, MeetsBoth};
 
 use crate::access::Words;
-use crate::rule::{First, Joined, Met, Rest, View, Whole};
+use crate::rule::{FirstRule, Joined, Met, Rest, View, Whole};
 use atomic_table::Seat;
 use std::alloc::Allocator;
 
@@ -16,7 +16,7 @@ pub fn split_first<A: Allocator>(words: &Words<A>, seat: &mut Seat<(), View>) ->
     ensures seat { seat.new.me ≡ (without_first seat.old.me.0, seat.old.me.1) }
     ensures new { result.me ≡ (first_of seat.old.me.0, []) }
 {
-    words.split_seat::<First>(seat)
+    words.split_seat::<FirstRule>(seat)
 }
 
 /// The seat takes all threads that another one speaks for.

@@ -17,7 +17,7 @@ use Rattle.syntax.specs.Names.{Local, word_at, with_word}
 use Rattle.syntax.specs.Formats.{Piece, Literal, Figure, figures}
 use Rattle.syntax.specs.Behaviours.{Memory}
 use Rattle.syntax.specs.Actions.{Context, Outside, Inside, State, Answer, Gives, Stops, Action, pure, go_on, ◌>>=◌, ◌>>◌, spend, tick, trap, or_trap, or_astray, locals, put_locals, load_at, load, store_at, store, may_print_at, may_print, print_piece}
-use Rattle.syntax.specs.Meaning.{Spot, InLocal, InCell, fetch, assign, print_pieces, End, Next, Breaks, Continues, Returns, Cancels, CancelsOuter, on_next, in_scope, after_turn, turns, loop, after_body, Left, mode_of, left_by, close_inner, close, enter, transaction, begin_at, begin_value, value_at, value_transaction}
+use Rattle.syntax.specs.Meaning.{Spot, InLocal, InCell, fetch, assign, print_pieces, Completion, Next, Breaks, Continues, Returns, Cancels, CancelsOuter, on_next, in_scope, after_turn, turns, loop, after_body, Left, mode_of, left_by, close_inner, close, enter, transaction, begin_at, begin_value, value_at, value_transaction}
 use Rattle.syntax.specs.Laws.{shape}
 use Rattle.syntax.proofs.OlderLocals.{same_shapes}
 use Rattle.syntax.proofs.ExactLocals.{same_taken}
@@ -178,11 +178,11 @@ opened {w = w} {ls = ls} {P = P} {run = run} more g = record { opens = λ s e f.
 pub no_further : {A : Type 0} {w : Option Mode} {ls : Shapes} {P : A → Type 0} {run : Action A} → Goes w ls ls P run → Goes w ls (ls ++ []) P run
 no_further {w = w} {ls = ls} {P = P} {run = run} g = subst (λ os. Goes w ls os P run) (sym (append-nil ls)) g
 
-scope_fine : (w : Option Mode) (ls : Shapes) (P : End → Type 0) (outer : List Local) (r : Answer End) → map shape outer ≡ ls → FineOpen w ls P r → Fine w ls P (go_on r (λ end t. Gives end (record t { locals = take (length outer) t.locals })))
+scope_fine : (w : Option Mode) (ls : Shapes) (P : Completion → Type 0) (outer : List Local) (r : Answer Completion) → map shape outer ≡ ls → FineOpen w ls P r → Fine w ls P (go_on r (λ end t. Gives end (record t { locals = take (length outer) t.locals })))
 scope_fine w ls P outer (Gives end now) e f = (f.0, same_taken outer now.locals f.1.0 (f.1.1 ∙ ap (λ x. x ++ f.1.0) (sym e)) ∙ e, f.2)
 scope_fine w ls P outer (Stops why now) e f = f
 
-pub scoped_goes : {w : Option Mode} {ls : Shapes} {P : End → Type 0} {run : Action End} → Opens w ls P run → Goes w ls ls P (in_scope run)
+pub scoped_goes : {w : Option Mode} {ls : Shapes} {P : Completion → Type 0} {run : Action Completion} → Opens w ls P run → Goes w ls ls P (in_scope run)
 scoped_goes {w = w} {ls = ls} {P = P} {run = run} g = record { goes = λ s e f. scope_fine w ls P s.locals (run s) f (g.opens s e f) }
 
 on_open : {A B : Type 0} (w : Option Mode) (ls os : Shapes) (P : A → Type 0) (Q : B → Type 0) (r : Answer A) (rest : A → Action B) → FineOpen w ls P r → ((a : A) → P a → (ms : Shapes) → Goes w ms os Q (rest a)) → Fine w os Q (go_on r rest)
@@ -194,7 +194,7 @@ on_opens {w = w} {ls = ls} {os = os} {P = P} {Q = Q} {run = run} {rest = rest} g
 
 -- how a statement ends: a break or a continue only in a loop, a cancel only in an atomic transaction, an outer cancel
 -- only in an outer one
-abbrev pub EndFits : (looping in_atomic in_outer : Bool) → End → Type 0
+abbrev pub EndFits : (looping in_atomic in_outer : Bool) → Completion → Type 0
 EndFits looping in_atomic in_outer Next = Unit {0}
 EndFits looping in_atomic in_outer Breaks = IsTrue looping
 EndFits looping in_atomic in_outer Continues = IsTrue looping
@@ -202,16 +202,16 @@ EndFits looping in_atomic in_outer (Returns v) = Unit {0}
 EndFits looping in_atomic in_outer Cancels = IsTrue in_atomic
 EndFits looping in_atomic in_outer CancelsOuter = IsTrue in_outer
 
-abbrev pub TurnFits : (looping in_atomic in_outer : Bool) → Option End → Type 0
+abbrev pub TurnFits : (looping in_atomic in_outer : Bool) → Option Completion → Type 0
 TurnFits looping in_atomic in_outer None = Unit {0}
 TurnFits looping in_atomic in_outer (Some end) = EndFits looping in_atomic in_outer end
 
 -- one statement, and others behind it
-open_further : (w : Option Mode) (l b u : Bool) (ls more : Shapes) (r : Answer End) → FineOpen w (ls ++ more) (EndFits l b u) r → FineOpen w ls (EndFits l b u) r
+open_further : (w : Option Mode) (l b u : Bool) (ls more : Shapes) (r : Answer Completion) → FineOpen w (ls ++ more) (EndFits l b u) r → FineOpen w ls (EndFits l b u) r
 open_further w l b u ls more (Gives end now) f = (f.0, (more ++ f.1.0, f.1.1 ∙ append_assoc ls more f.1.0), f.2)
 open_further w l b u ls more (Stops why now) f = f
 
-next_fine : (w : Option Mode) (l b u : Bool) (ls more : Shapes) (rest : Action End) → Opens w (ls ++ more) (EndFits l b u) rest → (r : Answer End) → Fine w (ls ++ more) (EndFits l b u) r → FineOpen w ls (EndFits l b u) (go_on r (on_next rest))
+next_fine : (w : Option Mode) (l b u : Bool) (ls more : Shapes) (rest : Action Completion) → Opens w (ls ++ more) (EndFits l b u) rest → (r : Answer Completion) → Fine w (ls ++ more) (EndFits l b u) r → FineOpen w ls (EndFits l b u) (go_on r (on_next rest))
 next_fine w l b u ls more rest h (Gives Next now) f = open_further w l b u ls more (rest now) (h.opens now f.0 f.1)
 next_fine w l b u ls more rest h (Gives Breaks now) f = (f.0, (more, f.1), f.2)
 next_fine w l b u ls more rest h (Gives Continues now) f = (f.0, (more, f.1), f.2)
@@ -220,11 +220,11 @@ next_fine w l b u ls more rest h (Gives Cancels now) f = (f.0, (more, f.1), f.2)
 next_fine w l b u ls more rest h (Gives CancelsOuter now) f = (f.0, (more, f.1), f.2)
 next_fine w l b u ls more rest h (Stops why now) f = f
 
-pub next_opens : {w : Option Mode} {ls : Shapes} {run rest : Action End} (l b u : Bool) (more : Shapes) → Goes w ls (ls ++ more) (EndFits l b u) run → Opens w (ls ++ more) (EndFits l b u) rest → Opens w ls (EndFits l b u) (run >>= on_next rest)
+pub next_opens : {w : Option Mode} {ls : Shapes} {run rest : Action Completion} (l b u : Bool) (more : Shapes) → Goes w ls (ls ++ more) (EndFits l b u) run → Opens w (ls ++ more) (EndFits l b u) rest → Opens w ls (EndFits l b u) (run >>= on_next rest)
 next_opens {w = w} {ls = ls} {run = run} {rest = rest} l b u more g h = record { opens = λ s e f. next_fine w l b u ls more rest h (run s) (g.goes s e f) }
 
 -- loops
-pub after_body_goes : {w : Option Mode} {ls : Shapes} (l b u : Bool) {go : Action (Option End)} → Goes w ls ls (TurnFits l b u) go → (end : End) → EndFits true b u end → Goes w ls ls (TurnFits l b u) (after_body go end)
+pub after_body_goes : {w : Option Mode} {ls : Shapes} (l b u : Bool) {go : Action (Option Completion)} → Goes w ls ls (TurnFits l b u) go → (end : Completion) → EndFits true b u end → Goes w ls ls (TurnFits l b u) (after_body go end)
 after_body_goes l b u h Next f = h
 after_body_goes l b u h Breaks f = pure_goes (Some Next) tt
 after_body_goes l b u h Continues f = h
@@ -232,15 +232,15 @@ after_body_goes l b u h (Returns v) f = pure_goes (Some (Returns v)) tt
 after_body_goes l b u h Cancels f = pure_goes (Some Cancels) f
 after_body_goes l b u h CancelsOuter f = pure_goes (Some CancelsOuter) f
 
-after_turn_goes : {w : Option Mode} {ls : Shapes} (l b u : Bool) {rest : Action End} → Goes w ls ls (EndFits l b u) rest → (o : Option End) → TurnFits l b u o → Goes w ls ls (EndFits l b u) (after_turn rest o)
+after_turn_goes : {w : Option Mode} {ls : Shapes} (l b u : Bool) {rest : Action Completion} → Goes w ls ls (EndFits l b u) rest → (o : Option Completion) → TurnFits l b u o → Goes w ls ls (EndFits l b u) (after_turn rest o)
 after_turn_goes l b u h None f = h
 after_turn_goes l b u h (Some end) f = pure_goes end f
 
-turns_go : {w : Option Mode} {ls : Shapes} (l b u : Bool) {turn : Action (Option End)} → Goes w ls ls (TurnFits l b u) turn → (n : ℕ) → Goes w ls ls (EndFits l b u) (turns n turn)
+turns_go : {w : Option Mode} {ls : Shapes} (l b u : Bool) {turn : Action (Option Completion)} → Goes w ls ls (TurnFits l b u) turn → (n : ℕ) → Goes w ls ls (EndFits l b u) (turns n turn)
 turns_go l b u h zero = record { goes = λ s e f. tt }
 turns_go l b u h (suc n) = then_goes tick_goes (on_goes h (after_turn_goes l b u (turns_go l b u h n)))
 
-pub loop_goes : {w : Option Mode} {ls : Shapes} (l b u : Bool) {turn : Action (Option End)} → Goes w ls ls (TurnFits l b u) turn → Goes w ls ls (EndFits l b u) (loop turn)
+pub loop_goes : {w : Option Mode} {ls : Shapes} (l b u : Bool) {turn : Action (Option Completion)} → Goes w ls ls (TurnFits l b u) turn → Goes w ls ls (EndFits l b u) (loop turn)
 loop_goes l b u h = record { goes = λ s e f. (turns_go l b u h s.ticks).goes s e f }
 
 -- transactions: a cancel goes no further, and an outer cancel not out of an outer one
@@ -248,7 +248,7 @@ abbrev pub in_outer : Kind → Bool → Bool
 in_outer Outer u = true
 in_outer (Plain mode) u = u
 
-left_fits : (l b b' u : Bool) (kind : Kind) (mine : List Local) (found : Memory) (end : End) (now : State) → EndFits l b (in_outer kind u) end → EndFits l b' u (left_by kind mine found end now).end
+left_fits : (l b b' u : Bool) (kind : Kind) (mine : List Local) (found : Memory) (end : Completion) (now : State) → EndFits l b (in_outer kind u) end → EndFits l b' u (left_by kind mine found end now).end
 left_fits l b b' u kind mine found Cancels now h = tt
 left_fits l b b' u Outer mine found CancelsOuter now h = tt
 left_fits l b b' u (Plain mode) mine found CancelsOuter now h = h
@@ -257,7 +257,7 @@ left_fits l b b' u kind mine found Breaks now h = h
 left_fits l b b' u kind mine found Continues now h = h
 left_fits l b b' u kind mine found (Returns v) now h = h
 
-left_shapes : (ls : Shapes) (kind : Kind) (mine : List Local) (found : Memory) (end : End) (now : State) → map shape mine ≡ ls → map shape now.locals ≡ ls → map shape (left_by kind mine found end now).locals ≡ ls
+left_shapes : (ls : Shapes) (kind : Kind) (mine : List Local) (found : Memory) (end : Completion) (now : State) → map shape mine ≡ ls → map shape now.locals ≡ ls → map shape (left_by kind mine found end now).locals ≡ ls
 left_shapes ls kind mine found Cancels now g h = g
 left_shapes ls Outer mine found CancelsOuter now g h = g
 left_shapes ls (Plain mode) mine found CancelsOuter now g h = h
@@ -266,23 +266,23 @@ left_shapes ls kind mine found Breaks now g h = h
 left_shapes ls kind mine found Continues now g h = h
 left_shapes ls kind mine found (Returns v) now g h = h
 
-leave_fine : (w : Option Mode) (ls : Shapes) (P : End → Type 0) (n : ℕ) (founds lefts : List Memory) (left : Left) (now : State) → None ≡ w → map shape left.locals ≡ ls → P left.end → Fine w ls P (go_on (spend n (record now { context = Outside founds lefts })) (λ u then_. Gives left.end (record then_ { locals = left.locals; context = Outside founds (lefts ++ left.memory ∷ []) })))
+leave_fine : (w : Option Mode) (ls : Shapes) (P : Completion → Type 0) (n : ℕ) (founds lefts : List Memory) (left : Left) (now : State) → None ≡ w → map shape left.locals ≡ ls → P left.end → Fine w ls P (go_on (spend n (record now { context = Outside founds lefts })) (λ u then_. Gives left.end (record then_ { locals = left.locals; context = Outside founds (lefts ++ left.memory ∷ []) })))
 leave_fine w ls P zero founds lefts left now e f h = tt
 leave_fine w ls P (suc n) founds lefts left now e f h = (e, f, h)
 
 -- how a body ends fits how its transaction then does
-abbrev Handed : Kind → (P Q : End → Type 0) → Type 0
-Handed kind P Q = (mine : List Local) (found : Memory) (end : End) (now : State) → P end → Q (left_by kind mine found end now).end
+abbrev Handed : Kind → (P Q : Completion → Type 0) → Type 0
+Handed kind P Q = (mine : List Local) (found : Memory) (end : Completion) (now : State) → P end → Q (left_by kind mine found end now).end
 
-module _ (kind : Kind) (P Q : End → Type 0) (handed : Handed kind P Q) (ls : Shapes) (mine : List Local) (found : Memory) (same : map shape mine ≡ ls) where
-  close_fine : (w : Option Mode) (founds lefts : List Memory) (r : Answer End) → None ≡ w → Fine (Some (mode_of kind)) ls P r → Fine w ls Q (close kind founds lefts mine found r)
+module _ (kind : Kind) (P Q : Completion → Type 0) (handed : Handed kind P Q) (ls : Shapes) (mine : List Local) (found : Memory) (same : map shape mine ≡ ls) where
+  close_fine : (w : Option Mode) (founds lefts : List Memory) (r : Answer Completion) → None ≡ w → Fine (Some (mode_of kind)) ls P r → Fine w ls Q (close kind founds lefts mine found r)
   close_fine w founds lefts (Gives end now) e f = leave_fine w ls Q now.ticks founds lefts (left_by kind mine found end now) now e (left_shapes ls kind mine found end now same f.1) (handed mine found end now f.2)
   close_fine w founds lefts (Stops (Trapped k) now) e f = tt
   close_fine w founds lefts (Stops Wants now) e f = tt
   close_fine w founds lefts (Stops Spent now) e f = tt
   close_fine w founds lefts (Stops Astray now) e f = f
 
-  inner_fine : (w : Option Mode) (outer : Mode) (r : Answer End) → Some outer ≡ w → Fine (Some (mode_of kind)) ls P r → Fine w ls Q (close_inner outer kind mine found r)
+  inner_fine : (w : Option Mode) (outer : Mode) (r : Answer Completion) → Some outer ≡ w → Fine (Some (mode_of kind)) ls P r → Fine w ls Q (close_inner outer kind mine found r)
   inner_fine w outer (Gives end now) e f = (e, left_shapes ls kind mine found end now same f.1, handed mine found end now f.2)
   inner_fine w outer (Stops why now) e f = f
 
@@ -291,8 +291,8 @@ relaxed_absurd None h e = absurd (cc)
 relaxed_absurd (Some Relaxed) h e = absurd (cc)
 relaxed_absurd (Some Atomic) h e = absurd h
 
-module _ (P Q : End → Type 0) where
-  enter_fine : (w : Option Mode) (ls : Shapes) (kind : Kind) → Handed kind P Q → (run : Action End) → Goes (Some (mode_of kind)) ls ls P run → MayBegin w (mode_of kind) → (pl : Context) (s : State) → mode_at pl ≡ w → map shape s.locals ≡ ls → Fine w ls Q (enter pl kind run s)
+module _ (P Q : Completion → Type 0) where
+  enter_fine : (w : Option Mode) (ls : Shapes) (kind : Kind) → Handed kind P Q → (run : Action Completion) → Goes (Some (mode_of kind)) ls ls P run → MayBegin w (mode_of kind) → (pl : Context) (s : State) → mode_at pl ≡ w → map shape s.locals ≡ ls → Fine w ls Q (enter pl kind run s)
   enter_fine w ls kind handed run h g (Outside [] lefts) s e f = tt
   enter_fine w ls kind handed run h g (Outside (m ∷ founds) lefts) s e f =
       close_fine kind P Q handed ls s.locals m f w founds lefts (run (record s { context = Inside (mode_of kind) m })) e (h.goes (record s { context = Inside (mode_of kind) m }) refl f)
@@ -304,14 +304,14 @@ module _ (P Q : End → Type 0) where
   enter_fine w ls Outer handed run h g (Inside Atomic m) s e f =
       inner_fine Outer P Q handed ls s.locals m f w Atomic (run (record s { context = Inside Atomic m })) e (h.goes (record s { context = Inside Atomic m }) refl f)
 
-  enters : {w : Option Mode} {ls : Shapes} (kind : Kind) → Handed kind P Q → {run : Action End} → MayBegin w (mode_of kind) → Goes (Some (mode_of kind)) ls ls P run → Goes w ls ls Q (transaction kind run)
+  enters : {w : Option Mode} {ls : Shapes} (kind : Kind) → Handed kind P Q → {run : Action Completion} → MayBegin w (mode_of kind) → Goes (Some (mode_of kind)) ls ls P run → Goes w ls ls Q (transaction kind run)
   enters {w = w} {ls = ls} kind handed {run = run} g h = record { goes = λ s e f. enter_fine w ls kind handed run h g s.context s e f }
 
-pub transaction_goes : {w : Option Mode} {ls : Shapes} (l b b' u : Bool) (kind : Kind) {run : Action End} → MayBegin w (mode_of kind) → Goes (Some (mode_of kind)) ls ls (EndFits l b (in_outer kind u)) run → Goes w ls ls (EndFits l b' u) (transaction kind run)
+pub transaction_goes : {w : Option Mode} {ls : Shapes} (l b b' u : Bool) (kind : Kind) {run : Action Completion} → MayBegin w (mode_of kind) → Goes (Some (mode_of kind)) ls ls (EndFits l b (in_outer kind u)) run → Goes w ls ls (EndFits l b' u) (transaction kind run)
 transaction_goes l b b' u kind g h = enters (EndFits l b (in_outer kind u)) (EndFits l b' u) kind (left_fits l b b' u kind) g h
 
 -- a transaction that is an expression: its body returns the value, and ends in no other way
-abbrev IsReturn : End → Type 0
+abbrev IsReturn : Completion → Type 0
 IsReturn (Returns v) = Unit {0}
 IsReturn end = ⊥
 
@@ -330,7 +330,7 @@ begin_fine w ls (Inside mode m) s e f = (e, f, tt)
 begin_value_goes : {w : Option Mode} {ls : Shapes} → Goes w ls ls Any begin_value
 begin_value_goes {w = w} {ls = ls} = record { goes = λ s e f. begin_fine w ls s.context s e f }
 
-value_at_goes : {w : Option Mode} {ls : Shapes} (end : End) → IsReturn end → Goes w ls ls Any (value_at end)
+value_at_goes : {w : Option Mode} {ls : Shapes} (end : Completion) → IsReturn end → Goes w ls ls Any (value_at end)
 value_at_goes (Returns v) h = pure_goes v tt
 value_at_goes Next h = absurd h
 value_at_goes Breaks h = absurd h

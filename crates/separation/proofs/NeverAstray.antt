@@ -24,7 +24,7 @@ use Rattle.syntax.specs.Types.{Known, Unknown, Number, Array, Callable, Scope, k
 use Rattle.syntax.specs.Typing.{has_name, is_unknown, may_be_number, may_be_array, may_be_function, may_be_assigned, takes_so_many, count, is_void, is_worker, knows, scope_after, names_of, scope_of_start, parameter_names}
 use Rattle.syntax.specs.Behaviours.{Stopped}
 use Rattle.syntax.specs.Actions.{Answer, Stops, Action, pure}
-use Rattle.syntax.specs.Meaning.{Spot, InLocal, InCell, End, Next, Breaks, Continues, Returns, Cancels, CancelsOuter, in_scope, op_of, int_one, Caller, spot_from, named, element, expr, exprs, spot, changed, assigned, simple, first_value, declare, start_with, holds, stepped, return_value, stmt, stmts, call_locals, result_of, invoke, calls}
+use Rattle.syntax.specs.Meaning.{Spot, InLocal, InCell, Completion, Next, Breaks, Continues, Returns, Cancels, CancelsOuter, in_scope, op_of, int_one, Caller, spot_from, named, element, expr, exprs, spot, changed, assigned, simple, first_value, declare, start_with, holds, stepped, return_value, stmt, stmts, call_locals, result_of, invoke, calls}
 use Rattle.syntax.specs.Threads.{outcome_of, first_state, worker_run}
 use Rattle.syntax.specs.Laws.{shape}
 use Rattle.syntax.specs.ScopeLaws.{IsSubscope, declared_by, body_scope}
@@ -395,7 +395,7 @@ module _ (p : Program) (call : Caller) (called : CallsGo p call) (outer : Option
         (stmts_open ss (scope_after s known) (ls ++ declared_by s) a' l (here_after p known ls a s here) h.1 (back_permitted (stmt_sites s a) (stmts_sites ss a') m))
 
 -- a function that is called goes well: its body is typed, and all its sites are permitted
-result_goes : {w : Option Mode} {ls : Shapes} (t : Option Scalar) (end : End) → EndFits false false false end → Goes w ls ls Any (result_of t end)
+result_goes : {w : Option Mode} {ls : Shapes} (t : Option Scalar) (end : Completion) → EndFits false false false end → Goes w ls ls Any (result_of t end)
 result_goes t Next h = pure_goes (value_in_type (unwrap_or t Int) (flag false)) tt
 result_goes t Breaks h = absurd (cc)
 result_goes t Continues h = absurd (cc)

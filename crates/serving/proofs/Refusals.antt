@@ -2,7 +2,7 @@
 use Rattle.std.proofs.Common.{◌≡◌, ◌≢◌, ◌<◌, ◌⊎◌, inl, inr, ℕ, List, ◌∷◌, length, Option, Some, None, refl, sym, subst, arith}
 use Rattle.std.specs.Prelude.{Contains, IfSome}
 use Rattle.std.proofs.lemmas.List.Elements.{Contains-append_right}
-use Rattle.syntax.specs.Grammar.{Source as Spelled}
+use Rattle.syntax.specs.Grammar.{ParsedSource as Spelled}
 use Rattle.syntax.specs.Tree.{Defines, Program}
 use Rattle.separation.specs.Touching.{IsAccepted}
 use Rattle.command.specs.declared.request.Task.{Task}

@@ -4,7 +4,7 @@ use Rattle.std.specs.Prelude.{IfSome, min, option_map}
 use Rattle.std.specs.Io.Take.{take_limit, take_inner, take_remaining}
 use Rattle.std.specs.declared.io.traits.Take.{Take}
 use Rattle.std.proofs.lemmas.List.{length-take, take_all}
-use Rattle.serving.specs.declared.source.Source.{Source}
+use Rattle.serving.specs.declared.source.SourceText.{SourceText}
 use Rattle.serving.specs.inner.Read.{IsTextOf}
 
 taken_known : (known : Option (List ℕ)) (n : ℕ) (before ys : List ℕ) → before ≡ [] → IfSome (option_map (take n) known) (λ xs. ys ≡ before ++ xs) → IfSome known (λ xs. ys ≡ take n xs)
@@ -24,7 +24,7 @@ all_taken n xs ys is short =
     is ∙ take_all n xs (omega (arith, counted, short))
 
 -- a text that was read whole is that of the bytes that are known
-pub text_taken : {A : Type 0} (known : Option (List ℕ)) (n : ℕ) (ys : List ℕ) (s : Source A) → IfSome known (λ xs. ys ≡ take n xs) → length ys < n → IsTextOf ys s → IfSome known (λ xs. IsTextOf xs s)
+pub text_taken : {A : Type 0} (known : Option (List ℕ)) (n : ℕ) (ys : List ℕ) (s : SourceText A) → IfSome known (λ xs. ys ≡ take n xs) → length ys < n → IsTextOf ys s → IfSome known (λ xs. IsTextOf xs s)
 text_taken None n ys s is short text = tt
 text_taken (Some xs) n ys s is short text = subst (λ zs. IsTextOf zs s) (all_taken n xs ys is short) text
 

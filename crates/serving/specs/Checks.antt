@@ -3,18 +3,18 @@ use Rattle.std.specs.Prelude.{◌≡◌, ℕ, List, Option, codes}
 use Rattle.std.specs.Io.KnownBytes.{Appends}
 use Rattle.lex.specs.Tokens.{Tok}
 use Rattle.lex.specs.Pieces.{IsLexed}
-use Rattle.syntax.specs.Grammar.{Source, Spells}
+use Rattle.syntax.specs.Grammar.{ParsedSource, Spells}
 use Rattle.separation.specs.Touching.{IsAccepted}
 
 -- the tokens of a text spell this program
-pub record IsSourceOf (text : List ℕ) (source : Source) : Type 0 where
+pub record IsSourceOf (text : List ℕ) (source : ParsedSource) : Type 0 where
   pub tokens : List Tok
   pub lexed : IsLexed text tokens
   pub spelled : Spells source tokens
 
 -- the text spells an accepted program
 pub record Accepts (text : List ℕ) : Type 0 where
-  pub source : Source
+  pub source : ParsedSource
   pub spelled : IsSourceOf text source
   pub accepted : ∥ IsAccepted source.program ∥₁
 

@@ -2,7 +2,7 @@
 use Rattle.std.specs.Prelude.{◌≡◌, ℕ, List}
 use Rattle.syntax.specs.Tree.{Program}
 use Rattle.syntax.specs.Names.{globals}
-use Rattle.syntax.specs.Grammar.{Source}
+use Rattle.syntax.specs.Grammar.{ParsedSource}
 use Rattle.separation.specs.Touching.{IsAccepted}
 use Rattle.bytecode.specs.Code.{Code}
 use Rattle.lowered.specs.Means.{MeansItsProgram}
@@ -15,7 +15,7 @@ pub record IsCodeOf (p : Program) (code : Code) : Type 0 where
 
 -- the text spells an accepted program, and this is code of it
 pub record Compiles (text : List ℕ) (code : Code) : Type 0 where
-  pub source : Source
+  pub source : ParsedSource
   pub spelled : IsSourceOf text source
   pub accepted : ∥ IsAccepted source.program ∥₁
   pub compiled : IsCodeOf source.program code

@@ -1,6 +1,6 @@
 -- Why the accepted program of a text has no code, by the code that is picked for it.
 use Rattle.std.specs.Prelude.{ℕ, List}
-use Rattle.syntax.specs.Grammar.{Source}
+use Rattle.syntax.specs.Grammar.{ParsedSource}
 use Rattle.separation.specs.Touching.{IsAccepted}
 use Rattle.lower.specs.Faults.{IsLowerFaultOf}
 use Rattle.lower.specs.declared.fault.LowerFault.{LowerFault}
@@ -10,7 +10,7 @@ use Rattle.serving.specs.Checks.{IsSourceOf}
 
 -- the code that is picked for the accepted program of a text passes a limit
 pub record PassesLimit (text : List ℕ) (fault : LowerFault) : Type 0 where
-  pub source : Source
+  pub source : ParsedSource
   pub spelled : IsSourceOf text source
   pub accepted : ∥ IsAccepted source.program ∥₁
   pub because : IsLowerFaultOf source.program fault

@@ -5,7 +5,7 @@ use Rattle.syntax.specs.Tree.{Program}
 use Rattle.syntax.specs.Names.{globals, initial_memory}
 use Rattle.syntax.specs.Orders.{in_order}
 use Rattle.syntax.specs.Threads.{thread}
-use Rattle.syntax.specs.Grammar.{Source}
+use Rattle.syntax.specs.Grammar.{ParsedSource}
 use Rattle.separation.specs.Touching.{IsAccepted}
 use Rattle.meaning.specs.InOrder.{NamesThreads}
 use Rattle.report.specs.Printed.{ThreadShown, Printed}
@@ -20,7 +20,7 @@ pub record IsOrderOf (p : Program) (count ticks : ℕ) (order : List ℕ) (shown
 
 -- the text spells an accepted program, and this is what the report of its threads in this order shows
 pub record RunsInOrder (count ticks : ℕ) (order text : List ℕ) (shown : Printed) : Type 0 where
-  pub source : Source
+  pub source : ParsedSource
   pub spelled : IsSourceOf text source
   pub accepted : ∥ IsAccepted source.program ∥₁
   pub run : IsOrderOf source.program count ticks order shown

@@ -7,7 +7,7 @@ use Rattle.lex.specs.Tokens.{Tok}
 use Rattle.lex.specs.Pieces.{IsLexed}
 use Rattle.lex.specs.Faults.{IsFault}
 use Rattle.syntax.specs.Tree.{Function, Defines, Program}
-use Rattle.syntax.specs.Grammar.{Source}
+use Rattle.syntax.specs.Grammar.{ParsedSource}
 use Rattle.syntax.specs.Typing.{Meets, first_unmet}
 use Rattle.types.specs.declared.fault.Violation.{Violation}
 use Rattle.types.specs.Answers.{number_in, span_in}
@@ -38,19 +38,19 @@ pub record IsMisspelled (text : List ℕ) (says : List Tok → Type 0) : Type 0 
 
 -- the first demand that the program of a text does not meet is of this number and at this place
 pub record IsMistyped (text : List ℕ) (fault : Violation) : Type 0 where
-  pub source : Source
+  pub source : ParsedSource
   pub spelled : IsSourceOf text source
   pub first : Some (number_in fault, span_in fault) ≡ first_unmet (Meets source.ends source.program)
 
 -- the program that a text spells breaks a rule of safety first here
 pub record IsUnsafe (text : List ℕ) (fault : SafetyViolation) : Type 0 where
-  pub source : Source
+  pub source : ParsedSource
   pub spelled : IsSourceOf text source
   pub first : IsSafetyFault (safety.number_in fault) (safety.span_in fault) source.program
 
 -- the program that a text spells breaks a rule of separation first here
 pub record IsNotSeparate (text : List ℕ) (fault : SeparationViolation) : Type 0 where
-  pub source : Source
+  pub source : ParsedSource
   pub spelled : IsSourceOf text source
   pub first : IsSeparationFault (separation.number_in fault) (separation.span_in fault) source.program
 
@@ -70,7 +70,7 @@ IsLimit p (limit.NestedTooDeep at) = nested_too_deep p ≡ Some at
 
 -- no code is made of the accepted program that a text spells
 pub record IsUncoded (text : List ℕ) (fault : LowerFault) : Type 0 where
-  pub source : Source
+  pub source : ParsedSource
   pub spelled : IsSourceOf text source
   pub accepted : ∥ IsAccepted source.program ∥₁
   pub because : IsLimit source.program fault

@@ -19,9 +19,9 @@ use std::thread::Threads;
 use workers::{Finished, Gate, RunFault, RunReport, run_all};
 
 /// Holds no thread back.
-struct Open;
+struct OpenGate;
 
-impl Gate for Open {
+impl Gate for OpenGate {
     const HOLDS: bool = false;
 
     fn hold(&self, _thread: u32, _accesses: u64) -> bool {
@@ -75,7 +75,7 @@ fn run_code<H: Threads + Wait + Sync>(
         (printed_of r.0)) }
     ensures err { IfErr result (λ f. IsRunRefused f threads) }
 {
-    let ran = run_all(rt, alloc, &compiled.code, threads, budget, &Open)?;
+    let ran = run_all(rt, alloc, &compiled.code, threads, budget, &OpenGate)?;
     match shown_at_once(alloc, unit_of(&compiled.accepted), threads, &ran) {
         Ok(printed) => Ok((printed, finished_of(ran))),
         Err(_) => Err(RunFault::OutOfMemory),

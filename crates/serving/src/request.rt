@@ -34,7 +34,7 @@ use crate::order::{OrderFault, run_in_order, unit_of};
 use crate::replayed::{Replayed, replay_code};
 use crate::run::check_source;
 use crate::scheduled::{lines_of, lines_picked};
-use crate::source::{Source, read_source};
+use crate::source::{SourceText, read_source};
 use crate::status::{ENDED, status_of};
 use crate::tell::{
     Detail, cannot_write, not_read, not_text, out_of_memory, print, refuse, refuse_order,
@@ -191,9 +191,9 @@ fn text_of<A: Allocator, R: Read + Drop, E: Write>(
         ⊎ (s ≡ 4)) }
 {
     match read_source(alloc, source) {
-        Ok(Source::Text(text)) => Ok(text),
-        Ok(Source::NotText) => Err(not_text(file, err)),
-        Ok(Source::TooLong) => Err(too_long(detail, err)),
+        Ok(SourceText::Text(text)) => Ok(text),
+        Ok(SourceText::NotText) => Err(not_text(file, err)),
+        Ok(SourceText::TooLong) => Err(too_long(detail, err)),
         Err(error) => Err(not_read(file, &error, detail, err)),
     }
 }

@@ -13,7 +13,7 @@ const BEYOND_MOST_BYTES: u64 = MOST_BYTES as u64 + 1;
 
 /// What a file holds.
 #[derive(Drop)]
-pub(crate) enum Source<A: Allocator> {
+pub(crate) enum SourceText<A: Allocator> {
     Text(String<A>),
     NotText,
     TooLong,
@@ -29,12 +29,12 @@ fn read_bytes<A: Allocator, R: Read + Drop>(alloc: A, source: R) -> io::Result<V
 }
 
 /// What bytes are as a source.
-fn source_of<A: Allocator>(bytes: Vec<u8, A>) -> Source<A>
+fn source_of<A: Allocator>(bytes: Vec<u8, A>) -> SourceText<A>
     ensures { IsTextOf bytes.items result }
 {
     match String::from_utf8(bytes) {
-        Ok(text) => Source::Text(text),
-        Err(_) => Source::NotText,
+        Ok(text) => SourceText::Text(text),
+        Err(_) => SourceText::NotText,
     }
 }
 
@@ -42,12 +42,12 @@ fn source_of<A: Allocator>(bytes: Vec<u8, A>) -> Source<A>
 pub(crate) fn read_source<A: Allocator, R: Read + Drop>(
     alloc: A,
     source: R,
-) -> io::Result<Source<A>>
+) -> io::Result<SourceText<A>>
     ensures { IfOk result (λ s. IfSome (R.remaining source) (λ bytes. IsTextOf bytes s)) }
 {
     let bytes = read_bytes(alloc, source)?;
     if bytes.len() > MOST_BYTES {
-        Ok(Source::TooLong)
+        Ok(SourceText::TooLong)
     } else {
         Ok(source_of(bytes))
     }

@@ -8,7 +8,7 @@ use Rattle.syntax.specs.declared.numbers.Halt.TheVariants.{Trapped}
 use Rattle.syntax.specs.Names.{Local}
 use Rattle.syntax.specs.Behaviours.{Memory}
 use Rattle.syntax.specs.Actions.{Context, Outside, Inside, State, Answer, Gives, Stops, Action, stop, go_on, ◌>>=◌, spend, tick, load_at, store, may_print_at, write}
-use Rattle.syntax.specs.Meaning.{End, after_turn, turns, Left, left_by, close_inner, close, enter, mode_of, begin_at}
+use Rattle.syntax.specs.Meaning.{Completion, after_turn, turns, Left, left_by, close_inner, close, enter, mode_of, begin_at}
 use Rattle.syntax.specs.Laws.{WhereGiven, StaysIn, StaysInContext}
 use Rattle.syntax.proofs.Kept.{IsAlwaysKept, each_expr_holds, each_stmt_holds}
 
@@ -58,11 +58,11 @@ may_print_given (Outside f l) s = stays_refl s.context
 may_print_given (Inside Relaxed m) s = stays_refl s.context
 may_print_given (Inside Atomic m) s = tt
 
-after_turn_given : (rest : Action End) → ((s : State) → Given s.context (rest s)) → (o : Option End) (s : State) → Given s.context (after_turn rest o s)
+after_turn_given : (rest : Action Completion) → ((s : State) → Given s.context (rest s)) → (o : Option Completion) (s : State) → Given s.context (after_turn rest o s)
 after_turn_given rest h None s = h s
 after_turn_given rest h (Some end) s = stays_refl s.context
 
-turns_given : (turn : Action (Option End)) → Stays turn → (n : ℕ) (s : State) → Given s.context (turns n turn s)
+turns_given : (turn : Action (Option Completion)) → Stays turn → (n : ℕ) (s : State) → Given s.context (turns n turn s)
 turns_given turn h zero s = tt
 turns_given turn h (suc n) s =
     on_given s.context (tick s) (λ _. turn >>= after_turn (turns n turn)) (spend_given s.ticks s)
@@ -72,12 +72,12 @@ leave_given : (n : ℕ) (now : State) (m : Memory) (founds lefts : List Memory) 
 leave_given zero now m founds lefts left = tt
 leave_given (suc n) now m founds lefts left = (m ∷ [], left.memory ∷ [], refl, refl, refl)
 
-close_given : (kind : Kind) (m : Memory) (founds lefts : List Memory) (mine : List Local) (r : Answer End) → Given (Outside (m ∷ founds) lefts) (close kind founds lefts mine m r)
+close_given : (kind : Kind) (m : Memory) (founds lefts : List Memory) (mine : List Local) (r : Answer Completion) → Given (Outside (m ∷ founds) lefts) (close kind founds lefts mine m r)
 close_given kind m founds lefts mine (Gives end now) = leave_given now.ticks now m founds lefts (left_by kind mine m end now)
 close_given kind m founds lefts mine (Stops (Trapped k) now) = tt
 close_given kind m founds lefts mine r = tt
 
-close_inner_given : (outer : Mode) (kind : Kind) (m : Memory) (mine : List Local) (r : Answer End) → Given (Inside outer m) (close_inner outer kind mine m r)
+close_inner_given : (outer : Mode) (kind : Kind) (m : Memory) (mine : List Local) (r : Answer Completion) → Given (Inside outer m) (close_inner outer kind mine m r)
 close_inner_given outer kind m mine (Gives end now) = refl
 close_inner_given outer kind m mine (Stops why now) = tt
 
@@ -85,7 +85,7 @@ begin_given : (p : Context) (s : State) → Given s.context (begin_at p s)
 begin_given (Outside founds lefts) s = spend_given s.ticks s
 begin_given (Inside mode m) s = stays_refl s.context
 
-enter_given : (kind : Kind) (run : Action End) → (p : Context) (n : ℕ) (ls : List Local) (t : List ℕ) → Given p (enter p kind run (record { ticks = n; locals = ls; context = p; text = t }))
+enter_given : (kind : Kind) (run : Action Completion) → (p : Context) (n : ℕ) (ls : List Local) (t : List ℕ) → Given p (enter p kind run (record { ticks = n; locals = ls; context = p; text = t }))
 enter_given kind run (Outside [] lefts) n ls t = tt
 enter_given kind run (Outside (m ∷ founds) lefts) n ls t = close_given kind m founds lefts ls (run (record { ticks = n; locals = ls; context = Inside (mode_of kind) m; text = t }))
 enter_given kind run (Inside Relaxed m) n ls t = close_inner_given Relaxed kind m ls (run (record { ticks = n; locals = ls; context = Inside (mode_of kind) m; text = t }))

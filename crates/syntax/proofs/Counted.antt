@@ -9,7 +9,7 @@ use Rattle.syntax.specs.Tree.{Program}
 use Rattle.syntax.specs.Names.{Local}
 use Rattle.syntax.specs.Behaviours.{Memory}
 use Rattle.syntax.specs.Actions.{Context, Outside, Inside, State, Answer, Gives, Stops, Action, stop, go_on, ◌>>=◌, spend, tick, load_at, store, may_print_at, write}
-use Rattle.syntax.specs.Meaning.{End, after_turn, turns, Left, left_by, close_inner, close, enter, mode_of, begin_at}
+use Rattle.syntax.specs.Meaning.{Completion, after_turn, turns, Left, left_by, close_inner, close, enter, mode_of, begin_at}
 use Rattle.syntax.specs.Actions.{lefts_in}
 use Rattle.syntax.specs.Behaviours.{Stopped}
 use Rattle.syntax.specs.Laws.{IsPieceOf, LeftAsManyAsFound, NeverMoreLeft}
@@ -103,11 +103,11 @@ may_print_counted (Outside f l) s = keeps_refl s.context
 may_print_counted (Inside Relaxed m) s = keeps_refl s.context
 may_print_counted (Inside Atomic m) s = bounded_refl s.context
 
-after_turn_counted : (rest : Action End) → ((s : State) → Counted s.context (rest s)) → (o : Option End) (s : State) → Counted s.context (after_turn rest o s)
+after_turn_counted : (rest : Action Completion) → ((s : State) → Counted s.context (rest s)) → (o : Option Completion) (s : State) → Counted s.context (after_turn rest o s)
 after_turn_counted rest h None s = h s
 after_turn_counted rest h (Some end) s = keeps_refl s.context
 
-turns_counted : (turn : Action (Option End)) → IsCounted turn → (n : ℕ) (s : State) → Counted s.context (turns n turn s)
+turns_counted : (turn : Action (Option Completion)) → IsCounted turn → (n : ℕ) (s : State) → Counted s.context (turns n turn s)
 turns_counted turn h zero s = bounded_refl s.context
 turns_counted turn h (suc n) s =
     on_counted s.context (tick s) (λ _. turn >>= after_turn (turns n turn)) (spend_counted s.ticks s)
@@ -118,18 +118,18 @@ leave_counted : (n : ℕ) (now : State) (m : Memory) (founds lefts : List Memory
 leave_counted zero now m founds lefts left = omega arith
 leave_counted (suc n) now m founds lefts left = omega (arith, length-append lefts (left.memory ∷ []))
 
-close_counted : (kind : Kind) (m : Memory) (founds lefts : List Memory) (mine : List Local) (r : Answer End) → Counted (Inside (mode_of kind) m) r → Counted (Outside (m ∷ founds) lefts) (close kind founds lefts mine m r)
+close_counted : (kind : Kind) (m : Memory) (founds lefts : List Memory) (mine : List Local) (r : Answer Completion) → Counted (Inside (mode_of kind) m) r → Counted (Outside (m ∷ founds) lefts) (close kind founds lefts mine m r)
 close_counted kind m founds lefts mine (Gives end now) c = leave_counted now.ticks now m founds lefts (left_by kind mine m end now)
 close_counted kind m founds lefts mine (Stops (Trapped k) now) c = omega (arith, length-append lefts (m ∷ []))
 close_counted kind m founds lefts mine (Stops Wants now) c = absurd c
 close_counted kind m founds lefts mine (Stops Spent now) c = omega arith
 close_counted kind m founds lefts mine (Stops Astray now) c = omega arith
 
-close_inner_counted : (outer : Mode) (kind : Kind) (old m : Memory) (mine : List Local) (r : Answer End) → Counted (Inside (mode_of kind) m) r → Counted (Inside outer old) (close_inner outer kind mine m r)
+close_inner_counted : (outer : Mode) (kind : Kind) (old m : Memory) (mine : List Local) (r : Answer Completion) → Counted (Inside (mode_of kind) m) r → Counted (Inside outer old) (close_inner outer kind mine m r)
 close_inner_counted outer kind old m mine (Stops Wants now) c = c
 close_inner_counted outer kind old m mine r c = tt
 
-enter_counted : (kind : Kind) (run : Action End) → IsCounted run → (p : Context) (n : ℕ) (ls : List Local) (t : List ℕ) → Counted p (enter p kind run (record { ticks = n; locals = ls; context = p; text = t }))
+enter_counted : (kind : Kind) (run : Action Completion) → IsCounted run → (p : Context) (n : ℕ) (ls : List Local) (t : List ℕ) → Counted p (enter p kind run (record { ticks = n; locals = ls; context = p; text = t }))
 enter_counted kind run h (Outside [] lefts) n ls t = omega arith
 enter_counted kind run h (Outside (m ∷ founds) lefts) n ls t = close_counted kind m founds lefts ls _ (h.counts (record { ticks = n; locals = ls; context = Inside (mode_of kind) m; text = t }))
 enter_counted kind run h (Inside Relaxed m) n ls t = close_inner_counted Relaxed kind m m ls _ (h.counts (record { ticks = n; locals = ls; context = Inside (mode_of kind) m; text = t }))

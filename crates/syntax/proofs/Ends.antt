@@ -16,14 +16,14 @@ use Rattle.syntax.specs.Typing.{scope_after, scope_of_start}
 use Rattle.syntax.specs.Behaviours.{Memory}
 use Rattle.syntax.specs.Actions.{Context, Outside, Inside, State, Answer, Gives, Stops, Action, pure, go_on, ◌>>=◌, ◌>>◌, spend, tick, locals, put_locals, may_print}
 use Rattle.syntax.specs.Formats.{pieces}
-use Rattle.syntax.specs.Meaning.{End, Next, Breaks, Continues, Returns, Cancels, CancelsOuter, mode_of, on_next, in_scope, after_turn, turns, loop, after_body, Left, left_by, close_inner, close, enter, transaction, Caller, InLocal, op_of, int_one, expr, exprs, spot, assigned, changed, first_value, holds, return_value, print_pieces, simple, declare, start_with, stepped, stmt, stmts, calls}
+use Rattle.syntax.specs.Meaning.{Completion, Next, Breaks, Continues, Returns, Cancels, CancelsOuter, mode_of, on_next, in_scope, after_turn, turns, loop, after_body, Left, left_by, close_inner, close, enter, transaction, Caller, InLocal, op_of, int_one, expr, exprs, spot, assigned, changed, first_value, holds, return_value, print_pieces, simple, declare, start_with, stepped, stmt, stmts, calls}
 use Rattle.syntax.specs.Laws.{WhereGiven}
 use Rattle.syntax.specs.ScopeLaws.{IsNoJump, EndsFit}
 use Rattle.syntax.proofs.TypedParts.{TypedStmt, TypedStmts, stmt_parts}
 
 -- a break or a continue comes only out of a statement in a loop, a cancel out of one in a transaction, and an outer cancel
 -- out of one in an outer transaction
-abbrev pub Fits : (looping inside outer : Bool) → End → Type 0
+abbrev pub Fits : (looping inside outer : Bool) → Completion → Type 0
 Fits looping inside outer Next = Unit {0}
 Fits looping inside outer Breaks = IsTrue looping
 Fits looping inside outer Continues = IsTrue looping
@@ -31,7 +31,7 @@ Fits looping inside outer (Returns v) = Unit {0}
 Fits looping inside outer Cancels = IsTrue inside
 Fits looping inside outer CancelsOuter = IsTrue outer
 
-pub record EndsSo (looping inside outer : Bool) (run : Action End) : Type 0 where
+pub record EndsSo (looping inside outer : Bool) (run : Action Completion) : Type 0 where
   pub ends : (s : State) → WhereGiven (run s) (λ end now. Fits looping inside outer end)
 
 -- whether what stands in a transaction of this kind stands in an outer one
@@ -60,11 +60,11 @@ abbrev mutual
   AllJumpsFit (Stmts.◌∷◌ s ss) l c o = JumpsFit s l c o × AllJumpsFit ss l c o
 
 -- a turn of a loop takes them up
-abbrev FitsTurn : (inside outer : Bool) → Option End → Type 0
+abbrev FitsTurn : (inside outer : Bool) → Option Completion → Type 0
 FitsTurn inside outer None = Unit {0}
 FitsTurn inside outer (Some end) = Fits false inside outer end
 
-record TurnsSo (inside outer : Bool) (turn : Action (Option End)) : Type 0 where
+record TurnsSo (inside outer : Bool) (turn : Action (Option Completion)) : Type 0 where
   ends : (s : State) → WhereGiven (turn s) (λ end now. FitsTurn inside outer end)
 
 on_last : {A B : Type 0} (P : B → Type 0) (r : Answer A) (rest : A → Action B) → ((a : A) (t : State) → WhereGiven (rest a t) (λ b now. P b)) → WhereGiven (go_on r rest) (λ b now. P b)
@@ -75,37 +75,37 @@ on_both : {A B : Type 0} (P : A → Type 0) (Q : B → Type 0) (r : Answer A) (r
 on_both P Q (Gives a t) rest g h = h a g t
 on_both P Q (Stops why t) rest g h = tt
 
-last_ends : {A : Type 0} {l c o : Bool} (run : Action A) {rest : A → Action End} → ((a : A) → EndsSo l c o (rest a)) → EndsSo l c o (run >>= rest)
+last_ends : {A : Type 0} {l c o : Bool} (run : Action A) {rest : A → Action Completion} → ((a : A) → EndsSo l c o (rest a)) → EndsSo l c o (run >>= rest)
 last_ends {l = l} {c = c} {o = o} run {rest = rest} h = record { ends = λ s. on_last (Fits l c o) (run s) rest (λ a t. (h a).ends t) }
 
-then_ends : {A : Type 0} {l c o : Bool} (run : Action A) {rest : Action End} → EndsSo l c o rest → EndsSo l c o (run >> rest)
+then_ends : {A : Type 0} {l c o : Bool} (run : Action A) {rest : Action Completion} → EndsSo l c o rest → EndsSo l c o (run >> rest)
 then_ends run h = last_ends run (λ _. h)
 
-last_turns : {A : Type 0} {c o : Bool} (run : Action A) {rest : A → Action (Option End)} → ((a : A) → TurnsSo c o (rest a)) → TurnsSo c o (run >>= rest)
+last_turns : {A : Type 0} {c o : Bool} (run : Action A) {rest : A → Action (Option Completion)} → ((a : A) → TurnsSo c o (rest a)) → TurnsSo c o (run >>= rest)
 last_turns {c = c} {o = o} run {rest = rest} h = record { ends = λ s. on_last (FitsTurn c o) (run s) rest (λ a t. (h a).ends t) }
 
-ends_by : {l c o : Bool} (end : End) → Fits l c o end → EndsSo l c o (pure end)
+ends_by : {l c o : Bool} (end : Completion) → Fits l c o end → EndsSo l c o (pure end)
 ends_by end h = record { ends = λ s. h }
 
-turns_by : {c o : Bool} (end : Option End) → FitsTurn c o end → TurnsSo c o (pure end)
+turns_by : {c o : Bool} (end : Option Completion) → FitsTurn c o end → TurnsSo c o (pure end)
 turns_by end h = record { ends = λ s. h }
 
-if_ends : {l c o : Bool} (b : Bool) {x y : Action End} → EndsSo l c o x → EndsSo l c o y → EndsSo l c o (if b then x else y)
+if_ends : {l c o : Bool} (b : Bool) {x y : Action Completion} → EndsSo l c o x → EndsSo l c o y → EndsSo l c o (if b then x else y)
 if_ends true g h = g
 if_ends false g h = h
 
-if_turns : {c o : Bool} (b : Bool) {x y : Action (Option End)} → TurnsSo c o x → TurnsSo c o y → TurnsSo c o (if b then x else y)
+if_turns : {c o : Bool} (b : Bool) {x y : Action (Option Completion)} → TurnsSo c o x → TurnsSo c o y → TurnsSo c o (if b then x else y)
 if_turns true g h = g
 if_turns false g h = h
 
-scope_ends : (l c o : Bool) (n : ℕ) (r : Answer End) → WhereGiven r (λ end now. Fits l c o end) → WhereGiven (go_on r (λ end t. Gives end (record t { locals = take n t.locals }))) (λ end now. Fits l c o end)
+scope_ends : (l c o : Bool) (n : ℕ) (r : Answer Completion) → WhereGiven r (λ end now. Fits l c o end) → WhereGiven (go_on r (λ end t. Gives end (record t { locals = take n t.locals }))) (λ end now. Fits l c o end)
 scope_ends l c o n (Gives end t) h = h
 scope_ends l c o n (Stops why t) h = tt
 
-scoped_ends : {l c o : Bool} {run : Action End} → EndsSo l c o run → EndsSo l c o (in_scope run)
+scoped_ends : {l c o : Bool} {run : Action Completion} → EndsSo l c o run → EndsSo l c o (in_scope run)
 scoped_ends {l = l} {c = c} {o = o} {run = run} h = record { ends = λ s. scope_ends l c o (length s.locals) (run s) (h.ends s) }
 
-on_next_ends : {l c o : Bool} {rest : Action End} → EndsSo l c o rest → (end : End) → Fits l c o end → EndsSo l c o (on_next rest end)
+on_next_ends : {l c o : Bool} {rest : Action Completion} → EndsSo l c o rest → (end : Completion) → Fits l c o end → EndsSo l c o (on_next rest end)
 on_next_ends h Next f = h
 on_next_ends h Breaks f = ends_by Breaks f
 on_next_ends h Continues f = ends_by Continues f
@@ -113,10 +113,10 @@ on_next_ends h (Returns v) f = ends_by (Returns v) tt
 on_next_ends h Cancels f = ends_by Cancels f
 on_next_ends h CancelsOuter f = ends_by CancelsOuter f
 
-joined : {l c o : Bool} {run rest : Action End} → EndsSo l c o run → EndsSo l c o rest → EndsSo l c o (run >>= on_next rest)
+joined : {l c o : Bool} {run rest : Action Completion} → EndsSo l c o run → EndsSo l c o rest → EndsSo l c o (run >>= on_next rest)
 joined {l = l} {c = c} {o = o} {run = run} {rest = rest} g h = record { ends = λ s. on_both (Fits l c o) (Fits l c o) (run s) (on_next rest) (g.ends s) (λ end f t. (on_next_ends h end f).ends t) }
 
-after_body_turns : {c o : Bool} {go : Action (Option End)} → TurnsSo c o go → (end : End) → Fits true c o end → TurnsSo c o (after_body go end)
+after_body_turns : {c o : Bool} {go : Action (Option Completion)} → TurnsSo c o go → (end : Completion) → Fits true c o end → TurnsSo c o (after_body go end)
 after_body_turns h Next f = h
 after_body_turns h Breaks f = turns_by (Some Next) tt
 after_body_turns h Continues f = h
@@ -124,11 +124,11 @@ after_body_turns h (Returns v) f = turns_by (Some (Returns v)) tt
 after_body_turns h Cancels f = turns_by (Some Cancels) f
 after_body_turns h CancelsOuter f = turns_by (Some CancelsOuter) f
 
-body_turns : {c o : Bool} {run : Action End} {go : Action (Option End)} → EndsSo true c o run → TurnsSo c o go → TurnsSo c o (run >>= after_body go)
+body_turns : {c o : Bool} {run : Action Completion} {go : Action (Option Completion)} → EndsSo true c o run → TurnsSo c o go → TurnsSo c o (run >>= after_body go)
 body_turns {c = c} {o = o} {run = run} {go = go} g h = record { ends = λ s. on_both (Fits true c o) (FitsTurn c o) (run s) (after_body go) (g.ends s) (λ end f t. (after_body_turns h end f).ends t) }
 
 -- what comes out of a loop comes out of any statement
-out_of_loop : (l c o : Bool) (end : End) → Fits false c o end → Fits l c o end
+out_of_loop : (l c o : Bool) (end : Completion) → Fits false c o end → Fits l c o end
 out_of_loop l c o Next h = tt
 out_of_loop l c o Breaks h = absurd (cc)
 out_of_loop l c o Continues h = absurd (cc)
@@ -136,19 +136,19 @@ out_of_loop l c o (Returns v) h = tt
 out_of_loop l c o Cancels h = h
 out_of_loop l c o CancelsOuter h = h
 
-after_turn_ends : {l c o : Bool} {rest : Action End} → EndsSo l c o rest → (q : Option End) → FitsTurn c o q → EndsSo l c o (after_turn rest q)
+after_turn_ends : {l c o : Bool} {rest : Action Completion} → EndsSo l c o rest → (q : Option Completion) → FitsTurn c o q → EndsSo l c o (after_turn rest q)
 after_turn_ends h None f = h
 after_turn_ends {l = l} {c = c} {o = o} h (Some end) f = ends_by end (out_of_loop l c o end f)
 
-turns_end : {c o : Bool} {turn : Action (Option End)} (l : Bool) → TurnsSo c o turn → (n : ℕ) → EndsSo l c o (turns n turn)
+turns_end : {c o : Bool} {turn : Action (Option Completion)} (l : Bool) → TurnsSo c o turn → (n : ℕ) → EndsSo l c o (turns n turn)
 turns_end l h zero = record { ends = λ s. tt }
 turns_end {c = c} {o = o} {turn = turn} l h (suc n) = then_ends tick (record { ends = λ s. on_both (FitsTurn c o) (Fits l c o) (turn s) (after_turn (turns n turn)) (h.ends s) (λ q f t. (after_turn_ends (turns_end l h n) q f).ends t) })
 
-loop_ends : {c o : Bool} {turn : Action (Option End)} (l : Bool) → TurnsSo c o turn → EndsSo l c o (loop turn)
+loop_ends : {c o : Bool} {turn : Action (Option Completion)} (l : Bool) → TurnsSo c o turn → EndsSo l c o (loop turn)
 loop_ends l h = record { ends = λ s. (turns_end l h s.ticks).ends s }
 
 -- a transaction takes a cancel up, and an outer one an outer cancel
-left_ends : (l c o : Bool) (kind : Kind) (mine : List Local) (found : Memory) (end : End) (now : State) → Fits l true (in_outer kind o) end → Fits l c o (left_by kind mine found end now).end
+left_ends : (l c o : Bool) (kind : Kind) (mine : List Local) (found : Memory) (end : Completion) (now : State) → Fits l true (in_outer kind o) end → Fits l c o (left_by kind mine found end now).end
 left_ends l c o kind mine found Cancels now h = tt
 left_ends l c o Outer mine found CancelsOuter now h = tt
 left_ends l c o (Plain mode) mine found CancelsOuter now h = h
@@ -161,16 +161,16 @@ leave_ends : (l c o : Bool) (n : ℕ) (founds lefts : List Memory) (left : Left)
 leave_ends l c o zero founds lefts left now h = tt
 leave_ends l c o (suc n) founds lefts left now h = h
 
-close_ends : (l c o : Bool) (kind : Kind) (founds lefts : List Memory) (mine : List Local) (found : Memory) (r : Answer End) → WhereGiven r (λ end now. Fits l true (in_outer kind o) end) → WhereGiven (close kind founds lefts mine found r) (λ end now. Fits l c o end)
+close_ends : (l c o : Bool) (kind : Kind) (founds lefts : List Memory) (mine : List Local) (found : Memory) (r : Answer Completion) → WhereGiven r (λ end now. Fits l true (in_outer kind o) end) → WhereGiven (close kind founds lefts mine found r) (λ end now. Fits l c o end)
 close_ends l c o kind founds lefts mine found (Gives end now) h = leave_ends l c o now.ticks founds lefts (left_by kind mine found end now) now (left_ends l c o kind mine found end now h)
 close_ends l c o kind founds lefts mine found (Stops (Trapped k) now) h = tt
 close_ends l c o kind founds lefts mine found r h = tt
 
-inner_ends : (l c o : Bool) (outer : Mode) (kind : Kind) (mine : List Local) (found : Memory) (r : Answer End) → WhereGiven r (λ end now. Fits l true (in_outer kind o) end) → WhereGiven (close_inner outer kind mine found r) (λ end now. Fits l c o end)
+inner_ends : (l c o : Bool) (outer : Mode) (kind : Kind) (mine : List Local) (found : Memory) (r : Answer Completion) → WhereGiven r (λ end now. Fits l true (in_outer kind o) end) → WhereGiven (close_inner outer kind mine found r) (λ end now. Fits l c o end)
 inner_ends l c o outer kind mine found (Gives end now) h = left_ends l c o kind mine found end now h
 inner_ends l c o outer kind mine found (Stops why now) h = tt
 
-enter_ends : (l c o : Bool) (kind : Kind) (run : Action End) → EndsSo l true (in_outer kind o) run → (p : Context) (s : State) → WhereGiven (enter p kind run s) (λ end now. Fits l c o end)
+enter_ends : (l c o : Bool) (kind : Kind) (run : Action Completion) → EndsSo l true (in_outer kind o) run → (p : Context) (s : State) → WhereGiven (enter p kind run s) (λ end now. Fits l c o end)
 enter_ends l c o kind run h (Outside [] lefts) s = tt
 enter_ends l c o kind run h (Outside (m ∷ founds) lefts) s = close_ends l c o kind founds lefts s.locals m (run (record s { context = Inside (mode_of kind) m })) (h.ends (record s { context = Inside (mode_of kind) m }))
 enter_ends l c o kind run h (Inside Relaxed m) s = inner_ends l c o Relaxed kind s.locals m (run (record s { context = Inside (mode_of kind) m })) (h.ends (record s { context = Inside (mode_of kind) m }))
@@ -178,7 +178,7 @@ enter_ends l c o (Plain Atomic) run h (Inside Atomic m) s = inner_ends l c o Ato
 enter_ends l c o Outer run h (Inside Atomic m) s = inner_ends l c o Atomic Outer s.locals m (run (record s { context = Inside Atomic m })) (h.ends (record s { context = Inside Atomic m }))
 enter_ends l c o (Plain Relaxed) run h (Inside Atomic m) s = tt
 
-transaction_ends : {l : Bool} (c o : Bool) (kind : Kind) {run : Action End} → EndsSo l true (in_outer kind o) run → EndsSo l c o (transaction kind run)
+transaction_ends : {l : Bool} (c o : Bool) (kind : Kind) {run : Action Completion} → EndsSo l true (in_outer kind o) run → EndsSo l c o (transaction kind run)
 transaction_ends {l = l} c o kind {run = run} h = record { ends = λ s. enter_ends l c o kind run h s.context s }
 
 module _ (p : Program) (call : Caller) where
@@ -248,7 +248,7 @@ mutual
   all_jumps_typed Tree.[] known l h = tt
   all_jumps_typed (Tree.◌∷◌ s ss) known l h = (jumps_typed s known l h.0, all_jumps_typed ss (scope_after s known) l h.1)
 
-fits_outside : (c o : Bool) (end : End) → Fits false c o end → IsNoJump end
+fits_outside : (c o : Bool) (end : Completion) → Fits false c o end → IsNoJump end
 fits_outside c o Next h = tt
 fits_outside c o Breaks h = absurd (cc)
 fits_outside c o Continues h = absurd (cc)
@@ -259,6 +259,6 @@ fits_outside c o CancelsOuter h = tt
 pub ends_fit : EndsFit
 ends_fit p frames gives st known declared s h = outside (stmt p (calls p frames) st s) ((stmt_ends p (calls p frames) st false true true (jumps_typed st known false (stmt_parts gives st known declared false h))).ends s)
   where
-    outside : (r : Answer End) → WhereGiven r (λ end now. Fits false true true end) → WhereGiven r (λ end now. IsNoJump end)
+    outside : (r : Answer Completion) → WhereGiven r (λ end now. Fits false true true end) → WhereGiven r (λ end now. IsNoJump end)
     outside (Gives end now) f = fits_outside true true end f
     outside (Stops why now) f = tt

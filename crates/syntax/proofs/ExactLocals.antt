@@ -18,7 +18,7 @@ use Rattle.syntax.specs.Types.{Scope, running_scope}
 use Rattle.syntax.specs.Typing.{scope_after}
 use Rattle.syntax.specs.Behaviours.{Memory}
 use Rattle.syntax.specs.Actions.{Context, Outside, Inside, State, Answer, Gives, Stops, Action, pure, stop, go_on, ◌>>=◌, ◌>>◌, spend, tick, store_at, may_print_at, may_print, print_piece}
-use Rattle.syntax.specs.Meaning.{Spot, InLocal, InCell, assign, print_pieces, End, Next, Breaks, Continues, Returns, Cancels, CancelsOuter, mode_of, in_scope, after_turn, turns, loop, after_body, Left, undoes, left_or, left_by, close_inner, close, enter, transaction, op_of, int_one, Caller, expr, spot, changed, assigned, simple, first_value, declare, return_value, stmt, calls}
+use Rattle.syntax.specs.Meaning.{Spot, InLocal, InCell, assign, print_pieces, Completion, Next, Breaks, Continues, Returns, Cancels, CancelsOuter, mode_of, in_scope, after_turn, turns, loop, after_body, Left, undoes, left_or, left_by, close_inner, close, enter, transaction, op_of, int_one, Caller, expr, spot, changed, assigned, simple, first_value, declare, return_value, stmt, calls}
 use Rattle.syntax.specs.Laws.{WhereGiven, shape, BeginsWithLocals}
 use Rattle.syntax.specs.ScopeLaws.{LocalsExact, ScopeFits, IsSubscope, declared_by}
 use Rattle.syntax.proofs.Expressions.{LeavesLocals, named_holds, element_holds, expr_holds, exprs_holds, fetch_holds, or_trap_holds, calls_holds}
@@ -107,14 +107,14 @@ same_taken (l ∷ ls) (m ∷ ms) more e =
     head_of d [] = d
     head_of d (x ∷ xs) = x
 
-scoped_same : {run : Action End} → KeepsOlder run → KeepsShape (in_scope run)
+scoped_same : {run : Action Completion} → KeepsOlder run → KeepsShape (in_scope run)
 scoped_same {run} h = record { keeps = λ s. scope_ends s.locals (run s) (h.keeps s) }
   where
-    scope_ends : (ls : List Local) (r : Answer End) → WhereGiven r (λ a now. BeginsWithLocals ls now.locals) → WhereGiven (go_on r (λ end t. Gives end (record t { locals = take (length ls) t.locals }))) (λ a now. map shape now.locals ≡ map shape ls)
+    scope_ends : (ls : List Local) (r : Answer Completion) → WhereGiven r (λ a now. BeginsWithLocals ls now.locals) → WhereGiven (go_on r (λ end t. Gives end (record t { locals = take (length ls) t.locals }))) (λ a now. map shape now.locals ≡ map shape ls)
     scope_ends ls (Gives end t) b = same_taken ls t.locals b.0 b.1
     scope_ends ls (Stops why t) b = tt
 
-after_body_same : {go : Action (Option End)} → KeepsShape go → (end : End) → KeepsShape (after_body go end)
+after_body_same : {go : Action (Option Completion)} → KeepsShape go → (end : Completion) → KeepsShape (after_body go end)
 after_body_same h Next = h
 after_body_same h Breaks = pure_same (Some Next)
 after_body_same h Continues = h
@@ -122,19 +122,19 @@ after_body_same h (Returns v) = pure_same (Some (Returns v))
 after_body_same h Cancels = pure_same (Some Cancels)
 after_body_same h CancelsOuter = pure_same (Some CancelsOuter)
 
-after_turn_same : {rest : Action End} → KeepsShape rest → (o : Option End) → KeepsShape (after_turn rest o)
+after_turn_same : {rest : Action Completion} → KeepsShape rest → (o : Option Completion) → KeepsShape (after_turn rest o)
 after_turn_same h None = h
 after_turn_same h (Some end) = pure_same end
 
-turns_same : {turn : Action (Option End)} → KeepsShape turn → (n : ℕ) → KeepsShape (turns n turn)
+turns_same : {turn : Action (Option Completion)} → KeepsShape turn → (n : ℕ) → KeepsShape (turns n turn)
 turns_same h zero = stop_same Spent
 turns_same h (suc n) = then_same tick_same (on_same h (after_turn_same (turns_same h n)))
 
-loop_same : {turn : Action (Option End)} → KeepsShape turn → KeepsShape (loop turn)
+loop_same : {turn : Action (Option Completion)} → KeepsShape turn → KeepsShape (loop turn)
 loop_same h = record { keeps = λ s. (turns_same h s.ticks).keeps s }
 
 -- a transaction that is undone puts the locals back, and another leaves its body's
-left_same : (undone : Bool) (mine : List Local) (found : Memory) (end : End) (now : State) → map shape now.locals ≡ map shape mine → map shape (left_or undone mine found end now).locals ≡ map shape mine
+left_same : (undone : Bool) (mine : List Local) (found : Memory) (end : Completion) (now : State) → map shape now.locals ≡ map shape mine → map shape (left_or undone mine found end now).locals ≡ map shape mine
 left_same true mine found end now h = refl
 left_same false mine found end now h = h
 
@@ -142,16 +142,16 @@ leave_same : (n : ℕ) (mine : List Local) (founds lefts : List Memory) (left : 
 leave_same zero mine founds lefts left now h = tt
 leave_same (suc n) mine founds lefts left now h = h
 
-close_same : (kind : Kind) (founds lefts : List Memory) (mine : List Local) (found : Memory) (r : Answer End) → WhereGiven r (λ a now. map shape now.locals ≡ map shape mine) → WhereGiven (close kind founds lefts mine found r) (λ a now. map shape now.locals ≡ map shape mine)
+close_same : (kind : Kind) (founds lefts : List Memory) (mine : List Local) (found : Memory) (r : Answer Completion) → WhereGiven r (λ a now. map shape now.locals ≡ map shape mine) → WhereGiven (close kind founds lefts mine found r) (λ a now. map shape now.locals ≡ map shape mine)
 close_same kind founds lefts mine found (Gives end now) h = leave_same now.ticks mine founds lefts (left_by kind mine found end now) now (left_same (undoes end kind) mine found end now h)
 close_same kind founds lefts mine found (Stops (Trapped k) now) h = tt
 close_same kind founds lefts mine found r h = tt
 
-inner_same : (outer : Mode) (kind : Kind) (mine : List Local) (found : Memory) (r : Answer End) → WhereGiven r (λ a now. map shape now.locals ≡ map shape mine) → WhereGiven (close_inner outer kind mine found r) (λ a now. map shape now.locals ≡ map shape mine)
+inner_same : (outer : Mode) (kind : Kind) (mine : List Local) (found : Memory) (r : Answer Completion) → WhereGiven r (λ a now. map shape now.locals ≡ map shape mine) → WhereGiven (close_inner outer kind mine found r) (λ a now. map shape now.locals ≡ map shape mine)
 inner_same outer kind mine found (Gives end now) h = left_same (undoes end kind) mine found end now h
 inner_same outer kind mine found (Stops why now) h = tt
 
-enter_same : (run : Action End) → KeepsShape run → (kind : Kind) (p : Context) (s : State) → WhereGiven (enter p kind run s) (λ a now. map shape now.locals ≡ map shape s.locals)
+enter_same : (run : Action Completion) → KeepsShape run → (kind : Kind) (p : Context) (s : State) → WhereGiven (enter p kind run s) (λ a now. map shape now.locals ≡ map shape s.locals)
 enter_same run h kind (Outside [] lefts) s = tt
 enter_same run h kind (Outside (m ∷ founds) lefts) s = close_same kind founds lefts s.locals m (run (record s { context = Inside (mode_of kind) m })) (h.keeps (record s { context = Inside (mode_of kind) m }))
 enter_same run h kind (Inside Relaxed m) s = inner_same Relaxed kind s.locals m (run (record s { context = Inside (mode_of kind) m })) (h.keeps (record s { context = Inside (mode_of kind) m }))
@@ -159,7 +159,7 @@ enter_same run h (Plain Atomic) (Inside Atomic m) s = inner_same Atomic (Plain A
 enter_same run h Outer (Inside Atomic m) s = inner_same Atomic Outer s.locals m (run (record s { context = Inside Atomic m })) (h.keeps (record s { context = Inside Atomic m }))
 enter_same run h (Plain Relaxed) (Inside Atomic m) s = tt
 
-transaction_same : (kind : Kind) {run : Action End} → KeepsShape run → KeepsShape (transaction kind run)
+transaction_same : (kind : Kind) {run : Action Completion} → KeepsShape run → KeepsShape (transaction kind run)
 transaction_same kind {run} h = record { keeps = λ s. enter_same run h kind s.context s }
 
 module _ (p : Program) (call : Caller) (h : (x : List ℕ) (vs : List Value) → LeavesLocals (call x vs)) where
@@ -192,13 +192,13 @@ module _ (p : Program) (call : Caller) (h : (x : List ℕ) (vs : List Value) →
   return_same (Some e) = expr_same e
 
   -- a declaration adds its names
-  abbrev Adds : List (List ℕ × Scalar) → Action End → Type 0
+  abbrev Adds : List (List ℕ × Scalar) → Action Completion → Type 0
   Adds more run = (s : State) → WhereGiven (run s) (λ end now. map shape now.locals ≡ map shape s.locals ++ more)
 
-  then_adds : {A : Type 0} (ls : List Local) (more : List (List ℕ × Scalar)) (r : Answer A) (rest : Action End) → WhereGiven r (λ a now. map shape now.locals ≡ map shape ls) → Adds more rest → WhereGiven (go_on r (λ _. rest)) (λ end now. map shape now.locals ≡ map shape ls ++ more)
+  then_adds : {A : Type 0} (ls : List Local) (more : List (List ℕ × Scalar)) (r : Answer A) (rest : Action Completion) → WhereGiven r (λ a now. map shape now.locals ≡ map shape ls) → Adds more rest → WhereGiven (go_on r (λ _. rest)) (λ end now. map shape now.locals ≡ map shape ls ++ more)
   then_adds ls more (Gives a t) rest e g = behind (rest t) (g t)
     where
-      behind : (r : Answer End) → WhereGiven r (λ end now. map shape now.locals ≡ map shape t.locals ++ more) → WhereGiven r (λ end now. map shape now.locals ≡ map shape ls ++ more)
+      behind : (r : Answer Completion) → WhereGiven r (λ end now. map shape now.locals ≡ map shape t.locals ++ more) → WhereGiven r (λ end now. map shape now.locals ≡ map shape ls ++ more)
       behind (Gives end u) f = f ∙ ap (λ x. x ++ more) e
       behind (Stops why u) f = tt
   then_adds ls more (Stops why t) rest e g = tt
@@ -212,14 +212,14 @@ module _ (p : Program) (call : Caller) (h : (x : List ℕ) (vs : List Value) →
       moved s.locals new more (go_on (first_value p call (InLocal (length s.locals) t) d.first begun) (λ _. declare p call t ds))
       (then_adds begun.locals more (first_value p call (InLocal (length s.locals) t) d.first begun) (declare p call t ds) ((first_same (InLocal (length s.locals) t) d.first).keeps begun) (declare_adds t ds))
     where
-      moved : (ls : List Local) (l : Local) (more : List (List ℕ × Scalar)) (r : Answer End) → WhereGiven r (λ end now. map shape now.locals ≡ map shape (ls ++ l ∷ []) ++ more) → WhereGiven r (λ end now. map shape now.locals ≡ map shape ls ++ (shape l ∷ more))
+      moved : (ls : List Local) (l : Local) (more : List (List ℕ × Scalar)) (r : Answer Completion) → WhereGiven r (λ end now. map shape now.locals ≡ map shape (ls ++ l ∷ []) ++ more) → WhereGiven r (λ end now. map shape now.locals ≡ map shape ls ++ (shape l ∷ more))
       moved ls l more (Gives end u) f = f ∙ ap (λ x. x ++ more) (map-append shape ls (l ∷ [])) ∙ append_assoc (map shape ls) (shape l ∷ []) more
       moved ls l more (Stops why u) f = tt
 
-  exact : (more : List (List ℕ × Scalar)) {run : Action End} → more ≡ [] → KeepsShape run → Adds more run
+  exact : (more : List (List ℕ × Scalar)) {run : Action Completion} → more ≡ [] → KeepsShape run → Adds more run
   exact more {run} e g s = still (run s) (g.keeps s)
     where
-      still : (r : Answer End) → WhereGiven r (λ end now. map shape now.locals ≡ map shape s.locals) → WhereGiven r (λ end now. map shape now.locals ≡ map shape s.locals ++ more)
+      still : (r : Answer Completion) → WhereGiven r (λ end now. map shape now.locals ≡ map shape s.locals) → WhereGiven r (λ end now. map shape now.locals ≡ map shape s.locals ++ more)
       still (Gives end u) f = f ∙ sym (append-nil (map shape s.locals)) ∙ ap (λ x. map shape s.locals ++ x) (sym e)
       still (Stops why u) f = tt
 
@@ -272,6 +272,6 @@ after_agrees p st known ls ms g e = agrees_by_shape p (scope_after st known) ms 
 pub scope_fits : ScopeFits
 scope_fits p frames st s known g = fit (stmt p (calls p frames) st s) (locals_exact p frames st s)
   where
-    fit : (r : Answer End) → WhereGiven r (λ end now. map shape now.locals ≡ map shape s.locals ++ declared_by st) → WhereGiven r (λ end now. IsSubscope (scope_after st known) (running_scope p now.locals))
+    fit : (r : Answer Completion) → WhereGiven r (λ end now. map shape now.locals ≡ map shape s.locals ++ declared_by st) → WhereGiven r (λ end now. IsSubscope (scope_after st known) (running_scope p now.locals))
     fit (Gives end now) e = after_agrees p st known s.locals now.locals g e
     fit (Stops why now) e = tt

@@ -19,7 +19,7 @@ use Rattle.syntax.specs.declared.numbers.Halt.TheVariants.{Trapped, Astray}
 use Rattle.syntax.specs.Actions.{State, spend, Answer, Gives, Stops, go_on, Action, pure, stop, ◌>>=◌, ◌>>◌, tick, trap, or_trap, or_astray, locals, put_locals, load, store, may_print, print_piece}
 use Rattle.syntax.specs.Formats.{Piece, Literal, Figure, pieces, formats_in, formats_among, IsFormatOf}
 use Rattle.syntax.specs.Laws.{IsPieceOf}
-use Rattle.syntax.specs.Meaning.{Spot, InLocal, InCell, fetch, assign, print_pieces, End, Next, Breaks, Continues, Returns, Cancels, CancelsOuter, on_next, in_scope, loop, after_body, transaction, begin_value, value_at, op_of, int_one, Caller, spot_from, named, element, expr, exprs, spot, changed, assigned, simple, first_value, declare, start_with, holds, stepped, return_value, stmt, stmts, call_locals, result_of, invoke, calls}
+use Rattle.syntax.specs.Meaning.{Spot, InLocal, InCell, fetch, assign, print_pieces, Completion, Next, Breaks, Continues, Returns, Cancels, CancelsOuter, on_next, in_scope, loop, after_body, transaction, begin_value, value_at, op_of, int_one, Caller, spot_from, named, element, expr, exprs, spot, changed, assigned, simple, first_value, declare, start_with, holds, stepped, return_value, stmt, stmts, call_locals, result_of, invoke, calls}
 use Rattle.syntax.proofs.Words.{word_below}
 use Rattle.syntax.specs.Threads.{worker_run}
 
@@ -36,8 +36,8 @@ pub record IsKept (IsPiece : List ℕ → Type 0) (IsCell : ℕ → Scalar → T
   pub store_holds : (c w : ℕ) (t : Scalar) → IsCell c t → w < modulus t → Q (Unit {0}) (store c w)
   pub may_print_holds : Q (Unit {0}) may_print
   pub print_piece_holds : (text : List ℕ) → IsPiece text → Q (Unit {0}) (print_piece text)
-  pub loop_holds : {turn : Action (Option End)} → Q (Option End) turn → Q End (loop turn)
-  pub transaction_holds : (kind : Kind) {run : Action End} → Q End run → Q End (transaction kind run)
+  pub loop_holds : {turn : Action (Option Completion)} → Q (Option Completion) turn → Q Completion (loop turn)
+  pub transaction_holds : (kind : Kind) {run : Action Completion} → Q Completion run → Q Completion (transaction kind run)
   pub begin_value_holds : Q (Unit {0}) begin_value
 
 contains_first : {X : Type 0} (x : X) (xs : List X) → Contains (x ∷ xs) x
@@ -120,7 +120,7 @@ module _ (p : Program) (IsPiece : List ℕ → Type 0) (IsCell : ℕ → Scalar 
   back_stands : (fs gs : List (List ℕ)) → Stand (fs ++ gs) → Stand gs
   back_stands fs gs h format c = h format (Contains-append_right fs gs format c)
 
-  on_next_holds : {rest : Action End} → Q _ rest → (end : End) → Q _ (on_next rest end)
+  on_next_holds : {rest : Action Completion} → Q _ rest → (end : Completion) → Q _ (on_next rest end)
   on_next_holds h Next = h
   on_next_holds h Breaks = pure_holds Breaks
   on_next_holds h Continues = pure_holds Continues
@@ -128,7 +128,7 @@ module _ (p : Program) (IsPiece : List ℕ → Type 0) (IsCell : ℕ → Scalar 
   on_next_holds h Cancels = pure_holds Cancels
   on_next_holds h CancelsOuter = pure_holds CancelsOuter
 
-  value_at_holds : (end : End) → Q _ (value_at end)
+  value_at_holds : (end : Completion) → Q _ (value_at end)
   value_at_holds (Returns v) = pure_holds v
   value_at_holds Next = astray_holds
   value_at_holds Breaks = astray_holds
@@ -136,10 +136,10 @@ module _ (p : Program) (IsPiece : List ℕ → Type 0) (IsCell : ℕ → Scalar 
   value_at_holds Cancels = astray_holds
   value_at_holds CancelsOuter = astray_holds
 
-  pub scoped_holds : {run : Action End} → Q _ run → Q _ (in_scope run)
+  pub scoped_holds : {run : Action Completion} → Q _ run → Q _ (in_scope run)
   scoped_holds h = on_holds locals_holds (λ outer. on_holds h (λ end. on_holds locals_holds (λ all. then_holds (put_locals_holds _) (pure_holds end))))
 
-  after_body_holds : {go : Action (Option End)} → Q _ go → (end : End) → Q _ (after_body go end)
+  after_body_holds : {go : Action (Option Completion)} → Q _ go → (end : Completion) → Q _ (after_body go end)
   after_body_holds h Next = h
   after_body_holds h Breaks = pure_holds (Some Next)
   after_body_holds h Continues = h
@@ -266,7 +266,7 @@ module _ (p : Program) (IsPiece : List ℕ → Type 0) (IsCell : ℕ → Scalar 
       stmts_holds Tree.[] st = pure_holds Next
       stmts_holds (Tree.◌∷◌ s ss) st = on_holds (stmt_holds s (front_stands (formats_in s) (formats_among ss) st)) (on_next_holds (stmts_holds ss (back_stands (formats_in s) (formats_among ss) st)))
 
-    result_of_holds : (t : Option Scalar) (end : End) → Q _ (result_of t end)
+    result_of_holds : (t : Option Scalar) (end : Completion) → Q _ (result_of t end)
     result_of_holds t Next = pure_holds _
     result_of_holds t (Returns v) = pure_holds _
     result_of_holds t Breaks = astray_holds
@@ -296,13 +296,13 @@ pub any_cells : (p : Program) → AreCells p (λ c t. Unit {0})
 any_cells p = record { first = λ x g e. tt; each = λ x g k e h. tt }
 
 module _ (p : Program) (Q : (A : Type 0) → Action A → Type 0) (kept : IsAlwaysKept Q) where
-  pub block_holds : (call : Caller) → ((x : List ℕ) (vs : List Value) → Q Value (call x vs)) → (ss : Stmts) → Q End (in_scope (stmts p call ss))
+  pub block_holds : (call : Caller) → ((x : List ℕ) (vs : List Value) → Q Value (call x vs)) → (ss : Stmts) → Q Completion (in_scope (stmts p call ss))
   block_holds call h ss =
       scoped_holds p (λ text. Unit {0}) (λ c t. Unit {0}) (any_cells p) (λ z. tt) (λ format is text c. tt) Q kept
       (stmts_holds p (λ text. Unit {0}) (λ c t. Unit {0}) (any_cells p) (λ z. tt) (λ format is text c. tt) Q kept call h ss (λ format c text d. tt))
 
   -- an expression, as the body of a transaction
-  pub returned_holds : (call : Caller) → ((x : List ℕ) (vs : List Value) → Q Value (call x vs)) → (e : Expr) → Q End (expr p call e >>= λ v. pure (Returns v))
+  pub returned_holds : (call : Caller) → ((x : List ℕ) (vs : List Value) → Q Value (call x vs)) → (e : Expr) → Q Completion (expr p call e >>= λ v. pure (Returns v))
   returned_holds call h e =
       kept.on_holds (expr_holds p (λ text. Unit {0}) (λ c t. Unit {0}) (any_cells p) (λ z. tt) (λ format is text c. tt) Q kept call h e) (λ v. kept.pure_holds (Returns v))
 
@@ -313,8 +313,8 @@ module _ (p : Program) (Q : (A : Type 0) → Action A → Type 0) (kept : IsAlwa
   pub each_expr_holds : (e : Expr) → Q Value (expr p (calls p frames) e)
   each_expr_holds = expr_holds p (λ text. Unit {0}) (λ c t. Unit {0}) (any_cells p) (λ z. tt) (λ format is text c. tt) Q kept (calls p frames) called_holds
 
-  pub each_simple_holds : (s : Simple) → Q End (simple p (calls p frames) s)
+  pub each_simple_holds : (s : Simple) → Q Completion (simple p (calls p frames) s)
   each_simple_holds = simple_holds p (λ text. Unit {0}) (λ c t. Unit {0}) (any_cells p) (λ z. tt) (λ format is text c. tt) Q kept (calls p frames) called_holds
 
-  pub each_stmt_holds : (st : Stmt) → Q End (stmt p (calls p frames) st)
+  pub each_stmt_holds : (st : Stmt) → Q Completion (stmt p (calls p frames) st)
   each_stmt_holds st = stmt_holds p (λ text. Unit {0}) (λ c t. Unit {0}) (any_cells p) (λ z. tt) (λ format is text c. tt) Q kept (calls p frames) called_holds st (λ format c text d. tt)

@@ -3,14 +3,14 @@ use Rattle.std.proofs.Common.{◌≡◌, refl, ℕ, zero, suc, ◌≤◌, List, 
 use Rattle.std.specs.Prelude.{Option}
 use Rattle.syntax.specs.Names.{Local}
 use Rattle.syntax.specs.Actions.{Context, State, Answer, Gives, Stops, state_of, Action, go_on, tick, ◌>>◌, ◌>>=◌}
-use Rattle.syntax.specs.Meaning.{End, turns, loop, after_turn}
+use Rattle.syntax.specs.Meaning.{Completion, turns, loop, after_turn}
 use Rattle.syntax.specs.Laws.{LoopIsItsTurns}
 
 abbrev state : ℕ → List Local → Context → List ℕ → State
 state n ls c t = record { ticks = n; locals = ls; context = c; text = t }
 
-module _ (turn : Action (Option End)) (falls : (s : State) → (state_of (turn s)).ticks ≤ s.ticks) where
-  going : (n m k : ℕ) (r : Answer (Option End)) → (state_of r).ticks ≤ k → k ≤ n → k ≤ m → ((s : State) → s.ticks ≤ n → s.ticks ≤ m → turns n turn s ≡ turns m turn s) → go_on r (after_turn (turns n turn)) ≡ go_on r (after_turn (turns m turn))
+module _ (turn : Action (Option Completion)) (falls : (s : State) → (state_of (turn s)).ticks ≤ s.ticks) where
+  going : (n m k : ℕ) (r : Answer (Option Completion)) → (state_of r).ticks ≤ k → k ≤ n → k ≤ m → ((s : State) → s.ticks ≤ n → s.ticks ≤ m → turns n turn s ≡ turns m turn s) → go_on r (after_turn (turns n turn)) ≡ go_on r (after_turn (turns m turn))
   going n m k (Gives None s) f a b h = h s (omega (arith, f, a)) (omega (arith, f, b))
   going n m k (Gives (Some end) s) f a b h = refl
   going n m k (Stops why s) f a b h = refl
@@ -25,7 +25,7 @@ module _ (turn : Action (Option End)) (falls : (s : State) → (state_of (turn s
   enough (suc n) zero (suc k) ls c t a b = absurd (omega (arith, b))
   enough n m k ls c t a b = refl
 
-  after_same : (n k : ℕ) (r : Answer (Option End)) → (state_of r).ticks ≤ k → k ≤ n → go_on r (after_turn (turns n turn)) ≡ go_on r (after_turn (loop turn))
+  after_same : (n k : ℕ) (r : Answer (Option Completion)) → (state_of r).ticks ≤ k → k ≤ n → go_on r (after_turn (turns n turn)) ≡ go_on r (after_turn (loop turn))
   after_same n k (Gives None s) f a = enough n s.ticks s.ticks s.locals s.context s.text (omega (arith, f, a)) (omega arith)
   after_same n k (Gives (Some end) s) f a = refl
   after_same n k (Stops why s) f a = refl

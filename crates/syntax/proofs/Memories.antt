@@ -19,7 +19,7 @@ use Rattle.syntax.specs.Tree.{Program}
 use Rattle.syntax.specs.Names.{Local, GlobalCells, cells, globals, global_from, global_of, bounds}
 use Rattle.syntax.specs.Behaviours.{Memory, IsMemory}
 use Rattle.syntax.specs.Actions.{Context, Outside, Inside, State, Answer, Gives, Stops, Action, stop, go_on, ◌>>=◌, spend, tick, load_at, store, may_print_at, write, lefts_in, memory_in}
-use Rattle.syntax.specs.Meaning.{End, after_turn, turns, Left, undoes, left_or, left_by, close_inner, close, enter, mode_of, begin_at}
+use Rattle.syntax.specs.Meaning.{Completion, after_turn, turns, Left, undoes, left_or, left_by, close_inner, close, enter, mode_of, begin_at}
 use Rattle.syntax.specs.Threads.{outcome_of, first_state, worker_run, thread}
 use Rattle.syntax.specs.Laws.{IsPieceOf, LeavesMemories}
 use Rattle.syntax.proofs.Further.{state_of}
@@ -108,11 +108,11 @@ module _ (M : Memory → Type 0) (IsCell : ℕ → Scalar → Type 0) (written :
   may_print_keeps (Inside Relaxed m) s = keeps_refl s.context
   may_print_keeps (Inside Atomic m) s = keeps_refl s.context
 
-  after_turn_keeps : (rest : Action End) → ((s : State) → Keeps s.context (state_of (rest s)).context) → (o : Option End) (s : State) → Keeps s.context (state_of (after_turn rest o s)).context
+  after_turn_keeps : (rest : Action Completion) → ((s : State) → Keeps s.context (state_of (rest s)).context) → (o : Option Completion) (s : State) → Keeps s.context (state_of (after_turn rest o s)).context
   after_turn_keeps rest h None s = h s
   after_turn_keeps rest h (Some end) s = keeps_refl s.context
 
-  turns_keep : (turn : Action (Option End)) → IsKeeping turn → (n : ℕ) (s : State) → Keeps s.context (state_of (turns n turn s)).context
+  turns_keep : (turn : Action (Option Completion)) → IsKeeping turn → (n : ℕ) (s : State) → Keeps s.context (state_of (turns n turn s)).context
   turns_keep turn h zero s = keeps_refl s.context
   turns_keep turn h (suc n) s =
       on_keeps s.context (tick s) (λ _. turn >>= after_turn (turns n turn)) (spend_keeps s.ticks s)
@@ -122,7 +122,7 @@ module _ (M : Memory → Type 0) (IsCell : ℕ → Scalar → Type 0) (written :
   memory_kept mode m (Outside f l) c h = absurd c
   memory_kept mode m (Inside mode' m') c h = c h
 
-  left_kept : (undone : Bool) (mode : Mode) (m : Memory) (mine : List Local) (end : End) (now : State) → Keeps (Inside mode m) now.context → M m → M (left_or undone mine m end now).memory
+  left_kept : (undone : Bool) (mode : Mode) (m : Memory) (mine : List Local) (end : Completion) (now : State) → Keeps (Inside mode m) now.context → M m → M (left_or undone mine m end now).memory
   left_kept true mode m mine end now c h = h
   left_kept false mode m mine end now c h = memory_kept mode m now.context c h
 
@@ -130,18 +130,18 @@ module _ (M : Memory → Type 0) (IsCell : ℕ → Scalar → Type 0) (written :
   leave_keeps zero now m founds lefts left h = λ f l. (All-tail M m founds f, l)
   leave_keeps (suc n) now m founds lefts left h = λ f l. (All-tail M m founds f, All-push M lefts left.memory l (h (All-head M m founds f)))
 
-  close_keeps : (kind : Kind) (m : Memory) (founds lefts : List Memory) (mine : List Local) (r : Answer End) → Keeps (Inside (mode_of kind) m) (state_of r).context → Keeps (Outside (m ∷ founds) lefts) (state_of (close kind founds lefts mine m r)).context
+  close_keeps : (kind : Kind) (m : Memory) (founds lefts : List Memory) (mine : List Local) (r : Answer Completion) → Keeps (Inside (mode_of kind) m) (state_of r).context → Keeps (Outside (m ∷ founds) lefts) (state_of (close kind founds lefts mine m r)).context
   close_keeps kind m founds lefts mine (Gives end now) c = leave_keeps now.ticks now m founds lefts (left_by kind mine m end now) (left_kept (undoes end kind) (mode_of kind) m mine end now c)
   close_keeps kind m founds lefts mine (Stops (Trapped k) now) c = λ f l. (All-tail M m founds f, All-push M lefts m l (All-head M m founds f))
   close_keeps kind m founds lefts mine (Stops Wants now) c = λ f l. (All-tail M m founds f, l)
   close_keeps kind m founds lefts mine (Stops Spent now) c = λ f l. (All-tail M m founds f, l)
   close_keeps kind m founds lefts mine (Stops Astray now) c = λ f l. (All-tail M m founds f, l)
 
-  close_inner_keeps : (outer : Mode) (kind : Kind) (m : Memory) (mine : List Local) (r : Answer End) → Keeps (Inside (mode_of kind) m) (state_of r).context → Keeps (Inside outer m) (state_of (close_inner outer kind mine m r)).context
+  close_inner_keeps : (outer : Mode) (kind : Kind) (m : Memory) (mine : List Local) (r : Answer Completion) → Keeps (Inside (mode_of kind) m) (state_of r).context → Keeps (Inside outer m) (state_of (close_inner outer kind mine m r)).context
   close_inner_keeps outer kind m mine (Gives end now) c = λ h. left_kept (undoes end kind) (mode_of kind) m mine end now c h
   close_inner_keeps outer kind m mine (Stops why now) c = c
 
-  enter_keeps : (kind : Kind) (run : Action End) → IsKeeping run → (p : Context) (n : ℕ) (ls : List Local) (t : List ℕ) → Keeps p (state_of (enter p kind run (record { ticks = n; locals = ls; context = p; text = t }))).context
+  enter_keeps : (kind : Kind) (run : Action Completion) → IsKeeping run → (p : Context) (n : ℕ) (ls : List Local) (t : List ℕ) → Keeps p (state_of (enter p kind run (record { ticks = n; locals = ls; context = p; text = t }))).context
   enter_keeps kind run h (Outside [] lefts) n ls t = keeps_refl (Outside [] lefts)
   enter_keeps kind run h (Outside (m ∷ founds) lefts) n ls t = close_keeps kind m founds lefts ls (run (record { ticks = n; locals = ls; context = Inside (mode_of kind) m; text = t })) (h.keeps (record { ticks = n; locals = ls; context = Inside (mode_of kind) m; text = t }))
   enter_keeps kind run h (Inside Relaxed m) n ls t = close_inner_keeps Relaxed kind m ls (run (record { ticks = n; locals = ls; context = Inside (mode_of kind) m; text = t })) (h.keeps (record { ticks = n; locals = ls; context = Inside (mode_of kind) m; text = t }))

@@ -9,7 +9,7 @@ use Rattle.syntax.specs.Names.{Local}
 use Rattle.syntax.specs.declared.numbers.Halt.TheVariants.{Trapped, Wants, Spent, Astray}
 use Rattle.syntax.specs.Behaviours.{Memory, Ended, Stopped}
 use Rattle.syntax.specs.Actions.{Context, Outside, Inside, State, Answer, Gives, Stops, Action, go_on, ◌>>=◌, spend, tick, load_at, store_at, may_print_at, memory_in, lefts_in}
-use Rattle.syntax.specs.Meaning.{End, after_turn, turns, Left, undoes, left_or, left_by, leave_inner, close_inner, inner, close, enter, mode_of, begin_at}
+use Rattle.syntax.specs.Meaning.{Completion, after_turn, turns, Left, undoes, left_or, left_by, leave_inner, close_inner, inner, close, enter, mode_of, begin_at}
 use Rattle.syntax.specs.Threads.{outcome_of, first_state, worker_run}
 use Rattle.syntax.specs.Laws.{IsPieceOf, MoreFounds}
 use Rattle.syntax.proofs.Kept.{IsKept, any_cells, worker_holds}
@@ -63,11 +63,11 @@ may_print_alike extra (Outside founds lefts) s = refl
 may_print_alike extra (Inside Relaxed m) s = refl
 may_print_alike extra (Inside Atomic m) s = refl
 
-after_turn_alike : (extra : List Memory) (rest : Action End) → ((s : State) → Alike extra (rest s) (rest (further extra s))) → (o : Option End) (s : State) → Alike extra (after_turn rest o s) (after_turn rest o (further extra s))
+after_turn_alike : (extra : List Memory) (rest : Action Completion) → ((s : State) → Alike extra (rest s) (rest (further extra s))) → (o : Option Completion) (s : State) → Alike extra (after_turn rest o s) (after_turn rest o (further extra s))
 after_turn_alike extra rest h None s = h s
 after_turn_alike extra rest h (Some end) s = refl
 
-turns_alike : (turn : Action (Option End)) → IsAlike turn → (extra : List Memory) (n : ℕ) (s : State) → Alike extra (turns n turn s) (turns n turn (further extra s))
+turns_alike : (turn : Action (Option Completion)) → IsAlike turn → (extra : List Memory) (n : ℕ) (s : State) → Alike extra (turns n turn s) (turns n turn (further extra s))
 turns_alike turn h extra zero s = refl
 turns_alike turn h extra (suc n) s =
     on_alike extra (tick s) (tick (further extra s)) (λ _. turn >>= after_turn (turns n turn)) (tick_alike.alike extra s)
@@ -77,14 +77,14 @@ memory_further : (extra : List Memory) (p : Context) → memory_in (with_founds 
 memory_further extra (Outside founds lefts) = refl
 memory_further extra (Inside mode m) = refl
 
-abbrev left_with : End → List Local → Memory → Left
+abbrev left_with : Completion → List Local → Memory → Left
 left_with end ls m = record { end = end; locals = ls; memory = m }
 
-left_further : (extra : List Memory) (undone : Bool) (mine : List Local) (found : Memory) (end : End) (now : State) → left_or undone mine found end (further extra now) ≡ left_or undone mine found end now
+left_further : (extra : List Memory) (undone : Bool) (mine : List Local) (found : Memory) (end : Completion) (now : State) → left_or undone mine found end (further extra now) ≡ left_or undone mine found end now
 left_further extra true mine found end now = refl
 left_further extra false mine found end now = ap (λ m. left_with end now.locals m) (memory_further extra now.context)
 
-close_inner_alike : (outer : Mode) (kind : Kind) (mine : List Local) (found : Memory) (extra : List Memory) (r more : Answer End) → Alike extra r more → Alike extra (close_inner outer kind mine found r) (close_inner outer kind mine found more)
+close_inner_alike : (outer : Mode) (kind : Kind) (mine : List Local) (found : Memory) (extra : List Memory) (r more : Answer Completion) → Alike extra r more → Alike extra (close_inner outer kind mine found r) (close_inner outer kind mine found more)
 close_inner_alike outer kind mine found extra (Gives end now) more e =
     ap (close_inner outer kind mine found) e ∙ ap (λ l. leave_inner outer l (further extra now)) (left_further extra (undoes end kind) mine found end now)
 close_inner_alike outer kind mine found extra (Stops (Trapped t) s) more e = ap (close_inner outer kind mine found) e
@@ -92,12 +92,12 @@ close_inner_alike outer kind mine found extra (Stops Astray s) more e = ap (clos
 close_inner_alike outer kind mine found extra (Stops Spent s) more e = ap (close_inner outer kind mine found) e
 close_inner_alike outer kind mine found extra (Stops Wants s) more e = tt
 
-inner_alike : (extra : List Memory) (outer : Mode) (kind : Kind) (found : Memory) (run : Action End) → IsAlike run → (s : State) → Alike extra (inner outer kind found run s) (inner outer kind found run (further extra s))
+inner_alike : (extra : List Memory) (outer : Mode) (kind : Kind) (found : Memory) (run : Action Completion) → IsAlike run → (s : State) → Alike extra (inner outer kind found run s) (inner outer kind found run (further extra s))
 inner_alike extra outer kind found run h s =
     let start = record s { context = Inside (mode_of kind) found } in
     close_inner_alike outer kind s.locals found extra (run start) (run (further extra start)) (h.alike extra start)
 
-abbrev leave_at : ℕ → State → List Memory → List Memory → Left → Answer End
+abbrev leave_at : ℕ → State → List Memory → List Memory → Left → Answer Completion
 leave_at n now founds lefts left =
     go_on (spend n (record now { context = Outside founds lefts }))
     (λ u then_. Gives left.end (record then_ { locals = left.locals; context = Outside founds (lefts ++ left.memory ∷ []) }))
@@ -106,7 +106,7 @@ leave_alike : (extra : List Memory) (n : ℕ) (now : State) (founds lefts : List
 leave_alike extra zero now founds lefts left = refl
 leave_alike extra (suc n) now founds lefts left = refl
 
-close_alike : (kind : Kind) (extra founds lefts : List Memory) (mine : List Local) (found : Memory) (r more : Answer End) → Alike extra r more → Alike extra (close kind founds lefts mine found r) (close kind (founds ++ extra) lefts mine found more)
+close_alike : (kind : Kind) (extra founds lefts : List Memory) (mine : List Local) (found : Memory) (r more : Answer Completion) → Alike extra r more → Alike extra (close kind founds lefts mine found r) (close kind (founds ++ extra) lefts mine found more)
 close_alike kind extra founds lefts mine found (Gives end now) more e =
     let left = left_by kind mine found end now in
     let same = ap (close kind (founds ++ extra) lefts mine found) e ∙ ap (λ l. leave_at now.ticks (further extra now) (founds ++ extra) lefts l) (left_further extra (undoes end kind) mine found end now) in
@@ -119,7 +119,7 @@ close_alike kind extra founds lefts mine found (Stops Wants s) more e = tt
 abbrev state : ℕ → List Local → Context → List ℕ → State
 state n ls p t = record { ticks = n; locals = ls; context = p; text = t }
 
-enter_alike : (extra : List Memory) (kind : Kind) (run : Action End) → IsAlike run → (p : Context) (n : ℕ) (ls : List Local) (t : List ℕ) → Alike extra (enter p kind run (state n ls p t)) (enter (with_founds extra p) kind run (further extra (state n ls p t)))
+enter_alike : (extra : List Memory) (kind : Kind) (run : Action Completion) → IsAlike run → (p : Context) (n : ℕ) (ls : List Local) (t : List ℕ) → Alike extra (enter p kind run (state n ls p t)) (enter (with_founds extra p) kind run (further extra (state n ls p t)))
 enter_alike extra kind run h (Outside [] lefts) n ls t = tt
 enter_alike extra kind run h (Outside (found ∷ founds) lefts) n ls t =
     let start = state n ls (Inside (mode_of kind) found) t in

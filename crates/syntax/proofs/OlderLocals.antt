@@ -16,7 +16,7 @@ use Rattle.syntax.specs.Names.{Local, with_word}
 use Rattle.syntax.specs.Formats.{Piece, Literal, Figure, pieces}
 use Rattle.syntax.specs.Behaviours.{Memory}
 use Rattle.syntax.specs.Actions.{Context, Outside, Inside, State, Answer, Gives, Stops, Action, pure, stop, go_on, ◌>>=◌, ◌>>◌, spend, tick, store_at, may_print_at, may_print, write, print_piece}
-use Rattle.syntax.specs.Meaning.{Spot, InLocal, InCell, assign, print_pieces, End, Next, Breaks, Continues, Returns, Cancels, CancelsOuter, mode_of, on_next, in_scope, after_turn, turns, loop, after_body, Left, undoes, left_or, left_by, close_inner, close, enter, transaction, op_of, int_one, Caller, expr, spot, changed, assigned, simple, first_value, declare, start_with, holds, stepped, return_value, stmt, stmts, calls}
+use Rattle.syntax.specs.Meaning.{Spot, InLocal, InCell, assign, print_pieces, Completion, Next, Breaks, Continues, Returns, Cancels, CancelsOuter, mode_of, on_next, in_scope, after_turn, turns, loop, after_body, Left, undoes, left_or, left_by, close_inner, close, enter, transaction, op_of, int_one, Caller, expr, spot, changed, assigned, simple, first_value, declare, start_with, holds, stepped, return_value, stmt, stmts, calls}
 use Rattle.syntax.specs.Laws.{WhereGiven, shape, KeepsOlderLocals, BeginsWithLocals}
 use Rattle.syntax.proofs.Expressions.{LeavesLocals, named_holds, element_holds, expr_holds, exprs_holds, fetch_holds, or_trap_holds, calls_holds}
 
@@ -102,7 +102,7 @@ pieces_older (Literal text ∷ ps) vs = then_older (piece_older text) (pieces_ol
 pieces_older (Figure t ∷ ps) [] = stop_older Astray
 pieces_older (Figure t ∷ ps) (v ∷ vs) = then_older (piece_older _) (pieces_older ps vs)
 
-on_next_older : {rest : Action End} → KeepsOlder rest → (end : End) → KeepsOlder (on_next rest end)
+on_next_older : {rest : Action Completion} → KeepsOlder rest → (end : Completion) → KeepsOlder (on_next rest end)
 on_next_older h Next = h
 on_next_older h Breaks = pure_older Breaks
 on_next_older h Continues = pure_older Continues
@@ -126,14 +126,14 @@ taken (l ∷ ls) (m ∷ ms) b =
     head_of d [] = d
     head_of d (x ∷ xs) = x
 
-scope_ends : (ls : List Local) (r : Answer End) → WhereGiven r (λ a now. BeginsWithLocals ls now.locals) → WhereGiven (go_on r (λ end t. Gives end (record t { locals = take (length ls) t.locals }))) (λ a now. BeginsWithLocals ls now.locals)
+scope_ends : (ls : List Local) (r : Answer Completion) → WhereGiven r (λ a now. BeginsWithLocals ls now.locals) → WhereGiven (go_on r (λ end t. Gives end (record t { locals = take (length ls) t.locals }))) (λ a now. BeginsWithLocals ls now.locals)
 scope_ends ls (Gives end t) h = taken ls t.locals h
 scope_ends ls (Stops why t) h = tt
 
-pub scoped_older : {run : Action End} → KeepsOlder run → KeepsOlder (in_scope run)
+pub scoped_older : {run : Action Completion} → KeepsOlder run → KeepsOlder (in_scope run)
 scoped_older {run} h = record { keeps = λ s. scope_ends s.locals (run s) (h.keeps s) }
 
-pub after_body_older : {go : Action (Option End)} → KeepsOlder go → (end : End) → KeepsOlder (after_body go end)
+pub after_body_older : {go : Action (Option Completion)} → KeepsOlder go → (end : Completion) → KeepsOlder (after_body go end)
 after_body_older h Next = h
 after_body_older h Breaks = pure_older (Some Next)
 after_body_older h Continues = h
@@ -141,19 +141,19 @@ after_body_older h (Returns v) = pure_older (Some (Returns v))
 after_body_older h Cancels = pure_older (Some Cancels)
 after_body_older h CancelsOuter = pure_older (Some CancelsOuter)
 
-after_turn_older : {rest : Action End} → KeepsOlder rest → (o : Option End) → KeepsOlder (after_turn rest o)
+after_turn_older : {rest : Action Completion} → KeepsOlder rest → (o : Option Completion) → KeepsOlder (after_turn rest o)
 after_turn_older h None = h
 after_turn_older h (Some end) = pure_older end
 
-turns_older : {turn : Action (Option End)} → KeepsOlder turn → (n : ℕ) → KeepsOlder (turns n turn)
+turns_older : {turn : Action (Option Completion)} → KeepsOlder turn → (n : ℕ) → KeepsOlder (turns n turn)
 turns_older h zero = stop_older Spent
 turns_older h (suc n) = then_older tick_older (on_older h (after_turn_older (turns_older h n)))
 
-pub loop_older : {turn : Action (Option End)} → KeepsOlder turn → KeepsOlder (loop turn)
+pub loop_older : {turn : Action (Option Completion)} → KeepsOlder turn → KeepsOlder (loop turn)
 loop_older h = record { keeps = λ s. (turns_older h s.ticks).keeps s }
 
 -- a transaction that is undone puts the locals back, and another leaves its body's
-left_older : (undone : Bool) (mine : List Local) (found : Memory) (end : End) (now : State) → BeginsWithLocals mine now.locals → BeginsWithLocals mine (left_or undone mine found end now).locals
+left_older : (undone : Bool) (mine : List Local) (found : Memory) (end : Completion) (now : State) → BeginsWithLocals mine now.locals → BeginsWithLocals mine (left_or undone mine found end now).locals
 left_older true mine found end now h = begins_same mine mine refl
 left_older false mine found end now h = h
 
@@ -161,16 +161,16 @@ leave_older : (n : ℕ) (mine : List Local) (founds lefts : List Memory) (left :
 leave_older zero mine founds lefts left now h = tt
 leave_older (suc n) mine founds lefts left now h = h
 
-close_older : (kind : Kind) (founds lefts : List Memory) (mine : List Local) (found : Memory) (r : Answer End) → WhereGiven r (λ a now. BeginsWithLocals mine now.locals) → WhereGiven (close kind founds lefts mine found r) (λ a now. BeginsWithLocals mine now.locals)
+close_older : (kind : Kind) (founds lefts : List Memory) (mine : List Local) (found : Memory) (r : Answer Completion) → WhereGiven r (λ a now. BeginsWithLocals mine now.locals) → WhereGiven (close kind founds lefts mine found r) (λ a now. BeginsWithLocals mine now.locals)
 close_older kind founds lefts mine found (Gives end now) h = leave_older now.ticks mine founds lefts (left_by kind mine found end now) now (left_older (undoes end kind) mine found end now h)
 close_older kind founds lefts mine found (Stops (Trapped k) now) h = tt
 close_older kind founds lefts mine found r h = tt
 
-inner_older : (outer : Mode) (kind : Kind) (mine : List Local) (found : Memory) (r : Answer End) → WhereGiven r (λ a now. BeginsWithLocals mine now.locals) → WhereGiven (close_inner outer kind mine found r) (λ a now. BeginsWithLocals mine now.locals)
+inner_older : (outer : Mode) (kind : Kind) (mine : List Local) (found : Memory) (r : Answer Completion) → WhereGiven r (λ a now. BeginsWithLocals mine now.locals) → WhereGiven (close_inner outer kind mine found r) (λ a now. BeginsWithLocals mine now.locals)
 inner_older outer kind mine found (Gives end now) h = left_older (undoes end kind) mine found end now h
 inner_older outer kind mine found (Stops why now) h = tt
 
-enter_older : (run : Action End) → KeepsOlder run → (kind : Kind) (p : Context) (s : State) → WhereGiven (enter p kind run s) (λ a now. BeginsWithLocals s.locals now.locals)
+enter_older : (run : Action Completion) → KeepsOlder run → (kind : Kind) (p : Context) (s : State) → WhereGiven (enter p kind run s) (λ a now. BeginsWithLocals s.locals now.locals)
 enter_older run h kind (Outside [] lefts) s = tt
 enter_older run h kind (Outside (m ∷ founds) lefts) s = close_older kind founds lefts s.locals m (run (record s { context = Inside (mode_of kind) m })) (h.keeps (record s { context = Inside (mode_of kind) m }))
 enter_older run h kind (Inside Relaxed m) s = inner_older Relaxed kind s.locals m (run (record s { context = Inside (mode_of kind) m })) (h.keeps (record s { context = Inside (mode_of kind) m }))
@@ -178,7 +178,7 @@ enter_older run h (Plain Atomic) (Inside Atomic m) s = inner_older Atomic (Plain
 enter_older run h Outer (Inside Atomic m) s = inner_older Atomic Outer s.locals m (run (record s { context = Inside Atomic m })) (h.keeps (record s { context = Inside Atomic m }))
 enter_older run h (Plain Relaxed) (Inside Atomic m) s = tt
 
-transaction_older : (kind : Kind) {run : Action End} → KeepsOlder run → KeepsOlder (transaction kind run)
+transaction_older : (kind : Kind) {run : Action Completion} → KeepsOlder run → KeepsOlder (transaction kind run)
 transaction_older kind {run} h = record { keeps = λ s. enter_older run h kind s.context s }
 
 module _ (p : Program) (call : Caller) (h : (x : List ℕ) (vs : List Value) → LeavesLocals (call x vs)) where

@@ -10,7 +10,7 @@ use Rattle.syntax.specs.Tree.{Program}
 use Rattle.syntax.specs.Names.{Local}
 use Rattle.syntax.specs.Behaviours.{Memory, Outcome}
 use Rattle.syntax.specs.Actions.{Context, Outside, Inside, State, Answer, Gives, Stops, Action, stop, go_on, ◌>>=◌, spend, tick, trap, load_at, store, may_print_at, write, print_piece, lefts_in}
-use Rattle.syntax.specs.Meaning.{End, after_turn, turns, loop, Left, undoes, left_or, left_by, leave_inner, close_inner, close, enter, mode_of, begin_at}
+use Rattle.syntax.specs.Meaning.{Completion, after_turn, turns, loop, Left, undoes, left_or, left_by, leave_inner, close_inner, close, enter, mode_of, begin_at}
 use Rattle.syntax.specs.Threads.{outcome_of, first_state, worker_run, thread}
 use Rattle.syntax.specs.Laws.{IsPieceOf, ShowsOneMore, OneTickMore}
 use Rattle.syntax.proofs.Further.{state_of}
@@ -296,23 +296,23 @@ module _ (program : Program) where
     store_one n ls (Inside mode m) t = refl
 
   -- a loop never has more turns than ticks, so that with one tick more it has one turn more at most
-  after_falls : (rest : Action End) → ((s : State) → (state_of (rest s)).ticks ≤ s.ticks) → (o : Option End) (s : State) → (state_of (after_turn rest o s)).ticks ≤ s.ticks
+  after_falls : (rest : Action Completion) → ((s : State) → (state_of (rest s)).ticks ≤ s.ticks) → (o : Option Completion) (s : State) → (state_of (after_turn rest o s)).ticks ≤ s.ticks
   after_falls rest h None s = h s
   after_falls rest h (Some end) s = omega arith
 
-  after_side : (rest : Action End) → ((s : State) → SameSide s.context (state_of (rest s)).context) → (o : Option End) (s : State) → SameSide s.context (state_of (after_turn rest o s)).context
+  after_side : (rest : Action Completion) → ((s : State) → SameSide s.context (state_of (rest s)).context) → (o : Option Completion) (s : State) → SameSide s.context (state_of (after_turn rest o s)).context
   after_side rest h None s = h s
   after_side rest h (Some end) s = side_refl s.context
 
-  after_idle : (rest : Action End) → ((s : State) → s.ticks ≡ 0 → IsIdle s (rest s)) → (o : Option End) (s : State) → s.ticks ≡ 0 → IsIdle s (after_turn rest o s)
+  after_idle : (rest : Action Completion) → ((s : State) → s.ticks ≡ 0 → IsIdle s (rest s)) → (o : Option Completion) (s : State) → s.ticks ≡ 0 → IsIdle s (after_turn rest o s)
   after_idle rest h None s e = h s e
   after_idle rest h (Some end) s e = still s end e
 
-  after_one : (n : ℕ) (rest rest' : Action End) → ((s : State) → s.ticks ≤ n → OneMore (rest s) (rest' (later s))) → (o : Option End) (s : State) → s.ticks ≤ n → OneMore (after_turn rest o s) (after_turn rest' o (later s))
+  after_one : (n : ℕ) (rest rest' : Action Completion) → ((s : State) → s.ticks ≤ n → OneMore (rest s) (rest' (later s))) → (o : Option Completion) (s : State) → s.ticks ≤ n → OneMore (after_turn rest o s) (after_turn rest' o (later s))
   after_one n rest rest' h None s b = h s b
   after_one n rest rest' h (Some end) s b = refl
 
-  module _ (turn : Action (Option End)) (h : IsSlow turn) where
+  module _ (turn : Action (Option Completion)) (h : IsSlow turn) where
     turns_fall : (n : ℕ) (s : State) → (state_of (turns n turn s)).ticks ≤ s.ticks
     turns_fall zero s = omega arith
     turns_fall (suc n) s =
@@ -346,7 +346,7 @@ module _ (program : Program) where
         (λ _ t e. turn_idle (suc n) t e)
         (λ _ t c. on_one n (turn t) (turn (later t)) (after_turn (turns n turn)) (after_turn (turns (suc n) turn)) (let d : (state_of (turn t)).ticks ≤ t.ticks = h.falls t in omega (arith, c, d)) (h.one t) (after_idle (turns (suc n) turn) (turns_idle (suc n))) (after_one n (turns n turn) (turns (suc n) turn) (turns_one n)))
 
-  loop_slow : {turn : Action (Option End)} → IsSlow turn → IsSlow (loop turn)
+  loop_slow : {turn : Action (Option Completion)} → IsSlow turn → IsSlow (loop turn)
   loop_slow {turn = turn} h = record {
     falls = λ s. turns_fall turn h s.ticks s;
     side = λ s. turns_side turn h s.ticks s;
@@ -355,12 +355,12 @@ module _ (program : Program) where
   }
 
   -- a transaction that is left
-  abbrev leave_at : ℕ → State → List Memory → List Memory → Left → Answer End
+  abbrev leave_at : ℕ → State → List Memory → List Memory → Left → Answer Completion
   leave_at n now founds lefts left =
       go_on (spend n (record now { context = Outside founds lefts }))
       (λ u then_. Gives left.end (record then_ { locals = left.locals; context = Outside founds (lefts ++ left.memory ∷ []) }))
 
-  left_later : (undone : Bool) (mine : List Local) (found : Memory) (end : End) (now : State) → left_or undone mine found end (later now) ≡ left_or undone mine found end now
+  left_later : (undone : Bool) (mine : List Local) (found : Memory) (end : Completion) (now : State) → left_or undone mine found end (later now) ≡ left_or undone mine found end now
   left_later true mine found end now = refl
   left_later false mine found end now = refl
 
@@ -371,7 +371,7 @@ module _ (program : Program) where
   carried t r founds lefts r' i (inr (inr x)) e q free = absurd (inside_leaves t.context (state_of r).context i x.1)
 
   -- a trap leaves the memory that was found
-  trap_carried : (k : Trap) (t u : State) (founds lefts : List Memory) (found : Memory) → IsInside t.context → Shown {A = End} t (Stops (Trapped k) u) → Shown {A = End} (record t { context = Outside founds lefts }) (Stops (Trapped k) (record u { context = Outside founds (lefts ++ found ∷ []) }))
+  trap_carried : (k : Trap) (t u : State) (founds lefts : List Memory) (found : Memory) → IsInside t.context → Shown {A = Completion} t (Stops (Trapped k) u) → Shown {A = Completion} (record t { context = Outside founds lefts }) (Stops (Trapped k) (record u { context = Outside founds (lefts ++ found ∷ []) }))
   trap_carried k t u founds lefts found i (inl x) = inr (inr (x.0, (found, refl)))
   trap_carried k t u founds lefts found i (inr (inl x)) = absurd x.3
   trap_carried k t u founds lefts found i (inr (inr x)) = absurd (inside_leaves t.context u.context i x.1)
@@ -393,36 +393,36 @@ module _ (program : Program) where
     leave_idle k ls t found zero now left e f g = record { ticks = f; text = g; context = refl; free = tt }
     leave_idle k ls t found (suc n) now left e f g = absurd (cc)
 
-    leave_shown : (t : State) (n : ℕ) (end : End) (u : State) (left : Left) → n ≡ 0 → IsInside t.context → u.ticks ≡ 0 → Shown t (Gives end u) → ((state_of (leave_at n u founds lefts left)).ticks ≡ 0) × Shown (record t { context = Outside founds lefts }) (leave_at n u founds lefts left)
-    leave_shown t zero end u left e i f x = (f, carried {A = End} {B = End} t (Gives end u) founds lefts (Stops Spent (record u { context = Outside founds lefts })) i x refl refl tt)
+    leave_shown : (t : State) (n : ℕ) (end : Completion) (u : State) (left : Left) → n ≡ 0 → IsInside t.context → u.ticks ≡ 0 → Shown t (Gives end u) → ((state_of (leave_at n u founds lefts left)).ticks ≡ 0) × Shown (record t { context = Outside founds lefts }) (leave_at n u founds lefts left)
+    leave_shown t zero end u left e i f x = (f, carried {A = Completion} {B = Completion} t (Gives end u) founds lefts (Stops Spent (record u { context = Outside founds lefts })) i x refl refl tt)
     leave_shown t (suc n) end u left e i f x = absurd (cc)
 
     module _ (kind : Kind) (mine : List Local) (found : Memory) where
-      close_falls : (n : ℕ) (r : Answer End) → (state_of r).ticks ≤ n → (state_of (close kind founds lefts mine found r)).ticks ≤ n
+      close_falls : (n : ℕ) (r : Answer Completion) → (state_of r).ticks ≤ n → (state_of (close kind founds lefts mine found r)).ticks ≤ n
       close_falls n (Gives end now) b = let c : (state_of (leave_at now.ticks now founds lefts (left_by kind mine found end now))).ticks ≤ now.ticks = leave_falls now.ticks now (left_by kind mine found end now) refl in omega (arith, b, c)
       close_falls n (Stops (Trapped k) now) b = b
       close_falls n r b = b
 
-      close_side : (f l : List Memory) (r : Answer End) → SameSide (Outside f l) (state_of (close kind founds lefts mine found r)).context
+      close_side : (f l : List Memory) (r : Answer Completion) → SameSide (Outside f l) (state_of (close kind founds lefts mine found r)).context
       close_side f l (Gives end now) = leave_side now.ticks now (left_by kind mine found end now) f l
       close_side f l (Stops (Trapped k) now) = tt
       close_side f l r = tt
 
-      close_idle : (mode : Mode) (k : ℕ) (ls : List Local) (t : List ℕ) (r : Answer End) → IsIdle (state k ls (Inside mode found) t) r → IsIdle (state k ls (Outside (found ∷ founds) lefts) t) (close kind founds lefts mine found r)
+      close_idle : (mode : Mode) (k : ℕ) (ls : List Local) (t : List ℕ) (r : Answer Completion) → IsIdle (state k ls (Inside mode found) t) r → IsIdle (state k ls (Outside (found ∷ founds) lefts) t) (close kind founds lefts mine found r)
       close_idle mode k ls t (Gives end now) g = leave_idle k ls t found now.ticks now (left_by kind mine found end now) g.ticks g.ticks g.text
       close_idle mode k ls t (Stops (Trapped x) now) g = absurd g.free
       close_idle mode k ls t (Stops Wants now) g = record { ticks = g.ticks; text = g.text; context = refl; free = tt }
       close_idle mode k ls t (Stops Spent now) g = record { ticks = g.ticks; text = g.text; context = refl; free = tt }
       close_idle mode k ls t (Stops Astray now) g = record { ticks = g.ticks; text = g.text; context = refl; free = tt }
 
-      close_shown : (t : State) (more : Answer End) → IsInside t.context → (state_of more).ticks ≡ 0 → Shown t more → ((state_of (close kind founds lefts mine found more)).ticks ≡ 0) × Shown (record t { context = Outside founds lefts }) (close kind founds lefts mine found more)
+      close_shown : (t : State) (more : Answer Completion) → IsInside t.context → (state_of more).ticks ≡ 0 → Shown t more → ((state_of (close kind founds lefts mine found more)).ticks ≡ 0) × Shown (record t { context = Outside founds lefts }) (close kind founds lefts mine found more)
       close_shown t (Gives end u) i e x = leave_shown t u.ticks end u (left_by kind mine found end u) e i e x
       close_shown t (Stops (Trapped k) u) i e x = (e, trap_carried k t u founds lefts found i x)
-      close_shown t (Stops Wants u) i e x = (e, carried {A = End} {B = End} t (Stops Wants u) founds lefts (Stops Wants (record u { context = Outside founds lefts })) i x refl refl tt)
-      close_shown t (Stops Spent u) i e x = (e, carried {A = End} {B = End} t (Stops Spent u) founds lefts (Stops Spent (record u { context = Outside founds lefts })) i x refl refl tt)
-      close_shown t (Stops Astray u) i e x = (e, carried {A = End} {B = End} t (Stops Astray u) founds lefts (Stops Astray (record u { context = Outside founds lefts })) i x refl refl tt)
+      close_shown t (Stops Wants u) i e x = (e, carried {A = Completion} {B = Completion} t (Stops Wants u) founds lefts (Stops Wants (record u { context = Outside founds lefts })) i x refl refl tt)
+      close_shown t (Stops Spent u) i e x = (e, carried {A = Completion} {B = Completion} t (Stops Spent u) founds lefts (Stops Spent (record u { context = Outside founds lefts })) i x refl refl tt)
+      close_shown t (Stops Astray u) i e x = (e, carried {A = Completion} {B = Completion} t (Stops Astray u) founds lefts (Stops Astray (record u { context = Outside founds lefts })) i x refl refl tt)
 
-      close_one : (r more : Answer End) → IsInside (state_of r).context → OneMore r more → OneMore (close kind founds lefts mine found r) (close kind founds lefts mine found more)
+      close_one : (r more : Answer Completion) → IsInside (state_of r).context → OneMore r more → OneMore (close kind founds lefts mine found r) (close kind founds lefts mine found more)
       close_one (Gives end now) more i e =
           let left = left_by kind mine found end now in
           let same = ap (close kind founds lefts mine found) e ∙ ap (λ l. leave_at (suc now.ticks) (later now) founds lefts l) (left_later (undoes end kind) mine found end now) in
@@ -434,37 +434,37 @@ module _ (program : Program) where
 
   -- an inner transaction
   module _ (outer : Mode) (kind : Kind) (mine : List Local) (found : Memory) where
-    inner_falls : (n : ℕ) (r : Answer End) → (state_of r).ticks ≤ n → (state_of (close_inner outer kind mine found r)).ticks ≤ n
+    inner_falls : (n : ℕ) (r : Answer Completion) → (state_of r).ticks ≤ n → (state_of (close_inner outer kind mine found r)).ticks ≤ n
     inner_falls n (Gives end now) b = b
     inner_falls n (Stops why now) b = b
 
-    inner_side : (mode : Mode) (r : Answer End) → SameSide (Inside mode found) (state_of r).context → SameSide (Inside outer found) (state_of (close_inner outer kind mine found r)).context
+    inner_side : (mode : Mode) (r : Answer Completion) → SameSide (Inside mode found) (state_of r).context → SameSide (Inside outer found) (state_of (close_inner outer kind mine found r)).context
     inner_side mode (Gives end now) c = tt
     inner_side mode (Stops why now) c = c
 
-    inner_idle : (mode : Mode) (k : ℕ) (ls : List Local) (t : List ℕ) (r : Answer End) → IsIdle (state k ls (Inside mode found) t) r → IsIdle (state k ls (Inside outer found) t) (close_inner outer kind mine found r)
+    inner_idle : (mode : Mode) (k : ℕ) (ls : List Local) (t : List ℕ) (r : Answer Completion) → IsIdle (state k ls (Inside mode found) t) r → IsIdle (state k ls (Inside outer found) t) (close_inner outer kind mine found r)
     inner_idle mode k ls t (Gives end now) g = record { ticks = g.ticks; text = g.text; context = tt; free = tt }
     inner_idle mode k ls t (Stops why now) g = record { ticks = g.ticks; text = g.text; context = g.context; free = g.free }
 
-    inner_carried : (t : State) (end end' : End) (u u' : State) → IsInside t.context → u'.text ≡ u.text → IsInside u'.context → Quiet t.context u'.context → Shown t (Gives end u) → Shown t (Gives end' u')
+    inner_carried : (t : State) (end end' : Completion) (u u' : State) → IsInside t.context → u'.text ≡ u.text → IsInside u'.context → Quiet t.context u'.context → Shown t (Gives end u) → Shown t (Gives end' u')
     inner_carried t end end' u u' i e j q (inl x) = inl (e ∙ x.0, q)
     inner_carried t end end' u u' i e j q (inr (inl x)) = inr (inl (x.0, e ∙ x.1, q, tt, x.4))
     inner_carried t end end' u u' i e j q (inr (inr x)) = absurd (inside_leaves t.context u.context i x.1)
 
-    inner_shown : (t : State) (more : Answer End) → IsInside t.context → (state_of more).ticks ≡ 0 → Shown t more → ((state_of (close_inner outer kind mine found more)).ticks ≡ 0) × Shown t (close_inner outer kind mine found more)
+    inner_shown : (t : State) (more : Answer Completion) → IsInside t.context → (state_of more).ticks ≡ 0 → Shown t more → ((state_of (close_inner outer kind mine found more)).ticks ≡ 0) × Shown t (close_inner outer kind mine found more)
     inner_shown t (Gives end u) i e x =
         let left = left_by kind mine found end u in
         (e, inner_carried t end left.end u (record u { locals = left.locals; context = Inside outer left.memory }) i refl tt (inside_quiet t.context outer left.memory i) x)
     inner_shown t (Stops why u) i e x = (e, x)
 
-    inner_one : (r more : Answer End) → IsInside (state_of r).context → OneMore r more → OneMore (close_inner outer kind mine found r) (close_inner outer kind mine found more)
+    inner_one : (r more : Answer Completion) → IsInside (state_of r).context → OneMore r more → OneMore (close_inner outer kind mine found r) (close_inner outer kind mine found more)
     inner_one (Gives end now) more i e = ap (close_inner outer kind mine found) e ∙ ap (λ l. leave_inner outer l (later now)) (left_later (undoes end kind) mine found end now)
     inner_one (Stops (Trapped k) t) more i e = ap (close_inner outer kind mine found) e
     inner_one (Stops Wants t) more i e = ap (close_inner outer kind mine found) e
     inner_one (Stops Astray t) more i e = ap (close_inner outer kind mine found) e
     inner_one (Stops Spent t) more i e = inner_shown t more i e.0 e.1
 
-  module _ (run : Action End) (h : IsSlow run) where
+  module _ (run : Action Completion) (h : IsSlow run) where
     abbrev from : Mode → Memory → ℕ → List Local → List ℕ → State
     from mode m n ls t = state n ls (Inside mode m) t
 

@@ -9,7 +9,7 @@ use Rattle.syntax.specs.Names.{Local}
 use Rattle.syntax.specs.Behaviours.{Memory}
 use Rattle.syntax.specs.Actions.{Context, Outside, Inside, State, Answer, Gives, Stops, state_of, Action, stop, go_on, ◌>>=◌, spend, tick, load_at, store_at, may_print_at, write}
 use Rattle.syntax.specs.Tree.{Program, Simple}
-use Rattle.syntax.specs.Meaning.{simple, calls, End, after_turn, turns, Left, left_by, close_inner, close, enter, mode_of, begin_at}
+use Rattle.syntax.specs.Meaning.{simple, calls, Completion, after_turn, turns, Left, left_by, close_inner, close, enter, mode_of, begin_at}
 use Rattle.syntax.specs.Laws.{TicksNeverGrow}
 use Rattle.syntax.proofs.Kept.{IsAlwaysKept, each_expr_holds, each_simple_holds, each_stmt_holds}
 
@@ -37,11 +37,11 @@ may_print_falls (Outside f l) s = omega arith
 may_print_falls (Inside Relaxed m) s = omega arith
 may_print_falls (Inside Atomic m) s = omega arith
 
-after_turn_falls : (rest : Action End) → ((s : State) → (state_of (rest s)).ticks ≤ s.ticks) → (o : Option End) (s : State) → (state_of (after_turn rest o s)).ticks ≤ s.ticks
+after_turn_falls : (rest : Action Completion) → ((s : State) → (state_of (rest s)).ticks ≤ s.ticks) → (o : Option Completion) (s : State) → (state_of (after_turn rest o s)).ticks ≤ s.ticks
 after_turn_falls rest h None s = h s
 after_turn_falls rest h (Some end) s = omega arith
 
-turns_fall : (turn : Action (Option End)) → Falls turn → (n : ℕ) (s : State) → (state_of (turns n turn s)).ticks ≤ s.ticks
+turns_fall : (turn : Action (Option Completion)) → Falls turn → (n : ℕ) (s : State) → (state_of (turns n turn s)).ticks ≤ s.ticks
 turns_fall turn h zero s = omega arith
 turns_fall turn h (suc n) s =
     on_falls s.ticks (tick s) (λ _. turn >>= after_turn (turns n turn)) (spend_falls s.ticks s (omega arith))
@@ -51,12 +51,12 @@ leave_falls : (n k : ℕ) (now : State) (founds lefts : List Memory) (left : Lef
 leave_falls n zero now founds lefts left h k = h
 leave_falls n (suc k) now founds lefts left h below = omega (arith, below)
 
-close_falls : (n : ℕ) (kind : Kind) (m : Memory) (founds lefts : List Memory) (mine : List Local) (r : Answer End) → (state_of r).ticks ≤ n → (state_of (close kind founds lefts mine m r)).ticks ≤ n
+close_falls : (n : ℕ) (kind : Kind) (m : Memory) (founds lefts : List Memory) (mine : List Local) (r : Answer Completion) → (state_of r).ticks ≤ n → (state_of (close kind founds lefts mine m r)).ticks ≤ n
 close_falls n kind m founds lefts mine (Gives end now) c = leave_falls n now.ticks now founds lefts (left_by kind mine m end now) c c
 close_falls n kind m founds lefts mine (Stops (Trapped k) now) c = c
 close_falls n kind m founds lefts mine r c = c
 
-close_inner_falls : (n : ℕ) (outer : Mode) (kind : Kind) (m : Memory) (mine : List Local) (r : Answer End) → (state_of r).ticks ≤ n → (state_of (close_inner outer kind mine m r)).ticks ≤ n
+close_inner_falls : (n : ℕ) (outer : Mode) (kind : Kind) (m : Memory) (mine : List Local) (r : Answer Completion) → (state_of r).ticks ≤ n → (state_of (close_inner outer kind mine m r)).ticks ≤ n
 close_inner_falls n outer kind m mine (Gives end now) c = c
 close_inner_falls n outer kind m mine (Stops why now) c = c
 
@@ -67,7 +67,7 @@ begin_falls (Inside mode m) s = omega arith
 inside : (kind : Kind) (m : Memory) → State → State
 inside kind m s = record s { context = Inside (mode_of kind) m }
 
-enter_falls : (kind : Kind) (run : Action End) → Falls run → (p : Context) (s : State) → (state_of (enter p kind run s)).ticks ≤ s.ticks
+enter_falls : (kind : Kind) (run : Action Completion) → Falls run → (p : Context) (s : State) → (state_of (enter p kind run s)).ticks ≤ s.ticks
 unfolding inside
 enter_falls kind run h (Outside [] lefts) s = omega arith
 enter_falls kind run h (Outside (m ∷ founds) lefts) s = close_falls s.ticks kind m founds lefts s.locals (run (inside kind m s)) (h.falls (inside kind m s))

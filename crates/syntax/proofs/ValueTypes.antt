@@ -22,7 +22,7 @@ use Rattle.syntax.specs.Types.{Known, Unknown, Number, Array, Callable, known_gl
 use Rattle.syntax.specs.Typing.{same_type, same_result, agrees, may_be_function, has_name, defined_names, is_worker, demand, AreDistinct, IsTypedBody, IsTypedFunction, IsTypedItem, AreTypedItems, AreDefined, IsTypedProgram}
 use Rattle.syntax.proofs.Demands.{AreMet, met_before, met_behind, is_met}
 use Rattle.syntax.specs.Actions.{Context, Outside, Inside, State, Answer, Gives, Stops, Action, pure, stop, go_on, ◌>>=◌, ◌>>◌, spend, tick, trap, or_trap, or_astray, locals, put_locals, load_at}
-use Rattle.syntax.specs.Meaning.{Spot, InLocal, InCell, fetch, End, Next, Breaks, Continues, Returns, Cancels, CancelsOuter, spot_from, element, expr, exprs, stmts, call_locals, result_of, Caller, calls}
+use Rattle.syntax.specs.Meaning.{Spot, InLocal, InCell, fetch, Completion, Next, Breaks, Continues, Returns, Cancels, CancelsOuter, spot_from, element, expr, exprs, stmts, call_locals, result_of, Caller, calls}
 use Rattle.syntax.specs.Laws.{WhereGiven, GivesItsType}
 use Rattle.syntax.proofs.Expressions.{expr_holds, calls_holds, value_transaction_gives}
 
@@ -286,7 +286,7 @@ agreed p f t d h e g =
     agreed_from [] p f t d (met_before (AreTypedItems [] p) (AreDefined p [] p) (met_before (AreTypedItems [] p ++ AreDefined p [] p) worker h)) e g
 
 -- a call's value has the type that the function gives
-returned_typed : (o result : Option Scalar) → ((t : Scalar) → o ≡ Some t → result ≡ Some t) → (outer : List Local) (r : Answer End) → GivesType o (go_on r (λ end. put_locals outer >> result_of result end))
+returned_typed : (o result : Option Scalar) → ((t : Scalar) → o ≡ Some t → result ≡ Some t) → (outer : List Local) (r : Answer Completion) → GivesType o (go_on r (λ end. put_locals outer >> result_of result end))
 returned_typed o result h outer (Gives Next now) = λ t e. ap (λ x. unwrap_or x Int) (h t e)
 returned_typed o result h outer (Gives (Returns v) now) = λ t e. ap (λ x. unwrap_or x Int) (h t e)
 returned_typed o result h outer (Gives Breaks now) = tt

@@ -28,7 +28,7 @@ use Rattle.syntax.specs.Names.{Local, newest, newest_from, word_at, with_word, G
 use Rattle.syntax.specs.Behaviours.{Memory, IsMemory}
 use Rattle.syntax.specs.Actions.{Context, Outside, Inside, State, Answer, Gives, Stops, Action, pure, stop, go_on, ◌>>=◌, ◌>>◌, spend, tick, trap, or_trap, or_astray, locals, put_locals, load_at, store, may_print_at, may_print, write, print_piece, memory_in}
 use Rattle.syntax.specs.Formats.{Piece, Literal, Figure, pieces}
-use Rattle.syntax.specs.Meaning.{Spot, InLocal, InCell, fetch, assign, print_pieces, End, Next, Breaks, Continues, Returns, Cancels, CancelsOuter, mode_of, begin_at, value_at, on_next, in_scope, after_turn, turns, loop, after_body, Left, undoes, left_or, left_by, close_inner, close, enter, transaction, op_of, int_one, Caller, spot_from, named, element, expr, exprs, spot, changed, assigned, simple, first_value, declare, start_with, holds, stepped, return_value, stmt, stmts, parameter_local, call_locals, result_of, invoke, calls}
+use Rattle.syntax.specs.Meaning.{Spot, InLocal, InCell, fetch, assign, print_pieces, Completion, Next, Breaks, Continues, Returns, Cancels, CancelsOuter, mode_of, begin_at, value_at, on_next, in_scope, after_turn, turns, loop, after_body, Left, undoes, left_or, left_by, close_inner, close, enter, transaction, op_of, int_one, Caller, spot_from, named, element, expr, exprs, spot, changed, assigned, simple, first_value, declare, start_with, holds, stepped, return_value, stmt, stmts, parameter_local, call_locals, result_of, invoke, calls}
 use Rattle.syntax.specs.Laws.{WhereGiven, StaysIn, memories_of, HasWords, WordsStay}
 use Rattle.syntax.specs.Typing.{IsTypedProgram}
 use Rattle.syntax.proofs.Expressions.{LeavesLocals, expr_holds, fetch_holds, or_trap_holds, calls_holds}
@@ -49,11 +49,11 @@ IsValue v = v.word < modulus v.of
 abbrev IsAny : {A : Type 0} → A → Type 0
 IsAny a = Unit {0}
 
-abbrev IsEnd : End → Type 0
+abbrev IsEnd : Completion → Type 0
 IsEnd (Returns v) = IsValue v
 IsEnd end = Unit {0}
 
-abbrev IsTurn : Option End → Type 0
+abbrev IsTurn : Option Completion → Type 0
 IsTurn None = Unit {0}
 IsTurn (Some end) = IsEnd end
 
@@ -302,7 +302,7 @@ module _ (q : Program) (checked : IsTypedProgram q) where
   pieces_keep (Figure t ∷ ps) [] = stop_keeps IsAny Astray
   pieces_keep (Figure t ∷ ps) (v ∷ vs) = then_ IsAny IsAny (piece_keeps _) (pieces_keep ps vs)
 
-  on_next_keeps : {rest : Action End} → Keeps IsEnd rest → (end : End) → IsEnd end → Keeps IsEnd (on_next rest end)
+  on_next_keeps : {rest : Action Completion} → Keeps IsEnd rest → (end : Completion) → IsEnd end → Keeps IsEnd (on_next rest end)
   on_next_keeps h Next e = h
   on_next_keeps h Breaks e = pure_keeps IsEnd Breaks tt
   on_next_keeps h Continues e = pure_keeps IsEnd Continues tt
@@ -310,7 +310,7 @@ module _ (q : Program) (checked : IsTypedProgram q) where
   on_next_keeps h Cancels e = pure_keeps IsEnd Cancels tt
   on_next_keeps h CancelsOuter e = pure_keeps IsEnd CancelsOuter tt
 
-  value_at_keeps : (end : End) → IsEnd end → Keeps IsValue (value_at end)
+  value_at_keeps : (end : Completion) → IsEnd end → Keeps IsValue (value_at end)
   value_at_keeps (Returns v) e = pure_keeps IsValue v e
   value_at_keeps Next e = stop_keeps IsValue Astray
   value_at_keeps Breaks e = stop_keeps IsValue Astray
@@ -322,11 +322,11 @@ module _ (q : Program) (checked : IsTypedProgram q) where
   begin_keeps (Outside f l) s w = tick_keeps.keeps s w
   begin_keeps (Inside mode m) s w = (tt, w)
 
-  scoped_keeps : {run : Action End} → Keeps IsEnd run → Keeps IsEnd (in_scope run)
+  scoped_keeps : {run : Action Completion} → Keeps IsEnd run → Keeps IsEnd (in_scope run)
   scoped_keeps g =
       on AreLocals IsEnd locals_keeps (λ outer _. on IsEnd IsEnd g (λ end e. on AreLocals IsEnd locals_keeps (λ all h. then_ IsAny IsEnd (put_locals_keeps _ (all_taken IsOwn (length outer) all h)) (pure_keeps IsEnd end e))))
 
-  after_body_keeps : {go : Action (Option End)} → Keeps IsTurn go → (end : End) → IsEnd end → Keeps IsTurn (after_body go end)
+  after_body_keeps : {go : Action (Option Completion)} → Keeps IsTurn go → (end : Completion) → IsEnd end → Keeps IsTurn (after_body go end)
   after_body_keeps h Next e = h
   after_body_keeps h Breaks e = pure_keeps IsTurn (Some Next) tt
   after_body_keeps h Continues e = h
@@ -334,15 +334,15 @@ module _ (q : Program) (checked : IsTypedProgram q) where
   after_body_keeps h Cancels e = pure_keeps IsTurn (Some Cancels) tt
   after_body_keeps h CancelsOuter e = pure_keeps IsTurn (Some CancelsOuter) tt
 
-  after_turn_keeps : {rest : Action End} → Keeps IsEnd rest → (o : Option End) → IsTurn o → Keeps IsEnd (after_turn rest o)
+  after_turn_keeps : {rest : Action Completion} → Keeps IsEnd rest → (o : Option Completion) → IsTurn o → Keeps IsEnd (after_turn rest o)
   after_turn_keeps h None e = h
   after_turn_keeps h (Some end) e = pure_keeps IsEnd end e
 
-  turns_keep : {turn : Action (Option End)} → Keeps IsTurn turn → (n : ℕ) → Keeps IsEnd (turns n turn)
+  turns_keep : {turn : Action (Option Completion)} → Keeps IsTurn turn → (n : ℕ) → Keeps IsEnd (turns n turn)
   turns_keep h zero = stop_keeps IsEnd Spent
   turns_keep h (suc n) = then_ IsAny IsEnd tick_keeps (on IsTurn IsEnd h (λ o e. after_turn_keeps (turns_keep h n) o e))
 
-  loop_keeps : {turn : Action (Option End)} → Keeps IsTurn turn → Keeps IsEnd (loop turn)
+  loop_keeps : {turn : Action (Option Completion)} → Keeps IsTurn turn → Keeps IsEnd (loop turn)
   loop_keeps h = record { keeps = λ s w. (turns_keep h s.ticks).keeps s w }
 
   -- what a transaction leaves
@@ -355,7 +355,7 @@ module _ (q : Program) (checked : IsTypedProgram q) where
   inside_memory mode m (Outside f l) e h = absurd e
   inside_memory mode m (Inside mode' m') e h = h.0
 
-  is_left : (undone : Bool) (mode : Mode) (mine : List Local) (m : Memory) (end : End) (now : State) → AreLocals mine → IsMemory (bounds q) m → StaysIn (Inside mode m) now.context → IsEnd end → HasWords q now → IsLeft (left_or undone mine m end now)
+  is_left : (undone : Bool) (mode : Mode) (mine : List Local) (m : Memory) (end : Completion) (now : State) → AreLocals mine → IsMemory (bounds q) m → StaysIn (Inside mode m) now.context → IsEnd end → HasWords q now → IsLeft (left_or undone mine m end now)
   is_left true mode mine m end now h k in_ e w = record { end = tt; locals = h; memory = k }
   is_left false mode mine m end now h k in_ e w = record { end = e; locals = w.locals; memory = inside_memory mode m now.context in_ w.memories }
 
@@ -365,18 +365,18 @@ module _ (q : Program) (checked : IsTypedProgram q) where
       let M = IsMemory (bounds q) in
       (h.end, record { locals = h.locals; memories = all_joined M founds (lefts ++ left.memory ∷ []) (all_before M founds lefts k) (all_joined M lefts (left.memory ∷ []) (all_behind M founds lefts k) (h.memory, tt)) })
 
-  close_keeps : (kind : Kind) (founds lefts : List Memory) (mine : List Local) (m : Memory) (r : Answer End) → AreLocals mine → IsMemory (bounds q) m → AllByRecursion (IsMemory (bounds q)) (founds ++ lefts) → WhereGiven r (λ end now. StaysIn (Inside (mode_of kind) m) now.context) → WhereGiven r (λ end now. IsEnd end × HasWords q now) → WhereGiven (close kind founds lefts mine m r) (λ end now. IsEnd end × HasWords q now)
+  close_keeps : (kind : Kind) (founds lefts : List Memory) (mine : List Local) (m : Memory) (r : Answer Completion) → AreLocals mine → IsMemory (bounds q) m → AllByRecursion (IsMemory (bounds q)) (founds ++ lefts) → WhereGiven r (λ end now. StaysIn (Inside (mode_of kind) m) now.context) → WhereGiven r (λ end now. IsEnd end × HasWords q now) → WhereGiven (close kind founds lefts mine m r) (λ end now. IsEnd end × HasWords q now)
   close_keeps kind founds lefts mine m (Gives end now) h k ms in_ w = leave_keeps now.ticks founds lefts (left_by kind mine m end now) now (is_left (undoes end kind) (mode_of kind) mine m end now h k in_ w.0 w.1) ms
   close_keeps kind founds lefts mine m (Stops (Trapped t) now) h k ms in_ w = tt
   close_keeps kind founds lefts mine m r h k ms in_ w = tt
 
-  inner_keeps : (outer : Mode) (kind : Kind) (mine : List Local) (m : Memory) (r : Answer End) → AreLocals mine → IsMemory (bounds q) m → WhereGiven r (λ end now. StaysIn (Inside (mode_of kind) m) now.context) → WhereGiven r (λ end now. IsEnd end × HasWords q now) → WhereGiven (close_inner outer kind mine m r) (λ end now. IsEnd end × HasWords q now)
+  inner_keeps : (outer : Mode) (kind : Kind) (mine : List Local) (m : Memory) (r : Answer Completion) → AreLocals mine → IsMemory (bounds q) m → WhereGiven r (λ end now. StaysIn (Inside (mode_of kind) m) now.context) → WhereGiven r (λ end now. IsEnd end × HasWords q now) → WhereGiven (close_inner outer kind mine m r) (λ end now. IsEnd end × HasWords q now)
   inner_keeps outer kind mine m (Gives end now) h k in_ w =
       let left = is_left (undoes end kind) (mode_of kind) mine m end now h k in_ w.0 w.1 in
       (left.end, record { locals = left.locals; memories = (left.memory, tt) })
   inner_keeps outer kind mine m (Stops why now) h k in_ w = tt
 
-  enter_keeps : (kind : Kind) (run : Action End) → Stays run → Keeps IsEnd run → (p : Context) (n : ℕ) (ls : List Local) (t : List ℕ) → AreLocals ls → AllByRecursion (IsMemory (bounds q)) (memories_of p) → WhereGiven (enter p kind run (record { ticks = n; locals = ls; context = p; text = t })) (λ end now. IsEnd end × HasWords q now)
+  enter_keeps : (kind : Kind) (run : Action Completion) → Stays run → Keeps IsEnd run → (p : Context) (n : ℕ) (ls : List Local) (t : List ℕ) → AreLocals ls → AllByRecursion (IsMemory (bounds q)) (memories_of p) → WhereGiven (enter p kind run (record { ticks = n; locals = ls; context = p; text = t })) (λ end now. IsEnd end × HasWords q now)
   enter_keeps kind run g h (Outside [] lefts) n ls t w ms = tt
   enter_keeps kind run g h (Outside (m ∷ founds) lefts) n ls t w ms =
       let s : State = record { ticks = n; locals = ls; context = Inside (mode_of kind) m; text = t } in
@@ -392,7 +392,7 @@ module _ (q : Program) (checked : IsTypedProgram q) where
       inner_keeps Atomic (Plain Atomic) ls m (run s) w ms.0 (g.stays s) (h.keeps s (record { locals = w; memories = ms }))
   enter_keeps (Plain Relaxed) run g h (Inside Atomic m) n ls t w ms = tt
 
-  transaction_keeps : (kind : Kind) {run : Action End} → Stays run → Keeps IsEnd run → Keeps IsEnd (transaction kind run)
+  transaction_keeps : (kind : Kind) {run : Action Completion} → Stays run → Keeps IsEnd run → Keeps IsEnd (transaction kind run)
   transaction_keeps kind {run} g h = record { keeps = λ s w. enter_keeps kind run g h s.context s.ticks s.locals s.text w.locals w.memories }
 
   -- the parameters hold words
@@ -569,7 +569,7 @@ module _ (q : Program) (checked : IsTypedProgram q) where
       stmts_keep Tree.[] = pure_keeps IsEnd Next tt
       stmts_keep (Tree.◌∷◌ s ss) = on IsEnd IsEnd (stmt_keeps s) (on_next_keeps (stmts_keep ss))
 
-    result_keeps : (t : Option Scalar) (end : End) → Keeps IsValue (result_of t end)
+    result_keeps : (t : Option Scalar) (end : Completion) → Keeps IsValue (result_of t end)
     result_keeps t Next = pure_keeps IsValue (value_in_type (unwrap_or t Int) (flag false)) (word_below (unwrap_or t Int) (number_of (flag false)))
     result_keeps t (Returns v) = pure_keeps IsValue (value_in_type (unwrap_or t Int) v) (word_below (unwrap_or t Int) (number_of v))
     result_keeps t Breaks = stop_keeps IsValue Astray
@@ -587,7 +587,7 @@ module _ (q : Program) (checked : IsTypedProgram q) where
   calls_keep (suc n) x vs = invoke_keeps (calls q n) (called_holds q (λ A run. Stays run) stays_kept n) (calls_holds q n) (calls_keep n) x vs
 
 -- what a statement ends with is left out
-words_of : (q : Program) (r : Answer End) → WhereGiven r (λ end now. IsEnd end × HasWords q now) → WhereGiven r (λ end now. HasWords q now)
+words_of : (q : Program) (r : Answer Completion) → WhereGiven r (λ end now. IsEnd end × HasWords q now) → WhereGiven r (λ end now. HasWords q now)
 words_of q (Gives end now) h = h.1
 words_of q (Stops why now) h = tt
 

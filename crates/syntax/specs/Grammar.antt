@@ -9,7 +9,7 @@ use Rattle.syntax.specs.Tree.{Span, Scalar, Int, Unsigned, LongLong, UnaryOp, Ne
 use Rattle.syntax.specs.Tree.{Or, Xor, And, Equal, NotEqual, Less, Greater, LessEqual, GreaterEqual, ShiftLeft}
 use Rattle.syntax.specs.Tree.{ShiftRight, Add, Subtract, Multiply, Divide, Remainder, LogicalOp, AndThen, OrElse}
 use Rattle.syntax.specs.Tree.{IncDec, Increment, Decrement, Mode, Atomic, Relaxed, Kind, Plain, Outer, Attribute, Safe}
-use Rattle.syntax.specs.Tree.{Unsafe, Callable, First, Name, Expr, Exprs, Variable, Constant, Element, Call}
+use Rattle.syntax.specs.Tree.{Unsafe, Callable, Initializer, Name, Expr, Exprs, Variable, Constant, Element, Call}
 use Rattle.syntax.specs.Tree.{Parenthesized, Cast, Unary, Binary, Logical, Conditional, InTransaction, Simple, Evaluate}
 use Rattle.syntax.specs.Tree.{Assign, Adjust, Declarator, Declaration, Start, Nothing, Declares, Does, Stmt, Stmts}
 use Rattle.syntax.specs.Tree.{Empty, Declare, Do, Block, Print, If, IfElse, While, DoWhile, For, Break, Continue}
@@ -356,7 +356,7 @@ value_in _ = None
 abbrev pub the_value : Tok → Option (ℕ × Scalar)
 the_value t = value_in t.terminal
 
-abbrev pub initialiser : First → Phrase
+abbrev pub initialiser : Initializer → Phrase
 initialiser i = spanning i.span (minus i.negative ⨾ One the_value (i.value, i.of))
 
 -- a length: a constant of any type, by its value and place
@@ -366,18 +366,18 @@ length_in terminal at = option_map (λ v. (v.0, at)) (value_in terminal)
 abbrev pub the_length : Tok → Option (ℕ × Span)
 the_length t = length_in t.terminal t.span
 
-abbrev pub first_value : List First → Phrase
+abbrev pub first_value : List Initializer → Phrase
 first_value [] = Nil
 first_value (i ∷ []) = Sign punct.Assign ⨾ initialiser i
 first_value (i ∷ j ∷ is) = never
 
-abbrev pub first_values : List First → Phrase
+abbrev pub first_values : List Initializer → Phrase
 first_values [] = Nil
 first_values (i ∷ is) =
     Sign punct.Assign ⨾ Sign punct.OpenBrace ⨾ Listed initialiser (i ∷ is) ⨾ (Nil ∣ Sign punct.Comma)
     ⨾ Sign punct.CloseBrace
 
-abbrev pub global_phrase : Option (ℕ × Span) → List First → Phrase
+abbrev pub global_phrase : Option (ℕ × Span) → List Initializer → Phrase
 global_phrase None is = first_value is
 global_phrase (Some n) is = Sign punct.OpenBracket ⨾ One the_length n ⨾ Sign punct.CloseBracket ⨾ first_values is
 
@@ -395,16 +395,16 @@ item (Shares gs) = λ ts. (t : Scalar) × globals t gs ts
 -- ---- programs (C11 6.9)
 
 -- a program, and where its last token ends
-pub record Source : Type 0 where
+pub record ParsedSource : Type 0 where
   pub program : Program
   pub ends : ℕ
 
-abbrev pub Spells : Source → Phrase
+abbrev pub Spells : ParsedSource → Phrase
 Spells s ts = Many item s.program ts × (s.ends ≡ end_of ts)
 
 -- how deep a program may be
 abbrev pub deepest_program : ℕ
 deepest_program = 100
 
-abbrev pub source_depth : Source → ℕ
+abbrev pub source_depth : ParsedSource → ℕ
 source_depth s = program_depth s.program

@@ -40,18 +40,18 @@ print_pieces (Figure t ∷ ps) (v ∷ vs) = print_piece (signed_decimal (number 
 -- ---- statements (C11 6.8)
 
 -- how a statement ends
-pub data End : Type 0 where
-  Next Breaks Continues : End
-  Returns : (v : Value) → End
-  Cancels CancelsOuter : End
+pub data Completion : Type 0 where
+  Next Breaks Continues : Completion
+  Returns : (v : Value) → Completion
+  Cancels CancelsOuter : Completion
 
 -- the rest follows where the first has come to its end
-abbrev pub on_next : Action End → End → Action End
+abbrev pub on_next : Action Completion → Completion → Action Completion
 on_next rest Next = rest
 on_next rest end = pure end
 
 -- a stretch with names of its own: they are gone at its end
-abbrev pub in_scope : Action End → Action End
+abbrev pub in_scope : Action Completion → Action Completion
 in_scope run = do
   outer ← locals
   end ← run
@@ -60,21 +60,21 @@ in_scope run = do
   pure end
 
 -- after a turn, which tells how the loop ends, if it does
-abbrev pub after_turn : Action End → Option End → Action End
+abbrev pub after_turn : Action Completion → Option Completion → Action Completion
 after_turn rest None = rest
 after_turn rest (Some end) = pure end
 
 -- at most so many turns, each for a tick
-abbrev pub turns : ℕ → Action (Option End) → Action End
+abbrev pub turns : ℕ → Action (Option Completion) → Action Completion
 turns zero turn = stop Spent
 turns (suc n) turn = tick >> (turn >>= after_turn (turns n turn))
 
 -- a loop: since each turn takes a tick, there are never more turns than ticks
-abbrev pub loop : Action (Option End) → Action End
+abbrev pub loop : Action (Option Completion) → Action Completion
 loop turn s = turns s.ticks turn s
 
 -- what the end of a loop's body says of the loop, where the next thing is to go on with
-abbrev pub after_body : Action (Option End) → End → Action (Option End)
+abbrev pub after_body : Action (Option Completion) → Completion → Action (Option Completion)
 after_body go Next = go
 after_body go Continues = go
 after_body go Breaks = pure (Some Next)
@@ -89,7 +89,7 @@ mode_of (Plain mode) = mode
 mode_of Outer = Atomic
 
 -- a cancel undoes the innermost transaction, and an outer cancel the innermost outer one with all in it
-abbrev pub undoes : End → Kind → Bool
+abbrev pub undoes : Completion → Kind → Bool
 undoes Cancels kind = true
 undoes CancelsOuter Outer = true
 undoes end kind = false
@@ -97,56 +97,56 @@ undoes end kind = false
 -- what a transaction leaves: one that is undone leaves shared memory and locals as they were, and the run goes on after
 -- it
 pub record Left : Type 0 where
-  pub end : End
+  pub end : Completion
   pub locals : List Local
   pub memory : Memory
 
-abbrev pub left_or : Bool → List Local → Memory → End → State → Left
+abbrev pub left_or : Bool → List Local → Memory → Completion → State → Left
 left_or true mine found end now = record { end = Next; locals = mine; memory = found }
 left_or false mine found end now = record { end = end; locals = now.locals; memory = memory_in now.context }
 
-abbrev pub left_by : Kind → List Local → Memory → End → State → Left
+abbrev pub left_by : Kind → List Local → Memory → Completion → State → Left
 left_by kind mine found end now = left_or (undoes end kind) mine found end now
 
 -- a transaction that lies in another, which runs as outer: what it leaves is seen there
-abbrev pub leave_inner : Mode → Left → State → Answer End
+abbrev pub leave_inner : Mode → Left → State → Answer Completion
 leave_inner outer left now = Gives left.end (record now { locals = left.locals; context = Inside outer left.memory })
 
-abbrev pub close_inner : Mode → Kind → List Local → Memory → Answer End → Answer End
+abbrev pub close_inner : Mode → Kind → List Local → Memory → Answer Completion → Answer Completion
 close_inner outer kind mine found (Gives end now) = leave_inner outer (left_by kind mine found end now) now
 close_inner outer kind mine found (Stops why now) = Stops why now
 
-abbrev pub inner : (outer : Mode) (kind : Kind) → Memory → Action End → Action End
+abbrev pub inner : (outer : Mode) (kind : Kind) → Memory → Action Completion → Action Completion
 inner outer kind found run s =
     close_inner outer kind s.locals found (run (record s { context = Inside (mode_of kind) found }))
 
 -- an outermost transaction that is left: its tick is due before the memory left is added
-abbrev pub leave : List Memory → List Memory → Left → Action End
+abbrev pub leave : List Memory → List Memory → Left → Action Completion
 leave founds lefts left now =
     go_on (tick (record now { context = Outside founds lefts }))
     (λ u then_. Gives left.end
     (record then_ { locals = left.locals; context = Outside founds (lefts ++ left.memory ∷ []) }))
 
 -- a trap leaves the memory that was found, and a run that otherwise stops leaves none
-abbrev pub close : Kind → List Memory → List Memory → List Local → Memory → Answer End → Answer End
+abbrev pub close : Kind → List Memory → List Memory → List Local → Memory → Answer Completion → Answer Completion
 close kind founds lefts mine found (Gives end now) = leave founds lefts (left_by kind mine found end now) now
 close kind founds lefts mine found (Stops (Trapped k) now) =
     Stops (Trapped k) (record now { context = Outside founds (lefts ++ found ∷ []) })
 close kind founds lefts mine found (Stops why now) = Stops why (record now { context = Outside founds lefts })
 
-abbrev pub outermost : Kind → Memory → List Memory → List Memory → Action End → Action End
+abbrev pub outermost : Kind → Memory → List Memory → List Memory → Action Completion → Action Completion
 outermost kind found founds lefts run s =
     close kind founds lefts s.locals found (run (record s { context = Inside (mode_of kind) found }))
 
 -- a transaction that begins here: outside it takes the next memory, and inside an atomic one no relaxed one begins
-abbrev pub enter : Context → Kind → Action End → Action End
+abbrev pub enter : Context → Kind → Action Completion → Action Completion
 enter (Outside [] lefts) kind run = stop Wants
 enter (Outside (found ∷ founds) lefts) kind run = outermost kind found founds lefts run
 enter (Inside Relaxed found) kind run = inner Relaxed kind found run
 enter (Inside Atomic found) (Plain Relaxed) run = stop Astray
 enter (Inside Atomic found) kind run = inner Atomic kind found run
 
-abbrev pub transaction : Kind → Action End → Action End
+abbrev pub transaction : Kind → Action Completion → Action Completion
 transaction kind run s = enter s.context kind run s
 
 -- outside transactions one that is an expression takes a tick before its memory is wanted
@@ -158,7 +158,7 @@ abbrev pub begin_value : Action (Unit {0})
 begin_value s = begin_at s.context s
 
 -- what an expression gives that is a transaction (the draft's transaction expressions): its body's end is the value
-abbrev pub value_at : End → Action Value
+abbrev pub value_at : Completion → Action Value
 value_at (Returns v) = pure v
 value_at end = stop Astray
 
@@ -241,7 +241,7 @@ module _ (p : Program) (call : Caller) where
   assigned at by (Some op) = changed at by op
 
   -- expressions as statements, assignments, ++ and -- (C11 6.8.3, 6.5.16, 6.5.2.4, 6.5.3.1)
-  abbrev pub simple : Simple → Action End
+  abbrev pub simple : Simple → Action Completion
   simple (Evaluate e) = do expr e; pure Next
   simple (Assign to op e) = do at ← spot to; assigned at (expr e) op; pure Next
   simple (Adjust to by) = do at ← spot to; changed at (pure int_one) (op_of by); pure Next
@@ -251,7 +251,7 @@ module _ (p : Program) (call : Caller) where
   first_value at None = pure tt
   first_value at (Some e) = do v ← expr e; assign at v
 
-  abbrev pub declare : Scalar → List Declarator → Action End
+  abbrev pub declare : Scalar → List Declarator → Action Completion
   declare t [] = pure Next
   declare t (d ∷ ds) = do
     mine ← locals
@@ -259,7 +259,7 @@ module _ (p : Program) (call : Caller) where
     first_value (InLocal (length mine) t) d.first
     declare t ds
 
-  abbrev pub start_with : Start → Action End
+  abbrev pub start_with : Start → Action Completion
   start_with Nothing = pure Next
   start_with (Declares d) = declare d.of d.declarators
   start_with (Does s) = simple s
@@ -269,7 +269,7 @@ module _ (p : Program) (call : Caller) where
   holds None = pure true
   holds (Some e) = do v ← expr e; pure (not (is_zero v))
 
-  abbrev pub stepped : Option Simple → Action (Option End)
+  abbrev pub stepped : Option Simple → Action (Option Completion)
   stepped None = pure None
   stepped (Some s) = do simple s; pure None
 
@@ -279,7 +279,7 @@ module _ (p : Program) (call : Caller) where
 
   abbrev mutual
     -- blocks and declarations (C11 6.8.2), printing (7.21.6.3)
-    pub stmt : Stmt → Action End
+    pub stmt : Stmt → Action Completion
     stmt Empty = do tick; pure Next
     stmt (Declare d) = do tick; declare d.of d.declarators
     stmt (Do s) = do tick; simple s
@@ -310,7 +310,7 @@ module _ (p : Program) (call : Caller) where
     stmt (Cancel at) = do tick; pure Cancels
     stmt (CancelOuter at) = do tick; pure CancelsOuter
 
-    pub stmts : Stmts → Action End
+    pub stmts : Stmts → Action Completion
     stmts Stmts.[] = pure Next
     stmts (Stmts.◌∷◌ s ss) = stmt s >>= on_next (stmts ss)
 
@@ -326,7 +326,7 @@ call_locals qs vs = None
 
 -- the value of a call, of the function's own type (6.8.6.4): one that runs off its end gives 0, and no other end leaves
 -- it
-abbrev pub result_of : Option Scalar → End → Action Value
+abbrev pub result_of : Option Scalar → Completion → Action Value
 result_of t Next = pure (value_in_type (unwrap_or t Int) (flag false))
 result_of t (Returns v) = pure (value_in_type (unwrap_or t Int) v)
 result_of t end = stop Astray

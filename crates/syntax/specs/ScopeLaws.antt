@@ -7,7 +7,7 @@ use Rattle.syntax.specs.Types.{Scope, Callable, known_function, file_scope, type
 use Rattle.syntax.specs.Typing.{is_unknown, is_void, scope_after, parameter_names, with_parameters, Demand, IsTyped}
 use Rattle.syntax.specs.Typing.{IsTypedStmt, AreTypedStmts, IsTypedProgram}
 use Rattle.syntax.specs.Actions.{State}
-use Rattle.syntax.specs.Meaning.{End, Breaks, Continues, stmt, call_locals, calls}
+use Rattle.syntax.specs.Meaning.{Completion, Breaks, Continues, stmt, call_locals, calls}
 use Rattle.syntax.specs.Laws.{WhereGiven, shape}
 
 -- each of these demands is met
@@ -68,7 +68,7 @@ LocalsExact =
     WhereGiven (stmt p (calls p frames) st s) (λ end now. map shape now.locals ≡ map shape s.locals ++ declared_by st)
 
 -- an end that leaves no loop
-abbrev pub IsNoJump : End → Type 0
+abbrev pub IsNoJump : Completion → Type 0
 IsNoJump Breaks = ⊥
 IsNoJump Continues = ⊥
 IsNoJump end = Unit {0}

@@ -6,7 +6,7 @@ use Rattle.std.specs.Prelude.{ℕ, ◌+◌, List, [], ◌∷◌, ◌++◌, lengt
 use Rattle.std.specs.Prelude.{false, not, ◌&&◌, ◌||◌, IsTrue, is_some, is_none, if◌then◌else◌, codes, option_map}
 use Rattle.std.specs.Prelude.{unwrap_or, ◌==◌, nat_le, bytes_eq, All}
 use Rattle.std.specs.List.{list_any}
-use Rattle.syntax.specs.Tree.{Span, Scalar, Int, Unsigned, LongLong, First, Name, Expr, Exprs, Variable, Constant}
+use Rattle.syntax.specs.Tree.{Span, Scalar, Int, Unsigned, LongLong, Initializer, Name, Expr, Exprs, Variable, Constant}
 use Rattle.syntax.specs.Tree.{Element, Call, Parenthesized, Cast, Unary, Binary, Logical, Conditional, InTransaction}
 use Rattle.syntax.specs.Tree.{Simple, Evaluate, Assign, Adjust, Declarator, Start, Nothing, Declares, Does, Stmt, Stmts}
 use Rattle.syntax.specs.Tree.{Declare, Do, Block, Print, If, IfElse, While, DoWhile, For, Break, Continue, Return}
@@ -291,7 +291,7 @@ IsLength None = []
 IsLength (Some n) = demand 25 n.1 (nat_le 1 n.0 && nat_le n.0 4096)
 
 -- no initialiser stands where no cell is left for it
-abbrev pub HaveCells : List First → List Demand
+abbrev pub HaveCells : List Initializer → List Demand
 HaveCells [] = []
 HaveCells (i ∷ is) = demand 25 i.span false
 

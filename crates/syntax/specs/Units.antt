@@ -2,8 +2,8 @@
 use Rattle.std.specs.Prelude.{◌≡◌, ℕ, ◌-◌, ◌<◌, ◌≤◌, List, ◌∷◌, length, drop, Bool, ◌==◌, ◌&&◌, if◌then◌else◌}
 use Rattle.syntax.specs.Tree.{Scalar}
 use Rattle.syntax.specs.Formats.{Figure, literal, pieces, is_format}
-use Rattle.syntax.specs.declared.format.Unit as U
-use Rattle.syntax.specs.declared.format.Unit.TheVariants as unit
+use Rattle.syntax.specs.declared.format.FormatUnit as U
+use Rattle.syntax.specs.declared.format.FormatUnit.TheVariants as unit
 
 -- so many bytes say a byte of literal text: two a percent sign, and one any other
 abbrev pub says : ℕ → ℕ → Bool
@@ -22,6 +22,6 @@ pub record IsFigureAt (t : Scalar) (next : ℕ) (format : List ℕ) (i : ℕ) : 
   pub after : i < next
   pub within : next ≤ length format
 
-abbrev pub IsUnitAt : U.Unit → List ℕ → ℕ → Type 0
+abbrev pub IsUnitAt : U.FormatUnit → List ℕ → ℕ → Type 0
 IsUnitAt (unit.Byte c next) format i = IsByteAt c next format i
 IsUnitAt (unit.Figure t next) format i = IsFigureAt t next format i

@@ -1,6 +1,6 @@
 //! Copies of functions, globals and units.
 
-use crate::tree::{Attribute, First, Function, Global, Item, Parameter, Unit};
+use crate::tree::{Attribute, Initializer, Function, Global, Item, Parameter, Unit};
 use containers::Copied;
 use std::alloc::{AllocError, Allocator};
 
@@ -17,8 +17,8 @@ impl<A: Allocator + Copy> Copied<A> for Attribute {
     }
 }
 
-impl<A: Allocator + Copy> Copied<A> for First {
-    fn copy(&self, _alloc: A) -> Result<First, AllocError> {
+impl<A: Allocator + Copy> Copied<A> for Initializer {
+    fn copy(&self, _alloc: A) -> Result<Initializer, AllocError> {
         Ok(*self)
     }
 }

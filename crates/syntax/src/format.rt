@@ -7,7 +7,7 @@ ghost use Rattle.syntax.specs.Units.{IsUnitAt};
 use lex::token::Scalar;
 
 /// A byte of literal text or a number, and the place behind what says it.
-pub enum Unit {
+pub enum FormatUnit {
     Byte(u8, usize),
     Figure(Scalar, usize),
 }
@@ -28,16 +28,16 @@ fn figure_at(format: &[u8], i: usize) -> Option<(Scalar, usize)>
 }
 
 /// What stands at a place of a format.
-pub fn unit_at(format: &[u8], i: usize) -> Unit
+pub fn unit_at(format: &[u8], i: usize) -> FormatUnit
     requires { i < length format.now }
     ensures { IsUnitAt result format.now i }
 {
     let byte = format[i];
     if byte != b'%' || format.len() - i == 1 {
-        return Unit::Byte(byte, i + 1);
+        return FormatUnit::Byte(byte, i + 1);
     }
     match figure_at(format, i + 1) {
-        Some((of, count)) => Unit::Figure(of, i + 1 + count),
-        None => Unit::Byte(format[i + 1], i + 2),
+        Some((of, count)) => FormatUnit::Figure(of, i + 1 + count),
+        None => FormatUnit::Byte(format[i + 1], i + 2),
     }
 }

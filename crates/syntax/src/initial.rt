@@ -5,11 +5,11 @@ ghost use Rattle.syntax.specs.Names.{cells, first_value, first_word, first_words
 ghost use Rattle.syntax.specs.Views.{global_of};
 
 use crate::number::{number, word_of};
-use crate::tree::{First, Global};
+use crate::tree::{Initializer, Global};
 use lex::token::Scalar;
 use std::alloc::{AllocError, Allocator};
 
-impl First {
+impl Initializer {
     /// The word of the number in the constant's own type.
     fn own_word(self) -> u64
         ensures { result ≡ (first_value self).word }
@@ -44,7 +44,7 @@ impl<A: Allocator> Global<A> {
 fn push_firsts<A: Allocator>(
     words: &mut Vec<u64, A>,
     of: Scalar,
-    firsts: &[First],
+    firsts: &[Initializer],
 ) -> Result<(), AllocError>
     ensures { OnOk result (words.new.items ≡ words.old.items ++ map (first_word of) firsts.now) }
 {

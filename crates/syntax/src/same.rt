@@ -1,7 +1,7 @@
 //! Whether trees are the same, with all their places.
 
 use crate::tree::{
-    Attribute, Declaration, Declarator, Expr, First, ForHead, Function, Global, Item, Name,
+    Attribute, Declaration, Declarator, Expr, Initializer, ForHead, Function, Global, Item, Name,
     Parameter, Simple, Start, Stmt, Unit,
 };
 use containers::Same;
@@ -129,8 +129,8 @@ impl Same for Attribute {
     }
 }
 
-impl Same for First {
-    fn same(&self, other: &First) -> bool {
+impl Same for Initializer {
+    fn same(&self, other: &Initializer) -> bool {
         *self == *other
     }
 }

@@ -8,7 +8,7 @@ use Rattle.syntax.specs.Types.{Known}
 use Rattle.syntax.specs.Typing.{has_name, defined_names, may_be_function}
 use Rattle.name_tables.specs.Named.{first, declared}
 use Rattle.name_tables.specs.Known.{entries_in}
-use Rattle.name_tables.specs.declared.kept.Table.{Table}
+use Rattle.name_tables.specs.declared.entries.Table.{Table}
 use Rattle.name_tables.proofs.Firsts.{first_declared}
 use Rattle.types.specs.inner.Bodies.{AreBodies}
 use Rattle.types.proofs.Files.{defined_append}

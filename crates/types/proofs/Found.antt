@@ -6,14 +6,14 @@ use Rattle.syntax.specs.Types.{file_scope}
 use Rattle.syntax.specs.Typing.{has_name, defined_names}
 use Rattle.name_tables.specs.Named.{first}
 use Rattle.name_tables.specs.Known.{entries_in}
-use Rattle.types.specs.declared.unit.Found.{Found}
+use Rattle.types.specs.declared.unit.FoundItems.{FoundItems}
 use Rattle.types.specs.inner.Known.{known_in, count_in}
 use Rattle.types.specs.inner.Bodies.{AreBodies}
 use Rattle.types.specs.inner.Found.{IsFound}
 use Rattle.types.proofs.Files.{all_cells_append, defined_append}
 use Rattle.types.proofs.Bodies.{or_none}
 
-module _ {A : Type 0} (old new : Found A) (earlier : List Item) (i : Item) where
+module _ {A : Type 0} (old new : FoundItems A) (earlier : List Item) (i : Item) where
   pub found_function : (f : Function) → i ≡ Defines f → IsFound old earlier → known_in new.names ≡ file_scope (earlier ++ Defines f ∷ []) → count_in new.names ≡ 0 → AreBodies new.bodies (earlier ++ Defines f ∷ []) → new.taken ≡ old.taken → IsFound new (earlier ++ i ∷ [])
   found_function f is h known none defined taken =
       let now : IsFound new (earlier ++ Defines f ∷ []) = record {

@@ -10,8 +10,8 @@ ghost use Rattle.types.specs.inner.Known.{known_in};
 ghost use Rattle.types.specs.inner.Scopes.{known_of};
 
 use crate::fault::{Violation, demand};
-use crate::symbol::Symbol;
-use crate::table::Names;
+use crate::symbol::ScopeSymbol;
+use crate::table::ScopeTable;
 use lex::token::Span;
 use std::alloc::Allocator;
 use syntax::tree::{Expr, Function, Name};
@@ -36,7 +36,7 @@ pub(crate) fn place_of<A: Allocator>(e: &Expr<A>) -> Span
 }
 
 /// Whether an expression calls a function that gives no value.
-pub(crate) fn is_void<'a, A: Allocator + Copy>(names: &Names<'a, A>, e: &'a Expr<A>) -> bool
+pub(crate) fn is_void<'a, A: Allocator + Copy>(names: &ScopeTable<'a, A>, e: &'a Expr<A>) -> bool
     ensures { result ≡ is_void (known_in names.now) (expr_of e.now) }
 {
     match e {
@@ -47,7 +47,7 @@ pub(crate) fn is_void<'a, A: Allocator + Copy>(names: &Names<'a, A>, e: &'a Expr
 }
 
 pub(crate) fn gives_number<'a, A: Allocator + Copy>(
-    names: &Names<'a, A>,
+    names: &ScopeTable<'a, A>,
     e: &'a Expr<A>,
 ) -> Result<(), Violation>
     ensures { unmet_in result ≡ first_unmet (GivesNumber (known_in names.now) (expr_of e.now)) }
@@ -60,7 +60,7 @@ pub(crate) fn gives_number<'a, A: Allocator + Copy>(
 #[cycle(check)]
 #[tactic(auto, using(crate::proofs::Steps::first_of_two))]
 fn check_element<'a, A: Allocator + Copy>(
-    names: &Names<'a, A>,
+    names: &ScopeTable<'a, A>,
     x: &'a Name<A>,
     index: &'a Expr<A>,
     at: Span,
@@ -76,7 +76,7 @@ fn check_element<'a, A: Allocator + Copy>(
 
 /// A variable: its name, and then that it is a number.
 fn check_variable<'a, A: Allocator + Copy>(
-    names: &Names<'a, A>,
+    names: &ScopeTable<'a, A>,
     x: &'a Name<A>,
 ) -> Result<(), Violation>
     ensures { unmet_in result ≡ first_unmet (IsTyped (known_in names.now) (Tree.Variable (name_of x.now))) }
@@ -95,7 +95,7 @@ pub(crate) fn count_of<A: Allocator>(all: &[Expr<A>]) -> usize
 
 /// A name that is known.
 pub(crate) fn check_known<'a, A: Allocator + Copy>(
-    names: &Names<'a, A>,
+    names: &ScopeTable<'a, A>,
     x: &'a Name<A>,
 ) -> Result<(), Violation>
     ensures { unmet_in result ≡ first_unmet (IsKnown (known_in names.now) (name_of x.now)) }
@@ -106,7 +106,7 @@ pub(crate) fn check_known<'a, A: Allocator + Copy>(
 
 /// What is called is a function, and takes so many arguments.
 fn check_symbol<A: Allocator + Copy>(
-    symbol: &Symbol<'_, Function<A>>,
+    symbol: &ScopeSymbol<'_, Function<A>>,
     count: usize,
     f: Span,
     at: Span,
@@ -121,7 +121,7 @@ fn check_symbol<A: Allocator + Copy>(
 
 /// What is called is a function, and takes so many arguments.
 fn check_called<'a, A: Allocator + Copy>(
-    names: &Names<'a, A>,
+    names: &ScopeTable<'a, A>,
     f: &'a Name<A>,
     args: &'a [Expr<A>],
     at: Span,
@@ -138,7 +138,7 @@ fn check_called<'a, A: Allocator + Copy>(
 /// A call: its name, its arguments, that it is a function, and how many arguments it takes.
 #[cycle(check)]
 fn check_call<'a, A: Allocator + Copy>(
-    names: &Names<'a, A>,
+    names: &ScopeTable<'a, A>,
     f: &'a Name<A>,
     args: &'a [Expr<A>],
     at: Span,
@@ -154,7 +154,7 @@ fn check_call<'a, A: Allocator + Copy>(
 /// An expression, whether it gives a value or not.
 #[cycle(check)]
 pub(crate) fn check_expr<'a, A: Allocator + Copy>(
-    names: &Names<'a, A>,
+    names: &ScopeTable<'a, A>,
     e: &'a Expr<A>,
 ) -> Result<(), Violation>
     ensures { unmet_in result ≡ first_unmet (IsTyped (known_in names.now) (expr_of e.now)) }
@@ -188,7 +188,7 @@ pub(crate) fn check_expr<'a, A: Allocator + Copy>(
 #[cycle(check)]
 #[tactic(auto, using(crate::proofs::Steps::first_of_two))]
 pub(crate) fn check_number<'a, A: Allocator + Copy>(
-    names: &Names<'a, A>,
+    names: &ScopeTable<'a, A>,
     e: &'a Expr<A>,
 ) -> Result<(), Violation>
     ensures { unmet_in result ≡ first_unmet (IsNumber (known_in names.now) (expr_of e.now)) }
@@ -200,7 +200,7 @@ pub(crate) fn check_number<'a, A: Allocator + Copy>(
 /// Expressions that each give a number.
 #[cycle(check)]
 pub(crate) fn check_numbers<'a, A: Allocator + Copy>(
-    names: &Names<'a, A>,
+    names: &ScopeTable<'a, A>,
     all: &'a [Expr<A>],
 ) -> Result<(), Violation>
     ensures { unmet_in result ≡ first_unmet (AreNumbers (known_in names.now) (exprs_of all.now)) }

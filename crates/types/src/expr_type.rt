@@ -5,7 +5,7 @@ ghost use Rattle.syntax.specs.Views.{expr_of};
 ghost use Rattle.syntax.specs.Types.{type_of};
 ghost use Rattle.types.specs.inner.Known.{known_in};
 
-use crate::table::Names;
+use crate::table::ScopeTable;
 use lex::token::Scalar;
 use std::alloc::Allocator;
 use syntax::tree::Expr;
@@ -13,7 +13,7 @@ use syntax::types::{binary_type, common_of, unary_type};
 
 /// The type of the number that an expression gives, and none where it gives none.
 pub(crate) fn type_of<'a, A: Allocator + Copy>(
-    names: &Names<'a, A>,
+    names: &ScopeTable<'a, A>,
     e: &'a Expr<A>,
 ) -> Option<Scalar>
     ensures { result ≡ type_of (known_in names.now) (expr_of e.now) }

@@ -14,10 +14,10 @@ ghost use Rattle.types.specs.inner.Figures.{is_fitting};
 use crate::expr::{check_numbers, count_of, place_of};
 use crate::expr_type::type_of;
 use crate::fault::{Violation, demand};
-use crate::table::Names;
+use crate::table::ScopeTable;
 use lex::token::{Scalar, Span};
 use std::alloc::Allocator;
-use syntax::format::{Unit, unit_at};
+use syntax::format::{FormatUnit, unit_at};
 use syntax::tree::Expr;
 use syntax::types::same_type;
 
@@ -35,14 +35,14 @@ fn is_format(format: &[u8]) -> bool
     let mut i = 0;
     'units: while i < format.len() {
         match unit_at(format, i) {
-            Unit::Byte(byte, next) => {
+            FormatUnit::Byte(byte, next) => {
                 if !says(next - i, byte) {
                     return false;
                 }
                 i = next;
                 continue;
             }
-            Unit::Figure(_, next) => {
+            FormatUnit::Figure(_, next) => {
                 i = next;
             }
         }
@@ -58,11 +58,11 @@ fn count_figures(format: &[u8]) -> usize
     let mut i = 0;
     'units: while i < format.len() {
         match unit_at(format, i) {
-            Unit::Byte(_, next) => {
+            FormatUnit::Byte(_, next) => {
                 i = next;
                 continue;
             }
-            Unit::Figure(_, next) => {
+            FormatUnit::Figure(_, next) => {
                 count += 1;
                 i = next;
             }
@@ -83,7 +83,7 @@ fn is_fitting(of: Scalar, given: Option<Scalar>) -> bool
 
 /// An argument is of the type that is printed.
 fn check_figure<'a, A: Allocator + Copy>(
-    names: &Names<'a, A>,
+    names: &ScopeTable<'a, A>,
     of: Scalar,
     arg: &'a Expr<A>,
 ) -> Result<(), Violation>
@@ -98,7 +98,7 @@ fn check_figure<'a, A: Allocator + Copy>(
 
 /// Each argument is of the type that is printed in its place.
 fn check_figures<'a, A: Allocator + Copy>(
-    names: &Names<'a, A>,
+    names: &ScopeTable<'a, A>,
     format: &[u8],
     args: &'a [Expr<A>],
 ) -> Result<(), Violation>
@@ -109,11 +109,11 @@ fn check_figures<'a, A: Allocator + Copy>(
     let mut i = 0;
     'units: while i < format.len() {
         match unit_at(format, i) {
-            Unit::Byte(_, behind) => {
+            FormatUnit::Byte(_, behind) => {
                 i = behind;
                 continue;
             }
-            Unit::Figure(of, behind) => {
+            FormatUnit::Figure(of, behind) => {
                 let Some(arg) = args.get(next) else {
                     return Ok(());
                 };
@@ -135,7 +135,7 @@ fn is_right(format: &[u8], count: usize) -> bool
 
 /// A print: its arguments, the format, and the arguments' types.
 pub(crate) fn check_print<'a, A: Allocator + Copy>(
-    names: &Names<'a, A>,
+    names: &ScopeTable<'a, A>,
     format: &'a str,
     at: Span,
     args: &'a [Expr<A>],

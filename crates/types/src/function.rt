@@ -9,16 +9,16 @@ ghost use Rattle.syntax.specs.Types.{file_scope};
 ghost use Rattle.syntax.specs.Typing.{has_name, agrees, same_types, same_result, may_be_function, is_worker};
 ghost use Rattle.syntax.specs.Typing.{parameter_names, with_parameters, defined_names};
 ghost use Rattle.syntax.specs.Typing.{demand, demands_of, first_unmet, AreDistinct, AreTypedStmts, IsTypedFunction};
-ghost use Rattle.types.specs.inner.Unmet.{Answers, unmet_in};
+ghost use Rattle.types.specs.inner.Unmet.{AnswersDemands, unmet_in};
 ghost use Rattle.types.specs.inner.Known.{known_in, count_in, AreDeclared, Grows, Agrees};
 ghost use Rattle.types.specs.inner.Scopes.{known_of};
 ghost use Rattle.types.specs.inner.Bodies.{AreBodies};
 
 use crate::fault::{Failure, Violation, demand};
 use crate::scope::{add_local, check_new};
-use crate::stmt::{Context, check_stmts};
-use crate::symbol::Symbol;
-use crate::table::Names;
+use crate::stmt::{StmtContext, check_stmts};
+use crate::symbol::ScopeSymbol;
+use crate::table::ScopeTable;
 use containers::Items;
 use lex::token::Scalar;
 use name_tables::Table;
@@ -64,11 +64,11 @@ fn same_parameters<A: Allocator>(a: &[Parameter<A>], b: &[Parameter<A>]) -> bool
 }
 
 /// Whether a function has the types with which it was declared before, if it was.
-fn agrees<A: Allocator>(symbol: &Symbol<'_, Function<A>>, f: &Function<A>) -> bool
+fn agrees<A: Allocator>(symbol: &ScopeSymbol<'_, Function<A>>, f: &Function<A>) -> bool
     ensures { result ≡ agrees (function_of f.now) (known_of symbol.now) }
 {
     match symbol {
-        Symbol::Callable(g) => {
+        ScopeSymbol::Callable(g) => {
             same_result(g.result, f.result)
                 && same_parameters(g.parameters.as_slice(), f.parameters.as_slice())
         }
@@ -87,17 +87,17 @@ fn takes_one_int<A: Allocator>(all: &[Parameter<A>]) -> bool
 }
 
 /// Whether a name stands for a function that gives nothing and takes one `int`.
-pub(crate) fn is_worker<A: Allocator>(symbol: &Symbol<'_, Function<A>>) -> bool
+pub(crate) fn is_worker<A: Allocator>(symbol: &ScopeSymbol<'_, Function<A>>) -> bool
     ensures { result ≡ is_worker (known_of symbol.now) }
 {
     match symbol {
-        Symbol::Callable(f) => f.result.is_none() && takes_one_int(f.parameters.as_slice()),
+        ScopeSymbol::Callable(f) => f.result.is_none() && takes_one_int(f.parameters.as_slice()),
         _ => false,
     }
 }
 
 /// Whether a name may be declared as a function: no global has it, and no second body stands.
-fn is_free<A: Allocator>(symbol: &Symbol<'_, Function<A>>, body: bool, defined: bool) -> bool
+fn is_free<A: Allocator>(symbol: &ScopeSymbol<'_, Function<A>>, body: bool, defined: bool) -> bool
     ensures { result ≡ (may_be_function (known_of symbol.now) && (not body || not defined)) }
 {
     symbol.may_be_function() && (!body || !defined)
@@ -105,7 +105,7 @@ fn is_free<A: Allocator>(symbol: &Symbol<'_, Function<A>>, body: bool, defined: 
 
 /// A function's own name and types, beside those of earlier items.
 fn check_declared<'a, A: Allocator + Copy>(
-    names: &Names<'a, A>,
+    names: &ScopeTable<'a, A>,
     bodies: &Bodies<'a, A>,
     earlier: &[Item<A>],
     f: &'a Function<A>,
@@ -132,13 +132,13 @@ fn check_declared<'a, A: Allocator + Copy>(
 
 /// A parameter, which may go without a name.
 fn check_parameter<'a, A: Allocator + Copy>(
-    names: &mut Names<'a, A>,
+    names: &mut ScopeTable<'a, A>,
     start: usize,
     one: &'a Parameter<A>,
 ) -> Result<(), Failure>
     requires { start ≤ count_in names.old }
     ensures answer { (declared : List (List ℕ)) → AreDeclared start names.old declared →
-        Answers result
+        AnswersDemands result
         (demands_of (option_map name_of one.now.name) (λ x. demand 21 x.at (not (has_name declared x.text)))) }
     ensures known { OnOk result
         (known_in names.new ≡ with_parameters (parameter_of one.now ∷ []) (known_in names.old)) }
@@ -160,10 +160,10 @@ fn check_parameter<'a, A: Allocator + Copy>(
 
 /// The parameters, in a scope that is new.
 fn check_parameters<'a, A: Allocator + Copy>(
-    names: &mut Names<'a, A>,
+    names: &mut ScopeTable<'a, A>,
     all: &'a [Parameter<A>],
 ) -> Result<(), Failure>
-    ensures answer { Answers result (AreDistinct [] (map parameter_of all.now)) }
+    ensures answer { AnswersDemands result (AreDistinct [] (map parameter_of all.now)) }
     ensures known { OnOk result (known_in names.new ≡ with_parameters (map parameter_of all.now) (known_in names.old)) }
     ensures declared { OnOk result
         (AreDeclared (count_in names.old) names.new (parameter_names (map parameter_of all.now))) }
@@ -179,14 +179,14 @@ fn check_parameters<'a, A: Allocator + Copy>(
 
 /// A body, in the scope of its parameters (C11 6.9.1).
 fn check_body<'a, A: Allocator + Copy>(
-    names: &mut Names<'a, A>,
+    names: &mut ScopeTable<'a, A>,
     start: usize,
     gives: Option<Scalar>,
     body: &'a Option<Items<Stmt<A>, A>>,
 ) -> Result<(), Failure>
     requires { start ≤ count_in names.old }
     ensures answer { (declared : List (List ℕ)) → AreDeclared start names.old declared →
-        Answers result
+        AnswersDemands result
         (demands_of (option_map stmts_of body.now)
         (λ ss. AreTypedStmts gives ss (known_in names.old) declared false)) }
     ensures grows { OnOk result (Grows names.old names.new) }
@@ -194,7 +194,7 @@ fn check_body<'a, A: Allocator + Copy>(
 {
     match body {
         Some(body) => {
-            let context = Context {
+            let context = StmtContext {
                 start,
                 gives,
                 looping: false,
@@ -207,10 +207,10 @@ fn check_body<'a, A: Allocator + Copy>(
 
 /// The parameters and the body, whose names are forgotten behind them.
 fn check_inside<'a, A: Allocator + Copy>(
-    names: &mut Names<'a, A>,
+    names: &mut ScopeTable<'a, A>,
     f: &'a Function<A>,
 ) -> Result<(), Failure>
-    ensures answer { Answers result
+    ensures answer { AnswersDemands result
         (AreDistinct [] (map parameter_of f.now.parameters)
         ++ demands_of (option_map stmts_of f.now.body)
         (λ ss. AreTypedStmts f.now.result ss
@@ -227,7 +227,7 @@ fn check_inside<'a, A: Allocator + Copy>(
 
 /// A function's name, known from its first declaration on.
 fn add_function<'a, A: Allocator + Copy>(
-    names: &mut Names<'a, A>,
+    names: &mut ScopeTable<'a, A>,
     earlier: &[Item<A>],
     f: &'a Function<A>,
 ) -> Result<(), AllocError>
@@ -239,7 +239,7 @@ fn add_function<'a, A: Allocator + Copy>(
 {
     let name = f.name.text.as_str();
     if names.look(name).is_unknown() {
-        names.define(name, Symbol::Callable(f))?;
+        names.define(name, ScopeSymbol::Callable(f))?;
     }
     Ok(())
 }
@@ -261,7 +261,7 @@ fn add_body<'a, A: Allocator + Copy>(
 
 /// A prototype or a definition behind earlier items.
 pub(crate) fn check_function<'a, A: Allocator + Copy>(
-    names: &mut Names<'a, A>,
+    names: &mut ScopeTable<'a, A>,
     bodies: &mut Bodies<'a, A>,
     earlier: &[Item<A>],
     f: &'a Function<A>,
@@ -269,7 +269,7 @@ pub(crate) fn check_function<'a, A: Allocator + Copy>(
     requires none { count_in names.old ≡ 0 }
     requires known { known_in names.old ≡ file_scope (map item_of earlier.now) }
     requires defined { AreBodies bodies.old (map item_of earlier.now) }
-    ensures answer { Answers result (IsTypedFunction (map item_of earlier.now) (function_of f.now)) }
+    ensures answer { AnswersDemands result (IsTypedFunction (map item_of earlier.now) (function_of f.now)) }
     ensures known { OnOk result
         (known_in names.new ≡ file_scope (map item_of earlier.now ++ Tree.Defines (function_of f.now) ∷ [])) }
     ensures none { OnOk result (count_in names.new ≡ 0) }

@@ -7,26 +7,26 @@ ghost use Rattle.syntax.specs.Names.{cells};
 ghost use Rattle.syntax.specs.Types.{file_scope, known_global};
 ghost use Rattle.syntax.specs.Typing.{is_unknown};
 ghost use Rattle.syntax.specs.Typing.{demand, first_unmet, IsLength, HaveCells, AreTypedGlobals};
-ghost use Rattle.types.specs.inner.Unmet.{Answers, unmet_in};
+ghost use Rattle.types.specs.inner.Unmet.{AnswersDemands, unmet_in};
 ghost use Rattle.types.specs.inner.Known.{known_in, count_in};
 ghost use Rattle.types.specs.inner.Scopes.{known_of};
 
 use crate::fault::{Failure, Violation, demand};
-use crate::symbol::Symbol;
-use crate::table::Names;
+use crate::symbol::ScopeSymbol;
+use crate::table::ScopeTable;
 use lex::token::Span;
 use std::alloc::{AllocError, Allocator};
-use syntax::tree::{First, Function, Global, Item};
+use syntax::tree::{Initializer, Function, Global, Item};
 
 /// The most cells of all globals.
 const MOST_CELLS: u64 = 4096;
 
-fn symbol_of<'a, A: Allocator>(g: &Global<A>) -> Symbol<'a, Function<A>>
+fn symbol_of<'a, A: Allocator>(g: &Global<A>) -> ScopeSymbol<'a, Function<A>>
     ensures { known_of result ≡ known_global (global_of g.now) }
 {
     match g.length {
-        Some((count, _)) => Symbol::Array(g.of, count),
-        None => Symbol::Number(g.of),
+        Some((count, _)) => ScopeSymbol::Array(g.of, count),
+        None => ScopeSymbol::Number(g.of),
     }
 }
 
@@ -44,7 +44,7 @@ fn check_length(length: &Option<(u64, Span)>) -> Result<(), Violation>
 }
 
 /// No initialiser stands where no cell is left for it.
-fn check_first(count: u64, first: &[First]) -> Result<(), Violation>
+fn check_first(count: u64, first: &[Initializer]) -> Result<(), Violation>
     ensures { unmet_in result ≡ first_unmet (HaveCells (drop count first.now)) }
 {
     match first.get(count as usize) {
@@ -55,7 +55,7 @@ fn check_first(count: u64, first: &[First]) -> Result<(), Violation>
 
 /// A name that stands for nothing yet.
 fn check_new<'a, A: Allocator + Copy>(
-    names: &Names<'a, A>,
+    names: &ScopeTable<'a, A>,
     g: &'a Global<A>,
 ) -> Result<(), Violation>
     ensures { unmet_in result
@@ -67,7 +67,7 @@ fn check_new<'a, A: Allocator + Copy>(
 
 /// One global, where so many cells are taken by those before it.
 fn check_global<'a, A: Allocator + Copy>(
-    names: &Names<'a, A>,
+    names: &ScopeTable<'a, A>,
     taken: u64,
     g: &'a Global<A>,
 ) -> Result<(), Violation>
@@ -88,7 +88,7 @@ fn check_global<'a, A: Allocator + Copy>(
 
 /// A global's name, known from its declaration on.
 fn add_global<'a, A: Allocator + Copy>(
-    names: &mut Names<'a, A>,
+    names: &mut ScopeTable<'a, A>,
     earlier: &[Item<A>],
     before: &[Global<A>],
     g: &'a Global<A>,
@@ -108,7 +108,7 @@ fn add_global<'a, A: Allocator + Copy>(
 
 /// The globals of one declaration, behind earlier items that take so many cells.
 pub(crate) fn check_globals<'a, A: Allocator + Copy>(
-    names: &mut Names<'a, A>,
+    names: &mut ScopeTable<'a, A>,
     taken: &mut u64,
     earlier: &[Item<A>],
     all: &'a [Global<A>],
@@ -116,7 +116,7 @@ pub(crate) fn check_globals<'a, A: Allocator + Copy>(
     requires none { count_in names.old ≡ 0 }
     requires known { known_in names.old ≡ file_scope (map item_of earlier.now) }
     requires few { taken.old ≤ 4096 }
-    ensures answer { Answers result (AreTypedGlobals (map item_of earlier.now) [] taken.old (map global_of all.now)) }
+    ensures answer { AnswersDemands result (AreTypedGlobals (map item_of earlier.now) [] taken.old (map global_of all.now)) }
     ensures known { OnOk result
         (known_in names.new ≡ file_scope (map item_of earlier.now ++ Tree.Shares (map global_of all.now) ∷ [])) }
     ensures none { OnOk result (count_in names.new ≡ 0) }

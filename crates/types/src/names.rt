@@ -7,20 +7,20 @@ ghost use Rattle.name_tables.specs.Named.{first, newest};
 ghost use Rattle.types.specs.inner.Scopes.{known_of};
 ghost use Rattle.types.specs.inner.Known.{known_as, known_in, locals_of, file_of, count_in, is_behind};
 
-use crate::symbol::Symbol;
-use crate::table::Names;
+use crate::symbol::ScopeSymbol;
+use crate::table::ScopeTable;
 use lex::token::Scalar;
 use name_tables::{Scope, Table};
 use std::alloc::{AllocError, Allocator};
 use syntax::tree::Function;
 
-impl<'a, A: Allocator + Copy> Names<'a, A> {
+impl<'a, A: Allocator + Copy> ScopeTable<'a, A> {
     /// No names, whose hashes are by this key. Takes no memory.
-    pub(crate) fn new(alloc: A, key: u64) -> Names<'a, A>
+    pub(crate) fn new(alloc: A, key: u64) -> ScopeTable<'a, A>
         ensures known { known_in result ≡ file_scope [] }
         ensures locals { count_in result ≡ 0 }
     {
-        Names {
+        ScopeTable {
             file: Table::new(alloc, key),
             locals: Scope::new(alloc, key),
         }
@@ -34,21 +34,21 @@ impl<'a, A: Allocator + Copy> Names<'a, A> {
     }
 
     /// What a name of the file is known as.
-    fn look_in_file(&self, name: &'a str) -> Symbol<'a, Function<A>>
+    fn look_in_file(&self, name: &'a str) -> ScopeSymbol<'a, Function<A>>
         ensures { known_of result ≡ known_as None (first (file_of self.now) name.now) }
     {
         match self.file.get(name) {
             Some(symbol) => *symbol,
-            None => Symbol::Unknown,
+            None => ScopeSymbol::Unknown,
         }
     }
 
     /// What a name is known as: a local hides a name of the file.
-    pub(crate) fn look(&self, name: &'a str) -> Symbol<'a, Function<A>>
+    pub(crate) fn look(&self, name: &'a str) -> ScopeSymbol<'a, Function<A>>
         ensures { known_of result ≡ known_in self.now name.now }
     {
         match self.locals.newest(name) {
-            Some((_, of)) => Symbol::Number(of),
+            Some((_, of)) => ScopeSymbol::Number(of),
             None => self.look_in_file(name),
         }
     }
@@ -84,7 +84,7 @@ impl<'a, A: Allocator + Copy> Names<'a, A> {
     pub(crate) fn define(
         &mut self,
         name: &'a str,
-        symbol: Symbol<'a, Function<A>>,
+        symbol: ScopeSymbol<'a, Function<A>>,
     ) -> Result<(), AllocError>
         requires none { count_in self.old ≡ 0 }
         requires new { is_unknown (known_in self.old name.now) ≡ true }

@@ -5,20 +5,20 @@ ghost use Rattle.syntax.specs.Views.{expr_of, declarator_of, start_of};
 ghost use Rattle.syntax.specs.Types.{with_number};
 ghost use Rattle.syntax.specs.Typing.{has_name, knows, scope_of_start};
 ghost use Rattle.syntax.specs.Typing.{demand, demands_of, first_unmet, IsNumber, AreTypedDeclarators, IsTypedStart};
-ghost use Rattle.types.specs.inner.Unmet.{Answers, unmet_in};
+ghost use Rattle.types.specs.inner.Unmet.{AnswersDemands, unmet_in};
 ghost use Rattle.types.specs.inner.Known.{known_in, count_in, declared_by, AreDeclared, Grows, Agrees};
 
 use crate::expr::check_number;
 use crate::fault::{Failure, Violation, demand};
 use crate::simple::check_simple;
-use crate::table::Names;
+use crate::table::ScopeTable;
 use lex::token::Scalar;
 use std::alloc::{AllocError, Allocator};
 use syntax::tree::{Declaration, Declarator, Expr, Name, Start};
 
 /// A first value, where there is one.
 pub(crate) fn check_first<'a, A: Allocator + Copy>(
-    names: &Names<'a, A>,
+    names: &ScopeTable<'a, A>,
     first: &'a Option<Expr<A>>,
 ) -> Result<(), Violation>
     ensures { unmet_in result
@@ -32,7 +32,7 @@ pub(crate) fn check_first<'a, A: Allocator + Copy>(
 
 /// A name that no local has that was declared after so many locals.
 pub(crate) fn check_new<'a, A: Allocator + Copy>(
-    names: &Names<'a, A>,
+    names: &ScopeTable<'a, A>,
     start: usize,
     x: &'a Name<A>,
 ) -> Result<(), Violation>
@@ -45,7 +45,7 @@ pub(crate) fn check_new<'a, A: Allocator + Copy>(
 
 /// A further local.
 pub(crate) fn add_local<'a, A: Allocator + Copy>(
-    names: &mut Names<'a, A>,
+    names: &mut ScopeTable<'a, A>,
     start: usize,
     x: &'a Name<A>,
     of: Scalar,
@@ -64,14 +64,14 @@ pub(crate) fn add_local<'a, A: Allocator + Copy>(
 
 /// A name that is declared: that it is new, and from then on known, and its first value.
 fn check_declarator<'a, A: Allocator + Copy>(
-    names: &mut Names<'a, A>,
+    names: &mut ScopeTable<'a, A>,
     start: usize,
     of: Scalar,
     one: &'a Declarator<A>,
 ) -> Result<(), Failure>
     requires { start ≤ count_in names.old }
     ensures answer { (declared : List (List ℕ)) → AreDeclared start names.old declared →
-        Answers result
+        AnswersDemands result
         (demand 21 one.now.name.span (not (has_name declared one.now.name.text))
         ++ demands_of (option_map expr_of one.now.first)
         (IsNumber (with_number one.now.name.text of (known_in names.old)))) }
@@ -90,14 +90,14 @@ fn check_declarator<'a, A: Allocator + Copy>(
 
 /// The names of one declaration, in order.
 pub(crate) fn check_declarators<'a, A: Allocator + Copy>(
-    names: &mut Names<'a, A>,
+    names: &mut ScopeTable<'a, A>,
     start: usize,
     of: Scalar,
     all: &'a [Declarator<A>],
 ) -> Result<(), Failure>
     requires { start ≤ count_in names.old }
     ensures answer { (declared : List (List ℕ)) → AreDeclared start names.old declared →
-        Answers result (AreTypedDeclarators (known_in names.old) declared of (map declarator_of all.now)) }
+        AnswersDemands result (AreTypedDeclarators (known_in names.old) declared of (map declarator_of all.now)) }
     ensures known { OnOk result (known_in names.new ≡ knows of (map declarator_of all.now) (known_in names.old)) }
     ensures declared { OnOk result
         ((declared : List (List ℕ)) → AreDeclared start names.old declared →
@@ -113,13 +113,13 @@ pub(crate) fn check_declarators<'a, A: Allocator + Copy>(
 
 /// A declaration whose names are forgotten behind it.
 pub(crate) fn check_lone<'a, A: Allocator + Copy>(
-    names: &mut Names<'a, A>,
+    names: &mut ScopeTable<'a, A>,
     start: usize,
     one: &'a Declaration<A>,
 ) -> Result<(), Failure>
     requires { start ≤ count_in names.old }
     ensures answer { (declared : List (List ℕ)) → AreDeclared start names.old declared →
-        Answers result
+        AnswersDemands result
         (AreTypedDeclarators (known_in names.old) declared one.now.of (map declarator_of one.now.declarators)) }
     ensures same { OnOk result (Agrees names.old names.new) }
 {
@@ -131,10 +131,10 @@ pub(crate) fn check_lone<'a, A: Allocator + Copy>(
 
 /// What the head of a `for` begins with, in a scope that is new.
 pub(crate) fn check_start<'a, A: Allocator + Copy>(
-    names: &mut Names<'a, A>,
+    names: &mut ScopeTable<'a, A>,
     start: &'a Start<A>,
 ) -> Result<(), Failure>
-    ensures answer { Answers result (IsTypedStart (known_in names.old) (start_of start.now)) }
+    ensures answer { AnswersDemands result (IsTypedStart (known_in names.old) (start_of start.now)) }
     ensures known { OnOk result (known_in names.new ≡ scope_of_start (start_of start.now) (known_in names.old)) }
     ensures grows { OnOk result (Grows names.old names.new) }
     ensures count { OnOk result (count_in names.old ≤ count_in names.new) }

@@ -8,12 +8,12 @@ ghost use Rattle.types.specs.inner.Known.{known_in};
 
 use crate::expr::{check_expr, check_known, check_number, place_of};
 use crate::fault::{Violation, demand};
-use crate::table::Names;
+use crate::table::ScopeTable;
 use std::alloc::Allocator;
 use syntax::tree::{Expr, Simple};
 
 fn check_target<'a, A: Allocator + Copy>(
-    names: &Names<'a, A>,
+    names: &ScopeTable<'a, A>,
     e: &'a Expr<A>,
 ) -> Result<(), Violation>
     ensures { unmet_in result ≡ first_unmet (IsTypedTarget (known_in names.now) (expr_of e.now)) }
@@ -24,7 +24,7 @@ fn check_target<'a, A: Allocator + Copy>(
     }
 }
 
-fn may_be_assigned<'a, A: Allocator + Copy>(names: &Names<'a, A>, e: &'a Expr<A>) -> bool
+fn may_be_assigned<'a, A: Allocator + Copy>(names: &ScopeTable<'a, A>, e: &'a Expr<A>) -> bool
     ensures { result ≡ may_be_assigned (known_in names.now) (expr_of e.now) }
 {
     match e {
@@ -35,7 +35,7 @@ fn may_be_assigned<'a, A: Allocator + Copy>(names: &Names<'a, A>, e: &'a Expr<A>
 }
 
 fn check_assignable<'a, A: Allocator + Copy>(
-    names: &Names<'a, A>,
+    names: &ScopeTable<'a, A>,
     e: &'a Expr<A>,
 ) -> Result<(), Violation>
     ensures { unmet_in result ≡ first_unmet (IsAssignable (known_in names.now) (expr_of e.now)) }
@@ -47,7 +47,7 @@ fn check_assignable<'a, A: Allocator + Copy>(
 /// A simple statement.
 #[tactic(auto, using(crate::proofs::Steps::first_of_two))]
 pub(crate) fn check_simple<'a, A: Allocator + Copy>(
-    names: &Names<'a, A>,
+    names: &ScopeTable<'a, A>,
     s: &'a Simple<A>,
 ) -> Result<(), Violation>
     ensures { unmet_in result ≡ first_unmet (IsTypedSimple (known_in names.now) (simple_of s.now)) }

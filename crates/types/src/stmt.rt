@@ -6,7 +6,7 @@ ghost use Rattle.syntax.specs.Typing.{scope_after, names_of, scope_of_start, ret
 ghost use Rattle.types.specs.BlockItems.{declaration_in};
 ghost use Rattle.syntax.specs.Typing.{demand, demands_of, first_unmet, GivesNumber, IsTyped, IsNumber, IsTypedSimple};
 ghost use Rattle.syntax.specs.Typing.{IsTypedStart, IsTypedStmt, AreTypedStmts};
-ghost use Rattle.types.specs.inner.Unmet.{Answers, unmet_in};
+ghost use Rattle.types.specs.inner.Unmet.{AnswersDemands, unmet_in};
 ghost use Rattle.types.specs.inner.Known.{known_in, count_in, AreDeclared, Grows, Agrees};
 
 use crate::expr::{check_expr, check_number, gives_number};
@@ -14,14 +14,14 @@ use crate::fault::{Failure, Violation, as_failure, demand};
 use crate::format::check_print;
 use crate::scope::{check_declarators, check_first, check_lone, check_start};
 use crate::simple::check_simple;
-use crate::table::Names;
+use crate::table::ScopeTable;
 use lex::token::{Scalar, Span};
 use std::alloc::Allocator;
 use syntax::tree::{Declaration, Expr, ForHead, Simple, Stmt};
 
 /// How a statement stands: its scope begins after so many locals, in a function that gives this, in a loop or not.
 #[derive(Clone, Copy)]
-pub(crate) struct Context {
+pub(crate) struct StmtContext {
     pub(crate) start: usize,
     pub(crate) gives: Option<Scalar>,
     pub(crate) looping: bool,
@@ -36,7 +36,7 @@ fn returns_right(gives: Option<Scalar>, value: bool) -> bool
 
 /// An expression, where there is one.
 fn check_value<'a, A: Allocator + Copy>(
-    names: &Names<'a, A>,
+    names: &ScopeTable<'a, A>,
     e: &'a Option<Expr<A>>,
 ) -> Result<(), Violation>
     ensures { unmet_in result ≡ first_unmet (demands_of (option_map expr_of e.now) (IsTyped (known_in names.now))) }
@@ -49,7 +49,7 @@ fn check_value<'a, A: Allocator + Copy>(
 
 /// That an expression gives a number, where there is one.
 fn gives_numbers<'a, A: Allocator + Copy>(
-    names: &Names<'a, A>,
+    names: &ScopeTable<'a, A>,
     e: &'a Option<Expr<A>>,
 ) -> Result<(), Violation>
     ensures { unmet_in result ≡ first_unmet (demands_of (option_map expr_of e.now) (GivesNumber (known_in names.now))) }
@@ -62,7 +62,7 @@ fn gives_numbers<'a, A: Allocator + Copy>(
 
 /// A `return`: its value, that there is one where the function gives one, and that it is a number.
 fn check_return<'a, A: Allocator + Copy>(
-    names: &Names<'a, A>,
+    names: &ScopeTable<'a, A>,
     gives: Option<Scalar>,
     e: &'a Option<Expr<A>>,
     at: Span,
@@ -81,7 +81,7 @@ fn check_return<'a, A: Allocator + Copy>(
 
 /// What a `for` does behind each turn, where there is something.
 fn check_step<'a, A: Allocator + Copy>(
-    names: &Names<'a, A>,
+    names: &ScopeTable<'a, A>,
     step: &'a Option<Simple<A>>,
 ) -> Result<(), Violation>
     ensures { unmet_in result
@@ -95,10 +95,10 @@ fn check_step<'a, A: Allocator + Copy>(
 
 /// The head of a `for`, whose names are known behind it.
 fn check_head<'a, A: Allocator + Copy>(
-    names: &mut Names<'a, A>,
+    names: &mut ScopeTable<'a, A>,
     head: &'a ForHead<A>,
 ) -> Result<(), Failure>
-    ensures answer { Answers result
+    ensures answer { AnswersDemands result
         (IsTypedStart (known_in names.old) (start_of head.now.start)
         ++ demands_of (option_map expr_of head.now.condition)
         (IsNumber (scope_of_start (start_of head.now.start) (known_in names.old)))
@@ -117,16 +117,16 @@ fn check_head<'a, A: Allocator + Copy>(
 /// A statement; the names that it declares are forgotten behind it (C11 6.8.4, 6.8.5: each substatement is a block).
 #[cycle(check_stmts)]
 pub(crate) fn check_stmt<'a, A: Allocator + Copy>(
-    names: &mut Names<'a, A>,
+    names: &mut ScopeTable<'a, A>,
     stmt: &'a Stmt<A>,
-    context: Context,
+    context: StmtContext,
 ) -> Result<(), Failure>
     requires { context.start ≤ count_in names.old }
     ensures answer { (declared : List (List ℕ)) → AreDeclared context.start names.old declared →
-        Answers result (IsTypedStmt context.gives (stmt_of stmt.now) (known_in names.old) declared context.looping) }
+        AnswersDemands result (IsTypedStmt context.gives (stmt_of stmt.now) (known_in names.old) declared context.looping) }
     ensures same { OnOk result (Agrees names.old names.new) }
 {
-    let inside = Context {
+    let inside = StmtContext {
         start: context.start,
         gives: context.gives,
         looping: true,
@@ -161,7 +161,7 @@ pub(crate) fn check_stmt<'a, A: Allocator + Copy>(
         Stmt::For(head, body) => {
             let outer = names.len();
             check_head(names, head.get())?;
-            let begin = Context {
+            let begin = StmtContext {
                 start: names.len(),
                 gives: context.gives,
                 looping: true,
@@ -192,13 +192,13 @@ pub fn as_declaration<A: Allocator>(stmt: &Stmt<A>) -> Option<&Declaration<A>>
 /// A declaration, whose names are known from then on, or a statement (C11 6.8.2).
 #[cycle(check_stmts)]
 fn check_block_item<'a, A: Allocator + Copy>(
-    names: &mut Names<'a, A>,
+    names: &mut ScopeTable<'a, A>,
     stmt: &'a Stmt<A>,
-    context: Context,
+    context: StmtContext,
 ) -> Result<(), Failure>
     requires { context.start ≤ count_in names.old }
     ensures answer { (declared : List (List ℕ)) → AreDeclared context.start names.old declared →
-        Answers result (IsTypedStmt context.gives (stmt_of stmt.now) (known_in names.old) declared context.looping) }
+        AnswersDemands result (IsTypedStmt context.gives (stmt_of stmt.now) (known_in names.old) declared context.looping) }
     ensures known { OnOk result (known_in names.new ≡ scope_after (stmt_of stmt.now) (known_in names.old)) }
     ensures declared { OnOk result
         ((declared : List (List ℕ)) → AreDeclared context.start names.old declared →
@@ -215,13 +215,13 @@ fn check_block_item<'a, A: Allocator + Copy>(
 /// Statements in the scope that stands.
 #[cycle(check_stmts)]
 pub(crate) fn check_stmts<'a, A: Allocator + Copy>(
-    names: &mut Names<'a, A>,
+    names: &mut ScopeTable<'a, A>,
     all: &'a [Stmt<A>],
-    context: Context,
+    context: StmtContext,
 ) -> Result<(), Failure>
     requires { context.start ≤ count_in names.old }
     ensures answer { (declared : List (List ℕ)) → AreDeclared context.start names.old declared →
-        Answers result (AreTypedStmts context.gives (stmts_of all.now) (known_in names.old) declared context.looping) }
+        AnswersDemands result (AreTypedStmts context.gives (stmts_of all.now) (known_in names.old) declared context.looping) }
     ensures grows { OnOk result (Grows names.old names.new) }
     ensures count { OnOk result (count_in names.old ≤ count_in names.new) }
 {
@@ -234,16 +234,16 @@ pub(crate) fn check_stmts<'a, A: Allocator + Copy>(
 /// Statements in a scope of their own, whose names are forgotten behind it.
 #[cycle(check_stmts)]
 fn check_block<'a, A: Allocator + Copy>(
-    names: &mut Names<'a, A>,
+    names: &mut ScopeTable<'a, A>,
     all: &'a [Stmt<A>],
-    context: Context,
+    context: StmtContext,
 ) -> Result<(), Failure>
-    ensures answer { Answers result
+    ensures answer { AnswersDemands result
         (AreTypedStmts context.gives (stmts_of all.now) (known_in names.old) [] context.looping) }
     ensures same { OnOk result (Agrees names.old names.new) }
 {
     let outer = names.len();
-    let begin = Context {
+    let begin = StmtContext {
         start: outer,
         gives: context.gives,
         looping: context.looping,

@@ -12,7 +12,7 @@ use syntax::tree::Function;
 
 /// What a name is known as. The type of functions is a parameter, here and where a symbol is kept: that a symbol can be
 /// copied is dear to prove where it lends a tree, and is proved without one.
-pub(crate) enum Symbol<'a, F> {
+pub(crate) enum ScopeSymbol<'a, F> {
     Unknown,
     Number(Scalar),
     Array(Scalar, u64),
@@ -21,7 +21,7 @@ pub(crate) enum Symbol<'a, F> {
     Callable(&'a F),
 }
 
-impl<'a, F> Clone for Symbol<'a, F> {
+impl<'a, F> Clone for ScopeSymbol<'a, F> {
     ghost is_clone = { λ x y. y ≡ x };
 
     ghost is_infallible = { λ _. ⊤ };
@@ -31,14 +31,14 @@ impl<'a, F> Clone for Symbol<'a, F> {
     }
 }
 
-impl<'a, F> Copy for Symbol<'a, F> {}
+impl<'a, F> Copy for ScopeSymbol<'a, F> {}
 
-impl<'a, A: Allocator> Symbol<'a, Function<A>> {
+impl<'a, A: Allocator> ScopeSymbol<'a, Function<A>> {
     pub(crate) fn is_unknown(&self) -> bool
         ensures { result ≡ is_unknown (known_of self.now) }
     {
         match self {
-            Symbol::Unknown => true,
+            ScopeSymbol::Unknown => true,
             _ => false,
         }
     }
@@ -47,7 +47,7 @@ impl<'a, A: Allocator> Symbol<'a, Function<A>> {
         ensures { result ≡ may_be_number (known_of self.now) }
     {
         match self {
-            Symbol::Unknown | Symbol::Number(_) => true,
+            ScopeSymbol::Unknown | ScopeSymbol::Number(_) => true,
             _ => false,
         }
     }
@@ -56,7 +56,7 @@ impl<'a, A: Allocator> Symbol<'a, Function<A>> {
         ensures { result ≡ may_be_array (known_of self.now) }
     {
         match self {
-            Symbol::Unknown | Symbol::Array(_, _) => true,
+            ScopeSymbol::Unknown | ScopeSymbol::Array(_, _) => true,
             _ => false,
         }
     }
@@ -65,7 +65,7 @@ impl<'a, A: Allocator> Symbol<'a, Function<A>> {
         ensures { result ≡ may_be_function (known_of self.now) }
     {
         match self {
-            Symbol::Unknown | Symbol::Callable(_) => true,
+            ScopeSymbol::Unknown | ScopeSymbol::Callable(_) => true,
             _ => false,
         }
     }
@@ -74,7 +74,7 @@ impl<'a, A: Allocator> Symbol<'a, Function<A>> {
         ensures { result ≡ takes_so_many (known_of self.now) count }
     {
         match self {
-            Symbol::Callable(f) => count == f.parameters.len(),
+            ScopeSymbol::Callable(f) => count == f.parameters.len(),
             _ => true,
         }
     }
@@ -83,7 +83,7 @@ impl<'a, A: Allocator> Symbol<'a, Function<A>> {
         ensures { result ≡ gives_nothing (known_of self.now) }
     {
         match self {
-            Symbol::Callable(f) => f.result.is_none(),
+            ScopeSymbol::Callable(f) => f.result.is_none(),
             _ => false,
         }
     }
@@ -92,7 +92,7 @@ impl<'a, A: Allocator> Symbol<'a, Function<A>> {
         ensures { result ≡ number_type (known_of self.now) }
     {
         match self {
-            Symbol::Number(t) => Some(*t),
+            ScopeSymbol::Number(t) => Some(*t),
             _ => None,
         }
     }
@@ -101,7 +101,7 @@ impl<'a, A: Allocator> Symbol<'a, Function<A>> {
         ensures { result ≡ element_type (known_of self.now) }
     {
         match self {
-            Symbol::Array(t, _) => Some(*t),
+            ScopeSymbol::Array(t, _) => Some(*t),
             _ => None,
         }
     }
@@ -110,7 +110,7 @@ impl<'a, A: Allocator> Symbol<'a, Function<A>> {
         ensures { result ≡ call_type (known_of self.now) }
     {
         match self {
-            Symbol::Callable(f) => f.result,
+            ScopeSymbol::Callable(f) => f.result,
             _ => None,
         }
     }

@@ -3,7 +3,7 @@
 ghost use Rattle.name_tables.specs.Known.{entries_in};
 ghost use Rattle.types.specs.inner.Symbols.{AreSymbols};
 
-use crate::symbol::Symbol;
+use crate::symbol::ScopeSymbol;
 use lex::token::Scalar;
 use name_tables::{Scope, Table};
 use std::alloc::Allocator;
@@ -11,8 +11,8 @@ use syntax::tree::Function;
 
 /// The names that are known at a place: those of the file, as each was first declared, and the locals.
 #[derive(Drop)]
-pub(crate) struct Names<'a, A: Allocator + Copy> {
-    pub(crate) file: Table<'a, Symbol<'a, Function<A>>, A>,
+pub(crate) struct ScopeTable<'a, A: Allocator + Copy> {
+    pub(crate) file: Table<'a, ScopeSymbol<'a, Function<A>>, A>,
     pub(crate) locals: Scope<'a, Scalar, A>,
     ghost symbols: { AreSymbols (entries_in file) },
 }

@@ -6,7 +6,7 @@ ghost use Rattle.syntax.specs.Types.{file_scope};
 ghost use Rattle.syntax.specs.Typing.{is_worker};
 ghost use Rattle.syntax.specs.Typing.{demand, first_unmet, IsTypedItem, AreTypedItems, AreDefined, Meets};
 ghost use Rattle.types.specs.Answers.{Checks};
-ghost use Rattle.types.specs.inner.Unmet.{Answers, unmet_in};
+ghost use Rattle.types.specs.inner.Unmet.{AnswersDemands, unmet_in};
 ghost use Rattle.types.specs.inner.Known.{known_in};
 ghost use Rattle.types.specs.inner.Bodies.{AreBodies};
 ghost use Rattle.types.specs.inner.Found.{IsFound};
@@ -14,7 +14,7 @@ ghost use Rattle.types.specs.inner.Found.{IsFound};
 use crate::fault::{Failure, TypeFault, Violation, demand};
 use crate::function::{Bodies, check_function, has_body, is_worker};
 use crate::global::check_globals;
-use crate::table::Names;
+use crate::table::ScopeTable;
 use crate::typed::Typed;
 use lex::token::Span;
 use name_tables::Table;
@@ -23,20 +23,20 @@ use syntax::tree::{Item, Unit};
 
 /// What is found out item by item.
 #[derive(Drop)]
-struct Found<'a, A: Allocator + Copy> {
-    pub(crate) names: Names<'a, A>,
+struct FoundItems<'a, A: Allocator + Copy> {
+    pub(crate) names: ScopeTable<'a, A>,
     pub(crate) bodies: Bodies<'a, A>,
     taken: u64,
 }
 
 /// An item behind earlier ones.
 fn check_item<'a, A: Allocator + Copy>(
-    found: &mut Found<'a, A>,
+    found: &mut FoundItems<'a, A>,
     earlier: &[Item<A>],
     item: &'a Item<A>,
 ) -> Result<(), Failure>
     requires { IsFound found.old (map item_of earlier.now) }
-    ensures answer { Answers result (IsTypedItem (map item_of earlier.now) (item_of item.now)) }
+    ensures answer { AnswersDemands result (IsTypedItem (map item_of earlier.now) (item_of item.now)) }
     ensures found { OnOk result (IsFound found.new (map item_of earlier.now ++ item_of item.now ∷ [])) }
 {
     match item {
@@ -56,12 +56,12 @@ fn check_items<'a, A: Allocator + Copy>(
     alloc: A,
     key: u64,
     items: &'a [Item<A>],
-) -> Result<Found<'a, A>, Failure>
-    ensures answer { Answers result (AreTypedItems [] (map item_of items.now)) }
+) -> Result<FoundItems<'a, A>, Failure>
+    ensures answer { AnswersDemands result (AreTypedItems [] (map item_of items.now)) }
     ensures found { IfOk result (λ found. IsFound found (map item_of items.now)) }
 {
-    let mut found = Found {
-        names: Names::new(alloc, key),
+    let mut found = FoundItems {
+        names: ScopeTable::new(alloc, key),
         bodies: Table::new(alloc, key),
         taken: 0,
     };
@@ -94,7 +94,7 @@ fn check_defined<'a, A: Allocator + Copy>(
 
 /// A function that gives nothing and takes one `int` has the name `worker`.
 fn check_worker<'a, A: Allocator + Copy>(
-    names: &Names<'a, A>,
+    names: &ScopeTable<'a, A>,
     items: &'a [Item<A>],
     end: usize,
 ) -> Result<(), Violation>
@@ -115,7 +115,7 @@ fn check_program<A: Allocator + Copy>(
     items: &[Item<A>],
     end: usize,
 ) -> Result<(), Failure>
-    ensures { Answers result (Meets end (map item_of items.now)) }
+    ensures { AnswersDemands result (Meets end (map item_of items.now)) }
 {
     let found = check_items(alloc, key, items)?;
     check_defined(&found.bodies, items)?;

@@ -11,7 +11,7 @@ use Rattle.machine.specs.Worlds.{new_parts}
 use Rattle.machine.proofs.runs.Programs.{reaches_end_program}
 use Rattle.world.proofs.Cells.{initial_fits}
 use Rattle.world.specs.Simulations.{EndsAlone}
-use Rattle.world.specs.inner.Kept.{AreFirstFrom, AreOfParts, IsWorldOf}
+use Rattle.world.specs.inner.Following.{AreFirstFrom, AreOfParts, IsWorldOf}
 
 pub first_more : (code : Code) (from : ℕ) (xs : List ThreadState) (y : ThreadState) (t : ℕ) → AreFirstFrom code from xs → from + length xs ≡ t → y.thread ≡ first_thread code t → IsThreadOf code y.thread → y.accesses ≡ 0 → AreFirstFrom code from (xs ++ y ∷ [])
 first_more code from [] y t all e is of none = ((is ∙ ap (first_thread code) (let f : t ≡ from = omega arith in f), of, none), tt)

@@ -1,2 +1,2 @@
 -- what a world keeps, and which accesses can be made
-pub mod Kept
+pub mod Following

@@ -6,7 +6,7 @@ ghost use Rattle.syntax.specs.Behaviours.{Extends};
 ghost use Rattle.world.specs.Simulations.{EndsAlone, IsExplained, IsHolder, accesses_of, event_at, further, output_at};
 ghost use Rattle.world.specs.Simulations.{shown_at, status_at, stops_at, transactions_of, world_of};
 ghost use Rattle.world.specs.Stops.{StopsFor};
-ghost use Rattle.world.specs.inner.Kept.{AreFirstFrom};
+ghost use Rattle.world.specs.inner.Following.{AreFirstFrom};
 
 use crate::make::{cost, make};
 use crate::stop::{StopReason, WorldFault, WorldStop};
@@ -43,7 +43,7 @@ impl<A: Allocator> Model for World<A> {
 
     ghost view = { λ w. record { code = w.code; threads = length w.threads.items; trace = w.trace.items } };
 
-    ghost use Rattle.world.specs.inner.Kept.{IsWorldOf};
+    ghost use Rattle.world.specs.inner.Following.{IsWorldOf};
 
     ghost invariant = { λ w. IsWorldOf
         (record { code = w.code; threads = length w.threads.items; trace = w.trace.items }) w.lock w.words.items

@@ -5,7 +5,7 @@ use bytecode::{Code, FunctionCode, Parts, validate};
 use containers::{Items, Text};
 use lex::token::{Scalar, Span};
 use std::alloc::{AllocError, Allocator};
-use syntax::tree::{First, Global, Name};
+use syntax::tree::{Initializer, Global, Name};
 
 /// Parts with nothing in them.
 fn nothing<A: Allocator + Copy>(alloc: A) -> Parts<A> {
@@ -78,10 +78,10 @@ fn push_texts<A: Allocator + Copy>(
 fn beginning<A: Allocator + Copy>(
     alloc: A,
     value: Option<u32>,
-) -> Result<Items<First, A>, AllocError> {
+) -> Result<Items<Initializer, A>, AllocError> {
     let mut all = Items::new(alloc);
     if let Some(value) = value {
-        all.push(First {
+        all.push(Initializer {
             negative: false,
             value: u64::from(value),
             of: Scalar::Int,

@@ -4,11 +4,11 @@ use Rattle.std.specs.Prelude.{slice_set, nat_lt, if◌then◌else◌, ◌==◌}
 use Rattle.bytecode.specs.Code.{Instr}
 use Rattle.bytecode.specs.declared.walk.Arrival.{Arrival}
 use Rattle.bytecode.specs.declared.walk.Arrival.TheVariants.{Unseen, Outside, Inside}
-use Rattle.bytecode.specs.declared.walk.Way.{Way}
-use Rattle.bytecode.specs.declared.walk.Way.TheVariants.{On, To, Both, Opens, Closes, Cancels, CancelsOuter, Ends}
+use Rattle.bytecode.specs.declared.walk.Successor.{Successor}
+use Rattle.bytecode.specs.declared.walk.Successor.TheVariants.{On, To, Both, Opens, Closes, Cancels, CancelsOuter, Ends}
 
 -- where an instruction leads
-abbrev pub way_of : Instr → Way
+abbrev pub way_of : Instr → Successor
 way_of (Instr.Jump to) = To to
 way_of (Instr.JumpZero a to) = Both to
 way_of (Instr.JumpNonzero a to) = Both to
@@ -86,7 +86,7 @@ twice first to m None = None
 twice first to m (Some s) = visit_place first s.0 s.1 to m
 
 -- a way goes on from a place, by its instruction
-abbrev pub went_by : List Instr → ℕ → Arrivals → List ℕ → ℕ → Arrival → Way → Option (Arrivals × List ℕ)
+abbrev pub went_by : List Instr → ℕ → Arrivals → List ℕ → ℕ → Arrival → Successor → Option (Arrivals × List ℕ)
 went_by is first ms work q m On = visit_place first ms work (suc q) m
 went_by is first ms work q m (To to) = visit_place first ms work to m
 went_by is first ms work q m (Both to) = twice first to m (visit_place first ms work (suc q) m)

@@ -3,8 +3,8 @@ use Rattle.std.specs.Prelude.{ℕ, ◌+◌, List, [], Vec, Result}
 use Rattle.syntax.specs.declared.tree.LogicalOp.{LogicalOp}
 use Rattle.bytecode.specs.declared.instr.Instr.{Instr}
 use Rattle.picked.specs.declared.draft.Draft.{Draft}
-use Rattle.picked.specs.declared.held.Held.{Held}
-use Rattle.picked.specs.declared.held.Tested.{Tested}
+use Rattle.picked.specs.declared.locations.ValueRegister.{ValueRegister}
+use Rattle.picked.specs.declared.locations.ConditionRegister.{ConditionRegister}
 use Rattle.picked.specs.Lists.{Lists}
 use Rattle.picked.specs.Conditions.{Condition, first_of}
 use Rattle.picked.specs.Expressions.{Emitted, AllEmitted}
@@ -16,16 +16,16 @@ use Rattle.expression_code.specs.Lists.{lists_of}
 use Rattle.expression_code.specs.Stretches.{Stretch, Adds}
 
 -- a value with its instructions, one whose instructions stand there already, several such ones, and a condition
-abbrev pub standing : List Instr → Held → Lists → Emitted
-standing code a l = record { code = code; lists = l; held = a }
+abbrev pub standing : List Instr → ValueRegister → Lists → Emitted
+standing code a l = record { code = code; lists = l; location = a }
 
-abbrev pub in_place : Held → Lists → Emitted
+abbrev pub in_place : ValueRegister → Lists → Emitted
 in_place a l = standing [] a l
 
 abbrev pub all_in_place : (registers : List ℕ) → (to : ℕ) → Lists → AllEmitted
 all_in_place rs to l = record { code = []; lists = l; registers = rs; to = to }
 
-abbrev pub test_in_place : List Draft → Tested → Lists → Condition
+abbrev pub test_in_place : List Draft → ConditionRegister → Lists → Condition
 test_in_place code t l = record { code = code; lists = l; register = t.register; at_zero = t.at_zero; to = t.to }
 
 -- the first condition of `&&` and `||` and its jump, up to the place behind

@@ -1,6 +1,6 @@
 -- The table of a program's functions.
 use Rattle.std.specs.Prelude.{◌≡◌, ℕ, List, map, Option, option_map}
-use Rattle.name_tables.specs.declared.kept.Table.{Table}
+use Rattle.name_tables.specs.declared.entries.Table.{Table}
 use Rattle.name_tables.specs.Known.{entries_in}
 use Rattle.name_tables.specs.Named.{first}
 use Rattle.syntax.specs.Tree.{Program}

@@ -4,7 +4,7 @@ use Rattle.std.proofs.lemmas.List.{take-append-drop}
 use Rattle.std.proofs.lemmas.Bool.Decides.{nat_tests}
 use Rattle.std.proofs.lemmas.List.{length-take-le, take_more, drop_more}
 use Rattle.lex.specs.Bytes.{is_plain, is_escape}
-use Rattle.lex.specs.Pieces.{Inside, IsString, Shape, Longest}
+use Rattle.lex.specs.Pieces.{IsStringBody, IsString, Shape, Longest}
 use Rattle.lex.specs.Pieces as s
 use Rattle.lex.specs.inner.Strings.{Unclosed}
 use Rattle.lex.proofs.pieces.Classes.{byte_class, quotes_only, Quoted, string, alone, front_class}
@@ -33,7 +33,7 @@ closing_plain a (b ∷ w) h lt =
     let not : (a == 92) ≡ false = grind (arith, nat_tests) in
     rw (no, not) refl
 
-closing_inside : (inner more : List ℕ) → Inside inner → closing (inner ++ 34 ∷ more) ≡ length inner
+closing_inside : (inner more : List ℕ) → IsStringBody inner → closing (inner ++ 34 ∷ more) ≡ length inner
 closing_inside [] more h = closing_quote more
 closing_inside (a ∷ []) more h =
     let e = closing_plain a (34 ∷ more) h (omega arith) in
@@ -51,10 +51,10 @@ closing_inside (a ∷ b ∷ w) more h = elim h [
 ]
 
 -- a string ends at one place
-pub inside_same : (a b more less : List ℕ) → a ++ 34 ∷ more ≡ b ++ 34 ∷ less → Inside a → Inside b → length a ≡ length b
+pub inside_same : (a b more less : List ℕ) → a ++ 34 ∷ more ≡ b ++ 34 ∷ less → IsStringBody a → IsStringBody b → length a ≡ length b
 inside_same a b more less e h k = sym (closing_inside a more h) ∙ ap closing e ∙ closing_inside b less k
 
-pub inside_append : (a b : List ℕ) → Inside a → Inside b → Inside (a ++ b)
+pub inside_append : (a b : List ℕ) → IsStringBody a → IsStringBody b → IsStringBody (a ++ b)
 inside_append [] b h k = k
 inside_append (x ∷ []) [] h k = h
 inside_append (x ∷ []) (y ∷ b) h k = inl (h, k)
@@ -65,13 +65,13 @@ inside_append (x ∷ y ∷ a) b h k = elim h [
 
 -- ---- one turn
 
-pub inside_plain : (rest : List ℕ) (at : ℕ) → at < length rest → is_plain (slice_index rest at) ≡ true → Inside (take at rest) → Inside (take (at + 1) rest)
+pub inside_plain : (rest : List ℕ) (at : ℕ) → at < length rest → is_plain (slice_index rest at) ≡ true → IsStringBody (take at rest) → IsStringBody (take (at + 1) rest)
 inside_plain rest at lt h k = rw (take_more rest at 0 lt) (inside_append (take at rest) (slice_index rest at ∷ []) k h)
 
 pub open_plain : (rest : List ℕ) (at : ℕ) → at < length rest → is_plain (slice_index rest at) ≡ true → Unclosed (drop (at + 1) rest) → Unclosed (drop at rest)
 open_plain rest at lt h u inner more e = go inner (sym (drop_more rest at 0 lt) ∙ e)
   where
-    go : (inner : List ℕ) → slice_index rest at ∷ drop (at + 1) rest ≡ inner ++ 34 ∷ more → Inside inner → ⊥
+    go : (inner : List ℕ) → slice_index rest at ∷ drop (at + 1) rest ≡ inner ++ 34 ∷ more → IsStringBody inner → ⊥
     go [] e i = plain_not (slice_index rest at) 34 h (heads e).0 refl
     go (y ∷ []) e i = u [] more (heads e).1 tt
     go (y ∷ z ∷ w) e i = elim i [
@@ -79,7 +79,7 @@ open_plain rest at lt h u inner more e = go inner (sym (drop_more rest at 0 lt) 
       | inr q ↦ plain_not (slice_index rest at) 92 h ((heads e).0 ∙ q.0) refl
     ]
 
-pub inside_escape : (rest : List ℕ) (at : ℕ) → at + 1 < length rest → slice_index rest at ≡ 92 → is_escape (slice_index rest (at + 1)) ≡ true → Inside (take at rest) → Inside (take (at + 2) rest)
+pub inside_escape : (rest : List ℕ) (at : ℕ) → at + 1 < length rest → slice_index rest at ≡ 92 → is_escape (slice_index rest (at + 1)) ≡ true → IsStringBody (take at rest) → IsStringBody (take (at + 2) rest)
 inside_escape rest at lt a b k =
     let lt_at : at < length rest = omega arith in
     let one : take (at + 1) rest ≡ take at rest ++ slice_index rest at ∷ [] = take_more rest at 0 lt_at in
@@ -87,7 +87,7 @@ inside_escape rest at lt a b k =
     let sum : at + 2 ≡ at + 1 + 1 = omega arith in
     let whole : take (at + 2) rest ≡ take at rest ++ slice_index rest at ∷ slice_index rest (at + 1) ∷ [] =
     ap (λ (n : ℕ). take n rest) sum ∙ two ∙ ap (λ (z : List ℕ). z ++ slice_index rest (at + 1) ∷ []) one ∙ append_assoc (take at rest) (slice_index rest at ∷ []) (slice_index rest (at + 1) ∷ []) in
-    subst Inside (sym whole) (inside_append (take at rest) (slice_index rest at ∷ slice_index rest (at + 1) ∷ []) k (inr (a, b, tt)))
+    subst IsStringBody (sym whole) (inside_append (take at rest) (slice_index rest at ∷ slice_index rest (at + 1) ∷ []) k (inr (a, b, tt)))
 
 apart : (b : ℕ) → b ≡ 92 → b ≡ 34 → ⊥
 apart b e f = omega arith
@@ -102,7 +102,7 @@ open_escape rest at lt a u inner more e =
     one ∙ ap (λ (z : List ℕ). slice_index rest at ∷ z) (two ∙ ap (λ (n : ℕ). slice_index rest (at + 1) ∷ drop n rest) sum) in
     go inner (sym whole ∙ e)
   where
-    go : (inner : List ℕ) → slice_index rest at ∷ slice_index rest (at + 1) ∷ drop (at + 2) rest ≡ inner ++ 34 ∷ more → Inside inner → ⊥
+    go : (inner : List ℕ) → slice_index rest at ∷ slice_index rest (at + 1) ∷ drop (at + 2) rest ≡ inner ++ 34 ∷ more → IsStringBody inner → ⊥
     go [] e i = apart (slice_index rest at) a (heads e).0
     go (y ∷ []) e i = plain_not y 92 i (sym (heads e).0 ∙ a) refl
     go (y ∷ z ∷ w) e i = elim i [
@@ -112,14 +112,14 @@ open_escape rest at lt a u inner more e =
 
 -- ---- the piece
 
-pub string_piece : (rest behind : List ℕ) (n : ℕ) → rest ≡ 34 ∷ behind → n < length behind → Inside (take n behind) → slice_index behind n ≡ 34 → IsString (take (n + 2) rest) (take n behind)
+pub string_piece : (rest behind : List ℕ) (n : ℕ) → rest ≡ 34 ∷ behind → n < length behind → IsStringBody (take n behind) → slice_index behind n ≡ 34 → IsString (take (n + 2) rest) (take n behind)
 string_piece rest behind n e lt i q =
     let sum : n + 2 ≡ suc (n + 1) = omega arith in
     let more : take (n + 1) behind ≡ take n behind ++ slice_index behind n ∷ [] = take_more behind n 0 lt in
     let whole : take (n + 2) rest ≡ 34 ∷ take (n + 1) behind = ap (take (n + 2)) e ∙ ap (λ (k : ℕ). take k (34 ∷ behind)) sum in
     record { written = whole ∙ ap (λ (z : List ℕ). 34 ∷ z) (more ∙ ap (λ (b : ℕ). take n behind ++ b ∷ []) q); inside = i }
 
-pub string_longest : (rest behind : List ℕ) (n : ℕ) → rest ≡ 34 ∷ behind → n < length behind → Inside (take n behind) → slice_index behind n ≡ 34 → Longest rest (n + 2)
+pub string_longest : (rest behind : List ℕ) (n : ℕ) → rest ≡ 34 ∷ behind → n < length behind → IsStringBody (take n behind) → slice_index behind n ≡ 34 → Longest rest (n + 2)
 string_longest rest behind n e lt i q = record {
   within = (let size : length rest ≡ length (34 ∷ behind) = ap (λ (z : List ℕ). length z) e in omega arith);
   shaped = s.string (take n behind) (string_piece rest behind n e lt i q);

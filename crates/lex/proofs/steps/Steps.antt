@@ -15,7 +15,7 @@ use Rattle.lex.specs.Tokens.{Terminal}
 use Rattle.lex.specs.Tokens as tokens
 use Rattle.lex.specs.Bytes.{is_letter, is_digit, is_part, is_glue, in_line, starts}
 use Rattle.lex.specs.Faults.{FaultAt, character_len}
-use Rattle.lex.specs.Pieces.{ClosesComment, IsOpen, IsDirective, IsInclude, FirstOnLine, Constant, constant_type, value, Gap, Says, Parted, Longest, IsGap, IsToken, Inside}
+use Rattle.lex.specs.Pieces.{ClosesComment, IsOpen, IsDirective, IsInclude, FirstOnLine, Constant, constant_type, value, Gap, Says, Parted, Longest, IsGap, IsToken, IsStringBody}
 use Rattle.lex.specs.Pieces as s
 use Rattle.lex.specs.inner.Strings.{Unclosed}
 use Rattle.lex.specs.declared.constant.Suffix.{Suffix}
@@ -121,7 +121,7 @@ strange_step text rest at len e lt o h l =
 behind_is : (text behind : List ℕ) (at : ℕ) → at < length text → slice_index text at ≡ 34 → behind ≡ drop (at + 1) text → drop at text ≡ 34 ∷ behind
 behind_is text behind at lt a e = drop_more text at 0 lt ∙ ap (λ (b : ℕ). b ∷ drop (at + 1) text) a ∙ ap (λ (z : List ℕ). 34 ∷ z) (sym e)
 
-pub string_step : (text behind inner : List ℕ) (at n : ℕ) → at < length text → slice_index text at ≡ 34 → behind ≡ drop (at + 1) text → (n < length behind) × Inside (take n behind) × (slice_index behind n ≡ 34) → inner ≡ take n behind → IsToken text at (n + 2) (tokens.string_literal inner)
+pub string_step : (text behind inner : List ℕ) (at n : ℕ) → at < length text → slice_index text at ≡ 34 → behind ≡ drop (at + 1) text → (n < length behind) × IsStringBody (take n behind) × (slice_index behind n ≡ 34) → inner ≡ take n behind → IsToken text at (n + 2) (tokens.string_literal inner)
 string_step text behind inner at n lt a e h i =
     let whole : drop at text ≡ 34 ∷ behind = behind_is text behind at lt a e in
     record {

@@ -6,10 +6,10 @@ use Rattle.lex.specs.Tokens.{terminal}
 use Rattle.lex.specs.Pieces.{IsGap, IsToken}
 use Rattle.lex.specs.Faults.{FaultAt}
 
-abbrev pub Steps : List ℕ → ℕ → Option Kind → ℕ → Type 0
-Steps text at None len = IsGap text at len
-Steps text at (Some k) len = IsToken text at len (terminal k)
+abbrev pub IsPieceAt : List ℕ → ℕ → Option Kind → ℕ → Type 0
+IsPieceAt text at None len = IsGap text at len
+IsPieceAt text at (Some k) len = IsToken text at len (terminal k)
 
-abbrev pub Answers : List ℕ → ℕ → Result (Option Kind × ℕ) LexFault → Type 0
-Answers text at (Ok x) = Steps text at x.0 x.1
-Answers text at (Err f) = FaultAt text at f
+abbrev pub AnswersPiece : List ℕ → ℕ → Result (Option Kind × ℕ) LexFault → Type 0
+AnswersPiece text at (Ok x) = IsPieceAt text at x.0 x.1
+AnswersPiece text at (Err f) = FaultAt text at f

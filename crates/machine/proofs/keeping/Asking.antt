@@ -26,7 +26,7 @@ use Rattle.norec_core.proofs.SavedByMaps.{commutes}
 use Rattle.machine.specs.declared.event.Event.{Event}
 use Rattle.machine.specs.Threads.{Thread, access, access_of, outside_access, inside_access, step_with, op_of}
 use Rattle.machine.specs.States.{Ready, IsReady, IsWordOf, asks, asks_by, asks_outside}
-use Rattle.machine.specs.inner.Kept.{PlainContext, machine_thread, shown_from, RunsInContext, MayGoBack, Makes, back_by, op_by, op_outside, op_asked}
+use Rattle.machine.specs.inner.Contexts.{PlainContext, machine_thread, shown_from, RunsInContext, MayGoBack, Makes, back_by, op_by, op_outside, op_asked}
 use Rattle.machine.proofs.keeping.Operations.{WritesWord}
 use Rattle.machine.proofs.keeping.Makes.{Resumes, may_go_back, core_makes}
 use Rattle.machine.proofs.keeping.Words.{FitsRegister, word_fits}

@@ -32,7 +32,7 @@ use Rattle.machine.specs.declared.event.Event.TheVariants as event
 use Rattle.machine.specs.Threads.{Thread, access, access_of, outside_access, step_with}
 use Rattle.machine.specs.Standing.{begins_of, GivesWordsIf, IsThreadOf}
 use Rattle.machine.specs.States.{Ready, IsReady, asks, asks_by, asks_outside, attempt_has_lock}
-use Rattle.machine.specs.inner.Kept.{PlainContext, machine_thread, shown_from, AreWithin, RunsInContext, ContextWith, IsContextOf, op_by, op_asked}
+use Rattle.machine.specs.inner.Contexts.{PlainContext, machine_thread, shown_from, AreWithin, RunsInContext, ContextWith, IsContextOf, op_by, op_asked}
 use Rattle.machine.proofs.keeping.Asking.{asks_is, access_is}
 use Rattle.machine.proofs.keeping.Seen.{kept_of, thread_of}
 use Rattle.machine.proofs.keeping.Work.{work_over}

@@ -21,7 +21,7 @@ use Rattle.norec_core.proofs.Committing.{begin_keeps, store_access_is, store_is,
 use Rattle.machine.specs.declared.event.Event.{Event}
 use Rattle.machine.specs.Threads.{access, step_with}
 use Rattle.machine.specs.States.{asks}
-use Rattle.machine.specs.inner.Kept.{PlainContext, Makes, MayGoBack, RunsInContext, back_by, op_asked, machine_thread, shown_from}
+use Rattle.machine.specs.inner.Contexts.{PlainContext, Makes, MayGoBack, RunsInContext, back_by, op_asked, machine_thread, shown_from}
 use Rattle.machine.proofs.keeping.Asking.{access_is, access_local, asks_is}
 use Rattle.machine.proofs.keeping.Makes.{Resumes, core_makes, may_go_back}
 use Rattle.machine.proofs.keeping.Reading.{some_and}

@@ -16,7 +16,7 @@ use Rattle.norec_core.specs.Cores.{CommitsAtOnce}
 use Rattle.norec_core.specs.Phases.{commit_access}
 use Rattle.norec_core.specs.Saved.{attempt_as, checkpoint_as}
 use Rattle.machine.specs.States.{IsLeft}
-use Rattle.machine.specs.inner.Kept.{shown_from}
+use Rattle.machine.specs.inner.Contexts.{shown_from}
 
 -- where local steps end stands no local step
 ends_at : (code : Code) (c : Configuration) → MayEnd (slice_get code.instructions c.place) (effect code c) → IsLocalStep code c → ⊥

@@ -20,7 +20,7 @@ use Rattle.machine.specs.declared.event.Event.{Event}
 use Rattle.machine.specs.Threads.{Thread, Next, step_with, resume_next, resume, status_after, commit_event, done_event, event_of}
 use Rattle.machine.specs.Standing.{begins_of, GivesWordsIf}
 use Rattle.machine.specs.States.{asks_by}
-use Rattle.machine.specs.inner.Kept.{PlainContext, shown_from, machine_thread, AreWithin, RunsInContext, ContextWith, back_done, back_by, MayGoBack, event_by, event_done, commit_told, Makes}
+use Rattle.machine.specs.inner.Contexts.{PlainContext, shown_from, machine_thread, AreWithin, RunsInContext, ContextWith, back_done, back_by, MayGoBack, event_by, event_done, commit_told, Makes}
 use Rattle.machine.proofs.keeping.Operations.{Does, is_cancel, is_plain, cancels_so, plain_stays, tells_commit, WritesWord, does}
 use Rattle.machine.proofs.keeping.Operations.Does.{goes, reads, works, begins, commits, cancels, drops, releases}
 use Rattle.machine.proofs.keeping.Seen.{agree}

@@ -7,7 +7,7 @@ use Rattle.norec_core.specs.Attempts.{Attempt}
 use Rattle.norec_core.specs.Cores.{IsComparing, IsStoring}
 use Rattle.machine.specs.Threads.{Thread}
 use Rattle.machine.specs.States.{ComparesNext, StoresNext, ThreadState}
-use Rattle.machine.specs.inner.Kept.{PlainContext, machine_thread, shown_from}
+use Rattle.machine.specs.inner.Contexts.{PlainContext, machine_thread, shown_from}
 use Rattle.machine.proofs.keeping.Committing.{kept_stores}
 
 kept_compares : (c : Configuration) (time place : ℕ) (o : Option (Attempt Saved)) → IsSomeAnd (shown_from c o) (λ a. IsComparing time place a) → IsSomeAnd o (λ a. IsComparing time place a)

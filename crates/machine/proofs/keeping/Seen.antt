@@ -16,7 +16,7 @@ use Rattle.norec_core.specs.Attempts.{Checkpoint, Attempt}
 use Rattle.norec_core.specs.Phases.{core_step, core_phase}
 use Rattle.norec_core.specs.Saved.{if_some, checkpoint_as, attempt_as}
 use Rattle.machine.specs.Standing.{begins_of, HaveWords, HasInHand, GivesWordsIf, IsStanding, IsThreadOf}
-use Rattle.machine.specs.inner.Kept.{PlainContext, shown_from, machine_thread, AreWithin, ContextWith, IsContextOf}
+use Rattle.machine.specs.inner.Contexts.{PlainContext, shown_from, machine_thread, AreWithin, ContextWith, IsContextOf}
 
 module _ {S T : Type 0} where
   inner_begins : (f : S → T) (ks : List (Checkpoint S)) (s : S) → map (λ (k : Checkpoint T). k.saved) (map (checkpoint_as f) ks) ++ f s ∷ [] ≡ map f (map (λ (k : Checkpoint S). k.saved) ks ++ s ∷ [])

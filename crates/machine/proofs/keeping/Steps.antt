@@ -20,7 +20,7 @@ use Rattle.norec_core.proofs.SavedByMaps.{commutes}
 use Rattle.machine.specs.Threads.{Thread, told_of, told_outside, told_inside, resume_next, resume, status_after, op_of}
 use Rattle.machine.specs.Standing.{begins_of, GivesWordsIf}
 use Rattle.machine.specs.States.{asks_outside, asks_by}
-use Rattle.machine.specs.inner.Kept.{shown_from, AreWithin, ContextWith}
+use Rattle.machine.specs.inner.Contexts.{shown_from, AreWithin, ContextWith}
 use Rattle.machine.proofs.Levels.{same_split}
 use Rattle.machine.proofs.keeping.Operations.{Does, TakesAway, cancels_so, is_cancel, is_plain, is_read}
 use Rattle.machine.proofs.keeping.Operations.Does.{goes, reads, works, begins, commits, cancels, drops, releases}

@@ -19,7 +19,7 @@ use Rattle.norec_core.proofs.Validating.{comparing_access, waiting_access}
 use Rattle.machine.specs.declared.event.Event.TheVariants as event
 use Rattle.machine.specs.Threads.{step_with}
 use Rattle.machine.specs.States.{IsValidated, asks}
-use Rattle.machine.specs.inner.Kept.{PlainContext, Makes, RunsInContext, machine_thread}
+use Rattle.machine.specs.inner.Contexts.{PlainContext, Makes, RunsInContext, machine_thread}
 use Rattle.machine.proofs.keeping.Makes.{core_makes, may_go_back}
 use Rattle.machine.proofs.keeping.Operations.{WritesWord}
 use Rattle.machine.proofs.keeping.Reading.{some_and}

@@ -17,7 +17,7 @@ use Rattle.machine.specs.declared.event.Event.TheVariants as event
 use Rattle.machine.specs.Threads.{Thread, Next, step_with, told_of, told_outside, told_inside, op_of, quiet, print_inside}
 use Rattle.machine.specs.Standing.{begins_of, GivesWordsIf}
 use Rattle.norec_core.specs.Saved.{attempt_as}
-use Rattle.machine.specs.inner.Kept.{PlainContext, shown_from, machine_thread, AreWithin, RunsInContext, ContextWith, Makes}
+use Rattle.machine.specs.inner.Contexts.{PlainContext, shown_from, machine_thread, AreWithin, RunsInContext, ContextWith, Makes}
 use Rattle.machine.proofs.keeping.Seen.{agree, within}
 use Rattle.machine.proofs.keeping.Makes.{same_thread, kept_same}
 

@@ -7,7 +7,7 @@ use lex::token::{Scalar, Span};
 use refusing::{Refusing, growths};
 use std::alloc::{AllocError, Allocator, Global};
 use syntax::tree;
-use syntax::tree::First;
+use syntax::tree::Initializer;
 
 /// Appends a first word to a variable's.
 fn push_first<A: Allocator>(
@@ -15,7 +15,7 @@ fn push_first<A: Allocator>(
     negative: bool,
     value: u32,
 ) -> Result<(), AllocError> {
-    to.first.push(First {
+    to.first.push(Initializer {
         negative,
         value: u64::from(value),
         of: Scalar::Int,

@@ -13,10 +13,10 @@ use Rattle.syntax.specs.Depth.{program_depth, expr_depth, stmt_depth, block_dept
 use Rattle.syntax.specs.Depth.{optional_simple_depth}
 use Rattle.syntax.specs.Views.{start_of}
 use Rattle.syntax.specs.Actions.{Action, Gives, pure, locals, put_locals, ◌>>=◌, ◌>>◌}
-use Rattle.syntax.specs.Meaning.{Caller, End, Next, calls, expr, stmt, stmts, in_scope, after_body, holds, stepped}
+use Rattle.syntax.specs.Meaning.{Caller, Completion, Next, calls, expr, stmt, stmts, in_scope, after_body, holds, stepped}
 use Rattle.syntax.specs.Meaning.{first_value, InLocal, start_with, loop, Returns}
-use Rattle.meaning.specs.declared.machine.End.{End as OwnEnd}
-use Rattle.meaning.specs.declared.program.Source.{Source}
+use Rattle.meaning.specs.declared.machine.StmtCompletion.{StmtCompletion as OwnEnd}
+use Rattle.meaning.specs.declared.program.ProgramTables.{ProgramTables}
 use Rattle.meaning.specs.declared.loops.Loop.{Loop}
 use Rattle.meaning.specs.declared.loops.Loop.TheVariants as kind
 use Rattle.meaning.specs.declared.transactions.Body.{Body}
@@ -30,29 +30,29 @@ if_of c a None = If c a
 if_of c a (Some b) = IfElse c a b
 
 -- the end of the loop that a body's end is, or else what goes on
-abbrev pub left_or : Action (Option End) → Option OwnEnd → Action (Option End)
+abbrev pub left_or : Action (Option Completion) → Option OwnEnd → Action (Option Completion)
 left_or go None s = go s
 left_or go (Some e) s = Gives (Some (end_of e)) s
 
 -- one turn of a loop
-abbrev pub while_turn : Program → Caller → Expr → Stmt → Action (Option End)
+abbrev pub while_turn : Program → Caller → Expr → Stmt → Action (Option Completion)
 while_turn p call c a =
     do v ← expr p call c; if is_zero v then pure (Some Next) else (in_scope (stmt p call a) >>= after_body (pure None))
 
-abbrev pub loop_condition : Program → Caller → Expr → Action (Option End)
+abbrev pub loop_condition : Program → Caller → Expr → Action (Option Completion)
 loop_condition p call c = do v ← expr p call c; pure (if is_zero v then Some Next else None)
 
-abbrev pub do_turn : Program → Caller → Stmt → Expr → Action (Option End)
+abbrev pub do_turn : Program → Caller → Stmt → Expr → Action (Option Completion)
 do_turn p call a c = in_scope (stmt p call a) >>= after_body (loop_condition p call c)
 
-abbrev pub for_turn : Program → Caller → Option Expr → Option Simple → Stmt → Action (Option End)
+abbrev pub for_turn : Program → Caller → Option Expr → Option Simple → Stmt → Action (Option Completion)
 for_turn p call c step a =
     do
       more ← holds p call c
       if more then (in_scope (stmt p call a) >>= after_body (stepped p call step)) else pure (Some Next)
 
 -- what a `for` begins with, and then its turns
-abbrev pub for_all : Program → Caller → Start → Option Expr → Option Simple → Stmt → Action End
+abbrev pub for_all : Program → Caller → Start → Option Expr → Option Simple → Stmt → Action Completion
 for_all p call start c step a = start_with p call start >> loop (for_turn p call c step a)
 
 -- no relaxed transaction begins inside an atomic one
@@ -80,20 +80,20 @@ unfoldable pub weight : Program → ℕ → ℕ
 weight p frames = frames * (8 * program_depth p + 16)
 
 module _ {A : Type 0} where
-  abbrev pub called : Source A → ℕ → Caller
+  abbrev pub called : ProgramTables A → ℕ → Caller
   called source frames = calls (program_in source) frames
 
-  abbrev pub does_expr : Source A → ℕ → OwnExpr A → Action Value
+  abbrev pub does_expr : ProgramTables A → ℕ → OwnExpr A → Action Value
   does_expr source frames e = expr (program_in source) (called source frames) (expr_of e)
 
-  abbrev pub does_stmt : Source A → ℕ → OwnStmt A → Action End
+  abbrev pub does_stmt : ProgramTables A → ℕ → OwnStmt A → Action Completion
   does_stmt source frames s = stmt (program_in source) (called source frames) (stmt_of s)
 
-  abbrev pub does_stmts : Source A → ℕ → List (OwnStmt A) → Action End
+  abbrev pub does_stmts : ProgramTables A → ℕ → List (OwnStmt A) → Action Completion
   does_stmts source frames ss = stmts (program_in source) (called source frames) (stmts_of ss)
 
   -- what a transaction does: its statements have names of their own, and an operand's value is its end
-  abbrev pub does_body : Source A → ℕ → Body A → Action End
+  abbrev pub does_body : ProgramTables A → ℕ → Body A → Action Completion
   does_body source frames (body.Block ss) = in_scope (does_stmts source frames ss.now)
   does_body source frames (body.Value e) = do v ← does_expr source frames e.now; pure (Returns v)
 
@@ -101,7 +101,7 @@ module _ {A : Type 0} where
   depth_within (body.Block ss) = block_depth (stmts_of ss.now)
   depth_within (body.Value e) = expr_depth (expr_of e.now)
 
-  abbrev pub does_turn : Source A → ℕ → Loop A → Action (Option End)
+  abbrev pub does_turn : ProgramTables A → ℕ → Loop A → Action (Option Completion)
   does_turn source frames (kind.While c a) =
       while_turn (program_in source) (called source frames) (expr_of c.now) (stmt_of a.now)
   does_turn source frames (kind.DoWhile a c) =

@@ -9,7 +9,7 @@ use Rattle.syntax.specs.Numbers.{is_zero}
 use Rattle.syntax.specs.Tree.{Scalar, Program, Expr, Exprs, Stmt, Stmts, Start, While, DoWhile, For}
 use Rattle.syntax.specs.Names as Names
 use Rattle.syntax.specs.Actions.{State, Gives, Action, pure, stop, tick, trap, locals, put_locals, go_on, ◌>>=◌, ◌>>◌}
-use Rattle.syntax.specs.Meaning.{Caller, End, Next, expr, exprs, stmt, stmts, in_scope, on_next, after_body, after_turn}
+use Rattle.syntax.specs.Meaning.{Caller, Completion, Next, expr, exprs, stmt, stmts, in_scope, on_next, after_body, after_turn}
 use Rattle.syntax.specs.Meaning.{turns, holds, stepped, start_with, result_of, calls}
 use Rattle.meaning.specs.Frames.{IsFramed}
 use Rattle.meaning.specs.inner.Calls.{Begins, begin_call}
@@ -17,11 +17,11 @@ use Rattle.meaning.specs.inner.Does.{do_turn, for_turn, loop_condition, while_tu
 
 -- how a thread goes on after a step: with this end, with this run, or with a run and then, by its end, with another
 pub data Follow : Type 0 where
-  Ends : (end : End) → Follow
-  Goes : (run : Action End) → Follow
-  Nests : (outer : End → Action End) (inner : Action End) → Follow
+  Ends : (end : Completion) → Follow
+  Goes : (run : Action Completion) → Follow
+  Nests : (outer : Completion → Action Completion) (inner : Action Completion) → Follow
 
-abbrev pub follows : Follow → Action End
+abbrev pub follows : Follow → Action Completion
 follows (Ends end) = pure end
 follows (Goes run) = run
 follows (Nests outer inner) = inner >>= outer
@@ -31,38 +31,38 @@ abbrev pub ticks_left : Action ℕ
 ticks_left s = Gives s.ticks s
 
 -- the names behind so many are gone
-abbrev pub drop_names : ℕ → End → Action End
+abbrev pub drop_names : ℕ → Completion → Action Completion
 drop_names n end = do all ← locals; put_locals (take n all); pure end
 
 -- a function is left: its caller's names are back, and its value counts no more
-abbrev pub call_left : Option Scalar → List Names.Local → End → Action End
+abbrev pub call_left : Option Scalar → List Names.Local → Completion → Action Completion
 call_left of outer end = do put_locals outer; result_of of end; pure Next
 
 -- a step where the end before leads on to what is next, or elsewhere
-abbrev pub when_next : Action Follow → End → Action Follow
+abbrev pub when_next : Action Follow → Completion → Action Follow
 when_next run Next = run
 when_next run end = pure (Ends end)
 
 -- names of a run's own stand behind those that there are
-abbrev pub scope_begun : Action End → Action Follow
+abbrev pub scope_begun : Action Completion → Action Follow
 scope_begun run = do outer ← locals; pure (Nests (drop_names (length outer)) run)
 
 -- as many turns as there are ticks
-abbrev pub loop_begun : Action (Option End) → Action Follow
+abbrev pub loop_begun : Action (Option Completion) → Action Follow
 loop_begun turn = do n ← ticks_left; pure (Goes (turns n turn))
 
 -- what comes behind the body of a turn, by its end: where the loop goes on this, and then the turns that are left
-abbrev pub body_left : Action (Option End) → Action End → End → Action End
+abbrev pub body_left : Action (Option Completion) → Action Completion → Completion → Action Completion
 body_left behind rest end = after_body behind end >>= after_turn rest
 
-abbrev pub follow_turn : Action End → Option End → Follow
+abbrev pub follow_turn : Action Completion → Option Completion → Follow
 follow_turn rest None = Goes rest
 follow_turn rest (Some end) = Ends end
 
 module _ (p : Program) (call : Caller) where
   -- one turn of a statement that is a loop: what it tests before its body, the body, and what follows where the loop
   -- goes on
-  abbrev pub turn_of : Stmt → Action (Option End)
+  abbrev pub turn_of : Stmt → Action (Option Completion)
   turn_of (While c a) = while_turn p call c a
   turn_of (DoWhile a c) = do_turn p call a c
   turn_of (For start c step a) = for_turn p call c step a
@@ -74,13 +74,13 @@ module _ (p : Program) (call : Caller) where
   test_of (For start c step a) = holds p call c
   test_of s = pure false
 
-  abbrev pub body_of : Stmt → Action End
+  abbrev pub body_of : Stmt → Action Completion
   body_of (While c a) = in_scope (stmt p call a)
   body_of (DoWhile a c) = in_scope (stmt p call a)
   body_of (For start c step a) = in_scope (stmt p call a)
   body_of s = pure Next
 
-  abbrev pub behind_of : Stmt → Action (Option End)
+  abbrev pub behind_of : Stmt → Action (Option Completion)
   behind_of (DoWhile a c) = loop_condition p call c
   behind_of (For start c step a) = stepped p call step
   behind_of s = pure None
@@ -108,7 +108,7 @@ module _ (p : Program) (call : Caller) where
   abbrev pub either_begun : Expr → Stmt → Option Stmt → Action Follow
   either_begun c a b = do v ← expr p call c; pure (if is_zero v then otherwise b else Goes (in_scope (stmt p call a)))
 
-  abbrev pub for_begun : Start → Action (Option End) → Action Follow
+  abbrev pub for_begun : Start → Action (Option Completion) → Action Follow
   for_begun start turn = do
     outer ← locals
     start_with p call start
@@ -119,7 +119,7 @@ module _ (p : Program) (call : Caller) where
 abbrev pub call_of : Program → Caller → List ℕ → Exprs → Action Value
 call_of p call x es = do vs ← exprs p call es; tick; call x vs
 
-abbrev pub call_alone : Program → Caller → List ℕ → Exprs → Action End
+abbrev pub call_alone : Program → Caller → List ℕ → Exprs → Action Completion
 call_alone p call x es = do tick; call_of p call x es; pure Next
 
 -- a body with its own names, behind which the caller's come back
@@ -139,11 +139,11 @@ abbrev pub call_begun : Program → ℕ → List ℕ → Exprs → Action Follow
 call_begun p k x es = do tick; vs ← exprs p (calls p k) es; tick; frame_begun p k x vs
 
 -- what is left, the innermost piece at the list's end: each goes on by the end that the ones behind it come to
-abbrev pub gone_on : List (End → Action End) → End → Action End
+abbrev pub gone_on : List (Completion → Action Completion) → Completion → Action Completion
 gone_on [] = pure
 gone_on (piece ∷ pieces) = λ end. gone_on pieces end >>= piece
 
 -- a step of a piece: it does what the piece does next, whatever stands round it
-pub record IsStep (piece : End → Action End) (end : End) (run : Action Follow) : Type 0 where
+pub record IsStep (piece : Completion → Action Completion) (end : Completion) (run : Action Follow) : Type 0 where
   pub does : (s : State) → piece end s ≡ go_on (run s) follows
   pub framed : IsFramed run

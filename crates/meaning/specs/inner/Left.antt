@@ -4,9 +4,9 @@ use Rattle.syntax.specs.declared.tree.Stmt.{Stmt as OwnStmt}
 use Rattle.syntax.specs.Tree.{Stmt, Block, While, DoWhile, For}
 use Rattle.syntax.specs.Views.{expr_of, simple_of, start_of, stmt_of, stmts_of}
 use Rattle.syntax.specs.Actions.{Answer, Action, pure, tick, ◌>>=◌, ◌>>◌}
-use Rattle.syntax.specs.Meaning.{End, stmt, in_scope, on_next, after_body, turns}
-use Rattle.meaning.specs.declared.left.Way.{Way}
-use Rattle.meaning.specs.declared.left.Way.TheVariants as way
+use Rattle.syntax.specs.Meaning.{Completion, stmt, in_scope, on_next, after_body, turns}
+use Rattle.meaning.specs.declared.left.Direction.{Direction}
+use Rattle.meaning.specs.declared.left.Direction.TheVariants as way
 use Rattle.meaning.specs.declared.left.Task.{Task}
 use Rattle.meaning.specs.declared.left.Task.TheVariants as task
 use Rattle.meaning.specs.declared.left.Left.{Left}
@@ -19,7 +19,7 @@ use Rattle.meaning.specs.declared.loops.Loop.{Loop}
 use Rattle.meaning.specs.declared.loops.Loop.TheVariants as kind
 use Rattle.meaning.specs.declared.machine.Halted.{Halted}
 use Rattle.meaning.specs.declared.machine.Machine.{Machine}
-use Rattle.meaning.specs.declared.program.Source.{Source}
+use Rattle.meaning.specs.declared.program.ProgramTables.{ProgramTables}
 use Rattle.meaning.specs.inner.Machine.{MeansAs, end_of, items_in, program_in}
 use Rattle.meaning.specs.inner.Does.{called, does_stmts, if_of}
 use Rattle.meaning.specs.inner.Going.{Follow, Ends, Goes, Nests, drop_names, call_left, when_next, scope_begun, loop_begun}
@@ -45,20 +45,20 @@ module _ {A : Type 0} where
   stmt_in (parts.Either c a b) = if_of (expr_of c.now) (stmt_of a.now) (option_map stmt_of b.now)
   stmt_in (parts.Repeats w) = loop_in w
 
-module _ {A : Type 0} (source : Source A) where
+module _ {A : Type 0} (source : ProgramTables A) where
   -- what a statement does in a way, and its first step
-  abbrev pub does_by : Way → ℕ → Stmt → Action End
+  abbrev pub does_by : Direction → ℕ → Stmt → Action Completion
   does_by way.Whole frames s = stmt (program_in source) (called source frames) s
   does_by way.Scoped frames s = in_scope (stmt (program_in source) (called source frames) s)
   does_by (way.Turns n) frames s = turns n (turn_of (program_in source) (called source frames) s)
 
-  abbrev pub begun_by : Way → ℕ → Stmt → Action Follow
+  abbrev pub begun_by : Direction → ℕ → Stmt → Action Follow
   begun_by way.Whole frames s = do end ← stmt (program_in source) (called source frames) s; pure (Ends end)
   begun_by way.Scoped frames s = scope_begun (stmt (program_in source) (called source frames) s)
   begun_by (way.Turns n) frames s = turns_begun (program_in source) (called source frames) s n
 
   -- what a task does, and its first step
-  abbrev pub does_task : Task A → Action End
+  abbrev pub does_task : Task A → Action Completion
   does_task (task.Apart frames ss) = does_stmts source frames ss.now
   does_task (task.Alone w frames s) = does_by w frames (stmt_of s.now)
 
@@ -67,7 +67,7 @@ module _ {A : Type 0} (source : Source A) where
   begun (task.Alone w frames s) = begun_by w frames (stmt_of s.now)
 
   -- the first step of a statement by its parts, behind its tick; of a loop by its turn
-  abbrev pub loop_opened : ℕ → Action (Option End) → Loop A → Action Follow
+  abbrev pub loop_opened : ℕ → Action (Option Completion) → Loop A → Action Follow
   loop_opened frames turn (kind.While c a) = loop_begun turn
   loop_opened frames turn (kind.DoWhile a c) = loop_begun turn
   loop_opened frames turn (kind.For head a) =
@@ -84,21 +84,21 @@ module _ {A : Type 0} (source : Source A) where
   opened frames s q = tick >> parted frames s q
 
   -- so many turns of a loop, and what is left behind the body of one
-  abbrev pub turns_in : ℕ → Stmt → ℕ → Action End
+  abbrev pub turns_in : ℕ → Stmt → ℕ → Action Completion
   turns_in frames s n = turns n (turn_of (program_in source) (called source frames) s)
 
-  abbrev pub body_rest : ℕ → Stmt → ℕ → End → Action End
+  abbrev pub body_rest : ℕ → Stmt → ℕ → Completion → Action Completion
   body_rest frames s n = body_left (behind_of (program_in source) (called source frames) s) (turns_in frames s n)
 
   -- what is done behind something, by its end
-  abbrev pub resumed : Left A → End → Action End
+  abbrev pub resumed : Left A → Completion → Action Completion
   resumed (left.Next t) = on_next (does_task t)
   resumed (left.Body frames s n) = body_rest frames (stmt_of s.now) n
   resumed (left.Scope n) = drop_names n
   resumed (left.Call of outer) = call_left of (items_in outer)
 
   -- what is left, the innermost piece at the list's end
-  abbrev pub left_gone_on : List (Left A) → End → Action End
+  abbrev pub left_gone_on : List (Left A) → Completion → Action Completion
   left_gone_on ls = gone_on (map resumed ls)
 
   abbrev pub follow_of : Stepped A → Follow
@@ -109,13 +109,13 @@ module _ {A : Type 0} (source : Source A) where
   abbrev pub MeansStepped : Result (Stepped A) Halted → Answer Follow → Machine A → Type 0
   MeansStepped = MeansAs follow_of
 
-  abbrev pub body_step : ℕ → Stmt → ℕ → End → Action Follow
+  abbrev pub body_step : ℕ → Stmt → ℕ → Completion → Action Follow
   body_step frames s n end =
       after_body (behind_of (program_in source) (called source frames) s) end
       >>= (λ next. pure (follow_turn (turns_in frames s n) next))
 
   -- one step, by the end of what was done before
-  abbrev pub step_of : Left A → End → Action Follow
+  abbrev pub step_of : Left A → Completion → Action Follow
   step_of (left.Next t) = when_next (begun t)
   step_of (left.Body frames s n) = body_step frames (stmt_of s.now) n
   step_of (left.Scope n) = λ end. do then_ ← drop_names n end; pure (Ends then_)

@@ -13,18 +13,18 @@ use Rattle.meaning.specs.Outcomes.{memories_in}
 use Rattle.syntax.specs.Meaning as Meaning
 use Rattle.meaning.specs.declared.machine.Local.{Local}
 use Rattle.meaning.specs.declared.machine.Machine.{Machine}
-use Rattle.meaning.specs.declared.program.Source.{Source}
+use Rattle.meaning.specs.declared.program.ProgramTables.{ProgramTables}
 use Rattle.meaning.specs.declared.machine.Context.{Context}
 use Rattle.meaning.specs.declared.machine.Halted.{Halted}
 use Rattle.meaning.specs.declared.machine.Context.TheVariants as context
 use Rattle.meaning.specs.declared.machine.Spot.{Spot}
 use Rattle.meaning.specs.declared.machine.Spot.TheVariants as spot
-use Rattle.meaning.specs.declared.machine.End.{End}
-use Rattle.meaning.specs.declared.machine.End.TheVariants as end
+use Rattle.meaning.specs.declared.machine.StmtCompletion.{StmtCompletion}
+use Rattle.meaning.specs.declared.machine.StmtCompletion.TheVariants as end
 use Rattle.meaning.specs.declared.word.Word.{Word}
 use Rattle.meaning.specs.inner.Word.{value_of}
 
-abbrev pub end_of : End → Meaning.End
+abbrev pub end_of : StmtCompletion → Meaning.Completion
 end_of end.Next = Meaning.Next
 end_of end.Breaks = Meaning.Breaks
 end_of end.Continues = Meaning.Continues
@@ -72,7 +72,7 @@ module _ {A : Type 0} where
     text = m.text.items;
   }
 
-  abbrev pub program_in : Source A → Program
+  abbrev pub program_in : ProgramTables A → Program
   program_in source = program_of source.unit.now
 
   abbrev pub IsDone : {X : Type 0} → Result X Halted → Machine A → Type 0
@@ -100,8 +100,8 @@ module _ {A : Type 0} where
   abbrev pub MeansSpot : Result Spot Halted → Answer Meaning.Spot → Machine A → Type 0
   MeansSpot = MeansAs spot_of
 
-  abbrev pub MeansEnd : Result End Halted → Answer Meaning.End → Machine A → Type 0
+  abbrev pub MeansEnd : Result StmtCompletion Halted → Answer Meaning.Completion → Machine A → Type 0
   MeansEnd = MeansAs end_of
 
-  abbrev pub MeansTurn : Result (Option End) Halted → Answer (Option Meaning.End) → Machine A → Type 0
+  abbrev pub MeansTurn : Result (Option StmtCompletion) Halted → Answer (Option Meaning.Completion) → Machine A → Type 0
   MeansTurn = MeansAs (option_map end_of)

@@ -11,7 +11,7 @@ use Rattle.meaning.specs.declared.standing.Thread.{Thread}
 use Rattle.meaning.specs.declared.standing.Stop.{Stop}
 use Rattle.meaning.specs.declared.standing.Gone.{Gone}
 use Rattle.meaning.specs.declared.standing.Gone.TheVariants as gone
-use Rattle.meaning.specs.declared.program.Source.{Source}
+use Rattle.meaning.specs.declared.program.ProgramTables.{ProgramTables}
 use Rattle.meaning.specs.inner.Machine.{end_of, items_in}
 use Rattle.meaning.specs.Frames.{StateExtension, extended_state}
 use Rattle.meaning.specs.inner.Going.{Follow}
@@ -44,14 +44,14 @@ module _ {A : Type 0} where
   frame_of founds shown = record { founds = founds; lefts = memories_in shown.lefts.items; text = shown.text.items }
 
   -- what a step comes to is this answer
-  abbrev pub IsGone : Source A → Gone A → Answer Follow → Type 0
+  abbrev pub IsGone : ProgramTables A → Gone A → Answer Follow → Type 0
   IsGone source (gone.Went next at shown) r = r ≡ Gives (follow_of source next) (state_at at shown)
   IsGone source (gone.Stopped why shown) r =
       (s : State) × (founds : List Memory) × (r ≡ Stops why s)
       × (s.context ≡ Outside founds (memories_in shown.lefts.items)) × (s.text ≡ shown.text.items)
 
   -- what is left of a thread that finds these memories too, up to the tick of its end
-  abbrev pub rest : Source A → Thread A → List Memory → Answer (Unit {0})
+  abbrev pub rest : ProgramTables A → Thread A → List Memory → Answer (Unit {0})
   rest source thread founds =
       go_on (left_gone_on source thread.left.items (end_of thread.end)
       (extended_state (frame_of founds thread.shown) (bare thread.at)))
@@ -66,5 +66,5 @@ module _ {A : Type 0} where
   }
 
   -- a thread goes no further so
-  abbrev pub IsStop : Source A → Thread A → Stop A → Type 0
+  abbrev pub IsStop : ProgramTables A → Thread A → Stop A → Type 0
   IsStop source thread stop = outcome_of (rest source thread []) ≡ seen_of thread stop

@@ -1,6 +1,6 @@
 -- The tables of a program's names.
 use Rattle.std.specs.Prelude.{◌≡◌, ℕ, ◌+◌, ◌&&◌, List, [], ◌∷◌, is_some, Option, Some, None, bytes_eq, if◌then◌else◌}
-use Rattle.name_tables.specs.declared.kept.Table.{Table}
+use Rattle.name_tables.specs.declared.entries.Table.{Table}
 use Rattle.name_tables.specs.Known.{entries_in}
 use Rattle.name_tables.specs.Named.{first}
 use Rattle.syntax.specs.Tree.{Item, Defines, Shares, Program}

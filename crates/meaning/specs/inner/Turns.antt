@@ -6,11 +6,11 @@ use Rattle.syntax.specs.Behaviours.{Memory, Behaviour, Outcome, Stopped}
 use Rattle.syntax.specs.Orders.{Progress, last_left}
 use Rattle.syntax.specs.Threads.{first_state, thread, worker_run}
 use Rattle.meaning.specs.Outcomes.{memories_in, thread_end_in}
-use Rattle.meaning.specs.declared.program.Source.{Source}
+use Rattle.meaning.specs.declared.program.ProgramTables.{ProgramTables}
 use Rattle.meaning.specs.inner.Machine.{program_in}
 use Rattle.meaning.specs.inner.Standing.{rest}
 use Rattle.meaning.specs.declared.orders.Standing.{Standing}
-use Rattle.meaning.specs.declared.orders.Way.{Way}
+use Rattle.meaning.specs.declared.orders.Direction.{Direction}
 
 -- what a program's threads do; only the prover needs it to be a word of its own
 unfoldable pub does_in : Program → Behaviour
@@ -37,13 +37,13 @@ module _ {A : Type 0} where
 
   -- A thread that has found memories: it goes on from where it stands as it would from its beginning, whatever it finds
   -- further; and what is seen of it is what it does with those that it has found.
-  pub record IsKnown (source : Source A) (ticks t : ℕ) (s : Standing A) : Type 0 where
+  pub record IsKnown (source : ProgramTables A) (ticks t : ℕ) (s : Standing A) : Type 0 where
     pub stands : (further : List Memory) → rest source s.thread further
         ≡ worker_run (program_in source) t (first_state (memories_in s.founds.items ++ further) ticks)
     pub seen : seen_in s ≡ does_in (program_in source) t (memories_in s.founds.items) ticks
 
   -- so of each thread, from this one on
-  unfoldable pub AreKnown : Source A → (ticks t : ℕ) → List (Standing A) → Type 0
+  unfoldable pub AreKnown : ProgramTables A → (ticks t : ℕ) → List (Standing A) → Type 0
   AreKnown source ticks t [] = Unit {0}
   AreKnown source ticks t (s ∷ threads) = IsKnown source ticks t s × AreKnown source ticks (t + 1) threads
 
@@ -51,5 +51,5 @@ module _ {A : Type 0} where
   founds_in threads = map (λ s. memories_in s.founds.items) threads
 
   -- the memory at hand, and the memories that each thread has found
-  abbrev pub progress : Way A → Progress
+  abbrev pub progress : Direction A → Progress
   progress way = record { memory = way.memory.items; founds = founds_in way.threads.items }

@@ -71,9 +71,9 @@ asked_of false op = None
 asked_of true op = Some op
 
 -- a step was prepared: it has its room, and does not stop
-abbrev pub IsPrepared : Option Op → Run → Type 0
-IsPrepared None r = Unit {0}
-IsPrepared (Some op) r = HasRoom op r × (stops (core_access (attempt_of r) op) ≡ false)
+abbrev pub IsReadyFor : Option Op → Run → Type 0
+IsReadyFor None r = Unit {0}
+IsReadyFor (Some op) r = HasRoom op r × (stops (core_access (attempt_of r) op) ≡ false)
 
 -- the attempt stands at an operation, and has written this word to the cell
 pub record IsWritten (a : Attempt Saved) (cell word : ℕ) : Type 0 where

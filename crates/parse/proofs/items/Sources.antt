@@ -5,7 +5,7 @@ use Rattle.lex.specs.Tokens.{Tok, tok, toks}
 use Rattle.syntax.specs.Tree.{Program}
 use Rattle.syntax.specs.Depth.{program_depth}
 use Rattle.syntax.specs.Phrases.{Begins, Many, IsUnexpected, IsUnfinished, IsTooDeep, end_of}
-use Rattle.syntax.specs.Grammar.{Source, Spells, source_depth, item}
+use Rattle.syntax.specs.Grammar.{ParsedSource, Spells, source_depth, item}
 use Rattle.parse.specs.inner.Reading.{Fault, wrong, deep}
 use Rattle.parse.specs.inner.Items.{program_at, whole_program}
 use Rattle.parse.proofs.items.Programs.{program_exact}
@@ -26,7 +26,7 @@ source_begins ts b = record { value = record { program = b.value; ends = end_of 
 abbrev program_begins : (ts : List Tok) → Begins Spells ts → Begins (Many item) ts
 program_begins ts b = record { value = (b.value).program; more = b.more; spelled = b.spelled.0 }
 
-source_same : (a b : Source) → a.program ≡ b.program → a.ends ≡ b.ends → a ≡ b
+source_same : (a b : ParsedSource) → a.program ≡ b.program → a.ends ≡ b.ends → a ≡ b
 source_same a b p e = ap (λ (x : Program). record { program = x; ends = a.ends }) p ∙ ap (λ (n : ℕ). record { program = b.program; ends = n }) e
 
 pub found : (ts : List Tok) (p : Program) (e : ℕ) → whole_program 100 ts ≡ Ok p → e ≡ end_of ts → Spells (record { program = p; ends = e }) ts × (program_depth p ≤ 100)
@@ -37,10 +37,10 @@ found ts p e h is =
 same_program : (ts : List Tok) (a b : Program) → Many item a ts → Many item b ts → a ≡ b
 same_program ts a b la lb = theorems.one_tree_law program_at (Many item) program_depth program_exact some_program ts a b la lb
 
-pub one_source : (ts : List Tok) (a b : Source) → Spells a ts → Spells b ts → a ≡ b
+pub one_source : (ts : List Tok) (a b : ParsedSource) → Spells a ts → Spells b ts → a ≡ b
 one_source ts a b la lb = source_same a b (same_program ts a.program b.program la.0 lb.0) (la.1 ∙ sym lb.1)
 
-pub too_deep_not : (ts : List Tok) (p : Program) (s : Source) → whole_program 100 ts ≡ Ok p → Spells s ts → 100 < source_depth s → ⊥
+pub too_deep_not : (ts : List Tok) (p : Program) (s : ParsedSource) → whole_program 100 ts ≡ Ok p → Spells s ts → 100 < source_depth s → ⊥
 too_deep_not ts p s h l w =
     let f = found ts p (end_of ts) h refl in
     let same = one_source ts (record { program = p; ends = end_of ts }) s f.0 l in
@@ -48,7 +48,7 @@ too_deep_not ts p s h l w =
     let fits : program_depth p ≤ 100 = f.1 in
     omega arith
 
-pub none_fails : (ts : List Tok) (f : Fault) → whole_program 100 ts ≡ Err f → (s : Source) → Spells s ts → source_depth s ≤ 100 → ⊥
+pub none_fails : (ts : List Tok) (f : Fault) → whole_program 100 ts ≡ Err f → (s : ParsedSource) → Spells s ts → source_depth s ≤ 100 → ⊥
 none_fails ts f h s l w = theorems.none_fails program_at (Many item) program_depth program_exact some_program ts 100 f h s.program l.0 w
 
 pub unexpected_at : (ts : List Tok) (rest : List Token) (other : Token) → 1 ≤ length rest → whole_program 100 ts ≡ Err (wrong (toks rest)) → IsUnexpected Spells ts (slice_index_or rest 0 other).span

@@ -8,7 +8,7 @@ use Rattle.lex.specs.declared.token.Scalar.{Scalar}
 use Rattle.lex.specs.declared.token.Span.{Span}
 use Rattle.lex.specs.Tokens.{Terminal, name, constant, string_literal, fixed, reserved, Tok}
 use Rattle.syntax.specs.declared.tree.Attribute.{Attribute}
-use Rattle.syntax.specs.declared.tree.First.{First}
+use Rattle.syntax.specs.declared.tree.Initializer.{Initializer}
 use Rattle.syntax.specs.Tree.{Name, Stmts, Parameter, Global, Item, Defines, Shares, Program}
 use Rattle.syntax.specs.Views.{stmts_from}
 use Rattle.syntax.specs.Grammar.{the_name, the_attribute, the_length, attributes_of}
@@ -112,33 +112,33 @@ value_in reserved at = None
 abbrev pub the_placed_value : Tok → Option ((ℕ × Scalar) × Span)
 the_placed_value t = value_in t.terminal t.span
 
-abbrev pub first_tree : Option Span × ((ℕ × Scalar) × Span) → First
+abbrev pub first_tree : Option Span × ((ℕ × Scalar) × Span) → Initializer
 first_tree (None, x) = record { negative = false; value = x.0.0; of = x.0.1; span = x.1 }
 first_tree (Some at, x) = record { negative = true; value = x.0.0; of = x.0.1; span = across at x.1 }
 
-abbrev pub initialiser : Parser First
+abbrev pub initialiser : Parser Initializer
 initialiser =
     map_parser first_tree (seq (perhaps (Punctuator punct.Minus) (spot (Punctuator punct.Minus))) (take the_placed_value))
 
-abbrev pub one_first : First → List First
+abbrev pub one_first : Initializer → List Initializer
 one_first i = i ∷ []
 
 -- the first value of a variable
-abbrev pub first_value : Parser (List First)
+abbrev pub first_value : Parser (List Initializer)
 first_value =
     either (is_next (Punctuator punct.Assign)) (map_parser one_first (behind (Punctuator punct.Assign) initialiser))
     (give [])
 
 -- further ones up to the closing brace: as many as there are tokens suffice
-abbrev pub further_values : Parser (List First)
+abbrev pub further_values : Parser (List Initializer)
 further_values ts = trailing (length ts) initialiser ts
 
 -- those between an array's braces
-abbrev pub value_list : Parser (List First)
+abbrev pub value_list : Parser (List Initializer)
 value_list = map_parser in_front (seq initialiser further_values)
 
 -- those of an array
-abbrev pub first_values : Parser (List First)
+abbrev pub first_values : Parser (List Initializer)
 first_values =
     either (is_next (Punctuator punct.Assign))
     (behind (Punctuator punct.Assign)
@@ -146,12 +146,12 @@ first_values =
     (give [])
 
 abbrev pub Size : Type 0
-Size = Option (ℕ × Span) × List First
+Size = Option (ℕ × Span) × List Initializer
 
-abbrev pub array_tree : (ℕ × Span) × List First → Size
+abbrev pub array_tree : (ℕ × Span) × List Initializer → Size
 array_tree x = (Some x.0, x.1)
 
-abbrev pub variable_tree : List First → Size
+abbrev pub variable_tree : List Initializer → Size
 variable_tree is = (None, is)
 
 -- what stands behind a global's name

@@ -37,12 +37,12 @@ module _ (code : Code) (arguments : List ℕ) (layout : Layout) where
     pub fails : Fits code arguments layout c.lists → (there on : ℕ) → Stand code arguments from (map (instruction_of_draft on there) c.code) →
         InstructionAt code c.to (instr_of arguments (jump_if_not c.at_zero c.register there)) → LeadsTo code (suc c.to) on → T from on there free
 
-  value_decides : (A : Coded) (B : Branching) (from free : ℕ) (l : Lists) (e : Emitted) → Emits code arguments layout A from free l e → Decides (Branches code layout A B) from free l (by_value e.code e.lists e.held)
+  value_decides : (A : Coded) (B : Branching) (from free : ℕ) (l : Lists) (e : Emitted) → Emits code arguments layout A from free l e → Decides (Branches code layout A B) from free l (by_value e.code e.lists e.location)
   value_decides A B from free l e h = record {
     to_is = let x = h.to_is in let y : length (map draft.Whole e.code) ≡ length e.code = length-map e.code draft.Whole in omega (arith, x, y);
     grows = h.grows;
-    holds = λ f there on st at leads. inr (inl (record { mid = e.held.to; r = e.held.register; t = e.held.of; computes = h.stands f (subst (Stand code arguments from) (whole_are there on e.code) st); jumps = at; leads = leads }));
-    fails = λ f there on st at leads. inl (record { mid = e.held.to; r = e.held.register; t = e.held.of; computes = h.stands f (subst (Stand code arguments from) (whole_are on there e.code) st); jumps = at; leads = leads });
+    holds = λ f there on st at leads. inr (inl (record { mid = e.location.to; r = e.location.register; t = e.location.of; computes = h.stands f (subst (Stand code arguments from) (whole_are there on e.code) st); jumps = at; leads = leads }));
+    fails = λ f there on st at leads. inl (record { mid = e.location.to; r = e.location.register; t = e.location.of; computes = h.stands f (subst (Stand code arguments from) (whole_are on there e.code) st); jumps = at; leads = leads });
   }
 
   -- the same in other words, and the other way round
@@ -187,28 +187,28 @@ module _ (code : Code) (arguments : List ℕ) (layout : Layout) where
   -- a condition, and one of two values
   pub chosen_emits : (home : Option ℕ) (T : Branching) (A B : Coded) (t : Scalar) (from into free : ℕ) (l : Lists) (c : Condition) (a b : Emitted) →
       Decides T from free l c → Emits code arguments layout (λ from to free r x. A from to free into t) (c.to + 1) free c.lists a
-      → Emits code arguments layout (λ from to free r x. B from to free into t) (a.held.to + 1) free a.lists b →
+      → Emits code arguments layout (λ from to free r x. B from to free into t) (a.location.to + 1) free a.lists b →
       Emits code arguments layout (ConditionalCode code layout home T A B) from free l (conditional_value t c a b into)
   chosen_emits home T A B t from into free l c a b h g k =
-      let test : List Instr = going_on c.code (test_in c) (a.held.to + 1) in
-      let skip : Instr = own.Jump b.held.to in
+      let test : List Instr = going_on c.code (test_in c) (a.location.to + 1) in
+      let skip : Instr = own.Jump b.location.to in
       let head : List Instr = test ++ a.code in
-      let next = on_is T from free l c h (a.held.to + 1) in
+      let next = on_is T from free l c h (a.location.to + 1) in
       let two : length head ≡ length test + length a.code = length-append test a.code in
-      let last_is : a.held.to ≡ from + length head = (let y = g.to_is in omega (arith, next, y, two)) in
+      let last_is : a.location.to ≡ from + length head = (let y = g.to_is in omega (arith, next, y, two)) in
       record {
         to_is = let z = k.to_is in let u : length (head ++ skip ∷ b.code) ≡ length head + length (skip ∷ b.code) = length-append head (skip ∷ b.code) in omega (arith, last_is, z, u);
         grows = grows_further l c.lists b.lists h.grows (grows_further c.lists a.lists b.lists g.grows k.grows);
         stands = λ f st.
             let first = front code arguments from head (skip ∷ b.code) st in
-            let rest = behind code arguments from a.held.to head (skip ∷ b.code) last_is st in
+            let rest = behind code arguments from a.location.to head (skip ∷ b.code) last_is st in
             let fa = fits_before code arguments layout a.lists b.lists k.grows f in
             record {
               met = c.to + 1;
-              unmet = a.held.to + 1;
-              last = a.held.to;
-              end = b.held.to;
-              tests = goes_on T from free l c h (fits_before code arguments layout c.lists a.lists g.grows fa) (a.held.to + 1) (front code arguments from test a.code first);
+              unmet = a.location.to + 1;
+              last = a.location.to;
+              end = b.location.to;
+              tests = goes_on T from free l c h (fits_before code arguments layout c.lists a.lists g.grows fa) (a.location.to + 1) (front code arguments from test a.code first);
               then_code = g.stands fa (behind code arguments from (c.to + 1) test a.code next first);
               then_leads = inr rest.0;
               else_code = k.stands f (subst (λ q. Stand code arguments q b.code) (omega arith) rest.1);

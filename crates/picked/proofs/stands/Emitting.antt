@@ -55,9 +55,9 @@ above_it free r = let h = max_right free (suc r) in omega (arith, h)
 module _ (code : Code) (arguments : List ℕ) (layout : Layout) where
   -- what is emitted from a place on, with these lists before it, stands for a part
   pub record Emits (A : Coded) (from free : ℕ) (l : Lists) (e : Emitted) : Type 0 where
-    pub to_is : e.held.to ≡ from + length e.code
+    pub to_is : e.location.to ≡ from + length e.code
     pub grows : Grows l e.lists
-    pub stands : Fits code arguments layout e.lists → Stand code arguments from e.code → A from e.held.to free e.held.register e.held.of
+    pub stands : Fits code arguments layout e.lists → Stand code arguments from e.code → A from e.location.to free e.location.register e.location.of
 
   pub one_emits : (home : Option ℕ) (f : ℕ → Plain) (i : Instr) (u : Scalar) (from free into : ℕ) (l : Lists) → f into ≡ instr_of arguments i → MayTake home free into →
       Emits (λ from to free r t. GivenBy code layout home (f r) u from to free r t) from free l (one i from into u l)
@@ -77,49 +77,49 @@ module _ (code : Code) (arguments : List ℕ) (layout : Layout) where
 
   -- one more instruction behind a value
   pub then_emits : (A B : Coded) (home : Option ℕ) (i : Instr) (t : Scalar) (from free into : ℕ) (l : Lists) (e : Emitted) → Emits A from free l e → MayTake home free into →
-      (A from e.held.to free e.held.register e.held.of → GivenBy code layout home (instr_of arguments i) t e.held.to (e.held.to + 1) free into t → B from (e.held.to + 1) free into t) →
+      (A from e.location.to free e.location.register e.location.of → GivenBy code layout home (instr_of arguments i) t e.location.to (e.location.to + 1) free into t → B from (e.location.to + 1) free into t) →
       Emits B from free l (then_one e i into t)
   then_emits A B home i t from free into l e h m make = record {
     to_is = let a = h.to_is in let b : length (e.code ++ i ∷ []) ≡ length e.code + 1 = length-append e.code (i ∷ []) in omega (arith, a, b);
     grows = grows_used l e.lists into h.grows;
     stands = λ f st.
-        let at = (behind code arguments from e.held.to e.code (i ∷ []) h.to_is st).0 in
+        let at = (behind code arguments from e.location.to e.code (i ∷ []) h.to_is st).0 in
         make (h.stands (fits_before code arguments layout e.lists (with_register into e.lists) (grows_used e.lists e.lists into (grows_same e.lists)) f) (front code arguments from e.code (i ∷ []) st))
-        (given code arguments layout home i t e.held.to (e.held.to + 1) free into (omega arith) m (is_register code arguments layout e.lists into f) at);
+        (given code arguments layout home i t e.location.to (e.location.to + 1) free into (omega arith) m (is_register code arguments layout e.lists into f) at);
   }
 
   pub element_emits : (home : Option ℕ) (g : GlobalCells) (A : Coded) (from free into : ℕ) (l : Lists) (e : Emitted) → Emits A from free l e → MayTake home free into →
-      Emits (ElementCode code layout home g A) from free l (then_one e (own.ReadAt into e.held.register g.cell (cells g.global)) into g.global.of)
+      Emits (ElementCode code layout home g A) from free l (then_one e (own.ReadAt into e.location.register g.cell (cells g.global)) into g.global.of)
   element_emits home g A from free into l e h m =
-      then_emits A (ElementCode code layout home g A) home (own.ReadAt into e.held.register g.cell (cells g.global)) g.global.of from free into l e h m
-      (λ a b. record { mid = e.held.to; ri = e.held.register; ti = e.held.of; computes = a; reads = b })
+      then_emits A (ElementCode code layout home g A) home (own.ReadAt into e.location.register g.cell (cells g.global)) g.global.of from free into l e h m
+      (λ a b. record { mid = e.location.to; ri = e.location.register; ti = e.location.of; computes = a; reads = b })
 
   -- a value that is the same in the type that is due
-  remains : (home : Option ℕ) (A : Coded) (s u : Scalar) (from free : ℕ) (l : Lists) (e : Emitted) → Emits A from free l e → e.held.of ≡ s → Converts code layout home s u e.held.register e.held.to e.held.to free e.held.register →
+  remains : (home : Option ℕ) (A : Coded) (s u : Scalar) (from free : ℕ) (l : Lists) (e : Emitted) → Emits A from free l e → e.location.of ≡ s → Converts code layout home s u e.location.register e.location.to e.location.to free e.location.register →
       Emits (λ from to free r x. ConvertedCode code layout home A u from to free r s) from free l (converted_by None u e 0)
   remains home A s u from free l e h q c = record {
     to_is = h.to_is;
     grows = h.grows;
-    stands = λ f st. record { mid = e.held.to; ra = e.held.register; computes = subst (λ x. A from e.held.to free e.held.register x) q (h.stands f st); converts = c };
+    stands = λ f st. record { mid = e.location.to; ra = e.location.register; computes = subst (λ x. A from e.location.to free e.location.register x) q (h.stands f st); converts = c };
   }
 
   -- a value by a conversion
-  pub converted_emits : (home : Option ℕ) (A : Coded) (s u : Scalar) (from free into : ℕ) (l : Lists) (e : Emitted) → Emits A from free l e → e.held.of ≡ s → MayTake home free into →
+  pub converted_emits : (home : Option ℕ) (A : Coded) (s u : Scalar) (from free into : ℕ) (l : Lists) (e : Emitted) → Emits A from free l e → e.location.of ≡ s → MayTake home free into →
       Emits (λ from to free r x. ConvertedCode code layout home A u from to free r s) from free l (converted_by (converting s u) u e into)
   converted_emits home A Int LongLong from free into l e h q m =
-      then_emits A (λ from to free r x. ConvertedCode code layout home A LongLong from to free r Int) home (own.Extend into e.held.register) LongLong from free into l e h m
-      (λ a b. record { mid = e.held.to; ra = e.held.register; computes = subst (λ x. A from e.held.to free e.held.register x) q a; converts = b })
+      then_emits A (λ from to free r x. ConvertedCode code layout home A LongLong from to free r Int) home (own.Extend into e.location.register) LongLong from free into l e h m
+      (λ a b. record { mid = e.location.to; ra = e.location.register; computes = subst (λ x. A from e.location.to free e.location.register x) q a; converts = b })
   converted_emits home A LongLong Int from free into l e h q m =
-      then_emits A (λ from to free r x. ConvertedCode code layout home A Int from to free r LongLong) home (own.Low into e.held.register) Int from free into l e h m
-      (λ a b. record { mid = e.held.to; ra = e.held.register; computes = subst (λ x. A from e.held.to free e.held.register x) q a; converts = b })
+      then_emits A (λ from to free r x. ConvertedCode code layout home A Int from to free r LongLong) home (own.Low into e.location.register) Int from free into l e h m
+      (λ a b. record { mid = e.location.to; ra = e.location.register; computes = subst (λ x. A from e.location.to free e.location.register x) q a; converts = b })
   converted_emits home A LongLong Unsigned from free into l e h q m =
-      then_emits A (λ from to free r x. ConvertedCode code layout home A Unsigned from to free r LongLong) home (own.Low into e.held.register) Unsigned from free into l e h m
-      (λ a b. record { mid = e.held.to; ra = e.held.register; computes = subst (λ x. A from e.held.to free e.held.register x) q a; converts = b })
+      then_emits A (λ from to free r x. ConvertedCode code layout home A Unsigned from to free r LongLong) home (own.Low into e.location.register) Unsigned from free into l e h m
+      (λ a b. record { mid = e.location.to; ra = e.location.register; computes = subst (λ x. A from e.location.to free e.location.register x) q a; converts = b })
   converted_emits home A s u from free into l e h q m = remains home A s u from free l e h q (refl, refl)
 
   -- a value that did not come into the register that was asked for lies in a local's own
-  converted_elsewhere : (A : Coded) (s u : Scalar) (from free into : ℕ) (l : Lists) (e : Emitted) → (Emits A from free l e ⊎ (e.held.register ≡ into)) → e.held.of ≡ s →
-      Emits (λ from to free r x. ConvertedCode code layout None A u from to free r s) from free l (converted_by (converting s u) u e into) ⊎ ((converted_by (converting s u) u e into).held.register ≡ into)
+  converted_elsewhere : (A : Coded) (s u : Scalar) (from free into : ℕ) (l : Lists) (e : Emitted) → (Emits A from free l e ⊎ (e.location.register ≡ into)) → e.location.of ≡ s →
+      Emits (λ from to free r x. ConvertedCode code layout None A u from to free r s) from free l (converted_by (converting s u) u e into) ⊎ ((converted_by (converting s u) u e into).location.register ≡ into)
   converted_elsewhere A Int LongLong from free into l e h q = inr refl
   converted_elsewhere A LongLong Int from free into l e h q = inr refl
   converted_elsewhere A LongLong Unsigned from free into l e h q = inr refl
@@ -131,15 +131,15 @@ module _ (code : Code) (arguments : List ℕ) (layout : Layout) where
   OwnIs e s = Unit {0}
 
   -- an expression's value in the type that is due
-  pub in_type_emits : (home : Option ℕ) (e' : Expr) (A : Coded) (s u : Scalar) (from free into : ℕ) (l : Lists) (e : Emitted) → Emits A from free l e → e.held.of ≡ s → OwnIs e' s → MayTake home free into →
+  pub in_type_emits : (home : Option ℕ) (e' : Expr) (A : Coded) (s u : Scalar) (from free into : ℕ) (l : Lists) (e : Emitted) → Emits A from free l e → e.location.of ≡ s → OwnIs e' s → MayTake home free into →
       Emits (λ from to free r x. DueCode code layout home e' A u from to free r s) from free l (in_type s u e' e from into l)
   in_type_emits home (Constant n t at) A s u from free into l e h q o m =
       let g = one_emits home (λ r. Plain.Constant r (constant_in u t n)) (own.Constant into (constant_in u t n)) u from free into l refl m in
       record { to_is = g.to_is; grows = g.grows; stands = λ f st. (o, g.stands f st) }
   in_type_emits home e' A s u from free into l e h q o m = converted_emits home A s u from free into l e h q m
 
-  pub in_type_elsewhere : (e' : Expr) (A : Coded) (s u : Scalar) (from free into : ℕ) (l : Lists) (e : Emitted) → (Emits A from free l e ⊎ (e.held.register ≡ into)) → e.held.of ≡ s →
-      Emits (λ from to free r x. DueCode code layout None e' A u from to free r s) from free l (in_type s u e' e from into l) ⊎ ((in_type s u e' e from into l).held.register ≡ into)
+  pub in_type_elsewhere : (e' : Expr) (A : Coded) (s u : Scalar) (from free into : ℕ) (l : Lists) (e : Emitted) → (Emits A from free l e ⊎ (e.location.register ≡ into)) → e.location.of ≡ s →
+      Emits (λ from to free r x. DueCode code layout None e' A u from to free r s) from free l (in_type s u e' e from into l) ⊎ ((in_type s u e' e from into l).location.register ≡ into)
   in_type_elsewhere (Constant n t at) A s u from free into l e h q = inr refl
   in_type_elsewhere e' A s u from free into l e h q = converted_elsewhere A s u from free into l e h q
 
@@ -148,33 +148,33 @@ module _ (code : Code) (arguments : List ℕ) (layout : Layout) where
       Emits (λ from to free r x. TypedCode code layout home e' A u from to free r) from free l e
   typed_emits home e' A s u from free l e h = record { to_is = h.to_is; grows = h.grows; stands = λ f st. (s, h.stands f st) }
 
-  pub cast_emits : (home : Option ℕ) (e' : Expr) (A : Coded) (s u : Scalar) (from free : ℕ) (l : Lists) (e : Emitted) → e.held.of ≡ u → Emits (λ from to free r x. DueCode code layout home e' A u from to free r s) from free l e →
+  pub cast_emits : (home : Option ℕ) (e' : Expr) (A : Coded) (s u : Scalar) (from free : ℕ) (l : Lists) (e : Emitted) → e.location.of ≡ u → Emits (λ from to free r x. DueCode code layout home e' A u from to free r s) from free l e →
       Emits (CastCode code layout home e' A u) from free l e
   cast_emits home e' A s u from free l e k h = record { to_is = h.to_is; grows = h.grows; stands = λ f st. (k, (s, h.stands f st)) }
 
   -- the first of several values
-  pub in_first_emits : (ts : List Scalar) (e' : Expr) (A : Coded) (s : Scalar) (from free : ℕ) (l : Lists) (e : Emitted) → Emits A from free l e → e.held.of ≡ s → OwnIs e' s →
+  pub in_first_emits : (ts : List Scalar) (e' : Expr) (A : Coded) (s : Scalar) (from free : ℕ) (l : Lists) (e : Emitted) → Emits A from free l e → e.location.of ≡ s → OwnIs e' s →
       Emits (λ from to free r x. HandedCode code layout ts e' A from to free r) from free l (in_first_type s ts e' e from free l)
-  in_first_emits [] e' A s from free l e h q o = record { to_is = h.to_is; grows = h.grows; stands = λ f st. (e.held.of, h.stands f st) }
+  in_first_emits [] e' A s from free l e h q o = record { to_is = h.to_is; grows = h.grows; stands = λ f st. (e.location.of, h.stands f st) }
   in_first_emits (u ∷ us) e' A s from free l e h q o =
       typed_emits None e' A s u from free l (in_type s u e' e from free l) (in_type_emits None e' A s u from free free l e h q o (omega arith))
 
   pub in_own_emits : (A : Coded) (from free : ℕ) (l : Lists) (e : Emitted) → Emits A (from + 1) free l e → Emits (ValueTransactionCode code layout A) from free l (in_own_transaction e)
   in_own_emits A from free l e h =
-      let begin : Instr = own.Begin (e.held.to + 1) in
+      let begin : Instr = own.Begin (e.location.to + 1) in
       let x = h.to_is in
       let next : from + 1 ≡ suc from = omega arith in
-      let mid_is : e.held.to ≡ suc from + length e.code = omega (arith, x) in
+      let mid_is : e.location.to ≡ suc from + length e.code = omega (arith, x) in
       record {
         to_is = let u : length (begin ∷ e.code ++ own.Commit ∷ []) ≡ length (begin ∷ e.code) + 1 = length-append (begin ∷ e.code) (own.Commit ∷ []) in omega (arith, x, u);
         grows = h.grows;
         stands = λ f st.
             let inner = front code arguments (suc from) e.code (own.Commit ∷ []) st.1 in
             record {
-              last = e.held.to;
+              last = e.location.to;
               begins = st.0;
-              computes = subst (λ q. A q e.held.to free e.held.register e.held.of) next (h.stands f (subst (λ q. Stand code arguments q e.code) (sym next) inner));
-              commits = (behind code arguments (suc from) e.held.to e.code (own.Commit ∷ []) mid_is st.1).0;
+              computes = subst (λ q. A q e.location.to free e.location.register e.location.of) next (h.stands f (subst (λ q. Stand code arguments q e.code) (sym next) inner));
+              commits = (behind code arguments (suc from) e.location.to e.code (own.Commit ∷ []) mid_is st.1).0;
               to_is = omega arith;
             };
       }
@@ -182,49 +182,49 @@ module _ (code : Code) (arguments : List ℕ) (layout : Layout) where
   pub negated_emits : (home : Option ℕ) (A : Coded) (from free into : ℕ) (l : Lists) (e : Emitted) → Emits A from free l e → MayTake home free into →
       Emits (λ from to free r t. UnaryCode code layout home (λ ta ra. Plain.Negate ta r ra) A from to free r t) from free l (negation e into)
   negated_emits home A from free into l e h m =
-      then_emits A (λ from to free r t. UnaryCode code layout home (λ ta ra. Plain.Negate ta r ra) A from to free r t) home (negating e.held.of into e.held.register) e.held.of from free into l e h m
+      then_emits A (λ from to free r t. UnaryCode code layout home (λ ta ra. Plain.Negate ta r ra) A from to free r t) home (negating e.location.of into e.location.register) e.location.of from free into l e h m
       (λ a b. record {
-        mid = e.held.to;
-        ra = e.held.register;
-        ta = e.held.of;
+        mid = e.location.to;
+        ra = e.location.register;
+        ta = e.location.of;
         computes = a;
-        operates = subst (λ i. GivenBy code layout home i e.held.of e.held.to (e.held.to + 1) free into e.held.of) (negating_is arguments e.held.of into e.held.register) b;
+        operates = subst (λ i. GivenBy code layout home i e.location.of e.location.to (e.location.to + 1) free into e.location.of) (negating_is arguments e.location.of into e.location.register) b;
       })
 
   pub complemented_emits : (home : Option ℕ) (A : Coded) (from free into : ℕ) (l : Lists) (e : Emitted) → Emits A from free l e → MayTake home free into →
       Emits (λ from to free r t. UnaryCode code layout home (λ ta ra. Lowered.complementing ta r ra) A from to free r t) from free l (complement e into)
   complemented_emits home A from free into l e h m =
-      then_emits A (λ from to free r t. UnaryCode code layout home (λ ta ra. Lowered.complementing ta r ra) A from to free r t) home (complementing e.held.of into e.held.register) e.held.of from free into l e h m
+      then_emits A (λ from to free r t. UnaryCode code layout home (λ ta ra. Lowered.complementing ta r ra) A from to free r t) home (complementing e.location.of into e.location.register) e.location.of from free into l e h m
       (λ a b. record {
-        mid = e.held.to;
-        ra = e.held.register;
-        ta = e.held.of;
+        mid = e.location.to;
+        ra = e.location.register;
+        ta = e.location.of;
         computes = a;
-        operates = subst (λ i. GivenBy code layout home i e.held.of e.held.to (e.held.to + 1) free into e.held.of) (complementing_is arguments e.held.of into e.held.register) b;
+        operates = subst (λ i. GivenBy code layout home i e.location.of e.location.to (e.location.to + 1) free into e.location.of) (complementing_is arguments e.location.of into e.location.register) b;
       })
 
   pub compared_emits : (home : Option ℕ) (A : Coded) (from free into : ℕ) (l : Lists) (e : Emitted) → Emits A from free l e → MayTake home free into →
       Emits (NotCode code layout home A) from free l (logical_negation e into free)
   compared_emits home A from free into l e h m =
-      let rz : ℕ = above free e.held.register in
+      let rz : ℕ = above free e.location.register in
       let zero : Instr = own.Constant rz 0 in
-      let equal : Instr = own.Equal into e.held.register rz in
+      let equal : Instr = own.Equal into e.location.register rz in
       let lists : Lists = with_register rz e.lists in
       record {
         to_is = let a = h.to_is in let b : length (e.code ++ zero ∷ equal ∷ []) ≡ length e.code + 2 = length-append e.code (zero ∷ equal ∷ []) in omega (arith, a, b);
         grows = grows_used l lists into (grows_used l e.lists rz h.grows);
         stands = λ f st.
-            let both = behind code arguments from e.held.to e.code (zero ∷ equal ∷ []) h.to_is st in
+            let both = behind code arguments from e.location.to e.code (zero ∷ equal ∷ []) h.to_is st in
             let inner = fits_before code arguments layout lists (with_register into lists) (grows_used lists lists into (grows_same lists)) f in
             record {
-              mid = e.held.to;
-              ra = e.held.register;
-              ta = e.held.of;
+              mid = e.location.to;
+              ra = e.location.register;
+              ta = e.location.of;
               rz = rz;
               computes = h.stands (fits_before code arguments layout e.lists lists (grows_used e.lists e.lists rz (grows_same e.lists)) inner) (front code arguments from e.code (zero ∷ equal ∷ []) st);
-              apart = above_it free e.held.register;
-              zeroes = given code arguments layout None zero Int e.held.to (suc e.held.to) free rz refl (above_free free e.held.register) (is_register code arguments layout e.lists rz inner) both.0;
-              compares = given code arguments layout home equal Int (suc e.held.to) (e.held.to + 2) free into (omega arith) m (is_register code arguments layout lists into f) both.1.0;
+              apart = above_it free e.location.register;
+              zeroes = given code arguments layout None zero Int e.location.to (suc e.location.to) free rz refl (above_free free e.location.register) (is_register code arguments layout e.lists rz inner) both.0;
+              compares = given code arguments layout home equal Int (suc e.location.to) (e.location.to + 2) free into (omega arith) m (is_register code arguments layout lists into f) both.1.0;
             };
       }
 
@@ -245,14 +245,14 @@ module _ (code : Code) (arguments : List ℕ) (layout : Layout) where
       }
 
   -- the right side of an operator, and its left side
-  pub operand_emits : (b : Expr) (A : Coded) (s u : Scalar) (from free : ℕ) (l : Lists) (e : Emitted) → Emits A from free l e → e.held.of ≡ s → OwnIs b s →
+  pub operand_emits : (b : Expr) (A : Coded) (s u : Scalar) (from free : ℕ) (l : Lists) (e : Emitted) → Emits A from free l e → e.location.of ≡ s → OwnIs b s →
       Emits (λ from to free r x. OperandCode code layout b A u from to free r s) from free l (ready_or (constant_ready l.layout u b from) l (in_type s u b e from free l))
   operand_emits (Constant n t at) A s u from free l e h q o =
       let g = word_emits (constant_in u t n) u from free l in
       record { to_is = g.to_is; grows = g.grows; stands = λ f st. (o, g.stands f st) }
   operand_emits b A s u from free l e h q o = converted_emits None A s u from free free l e h q (omega arith)
 
-  pub left_emits : (a : Expr) (A : Coded) (s u : Scalar) (from free : ℕ) (l : Lists) (e : Emitted) → Emits A from free l e → e.held.of ≡ s → OwnIs a s →
+  pub left_emits : (a : Expr) (A : Coded) (s u : Scalar) (from free : ℕ) (l : Lists) (e : Emitted) → Emits A from free l e → e.location.of ≡ s → OwnIs a s →
       Emits (λ from to free r x. OperandCode code layout a A u from to free r s) from free l (in_type s u a e from free l)
   left_emits (Constant n t at) A s u from free l e h q o =
       let g = one_emits None (λ r. Plain.Constant r (constant_in u t n)) (own.Constant free (constant_in u t n)) u from free free l refl (omega arith) in
@@ -260,55 +260,55 @@ module _ (code : Code) (arguments : List ℕ) (layout : Layout) where
   left_emits a A s u from free l e h q o = converted_emits None A s u from free free l e h q (omega arith)
 
   pub both_emits : (home : Option ℕ) (op : BinaryOp) (A B : Due) (ta tb : Scalar) (from free into : ℕ) (l : Lists) (a b : Emitted) → Emits (λ from to free r x. A (operand_type op ta tb) from to free r ta) from free l a →
-      Emits (λ from to free r x. B (operand_type op tb ta) from to free r tb) a.held.to (above free a.held.register) a.lists b → MayTake home free into →
+      Emits (λ from to free r x. B (operand_type op tb ta) from to free r tb) a.location.to (above free a.location.register) a.lists b → MayTake home free into →
       Emits (BinaryCode code layout home op A B) from free l (both op (operand_type op ta tb) a b into)
   both_emits home op A B ta tb from free into l a b h g m =
       let t : Scalar = operand_type op ta tb in
-      let i : Instr = computing op t into a.held.register b.held.register in
+      let i : Instr = computing op t into a.location.register b.location.register in
       let two : length (a.code ++ b.code) ≡ length a.code + length b.code = length-append a.code b.code in
-      let last_is : b.held.to ≡ from + length (a.code ++ b.code) = (let x = h.to_is in let y = g.to_is in omega (arith, x, y, two)) in
+      let last_is : b.location.to ≡ from + length (a.code ++ b.code) = (let x = h.to_is in let y = g.to_is in omega (arith, x, y, two)) in
       record {
         to_is = let u : length (a.code ++ b.code ++ i ∷ []) ≡ length (a.code ++ b.code) + 1 = length-append (a.code ++ b.code) (i ∷ []) in omega (arith, last_is, u);
         grows = grows_used l b.lists into (grows_further l a.lists b.lists h.grows g.grows);
         stands = λ f st.
             let first = front code arguments from (a.code ++ b.code) (i ∷ []) st in
-            let last = behind code arguments from b.held.to (a.code ++ b.code) (i ∷ []) last_is st in
+            let last = behind code arguments from b.location.to (a.code ++ b.code) (i ∷ []) last_is st in
             let inner = fits_before code arguments layout b.lists (with_register into b.lists) (grows_used b.lists b.lists into (grows_same b.lists)) f in
             record {
-              mid = a.held.to;
-              last = b.held.to;
-              later = above free a.held.register;
-              ra = a.held.register;
-              rb = b.held.register;
+              mid = a.location.to;
+              last = b.location.to;
+              later = above free a.location.register;
+              ra = a.location.register;
+              rb = b.location.register;
               ta = ta;
               tb = tb;
               left = h.stands (fits_before code arguments layout a.lists b.lists g.grows inner) (front code arguments from a.code b.code first);
-              kept = above_free free a.held.register;
-              apart = inl (above_it free a.held.register);
-              right = g.stands inner (behind code arguments from a.held.to a.code b.code h.to_is first);
-              operates = subst (λ j. GivenBy code layout home j (result_type op t) b.held.to (b.held.to + 1) free into (result_type op t)) (computing_is arguments op t into a.held.register b.held.register)
-                  (given code arguments layout home i (result_type op t) b.held.to (b.held.to + 1) free into (omega arith) m (is_register code arguments layout b.lists into f) last.0);
+              kept = above_free free a.location.register;
+              apart = inl (above_it free a.location.register);
+              right = g.stands inner (behind code arguments from a.location.to a.code b.code h.to_is first);
+              operates = subst (λ j. GivenBy code layout home j (result_type op t) b.location.to (b.location.to + 1) free into (result_type op t)) (computing_is arguments op t into a.location.register b.location.register)
+                  (given code arguments layout home i (result_type op t) b.location.to (b.location.to + 1) free into (omega arith) m (is_register code arguments layout b.lists into f) last.0);
             };
       }
 
   -- a value in this very register: it came there, or it is moved
   pub settled_emits : (home : Option ℕ) (e' : Expr) (A : Option ℕ → Coded) (t : Scalar) (from into free : ℕ) (l : Lists) (e : Emitted) → Emits (λ from to free r x. TypedCode code layout home e' (A home) t from to free r) from free l e →
-      (Emits (λ from to free r x. TypedCode code layout None e' (A None) t from to free r) from free l e ⊎ (e.held.register ≡ into)) → MayTake home free into →
+      (Emits (λ from to free r x. TypedCode code layout None e' (A None) t from to free r) from free l e ⊎ (e.location.register ≡ into)) → MayTake home free into →
       Emits (λ from to free r x. BranchCode code layout home e' A from to free into t) from free l (value_into into e)
-  settled_emits home e' A t from into free l e h o m = by (e.held.register == into) refl
+  settled_emits home e' A t from into free l e h o m = by (e.location.register == into) refl
     where
-      there : e.held.register ≡ into → Emits (λ from to free r x. BranchCode code layout home e' A from to free into t) from free l e
+      there : e.location.register ≡ into → Emits (λ from to free r x. BranchCode code layout home e' A from to free into t) from free l e
       there same = record {
         to_is = h.to_is;
         grows = h.grows;
-        stands = λ f st. inl (subst (λ r. TypedCode code layout home e' (A home) t from e.held.to free r) same (h.stands f st));
+        stands = λ f st. inl (subst (λ r. TypedCode code layout home e' (A home) t from e.location.to free r) same (h.stands f st));
       }
 
-      moved : Emits (λ from to free r x. TypedCode code layout None e' (A None) t from to free r) from free l e → Emits (λ from to free r x. BranchCode code layout home e' A from to free into t) from free l (then_one e (own.Move into e.held.register) into e.held.of)
+      moved : Emits (λ from to free r x. TypedCode code layout None e' (A None) t from to free r) from free l e → Emits (λ from to free r x. BranchCode code layout home e' A from to free into t) from free l (then_one e (own.Move into e.location.register) into e.location.of)
       moved g =
-          then_emits (λ from to free r x. TypedCode code layout None e' (A None) t from to free r) (λ from to free r x. BranchCode code layout home e' A from to free into t) home (own.Move into e.held.register) e.held.of from free into l e g m
-          (λ a b. inr (record { mid = e.held.to; rc = e.held.register; computes = a; moves = record { to_is = b.to_is; takes = b.takes; register = b.register; type_is = refl; instr = b.instr } }))
+          then_emits (λ from to free r x. TypedCode code layout None e' (A None) t from to free r) (λ from to free r x. BranchCode code layout home e' A from to free into t) home (own.Move into e.location.register) e.location.of from free into l e g m
+          (λ a b. inr (record { mid = e.location.to; rc = e.location.register; computes = a; moves = record { to_is = b.to_is; takes = b.takes; register = b.register; type_is = refl; instr = b.instr } }))
 
-      by : (b : Bool) → (e.held.register == into) ≡ b → Emits (λ from to free r x. BranchCode code layout home e' A from to free into t) from free l (if b then e else then_one e (own.Move into e.held.register) into e.held.of)
-      by true n = there (eqb-true e.held.register into n)
-      by false n = ⊎_elim moved (λ same. absurd (eqb-false e.held.register into n same)) o
+      by : (b : Bool) → (e.location.register == into) ≡ b → Emits (λ from to free r x. BranchCode code layout home e' A from to free into t) from free l (if b then e else then_one e (own.Move into e.location.register) into e.location.of)
+      by true n = there (eqb-true e.location.register into n)
+      by false n = ⊎_elim moved (λ same. absurd (eqb-false e.location.register into n same)) o

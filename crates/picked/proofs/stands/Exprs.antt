@@ -71,11 +71,11 @@ taken_of : (o : Option Callee) (n : ℕ) (f : Function) → o ≡ Some (callee_a
 taken_of None n f e = absurd (cc)
 taken_of (Some d) n f e = let same : d ≡ callee_at n f = ap (λ o. unwrap_or o d) e in ap (λ (x : Callee). map (λ q. q.of) x.parameters) same
 
-called_into : (o : Option Callee) (args : AllEmitted) (from into : ℕ) (l : Lists) → (call_code o args from into l).held.register ≡ into
+called_into : (o : Option Callee) (args : AllEmitted) (from into : ℕ) (l : Lists) → (call_code o args from into l).location.register ≡ into
 called_into None args from into l = refl
 called_into (Some d) args from into l = refl
 
-element_into : (g : Option GlobalCells) (e : Emitted) (from into : ℕ) (l : Lists) → (element g e from into l).held.register ≡ into
+element_into : (g : Option GlobalCells) (e : Emitted) (from into : ℕ) (l : Lists) → (element g e from into l).location.register ≡ into
 element_into None e from into l = refl
 element_into (Some g) e from into l = refl
 
@@ -209,13 +209,13 @@ module _ (p : Program) (code : Code) (arguments : List ℕ) (layout : Layout) (t
 
     -- a value that did not come into the register that was asked for lies in a local's own
     elsewhere : (e : Expr) → TypedExpr known e → (from into free : ℕ) (l : Lists) →
-        Emits code arguments layout (ExprCode code layout p None scope e) from free l (emitted p scope e from into free l) ⊎ ((emitted p scope e from into free l).held.register ≡ into)
+        Emits code arguments layout (ExprCode code layout p None scope e) from free l (emitted p scope e from into free l) ⊎ ((emitted p scope e from into free l).location.register ≡ into)
     elsewhere (Variable x) h from into free l =
         let k = known_number (known x.text) h.0 h.1 in
         by (newest scope x.text) (global_of p x.text) k.0 (variable_found p scope x.text k.0 (agrees x.text h.0 ∙ k.1))
       where
         by : (o : Option (ℕ × Scalar)) (g : Option GlobalCells) (t : Scalar) → VariableFound (length scope) o g t →
-            Emits code arguments layout (VariableCode code layout None (length scope) o g) from free l (variable o g from into l) ⊎ ((variable o g from into l).held.register ≡ into)
+            Emits code arguments layout (VariableCode code layout None (length scope) o g) from free l (variable o g from into l) ⊎ ((variable o g from into l).location.register ≡ into)
         by (Some x) g t f = inl (in_local_emits code arguments layout (length scope) x.0 x.1 from free l f.0)
         by None (Some g) t f = inr refl
         by None None t f = absurd f
@@ -234,7 +234,7 @@ module _ (p : Program) (code : Code) (arguments : List ℕ) (layout : Layout) (t
 
     -- a branch's value in the type of both
     branch_elsewhere : (t : Scalar) (e : Expr) → TypedExpr known e → (from into free : ℕ) (l : Lists) →
-        Emits code arguments layout (λ from to free r x. TypedCode code layout None e (ExprCode code layout p None scope e) t from to free r) from free l (due p scope t e from into free l) ⊎ ((due p scope t e from into free l).held.register ≡ into)
+        Emits code arguments layout (λ from to free r x. TypedCode code layout None e (ExprCode code layout p None scope e) t from to free r) from free l (due p scope t e from into free l) ⊎ ((due p scope t e from into free l).location.register ≡ into)
     branch_elsewhere t e h from into free l =
         let s = emitted_type p scope e in
         let x = emitted p scope e from into free l in
@@ -287,11 +287,11 @@ module _ (p : Program) (code : Code) (arguments : List ℕ) (layout : Layout) (t
           let u = operand_type op tb ta in
           let x = emitted p scope a from free free l in
           let left = in_type ta t a x from free l in
-          let later : ℕ = above free left.held.register in
-          let y = emitted p scope b left.held.to later later left.lists in
-          both_emits code arguments layout home op (OperandCode code layout a (ExprCode code layout p None scope a)) (OperandCode code layout b (ExprCode code layout p None scope b)) ta tb from free into l left (operand p scope u b left.held.to later left.lists)
+          let later : ℕ = above free left.location.register in
+          let y = emitted p scope b left.location.to later later left.lists in
+          both_emits code arguments layout home op (OperandCode code layout a (ExprCode code layout p None scope a)) (OperandCode code layout b (ExprCode code layout p None scope b)) ta tb from free into l left (operand p scope u b left.location.to later left.lists)
           (left_emits code arguments layout a (ExprCode code layout p None scope a) ta t from free l x (expr_emits None a h.0 from free free l (omega arith)) (emitted_is p scope a from free free l) (own_is a))
-          (operand_emits code arguments layout b (ExprCode code layout p None scope b) tb u left.held.to later left.lists y (expr_emits None b h.2 left.held.to later later left.lists (omega arith)) (emitted_is p scope b left.held.to later later left.lists) (own_is b)) m
+          (operand_emits code arguments layout b (ExprCode code layout p None scope b) tb u left.location.to later left.lists y (expr_emits None b h.2 left.location.to later later left.lists (omega arith)) (emitted_is p scope b left.location.to later later left.lists) (own_is b)) m
       expr_emits home (Logical AndThen a b at) h from into free l m =
           let first = condition p scope a from free l in
           let second = condition p scope b (first.to + 1) free first.lists in
@@ -314,19 +314,19 @@ module _ (p : Program) (code : Code) (arguments : List ℕ) (layout : Layout) (t
           let x = emitted p scope a (test.to + 1) into free test.lists in
           let x1 = in_type ta t a x (test.to + 1) into test.lists in
           let first = value_into into x1 in
-          let y = emitted p scope b (first.held.to + 1) into free first.lists in
-          let y1 = in_type tb t b y (first.held.to + 1) into first.lists in
+          let y = emitted p scope b (first.location.to + 1) into free first.lists in
+          let y1 = in_type tb t b y (first.location.to + 1) into first.lists in
           let second = value_into into y1 in
           let A : Option ℕ → Coded = λ k. ExprCode code layout p k scope a in
           let B : Option ℕ → Coded = λ k. ExprCode code layout p k scope b in
           let left = typed_emits code arguments layout home a (A home) ta t (test.to + 1) free test.lists x1
           (in_type_emits code arguments layout home a (A home) ta t (test.to + 1) free into test.lists x (expr_emits home a h.1 (test.to + 1) into free test.lists m) (emitted_is p scope a (test.to + 1) into free test.lists) (own_is a) m) in
-          let right = typed_emits code arguments layout home b (B home) tb t (first.held.to + 1) free first.lists y1
-          (in_type_emits code arguments layout home b (B home) tb t (first.held.to + 1) free into first.lists y (expr_emits home b h.3 (first.held.to + 1) into free first.lists m) (emitted_is p scope b (first.held.to + 1) into free first.lists) (own_is b) m) in
+          let right = typed_emits code arguments layout home b (B home) tb t (first.location.to + 1) free first.lists y1
+          (in_type_emits code arguments layout home b (B home) tb t (first.location.to + 1) free into first.lists y (expr_emits home b h.3 (first.location.to + 1) into free first.lists m) (emitted_is p scope b (first.location.to + 1) into free first.lists) (own_is b) m) in
           let whole = chosen_emits code arguments layout home (Tests c) (BranchCode code layout home a A) (BranchCode code layout home b B) t from into free l test first second
           (by_parts c from free l (own_decides c h.0 from free l) (expr_emits None c h.0 from free free l (omega arith)))
           (settled_emits code arguments layout home a A t (test.to + 1) into free test.lists x1 left (branch_elsewhere t a h.1 (test.to + 1) into free test.lists) m)
-          (settled_emits code arguments layout home b B t (first.held.to + 1) into free first.lists y1 right (branch_elsewhere t b h.3 (first.held.to + 1) into free first.lists) m) in
+          (settled_emits code arguments layout home b B t (first.location.to + 1) into free first.lists y1 right (branch_elsewhere t b h.3 (first.location.to + 1) into free first.lists) m) in
           record {
             to_is = whole.to_is;
             grows = whole.grows;
@@ -371,22 +371,22 @@ module _ (p : Program) (code : Code) (arguments : List ℕ) (layout : Layout) (t
           let s = emitted_type p scope e in
           let x = emitted p scope e from free free l in
           let first = in_first_type s ts e x from free l in
-          let later : ℕ = above free first.held.register in
-          let rest = all_emitted p scope (types_left ts) es first.held.to later first.lists in
+          let later : ℕ = above free first.location.register in
+          let rest = all_emitted p scope (types_left ts) es first.location.to later first.lists in
           let one = in_first_emits code arguments layout ts e (ExprCode code layout p None scope e) s from free l x (expr_emits None e h.0 from free free l (omega arith)) (emitted_is p scope e from free free l) (own_is e) in
-          let others = all_emits (types_left ts) es h.1 first.held.to later first.lists in
+          let others = all_emits (types_left ts) es h.1 first.location.to later first.lists in
           record {
             to_is = let a = one.to_is in let b = others.to_is in let u : length (first.code ++ rest.code) ≡ length first.code + length rest.code = length-append first.code rest.code in omega (arith, a, b, u);
             grows = grows_further l first.lists rest.lists one.grows others.grows;
             stands = λ f st. record {
-              last = first.held.to;
+              last = first.location.to;
               later = later;
-              r = first.held.register;
+              r = first.location.register;
               others = rest.registers;
               computes = one.stands (fits_before code arguments layout first.lists rest.lists others.grows f) (front code arguments from first.code rest.code st);
-              kept = above_free free first.held.register;
-              apart = above_it free first.held.register;
-              goes_on = others.stands f (behind code arguments from first.held.to first.code rest.code one.to_is st);
+              kept = above_free free first.location.register;
+              apart = above_it free first.location.register;
+              goes_on = others.stands f (behind code arguments from first.location.to first.code rest.code one.to_is st);
               are = refl;
             };
           }

@@ -21,7 +21,7 @@ use Rattle.bytecode.specs.declared.instr.Instr.TheVariants as own
 use Rattle.bytecode.specs.Code.{Code}
 use Rattle.lowered.specs.Expressions.{LocalScope, Coded, Due, Layout, ConvertedCode, BinaryCode, ExprCode}
 use Rattle.lowered.specs.Statements.{Target, LocalAt, CellAt, ElementOf, home_of, with_local, with_declared, locals_of_start, VariableTarget, CheckedAt, UncheckedAt, TargetCode, ReadTarget, FetchCode, ExprStored, AssignCode, ChangeCode, Operating, OneCode, SimpleCode, FirstValueCode, DeclareCode, StartCode}
-use Rattle.picked.specs.declared.held.Target.{Target as OwnTarget}
+use Rattle.picked.specs.declared.locations.AssignmentTarget.{AssignmentTarget as OwnTarget}
 use Rattle.picked.specs.Lists.{Lists, with_register}
 use Rattle.picked.specs.Expressions.{Emitted, above, converting, converted_by, both, emitted_type, emitted}
 use Rattle.picked.specs.Simples.{Written, Aimed, variable_target, element_target, above_target, target_value, home_or, type_at, expr_fitting, then_stored, behind as aimed_then, aimed, value_or_one, type_or_int, changed, assigned, adjusted, simple_written, first_written, declared_written, start_written}
@@ -91,31 +91,31 @@ module _ (p : Program) (code : Code) (arguments : List ℕ) (layout : Layout) (t
         Emits code arguments layout (ExprCode code layout p None scope i) from (length scope) l e → Aims check (Element x i at) from l (element_target check g e from l)
     element_aims check x i at None t f found from l e h = absurd (cc found.1)
     element_aims true x i at (Some g) t f found from l e h =
-        let test : Instr = own.Check e.held.register (cells g.global) in
+        let test : Instr = own.Check e.location.register (cells g.global) in
         record {
-          goal = ElementOf g e.held.register;
+          goal = ElementOf g e.location.register;
           same = refl;
           to_is = let a = h.to_is in let b : length (e.code ++ test ∷ []) ≡ length e.code + 1 = length-append e.code (test ∷ []) in omega (arith, a, b);
           grows = h.grows;
-          stands = λ k st. subst (λ q. CheckedAt code layout p q (ExprCode code layout p None scope i) from (e.held.to + 1) (length scope) (ElementOf g e.held.register)) (sym f) (record {
-            mid = e.held.to;
-            ri = e.held.register;
-            ti = e.held.of;
+          stands = λ k st. subst (λ q. CheckedAt code layout p q (ExprCode code layout p None scope i) from (e.location.to + 1) (length scope) (ElementOf g e.location.register)) (sym f) (record {
+            mid = e.location.to;
+            ri = e.location.register;
+            ti = e.location.of;
             computes = h.stands k (front code arguments from e.code (test ∷ []) st);
-            checks = (behind code arguments from e.held.to e.code (test ∷ []) h.to_is st).0;
+            checks = (behind code arguments from e.location.to e.code (test ∷ []) h.to_is st).0;
             to_is = omega arith;
             target_is = refl;
           });
         }
     element_aims false x i at (Some g) t f found from l e h = record {
-      goal = ElementOf g e.held.register;
+      goal = ElementOf g e.location.register;
       same = refl;
       to_is = let a = h.to_is in let b : length (e.code ++ []) ≡ length e.code + 0 = length-append e.code [] in omega (arith, a, b);
       grows = h.grows;
-      stands = λ k st. inr (subst (λ q. UncheckedAt code layout p q (ExprCode code layout p None scope i) from (e.held.to + 0) (length scope) (ElementOf g e.held.register)) (sym f) (record {
-        ri = e.held.register;
-        ti = e.held.of;
-        computes = subst (λ q. ExprCode code layout p None scope i from q (length scope) e.held.register e.held.of) (omega arith) (h.stands k (front code arguments from e.code [] st));
+      stands = λ k st. inr (subst (λ q. UncheckedAt code layout p q (ExprCode code layout p None scope i) from (e.location.to + 0) (length scope) (ElementOf g e.location.register)) (sym f) (record {
+        ri = e.location.register;
+        ti = e.location.of;
+        computes = subst (λ q. ExprCode code layout p None scope i from q (length scope) e.location.register e.location.of) (omega arith) (h.stands k (front code arguments from e.code [] st));
         target_is = refl;
       }));
     }
@@ -179,7 +179,7 @@ module _ (p : Program) (code : Code) (arguments : List ℕ) (layout : Layout) (t
     abbrev RightEmits : Option Expr → Due → Type 0
     RightEmits by B = (u : Scalar) (from free : ℕ) (l : Lists) → Emits code arguments layout (λ from to free r x. B u from to free r (type_or_int p scope by)) from free l (value_or_one p scope u by from free l)
 
-    fetched_of : (t : Target) (from free : ℕ) (l : Lists) → (target_value (own_of t) from free l).held.of ≡ type_at (own_of t)
+    fetched_of : (t : Target) (from free : ℕ) (l : Lists) → (target_value (own_of t) from free l).location.of ≡ type_at (own_of t)
     fetched_of (LocalAt x) from free l = refl
     fetched_of (CellAt g) from free l = refl
     fetched_of (ElementOf g ri) from free l = refl
@@ -193,12 +193,12 @@ module _ (p : Program) (code : Code) (arguments : List ℕ) (layout : Layout) (t
         let u : Scalar = operand_type op s t in
         let first = target_value (own_of goal) from free l in
         let old = converted_by (converting s u) u first free in
-        let v = value_or_one p scope (operand_type op t s) by old.held.to (above free old.held.register) old.lists in
+        let v = value_or_one p scope (operand_type op t s) by old.location.to (above free old.location.register) old.lists in
         let home : ℕ = home_or (own_of goal) free in
         fitting_emits p code arguments layout goal (BinaryCode code layout (home_of goal) op (ConvertedCode code layout None (FetchCode code layout p goal)) B) (result_type op u) from free l (both op u old v home)
         (both_emits code arguments layout (home_of goal) op (ConvertedCode code layout None (FetchCode code layout p goal)) B s t from free home l old v
         (converted_emits code arguments layout None (FetchCode code layout p goal) s u from free free l first (fetched_emits p code arguments layout goal from free l) (fetched_of goal from free l) (omega arith))
-        (other (operand_type op t s) old.held.to (above free old.held.register) old.lists) (may_take_home goal free)) refl
+        (other (operand_type op t s) old.location.to (above free old.location.register) old.lists) (may_take_home goal free)) refl
 
     adjusted_to : (op : BinaryOp) (lhs : Expr) (by : Option Expr) (B : Due) → RightEmits by B → (from : ℕ) (l : Lists) (a : Aimed) (goal : Target) → a.to ≡ from + length a.code → Grows l a.lists → (Fits code arguments layout a.lists → Stand code arguments from a.code → Goes false lhs from a.to goal) →
         Writes p code arguments layout (ChangeCode code layout p scope lhs op B) from l
@@ -250,7 +250,7 @@ module _ (p : Program) (code : Code) (arguments : List ℕ) (layout : Layout) (t
         record {
           to_is = g.to_is;
           grows = g.grows;
-          stands = λ f st. (v.held.register, record { free = length scope; room = omega arith; t = v.held.of; computes = g.stands f st });
+          stands = λ f st. (v.location.register, record { free = length scope; room = omega arith; t = v.location.of; computes = g.stands f st });
         }
     simple_writes (Assign lhs None e) h from l = assigned_writes lhs e h.0 h.1 h.2 from l
     simple_writes (Assign lhs (Some op) e) h from l = adjusted_writes op lhs (Some e) (Operating code layout p scope e) (value_is_emitted e h.1) h.0 h.2 from l

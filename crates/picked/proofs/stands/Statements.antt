@@ -24,7 +24,7 @@ use Rattle.bytecode.specs.Views.{instr_of}
 use Rattle.lowered.specs.Expressions.{LocalScope, Coded, Layout, InstructionAt, TypedCode, types_left, ExprCode, CondCode, ArgsCode}
 use Rattle.lowered.specs.Statements as Lowered
 use Rattle.lowered.specs.Statements.{StartCode, IfCode, IfElseCode, WhileCode, DoWhileCode, ForCode, PrintCode, TransactionCode, OuterCancelCode, Exits, with_level, in_transaction, cancelling, looping, locals_of_start, locals_after, Leaves, ResultCode, TestCode, HoldsCode, SteppedCode, PiecesCode, StmtCode, StmtsCode}
-use Rattle.picked.specs.declared.held.Exits.{Exits as OwnExits}
+use Rattle.picked.specs.declared.locations.Exits.{Exits as OwnExits}
 use Rattle.picked.specs.Lists.{Lists}
 use Rattle.picked.specs.Expressions.{above, in_first_type, emitted_type, emitted, due, all_emitted, condition}
 use Rattle.picked.specs.Conditions.{Condition, test_in, going_on}
@@ -112,7 +112,7 @@ pub registers_are : (p : Program) (scope : LocalScope) (ts : List Scalar) (es : 
 registers_are p scope ts Exprs.[] from free l = refl
 registers_are p scope ts (Exprs.◌∷◌ e es) from free l =
     let first = in_first_type (emitted_type p scope e) ts e (emitted p scope e from free free l) from free l in
-    let h = registers_are p scope (types_left ts) es first.held.to (above free first.held.register) first.lists in
+    let h = registers_are p scope (types_left ts) es first.location.to (above free first.location.register) first.lists in
     omega (arith, h)
 
 module _ (p : Program) where
@@ -394,13 +394,13 @@ module _ (p : Program) (code : Code) (arguments : List ℕ) (layout : Layout) (t
       (return_code n (due p scope v e from (length scope) (length scope) l))
   return_writes known scope agrees e h u v n m from gives same l =
       let x = due p scope v e from (length scope) (length scope) l in
-      let i : Instr = own.ReturnValue x.held.register in
+      let i : Instr = own.ReturnValue x.location.register in
       let A : Coded = λ from to free r t. TypedCode code layout None e (ExprCode code layout p None scope e) v from to free r in
-      then_writes p code arguments layout (λ from to. A from to (length scope) x.held.register x.held.of) (λ from to. Leaves code layout p from n (Plain.Return (Some x.held.register)))
-      (λ from to. (mid : ℕ) × (r : ℕ) × ResultCode code layout p scope u e from mid r × Leaves code layout p mid m (Plain.Return (Some r))) from l (code_of_value x) (left_by n i x.held.to x.lists)
+      then_writes p code arguments layout (λ from to. A from to (length scope) x.location.register x.location.of) (λ from to. Leaves code layout p from n (Plain.Return (Some x.location.register)))
+      (λ from to. (mid : ℕ) × (r : ℕ) × ResultCode code layout p scope u e from mid r × Leaves code layout p mid m (Plain.Return (Some r))) from l (code_of_value x) (left_by n i x.location.to x.lists)
       (evaluated_writes p code arguments layout A from (length scope) l x (due_emits p code arguments layout typed stand defined known scope agrees None v e h from (length scope) (length scope) l (omega arith)))
-      (left_writes p code arguments layout n i x.held.to x.lists)
-      (λ a b. (x.held.to, x.held.register, record { free = length scope; room = omega arith; computes = subst (λ t. TypedCode code layout None e (ExprCode code layout p None scope e) t from x.held.to (length scope) x.held.register) (sym gives) a }, subst (λ k. Leaves code layout p x.held.to k (Plain.Return (Some x.held.register))) (sym same) b))
+      (left_writes p code arguments layout n i x.location.to x.lists)
+      (λ a b. (x.location.to, x.location.register, record { free = length scope; room = omega arith; computes = subst (λ t. TypedCode code layout None e (ExprCode code layout p None scope e) t from x.location.to (length scope) x.location.register) (sym gives) a }, subst (λ k. Leaves code layout p x.location.to k (Plain.Return (Some x.location.register))) (sym same) b))
 
   print_writes : (known : Scope) (scope : LocalScope) → IsSubscope known (running_scope p scope) → (format : List ℕ) (es : Exprs) → TypedExprs known es → IsTrue (length (figures (pieces format)) == count es) → (from : ℕ) (l : Lists) →
       Writes p code arguments layout (PrintCode code layout p scope format es) from l (print_written (all_emitted p scope [] es (from + 1) (length scope) l) (pieces format))

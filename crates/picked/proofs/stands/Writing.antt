@@ -12,8 +12,8 @@ use Rattle.bytecode.specs.Code.{Code, Instr as Plain}
 use Rattle.bytecode.specs.Views.{instr_of}
 use Rattle.lowered.specs.Expressions.{LocalScope, Coded, Layout, InstructionAt, MayTake, constant_in, widening as lowered_widening, GivenBy, ConvertedBy, ExprCode}
 use Rattle.lowered.specs.Statements.{Target, LocalAt, CellAt, ElementOf, home_of, target_type, due as due_at, Spares, FetchCode, StoreCode, WordStored, ExprStored}
-use Rattle.picked.specs.declared.held.Target.{Target as OwnTarget}
-use Rattle.picked.specs.declared.held.Target.TheVariants as target
+use Rattle.picked.specs.declared.locations.AssignmentTarget.{AssignmentTarget as OwnTarget}
+use Rattle.picked.specs.declared.locations.AssignmentTarget.TheVariants as target
 use Rattle.picked.specs.Lists.{Lists}
 use Rattle.picked.specs.Expressions.{Emitted, constant, converted_by}
 use Rattle.picked.specs.Simples.{Written, nothing_written, above_target, target_value, home_or, one_written, target_store, widening, fitting, expr_fitting, and_then, code_of_value, then_stored}
@@ -68,7 +68,7 @@ module _ (p : Program) (code : Code) (arguments : List ℕ) (layout : Layout) wh
   }
 
   pub evaluated_writes : (A : Coded) (from free : ℕ) (l : Lists) (e : Emitted) → Emits code arguments layout A from free l e →
-      Writes (λ from to. A from to free e.held.register e.held.of) from l (code_of_value e)
+      Writes (λ from to. A from to free e.location.register e.location.of) from l (code_of_value e)
   evaluated_writes A from free l e h = record { to_is = h.to_is; grows = h.grows; stands = h.stands }
 
   pub fetched_emits : (t : Target) (from free : ℕ) (l : Lists) → Emits code arguments layout (FetchCode code layout p t) from free l (target_value (own_of t) from free l)
@@ -99,9 +99,9 @@ module _ (p : Program) (code : Code) (arguments : List ℕ) (layout : Layout) wh
 
   pub then_stored_writes : (A : Coded) (t : Target) (from free : ℕ) (l : Lists) (e : Emitted) → Emits code arguments layout A from free l e → Writes (ValueStored A free t) from l (then_stored (own_of t) e)
   then_stored_writes A t from free l e h =
-      then_writes (λ from to. A from to free e.held.register e.held.of) (λ from to. StoreCode code layout p t e.held.register from to) (ValueStored A free t) from l (code_of_value e) (target_store (own_of t) e.held.register e.held.to e.lists)
-      (evaluated_writes A from free l e h) (stored_writes t e.held.register e.held.to e.lists)
-      (λ v s. record { mid = e.held.to; r = e.held.register; of = e.held.of; value = v; stores = s })
+      then_writes (λ from to. A from to free e.location.register e.location.of) (λ from to. StoreCode code layout p t e.location.register from to) (ValueStored A free t) from l (code_of_value e) (target_store (own_of t) e.location.register e.location.to e.lists)
+      (evaluated_writes A from free l e h) (stored_writes t e.location.register e.location.to e.lists)
+      (λ v s. record { mid = e.location.to; r = e.location.register; of = e.location.of; value = v; stores = s })
 
   -- a value in the type of its target
   pub record Fitted (A : Coded) (t : Target) (s : Scalar) (from to free r : ℕ) : Type 0 where
@@ -116,18 +116,18 @@ module _ (p : Program) (code : Code) (arguments : List ℕ) (layout : Layout) wh
     value : A from mid free ra s
     converts : ConvertedBy code layout (lowered_widening s u) None u ra mid to free r
 
-  widened_emits : (A : Coded) (s u : Scalar) (from free into : ℕ) (l : Lists) (e : Emitted) → Emits code arguments layout A from free l e → e.held.of ≡ s → free ≤ into →
+  widened_emits : (A : Coded) (s u : Scalar) (from free into : ℕ) (l : Lists) (e : Emitted) → Emits code arguments layout A from free l e → e.location.of ≡ s → free ≤ into →
       Emits code arguments layout (λ from to free r x. Widened A s u from to free r) from free l (converted_by (widening s u) u e into)
   widened_emits A Int LongLong from free into l e h q m =
-      then_emits code arguments layout A (λ from to free r x. Widened A Int LongLong from to free r) None (own.Extend into e.held.register) LongLong from free into l e h m
-      (λ a b. record { mid = e.held.to; ra = e.held.register; value = subst (λ x. A from e.held.to free e.held.register x) q a; converts = b })
+      then_emits code arguments layout A (λ from to free r x. Widened A Int LongLong from to free r) None (own.Extend into e.location.register) LongLong from free into l e h m
+      (λ a b. record { mid = e.location.to; ra = e.location.register; value = subst (λ x. A from e.location.to free e.location.register x) q a; converts = b })
   widened_emits A s u from free into l e h q m = record {
     to_is = h.to_is;
     grows = h.grows;
-    stands = λ f st. record { mid = e.held.to; ra = e.held.register; value = subst (λ x. A from e.held.to free e.held.register x) q (h.stands f st); converts = (refl, refl) };
+    stands = λ f st. record { mid = e.location.to; ra = e.location.register; value = subst (λ x. A from e.location.to free e.location.register x) q (h.stands f st); converts = (refl, refl) };
   }
 
-  pub fitting_emits : (t : Target) (A : Coded) (s : Scalar) (from free : ℕ) (l : Lists) (e : Emitted) → Emits code arguments layout A from free l e → e.held.of ≡ s →
+  pub fitting_emits : (t : Target) (A : Coded) (s : Scalar) (from free : ℕ) (l : Lists) (e : Emitted) → Emits code arguments layout A from free l e → e.location.of ≡ s →
       Emits code arguments layout (λ from to free r x. Fitted A t s from to free r) from free l (fitting (own_of t) s e (home_or (own_of t) free))
   fitting_emits (LocalAt y) A s from free l e h q =
       let g = converted_emits code arguments layout (Some y.0) A s y.1 from free y.0 l e h q (inr refl) in
@@ -154,7 +154,7 @@ module _ (p : Program) (code : Code) (arguments : List ℕ) (layout : Layout) wh
       })
 
   -- an expression's value goes to its target
-  pub expr_stored : (scope : LocalScope) (e : Expr) (t : Target) (s : Scalar) (from free : ℕ) (l : Lists) (x : Emitted) → Emits code arguments layout (ExprCode code layout p (home_of t) scope e) from free l x → x.held.of ≡ s →
+  pub expr_stored : (scope : LocalScope) (e : Expr) (t : Target) (s : Scalar) (from free : ℕ) (l : Lists) (x : Emitted) → Emits code arguments layout (ExprCode code layout p (home_of t) scope e) from free l x → x.location.of ≡ s →
       Writes (λ from to. ExprStored code layout p scope t e from to free) from l (then_stored (own_of t) (expr_fitting (own_of t) s e x from (home_or (own_of t) free) l))
   expr_stored scope (Constant n k at) (LocalAt y) s from free l x h q = word_stored (LocalAt y) (constant_in y.1 k n) y.1 refl from free l
   expr_stored scope (Constant n k at) (CellAt y) s from free l x h q = word_stored (CellAt y) (constant_in y.global.of k n) y.global.of refl from free l

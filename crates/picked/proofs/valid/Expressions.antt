@@ -58,7 +58,7 @@ module _ (p : Program) (code : Code) (arguments : List ℕ) (f : FunctionCode) (
     element_sound : (g : Option GlobalCells) → ((c : GlobalCells) → g ≡ Some c → c.cell + cells c.global ≤ cells_of code) → (from into : ℕ) (l : Lists) (e : Emitted) → Sound code arguments f end from l e → Sound code arguments f end from l (element g e from into l)
     element_sound None h from into l e s = one_sound code arguments f end (own.Constant into 0) from into Int l (λ q bs. (refl, tt)) (λ r s. (r, omega arith))
     element_sound (Some c) h from into l e s =
-        then_sound code arguments f end (own.ReadAt into e.held.register c.cell (cells c.global)) into c.global.of from l e s (λ q bs. (refl, tt)) (λ r i. (r, i, h c refl))
+        then_sound code arguments f end (own.ReadAt into e.location.register c.cell (cells c.global)) into c.global.of from l e s (λ q bs. (refl, tt)) (λ r i. (r, i, h c refl))
 
     call_counts : (x : Name) (n : ℕ) → Knows known x → IsTrue (may_be_function (known x.text)) → IsTrue (takes_so_many (known x.text) n) → (c : Callee) → callee_of p x.text ≡ Some c → n ≡ length c.parameters
     call_counts x n h m many c e =
@@ -107,11 +107,11 @@ module _ (p : Program) (code : Code) (arguments : List ℕ) (f : FunctionCode) (
           let u = operand_type op tb ta in
           let x = emitted p scope a from free free l in
           let left = in_type ta t a x from free l in
-          let later : ℕ = above free left.held.register in
-          let y = emitted p scope b left.held.to later later left.lists in
-          both_sound code arguments f end op t into from l left (operand p scope u b left.held.to later left.lists)
+          let later : ℕ = above free left.location.register in
+          let y = emitted p scope b left.location.to later later left.lists in
+          both_sound code arguments f end op t into from l left (operand p scope u b left.location.to later left.lists)
           (in_type_sound code arguments f end ta t a x from free l (expr_sound a h.0 from free free l))
-          (operand_sound code arguments f end b tb u left.held.to later left.lists y (expr_sound b h.2 left.held.to later later left.lists))
+          (operand_sound code arguments f end b tb u left.location.to later left.lists y (expr_sound b h.2 left.location.to later later left.lists))
       expr_sound (Logical op a b at) h from into free l =
           let first = condition p scope a from free l in
           let second = condition p scope b (first.to + 1) free first.lists in
@@ -127,12 +127,12 @@ module _ (p : Program) (code : Code) (arguments : List ℕ) (f : FunctionCode) (
           let x = emitted p scope a (test.to + 1) into free test.lists in
           let x1 = in_type ta t a x (test.to + 1) into test.lists in
           let first = value_into into x1 in
-          let y = emitted p scope b (first.held.to + 1) into free first.lists in
-          let y1 = in_type tb t b y (first.held.to + 1) into first.lists in
+          let y = emitted p scope b (first.location.to + 1) into free first.lists in
+          let y1 = in_type tb t b y (first.location.to + 1) into first.lists in
           chosen_sound code arguments f end t into from l test first (value_into into y1)
           (by_parts c from free l (own_sound c h.0 from free l) (expr_sound c h.0 from free free l))
           (settled_sound code arguments f end into (test.to + 1) test.lists x1 (in_type_sound code arguments f end ta t a x (test.to + 1) into test.lists (expr_sound a h.1 (test.to + 1) into free test.lists)))
-          (settled_sound code arguments f end into (first.held.to + 1) first.lists y1 (in_type_sound code arguments f end tb t b y (first.held.to + 1) into first.lists (expr_sound b h.3 (first.held.to + 1) into free first.lists))) (settled_into into y1)
+          (settled_sound code arguments f end into (first.location.to + 1) first.lists y1 (in_type_sound code arguments f end tb t b y (first.location.to + 1) into first.lists (expr_sound b h.3 (first.location.to + 1) into free first.lists))) (settled_into into y1)
       expr_sound (InTransaction mode keyword e at) h from into free l =
           in_own_sound code arguments f end from l (emitted p scope e (from + 1) into free l) (expr_sound e h.0 (from + 1) into free l)
 
@@ -152,13 +152,13 @@ module _ (p : Program) (code : Code) (arguments : List ℕ) (f : FunctionCode) (
       own_sound e h from free l = tt
 
       pub all_sound : (ts : List Scalar) (es : Exprs) → TypedExprs known es → (from free : ℕ) (l : Lists) → AllSound code arguments f end from l (all_emitted p scope ts es from free l)
-      all_sound ts Exprs.[] h from free l = record { to_is = omega arith; grows = grows_same l; held = tt; balanced = λ q bs. refl; goods = λ o bs k run. tt }
+      all_sound ts Exprs.[] h from free l = record { to_is = omega arith; grows = grows_same l; location = tt; balanced = λ q bs. refl; goods = λ o bs k run. tt }
       all_sound ts (Exprs.◌∷◌ e es) h from free l =
           let x = emitted p scope e from free free l in
           let first = in_first_type (emitted_type p scope e) ts e x from free l in
-          let later : ℕ = above free first.held.register in
-          followed_sound code arguments f end from l first (all_emitted p scope (types_left ts) es first.held.to later first.lists)
-          (in_first_sound code arguments f end (emitted_type p scope e) ts e x from free l (expr_sound e h.0 from free free l)) (all_sound (types_left ts) es h.1 first.held.to later first.lists)
+          let later : ℕ = above free first.location.register in
+          followed_sound code arguments f end from l first (all_emitted p scope (types_left ts) es first.location.to later first.lists)
+          (in_first_sound code arguments f end (emitted_type p scope e) ts e x from free l (expr_sound e h.0 from free free l)) (all_sound (types_left ts) es h.1 first.location.to later first.lists)
 
     -- an expression's value in the type that is due
     pub due_sound : (u : Scalar) (e : Expr) → TypedExpr known e → (from into free : ℕ) (l : Lists) → Sound code arguments f end from l (due p scope u e from into free l)

@@ -12,7 +12,7 @@ use Rattle.bytecode.specs.Valid.{cancel_of, cancelled_in}
 use Rattle.bytecode.specs.Views.{instr_of}
 use Rattle.lowered.specs.Expressions.{InstructionAt}
 use Rattle.lowered.specs.Statements.{with_level}
-use Rattle.picked.specs.declared.held.Exits.{Exits}
+use Rattle.picked.specs.declared.locations.Exits.{Exits}
 use Rattle.picked.specs.Lists.{Lists}
 use Rattle.picked.specs.Simples.{Written, one_written, and_then}
 use Rattle.picked.specs.Statements.{in_transaction, level_in, cancelling, left_by, transaction_code}

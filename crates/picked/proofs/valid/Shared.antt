@@ -10,7 +10,7 @@ use Rattle.std.proofs.lemmas.List.Sums.{sum_by-cons}
 use Rattle.std.proofs.lemmas.List.{length-append, length-replicate, length-map, length-take}
 use Rattle.lex.specs.declared.token.Span.{Span}
 use Rattle.lex.specs.declared.token.Scalar.{Scalar}
-use Rattle.syntax.specs.declared.tree.First.{First}
+use Rattle.syntax.specs.declared.tree.Initializer.{Initializer}
 use Rattle.syntax.specs.Tree.{Global, Item, Defines, Shares, Program}
 use Rattle.syntax.specs.Names.{GlobalCells, cells, globals, global_from, first_word, first_words, initial_from}
 use Rattle.syntax.specs.Types.{Number, Array, Scope, known_global, known_among, known_function, file_scope}
@@ -130,7 +130,7 @@ sized None h = omega arith
 sized (Some n) h = leb-true 1 n.0 (both (nat_le 1 n.0) (nat_le n.0 4096) (is_met 25 n.1 (nat_le 1 n.0 && nat_le n.0 4096) h)).0
 
 -- a typed global has no more initialisers than cells
-firsts_fit : (n : ℕ) (is : List First) → AreMet (HaveCells (drop n is)) → length is ≤ n
+firsts_fit : (n : ℕ) (is : List Initializer) → AreMet (HaveCells (drop n is)) → length is ≤ n
 firsts_fit zero [] h = omega arith
 firsts_fit zero (i ∷ is) h = absurd (let g = is_met 25 i.span false h in cc)
 firsts_fit (suc n) [] h = omega arith

@@ -21,8 +21,8 @@ use Rattle.bytecode.specs.Valid.{cells_of, IsWritten}
 use Rattle.bytecode.specs.Views.{instr_of}
 use Rattle.lowered.specs.Expressions.{LocalScope}
 use Rattle.lowered.specs.Statements.{with_local}
-use Rattle.picked.specs.declared.held.Target.{Target}
-use Rattle.picked.specs.declared.held.Target.TheVariants as target
+use Rattle.picked.specs.declared.locations.AssignmentTarget.{AssignmentTarget}
+use Rattle.picked.specs.declared.locations.AssignmentTarget.TheVariants as target
 use Rattle.picked.specs.Lists.{Lists, with_register}
 use Rattle.picked.specs.Expressions.{Emitted, above, constant, converting, converted_by, both, emitted_type, emitted}
 use Rattle.picked.specs.Simples.{Written, Aimed, aimed_at, variable_target, element_target, above_target, target_value, home_or, one_written, target_store, type_at, fitting, expr_fitting, and_then, code_of_value, then_stored, behind as aimed_then, aimed, value_or_one, type_or_int, changed, adjusted, simple_written, nothing_written, first_written, declarator_written, declared_written, start_written}
@@ -71,25 +71,25 @@ module _ (code : Code) (arguments : List ℕ) (f : FunctionCode) (end : ℕ) whe
   evaluated_flat from l e h = record { to_is = h.to_is; grows = h.grows; balanced = h.balanced; goods = h.goods }
 
   -- a target whose register is below a number
-  abbrev pub IsIn : ℕ → Target → Type 0
+  abbrev pub IsIn : ℕ → AssignmentTarget → Type 0
   IsIn n (target.Local i t) = i < n
   IsIn n (target.Cell c t) = c + 1 ≤ cells_of code
   IsIn n (target.Element i c k t) = (i < n) × (c + k ≤ cells_of code)
   IsIn n target.Nowhere = Unit {0}
 
-  in_more : (n m : ℕ) (t : Target) → n ≤ m → IsIn n t → IsIn m t
+  in_more : (n m : ℕ) (t : AssignmentTarget) → n ≤ m → IsIn n t → IsIn m t
   in_more n m (target.Local i t) e h = omega (arith, e, h)
   in_more n m (target.Cell c t) e h = h
   in_more n m (target.Element i c k t) e h = (let x = h.0 in omega (arith, e, x), h.1)
   in_more n m target.Nowhere e h = tt
 
-  fetched_sound : (t : Target) (from free : ℕ) (l : Lists) → IsIn l.registers t → Sound code arguments f end from l (target_value t from free l)
+  fetched_sound : (t : AssignmentTarget) (from free : ℕ) (l : Lists) → IsIn l.registers t → Sound code arguments f end from l (target_value t from free l)
   fetched_sound (target.Local i t) from free l h = in_local_sound code arguments f end i t from l
   fetched_sound (target.Cell c t) from free l h = one_sound code arguments f end (own.Read free c) from free t l (λ q bs. (refl, tt)) (λ r s. (r, h))
   fetched_sound (target.Element i c n t) from free l h = one_sound code arguments f end (own.ReadAt free i c n) from free t l (λ q bs. (refl, tt)) (λ r s. (r, let x = h.0 in omega (arith, x, s), h.1))
   fetched_sound target.Nowhere from free l h = one_sound code arguments f end (own.Constant free 0) from free Int l (λ q bs. (refl, tt)) (λ r s. (r, omega arith))
 
-  stored_flat : (t : Target) (r from : ℕ) (l : Lists) → r < l.registers → IsIn l.registers t → Flat from l (target_store t r from l)
+  stored_flat : (t : AssignmentTarget) (r from : ℕ) (l : Lists) → r < l.registers → IsIn l.registers t → Flat from l (target_store t r from l)
   stored_flat (target.Local i t) r from l k h = by (r == i)
     where
       by : (b : Bool) → Flat from l (if b then nothing_written from l else one_written (own.Move i r) from l)
@@ -99,19 +99,19 @@ module _ (code : Code) (arguments : List ℕ) (f : FunctionCode) (end : ℕ) whe
   stored_flat (target.Element i c n t) r from l k h = one_flat (own.WriteAt i r c n) from l (λ q bs. (refl, tt)) (λ fits. (in_size code arguments f end i l h.0 fits, in_size code arguments f end r l k fits, h.1))
   stored_flat target.Nowhere r from l k h = nothing_flat from l
 
-  pub then_stored_flat : (t : Target) (from : ℕ) (l : Lists) (e : Emitted) → Sound code arguments f end from l e → IsIn l.registers t → Flat from l (then_stored t e)
+  pub then_stored_flat : (t : AssignmentTarget) (from : ℕ) (l : Lists) (e : Emitted) → Sound code arguments f end from l e → IsIn l.registers t → Flat from l (then_stored t e)
   then_stored_flat t from l e h i =
-      then_flat from l (code_of_value e) (target_store t e.held.register e.held.to e.lists) (evaluated_flat from l e h)
-      (stored_flat t e.held.register e.held.to e.lists h.held (in_more l.registers e.lists.registers t h.grows.registers i))
+      then_flat from l (code_of_value e) (target_store t e.location.register e.location.to e.lists) (evaluated_flat from l e h)
+      (stored_flat t e.location.register e.location.to e.lists h.location (in_more l.registers e.lists.registers t h.grows.registers i))
 
   -- a value on its way to a target
-  fitting_sound : (t : Target) (s : Scalar) (into from : ℕ) (l : Lists) (e : Emitted) → Sound code arguments f end from l e → Sound code arguments f end from l (fitting t s e into)
+  fitting_sound : (t : AssignmentTarget) (s : Scalar) (into from : ℕ) (l : Lists) (e : Emitted) → Sound code arguments f end from l e → Sound code arguments f end from l (fitting t s e into)
   fitting_sound (target.Local i t) s into from l e h = converted_sound code arguments f end s t into from l e h
   fitting_sound (target.Cell c t) s into from l e h = widened_sound code arguments f end s t into from l e h
   fitting_sound (target.Element i c n t) s into from l e h = widened_sound code arguments f end s t into from l e h
   fitting_sound target.Nowhere s into from l e h = converted_sound code arguments f end Int Int into from l e h
 
-  expr_fitting_sound : (t : Target) (s : Scalar) (e' : Expr) (e : Emitted) (from into : ℕ) (l : Lists) → Sound code arguments f end from l e → Sound code arguments f end from l (expr_fitting t s e' e from into l)
+  expr_fitting_sound : (t : AssignmentTarget) (s : Scalar) (e' : Expr) (e : Emitted) (from into : ℕ) (l : Lists) → Sound code arguments f end from l e → Sound code arguments f end from l (expr_fitting t s e' e from into l)
   expr_fitting_sound t s (Constant n x at) e from into l h = constant_sound code arguments f end (number x (word_of x (pos n))) (type_at t) from into l
   expr_fitting_sound t s e' e from into l h = fitting_sound t s into from l e h
 
@@ -152,25 +152,25 @@ module _ (code : Code) (arguments : List ℕ) (f : FunctionCode) (end : ℕ) whe
   element_aims : (check : Bool) (g : Option GlobalCells) → ((c : GlobalCells) → g ≡ Some c → c.cell + cells c.global ≤ cells_of code) → (from : ℕ) (l : Lists) (e : Emitted) → Sound code arguments f end from l e → Aims from l (element_target check g e from l)
   element_aims check None h from l e s = nowhere_aims from l
   element_aims true (Some c) h from l e s =
-      let test : Instr = own.Check e.held.register (cells c.global) in
+      let test : Instr = own.Check e.location.register (cells c.global) in
       let x = s.to_is in
       record {
         to_is = let b : length (e.code ++ test ∷ []) ≡ length e.code + 1 = length-append e.code (test ∷ []) in omega (arith, x, b);
         grows = s.grows;
-        aim = (s.held, h c refl);
+        aim = (s.location, h c refl);
         balanced = balanced_append arguments e.code (test ∷ []) s.balanced (λ q bs. refl);
         goods = λ o bs k run.
-            good_parts code arguments f end o from e.held.to bs e.code (test ∷ []) s.to_is s.balanced run (s.goods o bs k)
-            (λ r. (good_on code arguments f end o e.held.to bs test [] (λ q bs. (refl, tt)) (in_size code arguments f end e.held.register e.lists s.held k) r, tt));
+            good_parts code arguments f end o from e.location.to bs e.code (test ∷ []) s.to_is s.balanced run (s.goods o bs k)
+            (λ r. (good_on code arguments f end o e.location.to bs test [] (λ q bs. (refl, tt)) (in_size code arguments f end e.location.register e.lists s.location k) r, tt));
       }
   element_aims false (Some c) h from l e s =
       let x = s.to_is in
       record {
         to_is = let b : length (e.code ++ []) ≡ length e.code + 0 = length-append e.code [] in omega (arith, x, b);
         grows = s.grows;
-        aim = (s.held, h c refl);
+        aim = (s.location, h c refl);
         balanced = balanced_append arguments e.code [] s.balanced (λ q bs. refl);
-        goods = λ o bs k run. good_parts code arguments f end o from e.held.to bs e.code [] s.to_is s.balanced run (s.goods o bs k) (λ r. tt);
+        goods = λ o bs k run. good_parts code arguments f end o from e.location.to bs e.code [] s.to_is s.balanced run (s.goods o bs k) (λ r. tt);
       }
 
   module _ (p : Program) (typed : IsTypedProgram p) (takes : CalleesTake p code) (defined : DefinedAreCallees p) (shares : code.globals ≡ globals p) where
@@ -191,18 +191,18 @@ module _ (code : Code) (arguments : List ℕ) (f : FunctionCode) (end : ℕ) whe
           ready_or_sound code arguments f end 1 u from l (constant 1 u from free l) (one_sound code arguments f end (own.Constant free 1) from free u l (λ q bs. (refl, tt)) (λ r s. (r, omega arith)))
       value_or_one_sound u (Some e) h from free l = operand_sound code arguments f end e (emitted_type p scope e) u from free l (emitted p scope e from free free l) (sound e h from free free l)
 
-      changed_sound : (op : BinaryOp) (by : Option Expr) → IfSome by (TypedExpr known) → (t : Target) (from free : ℕ) (l : Lists) → IsIn l.registers t → Sound code arguments f end from l (changed p scope op by t from free l)
+      changed_sound : (op : BinaryOp) (by : Option Expr) → IfSome by (TypedExpr known) → (t : AssignmentTarget) (from free : ℕ) (l : Lists) → IsIn l.registers t → Sound code arguments f end from l (changed p scope op by t from free l)
       changed_sound op by hb t from free l i =
           let s = type_at t in
           let u = operand_type op s (type_or_int p scope by) in
           let first = target_value t from free l in
           let old = converted_by (converting s u) u first free in
           let v = operand_type op (type_or_int p scope by) s in
-          let other = value_or_one p scope v by old.held.to (above free old.held.register) old.lists in
+          let other = value_or_one p scope v by old.location.to (above free old.location.register) old.lists in
           let home : ℕ = home_or t free in
           fitting_sound t (result_type op u) home from l (both op u old other home)
           (both_sound code arguments f end op u home from l old other (converted_sound code arguments f end s u free from l first (fetched_sound t from free l i))
-          (value_or_one_sound v by hb old.held.to (above free old.held.register) old.lists))
+          (value_or_one_sound v by hb old.location.to (above free old.location.register) old.lists))
 
       adjusted_flat : (op : BinaryOp) (lhs : Expr) (by : Option Expr) → TypedTarget known lhs → IfSome by (TypedExpr known) → IsTrue (may_be_assigned known lhs) → (from : ℕ) (l : Lists) → Flat from l (adjusted p scope op lhs by from (length scope) l)
       adjusted_flat op lhs by ht hb m from l =

@@ -86,11 +86,11 @@ word_fits Int z = let h = word_below Int z in omega (arith, h)
 word_fits Unsigned z = let h = word_below Unsigned z in omega (arith, h)
 word_fits LongLong z = word_below LongLong z
 
-pub settled_into : (r : ℕ) (e : Emitted) → (value_into r e).held.register ≡ r
-settled_into r e = by (e.held.register == r) refl
+pub settled_into : (r : ℕ) (e : Emitted) → (value_into r e).location.register ≡ r
+settled_into r e = by (e.location.register == r) refl
   where
-    by : (b : Bool) → (e.held.register == r) ≡ b → (if b then e else then_one e (own.Move r e.held.register) r e.held.of).held.register ≡ r
-    by true n = eqb-true e.held.register r n
+    by : (b : Bool) → (e.location.register == r) ≡ b → (if b then e else then_one e (own.Move r e.location.register) r e.location.of).location.register ≡ r
+    by true n = eqb-true e.location.register r n
     by false n = refl
 
 module _ (code : Code) (arguments : List ℕ) (f : FunctionCode) (end : ℕ) where
@@ -118,9 +118,9 @@ module _ (code : Code) (arguments : List ℕ) (f : FunctionCode) (end : ℕ) whe
 
   -- what is emitted from a place on, with these lists before it, is in order
   pub record Sound (from : ℕ) (l : Lists) (e : Emitted) : Type 0 where
-    pub to_is : e.held.to ≡ from + length e.code
+    pub to_is : e.location.to ≡ from + length e.code
     pub grows : Grows l e.lists
-    pub held : e.held.register < e.lists.registers
+    pub location : e.location.register < e.lists.registers
     pub balanced : IsBalanced arguments e.code
     pub goods : (open_at : ℕ → List ℕ) (bs : List ℕ) → Fits code arguments f.registers e.lists → Runs code arguments f end open_at from bs e.code → AreGood code arguments f end open_at from e.code
 
@@ -128,7 +128,7 @@ module _ (code : Code) (arguments : List ℕ) (f : FunctionCode) (end : ℕ) whe
   one_sound i from r t l way w = record {
     to_is = omega arith;
     grows = grows_used l l r (grows_same l);
-    held = let h = max_right l.registers (suc r) in omega (arith, h);
+    location = let h = max_right l.registers (suc r) in omega (arith, h);
     balanced = balanced_one code arguments f end i way;
     goods = λ o bs k run. (good_on code arguments f end o from bs i [] way (w (is_register code arguments f.registers l r k) (let a = k.registers in let b = max_left l.registers (suc r) in omega (arith, a, b))) run, tt);
   }
@@ -137,35 +137,35 @@ module _ (code : Code) (arguments : List ℕ) (f : FunctionCode) (end : ℕ) whe
   in_local_sound i t from l = record {
     to_is = omega arith;
     grows = grows_used l l i (grows_same l);
-    held = let h = max_right l.registers (suc i) in omega (arith, h);
+    location = let h = max_right l.registers (suc i) in omega (arith, h);
     balanced = λ q bs. refl;
     goods = λ o bs k run. tt;
   }
 
-  pub then_sound : (i : Instr) (r : ℕ) (t : Scalar) (from : ℕ) (l : Lists) (e : Emitted) → Sound from l e → GoesOn code arguments f end (instr_of arguments i) → (r < f.registers → e.held.register < f.registers → IsWritten code f end (instr_of arguments i)) → Sound from l (then_one e i r t)
+  pub then_sound : (i : Instr) (r : ℕ) (t : Scalar) (from : ℕ) (l : Lists) (e : Emitted) → Sound from l e → GoesOn code arguments f end (instr_of arguments i) → (r < f.registers → e.location.register < f.registers → IsWritten code f end (instr_of arguments i)) → Sound from l (then_one e i r t)
   then_sound i r t from l e h way w = record {
     to_is = let a = h.to_is in let b : length (e.code ++ i ∷ []) ≡ length e.code + 1 = length-append e.code (i ∷ []) in omega (arith, a, b);
     grows = grows_used l e.lists r h.grows;
-    held = let x = max_right e.lists.registers (suc r) in omega (arith, x);
+    location = let x = max_right e.lists.registers (suc r) in omega (arith, x);
     balanced = balanced_append arguments e.code (i ∷ []) h.balanced (balanced_one code arguments f end i way);
     goods = λ o bs k run.
         let inner = fits_before code arguments f.registers e.lists (with_register r e.lists) (grows_used e.lists e.lists r (grows_same e.lists)) k in
-        good_parts code arguments f end o from e.held.to bs e.code (i ∷ []) h.to_is h.balanced run (h.goods o bs inner)
-        (λ g. (good_on code arguments f end o e.held.to bs i [] way (w (is_register code arguments f.registers e.lists r k) (in_size e.held.register e.lists h.held inner)) g, tt));
+        good_parts code arguments f end o from e.location.to bs e.code (i ∷ []) h.to_is h.balanced run (h.goods o bs inner)
+        (λ g. (good_on code arguments f end o e.location.to bs i [] way (w (is_register code arguments f.registers e.lists r k) (in_size e.location.register e.lists h.location inner)) g, tt));
   }
 
   remains_sound : (u : Scalar) (into from : ℕ) (l : Lists) (e : Emitted) → Sound from l e → Sound from l (converted_by None u e into)
-  remains_sound u into from l e h = record { to_is = h.to_is; grows = h.grows; held = h.held; balanced = h.balanced; goods = h.goods }
+  remains_sound u into from l e h = record { to_is = h.to_is; grows = h.grows; location = h.location; balanced = h.balanced; goods = h.goods }
 
   -- a value by a conversion, and on its way to a cell
   pub converted_sound : (s u : Scalar) (into from : ℕ) (l : Lists) (e : Emitted) → Sound from l e → Sound from l (converted_by (converting s u) u e into)
-  converted_sound Int LongLong into from l e h = then_sound (own.Extend into e.held.register) into LongLong from l e h (λ q bs. (refl, tt)) (λ x y. (x, y))
-  converted_sound LongLong Int into from l e h = then_sound (own.Low into e.held.register) into Int from l e h (λ q bs. (refl, tt)) (λ x y. (x, y))
-  converted_sound LongLong Unsigned into from l e h = then_sound (own.Low into e.held.register) into Unsigned from l e h (λ q bs. (refl, tt)) (λ x y. (x, y))
+  converted_sound Int LongLong into from l e h = then_sound (own.Extend into e.location.register) into LongLong from l e h (λ q bs. (refl, tt)) (λ x y. (x, y))
+  converted_sound LongLong Int into from l e h = then_sound (own.Low into e.location.register) into Int from l e h (λ q bs. (refl, tt)) (λ x y. (x, y))
+  converted_sound LongLong Unsigned into from l e h = then_sound (own.Low into e.location.register) into Unsigned from l e h (λ q bs. (refl, tt)) (λ x y. (x, y))
   converted_sound s u into from l e h = remains_sound u into from l e h
 
   pub widened_sound : (s u : Scalar) (into from : ℕ) (l : Lists) (e : Emitted) → Sound from l e → Sound from l (converted_by (widening s u) u e into)
-  widened_sound Int LongLong into from l e h = then_sound (own.Extend into e.held.register) into LongLong from l e h (λ q bs. (refl, tt)) (λ x y. (x, y))
+  widened_sound Int LongLong into from l e h = then_sound (own.Extend into e.location.register) into LongLong from l e h (λ q bs. (refl, tt)) (λ x y. (x, y))
   widened_sound s u into from l e h = remains_sound u into from l e h
 
   -- a constant in some type
@@ -187,70 +187,70 @@ module _ (code : Code) (arguments : List ℕ) (f : FunctionCode) (end : ℕ) whe
   -- a value's transaction: the begin is open along the operand, and the commit leaves it
   pub in_own_sound : (from : ℕ) (l : Lists) (e : Emitted) → Sound (from + 1) l e → Sound from l (in_own_transaction e)
   in_own_sound from l e h =
-      let begin : Instr = own.Begin (e.held.to + 1) in
+      let begin : Instr = own.Begin (e.location.to + 1) in
       let x = h.to_is in
       let next : from + 1 ≡ suc from = omega arith in
-      let mid_is : e.held.to ≡ suc from + length e.code = omega (arith, x) in
-      let last_is : e.held.to ≡ from + length (begin ∷ e.code) = omega (arith, x) in
+      let mid_is : e.location.to ≡ suc from + length e.code = omega (arith, x) in
+      let last_is : e.location.to ≡ from + length (begin ∷ e.code) = omega (arith, x) in
       let whole : length (begin ∷ e.code ++ own.Commit ∷ []) ≡ length (begin ∷ e.code) + 1 = length-append (begin ∷ e.code) (own.Commit ∷ []) in
-      let to_is : e.held.to + 1 ≡ from + length (begin ∷ e.code ++ own.Commit ∷ []) = omega (arith, last_is, whole) in
+      let to_is : e.location.to + 1 ≡ from + length (begin ∷ e.code ++ own.Commit ∷ []) = omega (arith, last_is, whole) in
       record {
         to_is = to_is;
         grows = h.grows;
-        held = h.held;
-        balanced = balanced_within (e.held.to + 1) e.code h.balanced;
+        location = h.location;
+        balanced = balanced_within (e.location.to + 1) e.code h.balanced;
         goods = λ o bs k run.
             let first = run.first in
-            let two = opens_split arguments o (suc from) e.held.to (from ∷ bs) e.code (own.Commit ∷ []) mid_is run.are.1 in
-            let at_commit : o e.held.to ≡ from ∷ bs = two.1.0 ∙ h.balanced (suc from) (from ∷ bs) in
-            let out = meets_out code arguments f end o (e.held.to + 1) from bs (begin ∷ e.code ++ own.Commit ∷ []) to_is run in
+            let two = opens_split arguments o (suc from) e.location.to (from ∷ bs) e.code (own.Commit ∷ []) mid_is run.are.1 in
+            let at_commit : o e.location.to ≡ from ∷ bs = two.1.0 ∙ h.balanced (suc from) (from ∷ bs) in
+            let out = meets_out code arguments f end o (e.location.to + 1) from bs (begin ∷ e.code ++ own.Commit ∷ []) to_is run in
             let last = out.0.1 in
-            let inner : Runs code arguments f end o (suc from) (from ∷ bs) e.code = runs_to code arguments f end o (suc from) e.held.to (from ∷ bs) e.code mid_is (omega (arith, first)) (omega (arith, last)) two.0 at_commit in
-            good_append code arguments f end o from e.held.to (begin ∷ e.code) (own.Commit ∷ []) last_is (
+            let inner : Runs code arguments f end o (suc from) (from ∷ bs) e.code = runs_to code arguments f end o (suc from) e.location.to (from ∷ bs) e.code mid_is (omega (arith, first)) (omega (arith, last)) two.0 at_commit in
+            good_append code arguments f end o from e.location.to (begin ∷ e.code) (own.Commit ∷ []) last_is (
               record { begins = bs; are = run.are.0; written = out.0; asks = tt; leads = (meets_first code arguments f end o (suc from) (suc from) (from ∷ bs) e.code refl inner, tt) },
               subst (λ q. AreGood code arguments f end o q e.code) next (h.goods o (from ∷ bs) k (subst (λ q. Runs code arguments f end o q (from ∷ bs) e.code) (sym next) inner)),
             )
-            (record { begins = from ∷ bs; are = at_commit; written = tt; asks = λ t. cc t; leads = (((omega (arith, first, x), omega (arith, last)), let same : e.held.to + 1 ≡ suc e.held.to = omega arith in subst (λ q. o q ≡ bs) same out.1), tt) }, tt);
+            (record { begins = from ∷ bs; are = at_commit; written = tt; asks = λ t. cc t; leads = (((omega (arith, first, x), omega (arith, last)), let same : e.location.to + 1 ≡ suc e.location.to = omega arith in subst (λ q. o q ≡ bs) same out.1), tt) }, tt);
       }
 
   pub negated_sound : (into from : ℕ) (l : Lists) (e : Emitted) → Sound from l e → Sound from l (negation e into)
-  negated_sound into from l e h = by e.held.of
+  negated_sound into from l e h = by e.location.of
     where
-      by : (t : Scalar) → Sound from l (then_one e (negating t into e.held.register) into e.held.of)
-      by Int = then_sound (own.NegateSigned into e.held.register) into e.held.of from l e h (λ q bs. (refl, tt)) (λ x y. (x, y))
-      by Unsigned = then_sound (own.NegateUnsigned into e.held.register) into e.held.of from l e h (λ q bs. (refl, tt)) (λ x y. (x, y))
-      by LongLong = then_sound (own.NegateLong into e.held.register) into e.held.of from l e h (λ q bs. (refl, tt)) (λ x y. (x, y))
+      by : (t : Scalar) → Sound from l (then_one e (negating t into e.location.register) into e.location.of)
+      by Int = then_sound (own.NegateSigned into e.location.register) into e.location.of from l e h (λ q bs. (refl, tt)) (λ x y. (x, y))
+      by Unsigned = then_sound (own.NegateUnsigned into e.location.register) into e.location.of from l e h (λ q bs. (refl, tt)) (λ x y. (x, y))
+      by LongLong = then_sound (own.NegateLong into e.location.register) into e.location.of from l e h (λ q bs. (refl, tt)) (λ x y. (x, y))
 
   pub complemented_sound : (into from : ℕ) (l : Lists) (e : Emitted) → Sound from l e → Sound from l (complement e into)
-  complemented_sound into from l e h = by e.held.of
+  complemented_sound into from l e h = by e.location.of
     where
-      by : (t : Scalar) → Sound from l (then_one e (complementing t into e.held.register) into e.held.of)
-      by Int = then_sound (own.Complement into e.held.register) into e.held.of from l e h (λ q bs. (refl, tt)) (λ x y. (x, y))
-      by Unsigned = then_sound (own.Complement into e.held.register) into e.held.of from l e h (λ q bs. (refl, tt)) (λ x y. (x, y))
-      by LongLong = then_sound (own.ComplementLong into e.held.register) into e.held.of from l e h (λ q bs. (refl, tt)) (λ x y. (x, y))
+      by : (t : Scalar) → Sound from l (then_one e (complementing t into e.location.register) into e.location.of)
+      by Int = then_sound (own.Complement into e.location.register) into e.location.of from l e h (λ q bs. (refl, tt)) (λ x y. (x, y))
+      by Unsigned = then_sound (own.Complement into e.location.register) into e.location.of from l e h (λ q bs. (refl, tt)) (λ x y. (x, y))
+      by LongLong = then_sound (own.ComplementLong into e.location.register) into e.location.of from l e h (λ q bs. (refl, tt)) (λ x y. (x, y))
 
   pub compared_sound : (into free from : ℕ) (l : Lists) (e : Emitted) → Sound from l e → Sound from l (logical_negation e into free)
   compared_sound into free from l e h =
-      let rz : ℕ = above free e.held.register in
+      let rz : ℕ = above free e.location.register in
       let zero : Instr = own.Constant rz 0 in
-      let equal : Instr = own.Equal into e.held.register rz in
+      let equal : Instr = own.Equal into e.location.register rz in
       let lists : Lists = with_register rz e.lists in
       let to_is = h.to_is in
       record {
         to_is = let b : length (e.code ++ zero ∷ equal ∷ []) ≡ length e.code + 2 = length-append e.code (zero ∷ equal ∷ []) in omega (arith, to_is, b);
         grows = grows_used l lists into (grows_used l e.lists rz h.grows);
-        held = let x = max_right lists.registers (suc into) in omega (arith, x);
+        location = let x = max_right lists.registers (suc into) in omega (arith, x);
         balanced = balanced_append arguments e.code (zero ∷ equal ∷ []) h.balanced (λ q bs. refl);
         goods = λ o bs k run.
             let inner = fits_before code arguments f.registers lists (with_register into lists) (grows_used lists lists into (grows_same lists)) k in
             let first = fits_before code arguments f.registers e.lists lists (grows_used e.lists e.lists rz (grows_same e.lists)) inner in
             let z = is_register code arguments f.registers e.lists rz inner in
-            good_parts code arguments f end o from e.held.to bs e.code (zero ∷ equal ∷ []) h.to_is h.balanced run (h.goods o bs first)
+            good_parts code arguments f end o from e.location.to bs e.code (zero ∷ equal ∷ []) h.to_is h.balanced run (h.goods o bs first)
             (λ g. (
-              good_on code arguments f end o e.held.to bs zero (equal ∷ []) (λ q bs. (refl, tt)) (z, omega arith) g,
+              good_on code arguments f end o e.location.to bs zero (equal ∷ []) (λ q bs. (refl, tt)) (z, omega arith) g,
               (
-                good_on code arguments f end o (suc e.held.to) bs equal [] (λ q bs. (refl, tt)) (is_register code arguments f.registers lists into k, in_size e.held.register e.lists h.held first, z)
-                    (next_run code arguments f end o e.held.to bs zero (equal ∷ []) (λ q bs. refl) g),
+                good_on code arguments f end o (suc e.location.to) bs equal [] (λ q bs. (refl, tt)) (is_register code arguments f.registers lists into k, in_size e.location.register e.lists h.location first, z)
+                    (next_run code arguments f end o e.location.to bs zero (equal ∷ []) (λ q bs. refl) g),
                 tt,
               ),
             ));
@@ -258,65 +258,65 @@ module _ (code : Code) (arguments : List ℕ) (f : FunctionCode) (end : ℕ) whe
 
   -- the right side of an operator, which may lie ready
   pub record OperandSound (from : ℕ) (l : Lists) (e : Emitted) : Type 0 where
-    pub to_is : e.held.to ≡ from + length e.code
+    pub to_is : e.location.to ≡ from + length e.code
     pub grows : Grows l e.lists
-    pub held : Fits code arguments f.registers e.lists → e.held.register < f.registers
+    pub location : Fits code arguments f.registers e.lists → e.location.register < f.registers
     pub balanced : IsBalanced arguments e.code
     pub goods : (open_at : ℕ → List ℕ) (bs : List ℕ) → Fits code arguments f.registers e.lists → Runs code arguments f end open_at from bs e.code → AreGood code arguments f end open_at from e.code
 
   computed_sound : (from : ℕ) (l : Lists) (e : Emitted) → Sound from l e → OperandSound from l e
-  computed_sound from l e h = record { to_is = h.to_is; grows = h.grows; held = λ k. in_size e.held.register e.lists h.held k; balanced = h.balanced; goods = h.goods }
+  computed_sound from l e h = record { to_is = h.to_is; grows = h.grows; location = λ k. in_size e.location.register e.lists h.location k; balanced = h.balanced; goods = h.goods }
 
   pub ready_or_sound : (w : ℕ) (t : Scalar) (from : ℕ) (l : Lists) (e : Emitted) → Sound from l e → OperandSound from l (ready_or (ready l.layout w t from) l e)
   ready_or_sound w t from l e h = by (ready_from l.layout.writable l.layout.constants w) refl
     where
       by : (o : Option ℕ) → ready_from l.layout.writable l.layout.constants w ≡ o → OperandSound from l (ready_or (option_map (λ r. record { register = r; of = t; to = from }) o) l e)
       by None n = computed_sound from l e h
-      by (Some r) n = record { to_is = omega arith; grows = grows_same l; held = λ k. k.ready w r n; balanced = λ q bs. refl; goods = λ o bs k run. tt }
+      by (Some r) n = record { to_is = omega arith; grows = grows_same l; location = λ k. k.ready w r n; balanced = λ q bs. refl; goods = λ o bs k run. tt }
 
   pub operand_sound : (b : Expr) (s u : Scalar) (from free : ℕ) (l : Lists) (e : Emitted) → Sound from l e → OperandSound from l (ready_or (constant_ready l.layout u b from) l (in_type s u b e from free l))
   operand_sound (Constant n t at) s u from free l e h =
       ready_or_sound (constant_in u t n) u from l (constant (constant_in u t n) u from free l) (constant_sound (number t (word_of t (pos n))) u from free l)
   operand_sound b s u from free l e h = computed_sound from l (converted_by (converting s u) u e free) (converted_sound s u free from l e h)
 
-  pub both_sound : (op : BinaryOp) (t : Scalar) (into from : ℕ) (l : Lists) (a b : Emitted) → Sound from l a → OperandSound a.held.to a.lists b → Sound from l (both op t a b into)
+  pub both_sound : (op : BinaryOp) (t : Scalar) (into from : ℕ) (l : Lists) (a b : Emitted) → Sound from l a → OperandSound a.location.to a.lists b → Sound from l (both op t a b into)
   both_sound op t into from l a b h g =
-      let i : Instr = computing op t into a.held.register b.held.register in
+      let i : Instr = computing op t into a.location.register b.location.register in
       let two : length (a.code ++ b.code) ≡ length a.code + length b.code = length-append a.code b.code in
       let x = h.to_is in
       let y = g.to_is in
-      let last_is : b.held.to ≡ from + length (a.code ++ b.code) = omega (arith, x, y, two) in
+      let last_is : b.location.to ≡ from + length (a.code ++ b.code) = omega (arith, x, y, two) in
       record {
         to_is = let u : length (a.code ++ b.code ++ i ∷ []) ≡ length (a.code ++ b.code) + 1 = length-append (a.code ++ b.code) (i ∷ []) in omega (arith, last_is, u);
         grows = grows_used l b.lists into (grows_further l a.lists b.lists h.grows g.grows);
-        held = let z = max_right b.lists.registers (suc into) in omega (arith, z);
+        location = let z = max_right b.lists.registers (suc into) in omega (arith, z);
         balanced = balanced_append arguments (a.code ++ b.code) (i ∷ []) (balanced_append arguments a.code b.code h.balanced g.balanced) (balanced_one code arguments f end i way);
         goods = λ o bs k run.
             let inner = fits_before code arguments f.registers b.lists (with_register into b.lists) (grows_used b.lists b.lists into (grows_same b.lists)) k in
             let first = fits_before code arguments f.registers a.lists b.lists g.grows inner in
-            let there = computing_written op t into a.held.register b.held.register (is_register code arguments f.registers b.lists into k) (in_size a.held.register a.lists h.held first) (g.held inner) in
-            good_parts code arguments f end o from b.held.to bs (a.code ++ b.code) (i ∷ []) last_is (balanced_append arguments a.code b.code h.balanced g.balanced) run
-            (λ r. good_parts code arguments f end o from a.held.to bs a.code b.code h.to_is h.balanced r (h.goods o bs first) (g.goods o bs inner))
-            (λ r. (good_on code arguments f end o b.held.to bs i [] way there r, tt));
+            let there = computing_written op t into a.location.register b.location.register (is_register code arguments f.registers b.lists into k) (in_size a.location.register a.lists h.location first) (g.location inner) in
+            good_parts code arguments f end o from b.location.to bs (a.code ++ b.code) (i ∷ []) last_is (balanced_append arguments a.code b.code h.balanced g.balanced) run
+            (λ r. good_parts code arguments f end o from a.location.to bs a.code b.code h.to_is h.balanced r (h.goods o bs first) (g.goods o bs inner))
+            (λ r. (good_on code arguments f end o b.location.to bs i [] way there r, tt));
       }
     where
-      way : GoesOn code arguments f end (instr_of arguments (computing op t into a.held.register b.held.register))
-      way = computing_goes op t into a.held.register b.held.register
+      way : GoesOn code arguments f end (instr_of arguments (computing op t into a.location.register b.location.register))
+      way = computing_goes op t into a.location.register b.location.register
 
   -- a condition, up to its jump
   pub record TestSound (from : ℕ) (l : Lists) (c : Condition) : Type 0 where
     pub to_is : c.to ≡ from + length c.code
     pub grows : Grows l c.lists
-    pub held : c.register < c.lists.registers
+    pub location : c.register < c.lists.registers
     pub balanced : (met unmet : ℕ) → IsBalanced arguments (map (instruction_of_draft met unmet) c.code)
     pub goods : (open_at : ℕ → List ℕ) (bs : List ℕ) → Fits code arguments f.registers c.lists → (met unmet : ℕ) → Meets code arguments f end open_at (met, bs) → Meets code arguments f end open_at (unmet, bs) →
         Runs code arguments f end open_at from bs (map (instruction_of_draft met unmet) c.code) → AreGood code arguments f end open_at from (map (instruction_of_draft met unmet) c.code)
 
-  value_sound : (from : ℕ) (l : Lists) (e : Emitted) → Sound from l e → TestSound from l (by_value e.code e.lists e.held)
+  value_sound : (from : ℕ) (l : Lists) (e : Emitted) → Sound from l e → TestSound from l (by_value e.code e.lists e.location)
   value_sound from l e h = record {
     to_is = let x = h.to_is in let y : length (map draft.Whole e.code) ≡ length e.code = length-map e.code draft.Whole in omega (arith, x, y);
     grows = h.grows;
-    held = h.held;
+    location = h.location;
     balanced = λ met unmet. subst (IsBalanced arguments) (sym (whole_are met unmet e.code)) h.balanced;
     goods = λ o bs k met unmet m u run. subst (AreGood code arguments f end o from) (sym (whole_are met unmet e.code)) (h.goods o bs k (subst (Runs code arguments f end o from bs) (whole_are met unmet e.code) run));
   }
@@ -325,7 +325,7 @@ module _ (code : Code) (arguments : List ℕ) (f : FunctionCode) (end : ℕ) whe
   opposite_sound from l c h = record {
     to_is = let x = h.to_is in let y : length (map opposite_draft c.code) ≡ length c.code = length-map c.code opposite_draft in omega (arith, x, y);
     grows = h.grows;
-    held = h.held;
+    location = h.location;
     balanced = λ met unmet. subst (IsBalanced arguments) (sym (turned_are met unmet c.code)) (h.balanced unmet met);
     goods = λ o bs k met unmet m u run. subst (AreGood code arguments f end o from) (sym (turned_are met unmet c.code)) (h.goods o bs k unmet met u m (subst (Runs code arguments f end o from bs) (turned_are met unmet c.code) run));
   }
@@ -372,7 +372,7 @@ module _ (code : Code) (arguments : List ℕ) (f : FunctionCode) (end : ℕ) whe
           let jump : Instr = jump_if_not c.at_zero c.register there in
           let next = meets_out code arguments f end open_at (c.to + 1) from bs (going_on c.code (test_in c) there) (test_on_is there) run in
           good_parts code arguments f end open_at from c.to bs test (jump ∷ []) (at_jump (c.to + 1) there) (h.balanced (c.to + 1) there) run (h.goods open_at bs k (c.to + 1) there next m)
-          (λ r. (good_if_not open_at c.at_zero c.to bs c.register there [] (in_size c.register c.lists h.held k) m r, tt))
+          (λ r. (good_if_not open_at c.at_zero c.to bs c.register there [] (in_size c.register c.lists h.location k) m r, tt))
 
       pub going_back_good : Runs code arguments f end open_at from bs (going_back c.code (test_in c) there) → AreGood code arguments f end open_at from (going_back c.code (test_in c) there)
       going_back_good run =
@@ -380,7 +380,7 @@ module _ (code : Code) (arguments : List ℕ) (f : FunctionCode) (end : ℕ) whe
           let jump : Instr = jump_if c.at_zero c.register there in
           let next = meets_out code arguments f end open_at (c.to + 1) from bs (going_back c.code (test_in c) there) (test_back_is there) run in
           good_parts code arguments f end open_at from c.to bs test (jump ∷ []) (at_jump there (c.to + 1)) (h.balanced there (c.to + 1)) run (h.goods open_at bs k there (c.to + 1) m next)
-          (λ r. (good_if open_at c.at_zero c.to bs c.register there [] (in_size c.register c.lists h.held k) m r, tt))
+          (λ r. (good_if open_at c.at_zero c.to bs c.register there [] (in_size c.register c.lists h.location k) m r, tt))
 
   -- two conditions, one behind the other
   pub joined_sound : (op : LogicalOp) (from : ℕ) (l : Lists) (a b : Condition) → TestSound from l a → TestSound (a.to + 1) a.lists b → TestSound from l (logical_condition op a b)
@@ -391,7 +391,7 @@ module _ (code : Code) (arguments : List ℕ) (f : FunctionCode) (end : ℕ) whe
       record {
         to_is = let u : length (first_of op a ++ b.code) ≡ length (first_of op a) + length b.code = length-append (first_of op a) b.code in omega (arith, x, y, z, u);
         grows = grows_further l a.lists b.lists h.grows g.grows;
-        held = g.held;
+        location = g.location;
         balanced = λ met unmet.
             subst (IsBalanced arguments) (sym (map-append (instruction_of_draft met unmet) (first_of op a) b.code))
             (balanced_append arguments (map (instruction_of_draft met unmet) (first_of op a)) (map (instruction_of_draft met unmet) b.code) (first_balanced op met unmet) (g.balanced met unmet));
@@ -437,7 +437,7 @@ module _ (code : Code) (arguments : List ℕ) (f : FunctionCode) (end : ℕ) whe
       record {
         to_is = let u : length (head ++ tail) ≡ length head + 3 = length-append head tail in omega (arith, next, u);
         grows = grows_used l c.lists into h.grows;
-        held = let z = max_right c.lists.registers (suc into) in omega (arith, z);
+        location = let z = max_right c.lists.registers (suc into) in omega (arith, z);
         balanced = balanced_append arguments head tail (on_balanced from l c h (c.to + 3)) (λ q bs. refl);
         goods = λ o bs k run.
             let inner = fits_before code arguments f.registers c.lists (with_register into c.lists) (grows_used c.lists c.lists into (grows_same c.lists)) k in
@@ -457,61 +457,61 @@ module _ (code : Code) (arguments : List ℕ) (f : FunctionCode) (end : ℕ) whe
       }
 
   pub settled_sound : (r from : ℕ) (l : Lists) (e : Emitted) → Sound from l e → Sound from l (value_into r e)
-  settled_sound r from l e h = by (e.held.register == r)
+  settled_sound r from l e h = by (e.location.register == r)
     where
-      by : (b : Bool) → Sound from l (if b then e else then_one e (own.Move r e.held.register) r e.held.of)
+      by : (b : Bool) → Sound from l (if b then e else then_one e (own.Move r e.location.register) r e.location.of)
       by true = h
-      by false = then_sound (own.Move r e.held.register) r e.held.of from l e h (λ q bs. (refl, tt)) (λ x y. (x, y))
+      by false = then_sound (own.Move r e.location.register) r e.location.of from l e h (λ q bs. (refl, tt)) (λ x y. (x, y))
 
-  pub chosen_sound : (t : Scalar) (into from : ℕ) (l : Lists) (c : Condition) (a b : Emitted) → TestSound from l c → Sound (c.to + 1) c.lists a → Sound (a.held.to + 1) a.lists b → b.held.register ≡ into → Sound from l (conditional_value t c a b into)
+  pub chosen_sound : (t : Scalar) (into from : ℕ) (l : Lists) (c : Condition) (a b : Emitted) → TestSound from l c → Sound (c.to + 1) c.lists a → Sound (a.location.to + 1) a.lists b → b.location.register ≡ into → Sound from l (conditional_value t c a b into)
   chosen_sound t into from l c a b h g w same =
-      let test : List Instr = going_on c.code (test_in c) (a.held.to + 1) in
-      let skip : Instr = own.Jump b.held.to in
+      let test : List Instr = going_on c.code (test_in c) (a.location.to + 1) in
+      let skip : Instr = own.Jump b.location.to in
       let head : List Instr = test ++ a.code in
       let two : length head ≡ length test + length a.code = length-append test a.code in
-      let next = test_on_is from l c h (a.held.to + 1) in
+      let next = test_on_is from l c h (a.location.to + 1) in
       let x = h.to_is in
       let y = g.to_is in
       let z = w.to_is in
-      let last_is : a.held.to ≡ from + length head = omega (arith, next, y, two) in
-      let head_balanced = balanced_append arguments test a.code (on_balanced from l c h (a.held.to + 1)) g.balanced in
+      let last_is : a.location.to ≡ from + length head = omega (arith, next, y, two) in
+      let head_balanced = balanced_append arguments test a.code (on_balanced from l c h (a.location.to + 1)) g.balanced in
       record {
         to_is = let u : length (head ++ skip ∷ b.code) ≡ length head + length (skip ∷ b.code) = length-append head (skip ∷ b.code) in omega (arith, last_is, z, u);
         grows = grows_further l c.lists b.lists h.grows (grows_further c.lists a.lists b.lists g.grows w.grows);
-        held = let e = w.held in omega (arith, e, same);
+        location = let e = w.location in omega (arith, e, same);
         balanced = balanced_append arguments head (skip ∷ b.code) head_balanced (balanced_append arguments (skip ∷ []) b.code (λ q bs. refl) w.balanced);
         goods = λ o bs k run.
             let fa = fits_before code arguments f.registers a.lists b.lists w.grows k in
             let fc = fits_before code arguments f.registers c.lists a.lists g.grows fa in
-            let second : a.held.to + 1 ≡ a.held.to + length (skip ∷ []) = omega arith in
-            let behind_head = (parted code arguments f end o from a.held.to bs head (skip ∷ b.code) last_is head_balanced run).1 in
-            let behind_skip = (parted code arguments f end o a.held.to (a.held.to + 1) bs (skip ∷ []) b.code second (λ q bs. refl) behind_head).1 in
-            let other = meets_first code arguments f end o (a.held.to + 1) (a.held.to + 1) bs b.code refl behind_skip in
-            let out = meets_out code arguments f end o b.held.to (a.held.to + 1) bs b.code z behind_skip in
-            good_parts code arguments f end o from a.held.to bs head (skip ∷ b.code) last_is head_balanced run
-            (λ r. good_parts code arguments f end o from (c.to + 1) bs test a.code next (on_balanced from l c h (a.held.to + 1)) r (going_on_good from l c h o bs fc (a.held.to + 1) other) (g.goods o bs fa))
-            (λ r. good_parts code arguments f end o a.held.to (a.held.to + 1) bs (skip ∷ []) b.code second (λ q bs. refl) r (λ j. (good_jump code arguments f end o a.held.to bs b.held.to [] out j, tt)) (w.goods o bs k));
+            let second : a.location.to + 1 ≡ a.location.to + length (skip ∷ []) = omega arith in
+            let behind_head = (parted code arguments f end o from a.location.to bs head (skip ∷ b.code) last_is head_balanced run).1 in
+            let behind_skip = (parted code arguments f end o a.location.to (a.location.to + 1) bs (skip ∷ []) b.code second (λ q bs. refl) behind_head).1 in
+            let other = meets_first code arguments f end o (a.location.to + 1) (a.location.to + 1) bs b.code refl behind_skip in
+            let out = meets_out code arguments f end o b.location.to (a.location.to + 1) bs b.code z behind_skip in
+            good_parts code arguments f end o from a.location.to bs head (skip ∷ b.code) last_is head_balanced run
+            (λ r. good_parts code arguments f end o from (c.to + 1) bs test a.code next (on_balanced from l c h (a.location.to + 1)) r (going_on_good from l c h o bs fc (a.location.to + 1) other) (g.goods o bs fa))
+            (λ r. good_parts code arguments f end o a.location.to (a.location.to + 1) bs (skip ∷ []) b.code second (λ q bs. refl) r (λ j. (good_jump code arguments f end o a.location.to bs b.location.to [] out j, tt)) (w.goods o bs k));
       }
 
   -- the values of a call's arguments
   pub record AllSound (from : ℕ) (l : Lists) (e : AllEmitted) : Type 0 where
     pub to_is : e.to ≡ from + length e.code
     pub grows : Grows l e.lists
-    pub held : AreBelow e.lists.registers e.registers
+    pub location : AreBelow e.lists.registers e.registers
     pub balanced : IsBalanced arguments e.code
     pub goods : (open_at : ℕ → List ℕ) (bs : List ℕ) → Fits code arguments f.registers e.lists → Runs code arguments f end open_at from bs e.code → AreGood code arguments f end open_at from e.code
 
-  pub followed_sound : (from : ℕ) (l : Lists) (e : Emitted) (es : AllEmitted) → Sound from l e → AllSound e.held.to e.lists es → AllSound from l (with_argument e es)
+  pub followed_sound : (from : ℕ) (l : Lists) (e : Emitted) (es : AllEmitted) → Sound from l e → AllSound e.location.to e.lists es → AllSound from l (with_argument e es)
   followed_sound from l e es h g =
       let x = h.to_is in
       let y = g.to_is in
       record {
         to_is = let u : length (e.code ++ es.code) ≡ length e.code + length es.code = length-append e.code es.code in omega (arith, x, y, u);
         grows = grows_further l e.lists es.lists h.grows g.grows;
-        held = (let a = h.held in let b = g.grows.registers in omega (arith, a, b), g.held);
+        location = (let a = h.location in let b = g.grows.registers in omega (arith, a, b), g.location);
         balanced = balanced_append arguments e.code es.code h.balanced g.balanced;
         goods = λ o bs k run.
-            good_parts code arguments f end o from e.held.to bs e.code es.code h.to_is h.balanced run (h.goods o bs (fits_before code arguments f.registers e.lists es.lists g.grows k)) (g.goods o bs k);
+            good_parts code arguments f end o from e.location.to bs e.code es.code h.to_is h.balanced run (h.goods o bs (fits_before code arguments f.registers e.lists es.lists g.grows k)) (g.goods o bs k);
       }
 
   pub called_sound : (c : Callee) (into from : ℕ) (l : Lists) (args : AllEmitted) → AllSound from l args → length args.registers ≡ length c.parameters → Takes code c.number (length c.parameters) → Sound from l (call_code (Some c) args from into l)
@@ -528,12 +528,12 @@ module _ (code : Code) (arguments : List ℕ) (f : FunctionCode) (end : ℕ) whe
       record {
         to_is = let b : length (args.code ++ i ∷ []) ≡ length args.code + 1 = length-append args.code (i ∷ []) in omega (arith, to_is, b);
         grows = grows_further l args.lists (with_register into lists) h.grows all;
-        held = let x = max_right lists.registers (suc into) in omega (arith, x);
+        location = let x = max_right lists.registers (suc into) in omega (arith, x);
         balanced = balanced_append arguments args.code (i ∷ []) h.balanced (λ q bs. refl);
         goods = λ o bs k run.
             let first = fits_before code arguments f.registers args.lists (with_register into lists) all k in
             let same : instr_of arguments i ≡ Plain.Call c.number into handed = ap (λ xs. Plain.Call c.number into xs) (handed_over arguments made handed k.arguments.0 k.arguments.1) in
-            let below : AreBelow f.registers handed = arranged_below f.registers c.parameters args.registers (below_more args.lists.registers f.registers args.registers (size_of args.lists first) h.held) in
+            let below : AreBelow f.registers handed = arranged_below f.registers c.parameters args.registers (below_more args.lists.registers f.registers args.registers (size_of args.lists first) h.location) in
             let takes_them : Takes code c.number (length handed) = subst (Takes code c.number) (sym (arranged_length c.parameters args.registers many)) takes in
             good_parts code arguments f end o from args.to bs args.code (i ∷ []) h.to_is h.balanced run (h.goods o bs first)
             (λ r. (good_on code arguments f end o args.to bs i [] (λ q bs. (refl, tt)) (subst (IsWritten code f end) (sym same) (is_register code arguments f.registers lists into k, below, takes_them)) r, tt));

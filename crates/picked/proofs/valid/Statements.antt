@@ -17,7 +17,7 @@ use Rattle.bytecode.specs.declared.instr.Instr.TheVariants as own
 use Rattle.bytecode.specs.Code.{Code, FunctionCode}
 use Rattle.lowered.specs.Expressions.{LocalScope}
 use Rattle.lowered.specs.Statements.{locals_of_start, locals_after}
-use Rattle.picked.specs.declared.held.Exits.{Exits}
+use Rattle.picked.specs.declared.locations.Exits.{Exits}
 use Rattle.picked.specs.Lists.{Lists}
 use Rattle.picked.specs.Expressions.{AllEmitted, due, condition, all_emitted}
 use Rattle.picked.specs.Conditions.{Condition, test_in, going_on}
@@ -290,7 +290,7 @@ module _ (code : Code) (arguments : List ℕ) (f : FunctionCode) (end : ℕ) whe
           let first = one_written own.Irrevocable from l in
           then_flat code arguments f end from l (and_then first (handed args)) (pieces_written (pieces format) args.registers args.to args.lists)
           (then_flat code arguments f end from l first (handed args) (one_flat code arguments f end own.Irrevocable from l (λ q bs. (refl, tt)) (λ k. tt)) (record { to_is = g.to_is; grows = g.grows; balanced = g.balanced; goods = g.goods }))
-          (pieces_flat (pieces format) args.registers args.to args.lists g.held)
+          (pieces_flat (pieces format) args.registers args.to args.lists g.location)
 
       return_part : (bs : List ℕ) (x : Exits) (loops : Bool) (m : Enclosing) (e : Expr) → TypedExpr known e → (from : ℕ) (l : Lists) →
           Part code arguments f end (Exiting code arguments f end bs x loops m) bs from l (return_code x.in_function (due p scope x.gives e from (length scope) (length scope) l))
@@ -298,10 +298,10 @@ module _ (code : Code) (arguments : List ℕ) (f : FunctionCode) (end : ℕ) whe
           let v = due p scope x.gives e from (length scope) (length scope) l in
           let s = due_sound p code arguments f end typed takes defined shares known scope agrees x.gives e h from (length scope) (length scope) l in
           let P : (ℕ → List ℕ) → Type 0 = Exiting code arguments f end bs x loops m in
-          then_part code arguments f end P bs from v.held.to l (code_of_value v) (left_by x.in_function (own.ReturnValue v.held.register) v.held.to v.lists) refl
+          then_part code arguments f end P bs from v.location.to l (code_of_value v) (left_by x.in_function (own.ReturnValue v.location.register) v.location.to v.lists) refl
           (flat_part code arguments f end P bs from l (code_of_value v) (evaluated_flat code arguments f end from l v s))
-          (left_part code arguments f end P bs x.in_function (own.ReturnValue v.held.register) v.held.to v.lists (λ o exits. let i = exits.in_function in omega (arith, i))
-          (λ o k exits r are. record { begins = []; are = are ∙ all_left bs x.in_function exits.in_function; written = in_size code arguments f end v.held.register v.lists s.held k; asks = refl; leads = tt }))
+          (left_part code arguments f end P bs x.in_function (own.ReturnValue v.location.register) v.location.to v.lists (λ o exits. let i = exits.in_function in omega (arith, i))
+          (λ o k exits r are. record { begins = []; are = are ∙ all_left bs x.in_function exits.in_function; written = in_size code arguments f end v.location.register v.lists s.location k; asks = refl; leads = tt }))
 
     mutual
       pub stmt_part : (s : Stmt) (known : Scope) (loops : Bool) (scope : LocalScope) (x : Exits) (m : Enclosing) → IsSubscope known (running_scope p scope) → TypedStmt s known loops → CancelsFit s m → (bs : List ℕ) (from : ℕ) (l : Lists) →

@@ -6,8 +6,8 @@ use Rattle.world.specs.declared.stop.StopReason.{StopReason}
 use Rattle.world.specs.Simulations.{Simulation, further, world_of}
 use Rattle.world.specs.Stops.{StopsFor}
 use Rattle.replay.specs.declared.line.Line.{Line}
-use Rattle.replay.specs.declared.play.Halt.{Halt}
-use Rattle.replay.specs.declared.play.Halt.TheVariants.{Stopped, Refused}
+use Rattle.replay.specs.declared.play.ReplayHalt.{ReplayHalt}
+use Rattle.replay.specs.declared.play.ReplayHalt.TheVariants.{Stopped, Refused}
 use Rattle.replay.specs.declared.line.TheConstants.{MOST_STEPS}
 use Rattle.replay.specs.Replays.{events_of, first_world, simulation_after, steps_of}
 
@@ -27,13 +27,13 @@ pub record IsCut (line : Line) (room : ℕ) (before after : Simulation) : Type 0
       (steps_of before.code room (line ∷ lines) (world_of before) ≡ made ++ line.thread ∷ later)
 
 -- where a step of a thread was not made, the world is as it was
-abbrev pub HaltsAt : ℕ → Halt → Simulation → Simulation → List (ℕ × ℕ × Event) → Type 0
+abbrev pub HaltsAt : ℕ → ReplayHalt → Simulation → Simulation → List (ℕ × ℕ × Event) → Type 0
 HaltsAt t (Stopped reason) before after events =
     (after ≡ before) × StopsFor before t reason × (events ≡ events_of before)
 HaltsAt t Refused before after events = Unit {0}
 
 -- and where a line was not made to its end, all its steps before that were made
-abbrev pub HaltsIn : Line → ℕ → Halt → Simulation → Simulation → List (ℕ × ℕ × Event) → Type 0
+abbrev pub HaltsIn : Line → ℕ → ReplayHalt → Simulation → Simulation → List (ℕ × ℕ × Event) → Type 0
 HaltsIn line room (Stopped reason) before after events =
     IsCut line room before after × StopsFor after line.thread reason × (events ≡ events_of after)
 HaltsIn line room Refused before after events = Unit {0}

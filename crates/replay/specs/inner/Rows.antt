@@ -3,8 +3,8 @@ use Rattle.std.specs.Prelude.{◌≡◌, ℕ, Bool, false, ◌&&◌, ◌==◌, i
 use Rattle.std.specs.Prelude.{take, drop}
 use Rattle.std.specs.List.{prefix_len}
 use Rattle.replay.specs.Schedules.{AreSpaces, Asks, IsBad}
-use Rattle.replay.specs.declared.row.Row.{Row}
-use Rattle.replay.specs.declared.row.Row.TheVariants.{Blank, Steps, Bad}
+use Rattle.replay.specs.declared.row.ScheduleRow.{ScheduleRow}
+use Rattle.replay.specs.declared.row.ScheduleRow.TheVariants.{Blank, Steps, Bad}
 
 abbrev pub is_space : ℕ → Bool
 is_space b = b == 32
@@ -42,7 +42,7 @@ pub record IsCut (row thread : List ℕ) (apart accesses : Bool) (count over : L
   pub over_is : over ≡ past (behind (behind_letter (past (behind (past row)))))
 
 -- what a row says
-abbrev pub IsRow : List ℕ → Row → Type 0
+abbrev pub IsRow : List ℕ → ScheduleRow → Type 0
 IsRow row Blank = AreSpaces row
 IsRow row (Steps line) = Asks row line
 IsRow row Bad = IsBad row

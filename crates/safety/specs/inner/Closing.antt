@@ -1,6 +1,6 @@
 -- What the search for callers keeps.
 use Rattle.std.specs.Prelude.{◌≡◌, ℕ, ◌<◌, ◌≤◌, List, length, Bool, true, false, Contains, count_by, slice_index_or}
-use Rattle.safety.specs.inner.Graphs.{callers_at, IsReached, State}
+use Rattle.safety.specs.inner.Graphs.{callers_at, IsReached, SearchState}
 
 -- callers are numbers of the graph
 abbrev pub IsWithin : List (List ℕ) → Type 0
@@ -10,7 +10,7 @@ abbrev pub IsMember : List Bool → ℕ → Type 0
 IsMember members i = slice_index_or members i false ≡ true
 
 -- the members are the numbers in the queue, once each, all of them reached
-pub record IsQueued (callers : List (List ℕ)) (s : State) : Type 0 where
+pub record IsQueued (callers : List (List ℕ)) (s : SearchState) : Type 0 where
   pub same : length s.members ≡ length callers
   pub count : length s.queue ≡ count_by (λ b. b) s.members
   pub queued : (i : ℕ) → IsMember s.members i → Contains s.queue i
@@ -18,7 +18,7 @@ pub record IsQueued (callers : List (List ℕ)) (s : State) : Type 0 where
   pub reached : (i : ℕ) → Contains s.queue i → IsReached callers i
 
 -- the callers of the first ones in the queue are members
-pub record IsClosing (callers : List (List ℕ)) (at : ℕ) (s : State) : Type 0 where
+pub record IsClosing (callers : List (List ℕ)) (at : ℕ) (s : SearchState) : Type 0 where
   pub known : IsQueued callers s
   pub begun : IsMember s.members 0
   pub passed : at ≤ length s.queue

@@ -27,8 +27,8 @@ pub record HasLinks (links : List Link) (numbers : List ℕ → Option ℕ) (cal
   pub sound : (j i : ℕ) → Contains (callers_at callers j) i → (l : Link) × Contains links l × IsEdge numbers l j i
 
 -- further names may have numbers
-abbrev pub Extends : (List ℕ → Option ℕ) → (List ℕ → Option ℕ) → Type 0
-Extends old new = (x : List ℕ) (k : ℕ) → old x ≡ Some k → new x ≡ Some k
+abbrev pub ExtendsMap : (List ℕ → Option ℕ) → (List ℕ → Option ℕ) → Type 0
+ExtendsMap old new = (x : List ℕ) (k : ℕ) → old x ≡ Some k → new x ≡ Some k
 
 -- a way from 0 to a number, by its last steps
 abbrev pub IsWay : List (List ℕ) → List ℕ → ℕ → Type 0
@@ -39,16 +39,16 @@ abbrev pub IsReached : List (List ℕ) → ℕ → Type 0
 IsReached callers i = (js : List ℕ) × IsWay callers js i
 
 -- which numbers are members, and those whose callers are to be members yet, in order
-pub record State : Type 0 where
+pub record SearchState : Type 0 where
   pub members : List Bool
   pub queue : List ℕ
 
 -- a number is put into the set and the queue, where it was no member yet
-abbrev pub enqueue : State → ℕ → State
+abbrev pub enqueue : SearchState → ℕ → SearchState
 enqueue s i =
     if slice_index_or s.members i true then s
     else record { members = slice_set s.members i true; queue = s.queue ++ i ∷ [] }
 
-abbrev pub all_visited : State → List ℕ → State
+abbrev pub all_visited : SearchState → List ℕ → SearchState
 all_visited s [] = s
 all_visited s (i ∷ is) = all_visited (enqueue s i) is

@@ -4,7 +4,7 @@ use Rattle.syntax.specs.Tree.{Item}
 use Rattle.syntax.specs.Typing.{has_name, defined_names}
 use Rattle.name_tables.specs.Named.{first}
 use Rattle.name_tables.specs.Known.{entries_in}
-use Rattle.name_tables.specs.declared.kept.Table.{Table}
+use Rattle.name_tables.specs.declared.entries.Table.{Table}
 
 -- these are the names of the functions that these items define
 abbrev pub AreBodies : {V A : Type 0} → Table V A → List Item → Type 0

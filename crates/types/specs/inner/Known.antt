@@ -6,12 +6,12 @@ use Rattle.syntax.specs.Types.{Known, Unknown, Number, Scope}
 use Rattle.syntax.specs.Typing.{has_name}
 use Rattle.name_tables.specs.Named.{first, newest}
 use Rattle.name_tables.specs.Known.{entries_in, locals_in}
-use Rattle.types.specs.declared.symbol.Symbol.{Symbol}
-use Rattle.types.specs.declared.table.Names.{Names}
+use Rattle.types.specs.declared.symbol.ScopeSymbol.{ScopeSymbol}
+use Rattle.types.specs.declared.table.ScopeTable.{ScopeTable}
 use Rattle.types.specs.inner.Scopes.{known_of}
 
 -- the newest local of a name hides what the file declares
-abbrev pub known_as : {A : Type 0} → Option (ℕ × Scalar) → Option (Symbol (Function A)) → Known
+abbrev pub known_as : {A : Type 0} → Option (ℕ × Scalar) → Option (ScopeSymbol (Function A)) → Known
 known_as (Some l) declared = Number l.1
 known_as None (Some symbol) = known_of symbol
 known_as None None = Unknown
@@ -23,32 +23,32 @@ is_behind start (Some l) = nat_le start l.0
 
 module _ {A : Type 0} where
   -- the locals, in order of declaration
-  abbrev pub locals_of : Names A → List (List ℕ × Scalar)
+  abbrev pub locals_of : ScopeTable A → List (List ℕ × Scalar)
   locals_of n = locals_in n.locals
 
   -- the names of the file, as each was first declared
-  abbrev pub file_of : Names A → List (List ℕ × Symbol (Function A))
+  abbrev pub file_of : ScopeTable A → List (List ℕ × ScopeSymbol (Function A))
   file_of n = entries_in n.file
 
-  unfoldable pub known_in : Names A → Scope
+  unfoldable pub known_in : ScopeTable A → Scope
   known_in n x = known_as (newest (locals_of n) x) (first (file_of n) x)
 
   -- the number of locals
-  abbrev pub count_in : Names A → ℕ
+  abbrev pub count_in : ScopeTable A → ℕ
   count_in n = length (locals_of n)
 
   -- there may be further locals; without them it is as it was
-  pub record Grows (old new : Names A) : Type 0 where
+  pub record Grows (old new : ScopeTable A) : Type 0 where
     pub locals : take (count_in old) (locals_of new) ≡ locals_of old
     pub file : file_of new ≡ file_of old
 
   -- both know the same names
-  pub record Agrees (old new : Names A) : Type 0 where
+  pub record Agrees (old new : ScopeTable A) : Type 0 where
     pub locals : locals_of new ≡ locals_of old
     pub file : file_of new ≡ file_of old
 
   -- these are the names declared since there were so many locals
-  abbrev pub AreDeclared : ℕ → Names A → List (List ℕ) → Type 0
+  abbrev pub AreDeclared : ℕ → ScopeTable A → List (List ℕ) → Type 0
   AreDeclared start n declared = (x : List ℕ) → is_behind start (newest (locals_of n) x) ≡ has_name declared x
 
 -- the names of a scope after these declarators

@@ -19,5 +19,5 @@ Tells (Err OutOfMemory) first = Unit {0}
 Tells (Err (Breaks b)) first = Some (number_in b, span_in b) ≡ first
 
 -- a check tells of the first demand that is not met
-abbrev pub Answers : {X : Type 0} → Result X Failure → List Demand → Type 0
-Answers r ds = Tells r (first_unmet ds)
+abbrev pub AnswersDemands : {X : Type 0} → Result X Failure → List Demand → Type 0
+AnswersDemands r ds = Tells r (first_unmet ds)

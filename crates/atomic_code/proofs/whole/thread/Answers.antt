@@ -3,7 +3,7 @@ use Rattle.std.specs.Prelude.{slice_get}
 use Rattle.std.proofs.lemmas.List.{length-map, map-append}
 use Rattle.syntax.specs.Behaviours.{ThreadEnd, Memory}
 use Rattle.bytecode.specs.Valid.{bounds_of}
-use Rattle.atomic_code.specs.declared.kept.Signal.TheVariants.{Goes, Leaves, Wants}
+use Rattle.atomic_code.specs.declared.context.Signal.TheVariants.{Goes, Leaves, Wants}
 use Rattle.atomic_code.specs.Whole.{memories_in, thread_end_in}
 use Rattle.atomic_code.specs.inner.Making.{HasMemoryAtHand, thread_of}
 use Rattle.atomic_code.specs.inner.Carrying.{ComesTo}

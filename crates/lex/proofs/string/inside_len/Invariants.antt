@@ -1,5 +1,5 @@
 use Rattle.std.proofs.Common.{length, ◌-◌, ◌≤◌, take, drop}
-use Rattle.lex.specs.Pieces.{Inside}
+use Rattle.lex.specs.Pieces.{IsStringBody}
 use Rattle.lex.specs.inner.Strings.{Unclosed}
 use Rattle.lex.proofs.string.inside_len.Given as goal
 
@@ -7,7 +7,7 @@ use Rattle.lex.proofs.string.inside_len.Given as goal
 abbrev pub invariant-inside : goal.invariant-inside
 invariant-inside l = record {
   within : l.at ≤ length l.rest;
-  inside : Inside (take l.at l.rest);
+  inside : IsStringBody (take l.at l.rest);
   open_if : Unclosed (drop l.at l.rest) → Unclosed l.rest;
 }
 

@@ -5,7 +5,7 @@ use Rattle.syntax.specs.declared.tree.Stmt.TheVariants as own_stmt
 use Rattle.syntax.proofs.tree.Stmt.TheLaws.{the_size}
 use Rattle.syntax.specs.Views.{expr_of, simple_of, start_of, stmt_of, stmts_of}
 use Rattle.bytecode.specs.declared.instr.Instr.TheVariants as own
-use Rattle.picked.specs.declared.held.Tested.{Tested}
+use Rattle.picked.specs.declared.locations.ConditionRegister.{ConditionRegister}
 use Rattle.picked.specs.Conditions.{going_on}
 use Rattle.picked.specs.Expressions.{condition}
 use Rattle.picked.specs.Simples.{Written}
@@ -94,7 +94,7 @@ lower_stmt-returns-in-Transaction g t c =
 
 pub lower_if-returns-clause-code : goal.lower_if-returns-clause-code
 lower_if-returns-clause-code g t c =
-    let next = c.in_ok-next.ensures ∙ ap (λ (t : Tested). t.to + 1) c.in_ok-t.ensures.end in
+    let next = c.in_ok-next.ensures ∙ ap (λ (t : ConditionRegister). t.to + 1) c.in_ok-t.ensures.end in
     let there = ap of_written (λ j. written (program_in c.args.names.now) (stmt_of c.args.then.now) c.args.exits (scope_in c.args.scope.now) (next j) (c.in_ok-t.ensures.lists j)) in
     let test = gathered c.in_ok-t.ensures c.requires.test c.as_slice.ensures.value in
     let branch = written_alone (same there c.in_ok-to.ensures.code) c.requires.branch in
@@ -107,13 +107,13 @@ lower_if-returns-in_err-t-clause-code g t c =
 
 pub lower_if-returns-in_err-to-clause-code : goal.lower_if-returns-in_err-to-clause-code
 lower_if-returns-in_err-to-clause-code g t c =
-    let next = c.in_ok-next.ensures ∙ ap (λ (t : Tested). t.to + 1) c.in_ok-t.ensures.end in
+    let next = c.in_ok-next.ensures ∙ ap (λ (t : ConditionRegister). t.to + 1) c.in_ok-t.ensures.end in
     let there = ap of_written (λ j. written (program_in c.args.names.now) (stmt_of c.args.then.now) c.args.exits (scope_in c.args.scope.now) (next j) (c.in_ok-t.ensures.lists j)) in
     stops (same there c.lower_scoped.ensures.code) c.in_err-to.was c.from_residual-in_err-to.ensures (no_less _)
 
 pub lower_if_else-returns-clause-code : goal.lower_if_else-returns-clause-code
 lower_if_else-returns-clause-code g t c =
-    let next = c.in_ok-next.ensures ∙ ap (λ (t : Tested). t.to + 1) c.in_ok-t.ensures.end in
+    let next = c.in_ok-next.ensures ∙ ap (λ (t : ConditionRegister). t.to + 1) c.in_ok-t.ensures.end in
     let there = ap of_written (λ j. written (program_in c.args.names.now) (stmt_of c.args.then.now) c.args.exits (scope_in c.args.scope.now) (next j) (c.in_ok-t.ensures.lists j)) in
     let test = gathered c.in_ok-t.ensures c.requires.test c.as_slice.ensures.value in
     let first = same there c.in_ok-last.ensures.code in
@@ -130,7 +130,7 @@ lower_if_else-returns-in_err-t-clause-code g t c =
 
 pub lower_if_else-returns-in_err-last-clause-code : goal.lower_if_else-returns-in_err-last-clause-code
 lower_if_else-returns-in_err-last-clause-code g t c =
-    let next = c.in_ok-next.ensures ∙ ap (λ (t : Tested). t.to + 1) c.in_ok-t.ensures.end in
+    let next = c.in_ok-next.ensures ∙ ap (λ (t : ConditionRegister). t.to + 1) c.in_ok-t.ensures.end in
     let there = ap of_written (λ j. written (program_in c.args.names.now) (stmt_of c.args.then.now) c.args.exits (scope_in c.args.scope.now) (next j) (c.in_ok-t.ensures.lists j)) in
     let test = condition (program_in c.args.names.now) (scope_in c.args.scope.now) (expr_of c.args.c.now) c.args.from (length (scope_in c.args.scope.now)) (lists_of c.args.lists.now) in
     let first = written (program_in c.args.names.now) (stmt_of c.args.then.now) c.args.exits (scope_in c.args.scope.now) (test.to + 1) test.lists in
@@ -138,7 +138,7 @@ lower_if_else-returns-in_err-last-clause-code g t c =
 
 pub lower_if_else-returns-in_err-to-clause-code : goal.lower_if_else-returns-in_err-to-clause-code
 lower_if_else-returns-in_err-to-clause-code g t c =
-    let next = c.in_ok-next.ensures ∙ ap (λ (t : Tested). t.to + 1) c.in_ok-t.ensures.end in
+    let next = c.in_ok-next.ensures ∙ ap (λ (t : ConditionRegister). t.to + 1) c.in_ok-t.ensures.end in
     let there = ap of_written (λ j. written (program_in c.args.names.now) (stmt_of c.args.then.now) c.args.exits (scope_in c.args.scope.now) (next j) (c.in_ok-t.ensures.lists j)) in
     let first = same there c.in_ok-last.ensures.code in
     let other_at = c.in_ok-other_at.ensures ∙ ap (λ (k : ℕ). k + 1) first.end in

@@ -1,5 +1,5 @@
 use Rattle.std.proofs.Common.{◌+◌, ◌++◌, ap, ◌∙◌}
-use Rattle.picked.specs.declared.held.Tested.{Tested}
+use Rattle.picked.specs.declared.locations.ConditionRegister.{ConditionRegister}
 use Rattle.picked.specs.Conditions.{going_back}
 use Rattle.expression_code.proofs.Adding.{gathered}
 use Rattle.lower.proofs.stmt.lower_back.Goals as goal
@@ -11,6 +11,6 @@ returns g c =
     record {
       code = c.in_ok-put_back.ensures.code ∙ (λ j. c.args.code.now.items ++ going_back (test j).code (k.end j) c.args.back);
       lists = k.lists;
-      end = c.in_ok-put_back.ensures.place ∙ ap (λ (t : Tested). t.to + 1) k.end;
+      end = c.in_ok-put_back.ensures.place ∙ ap (λ (t : ConditionRegister). t.to + 1) k.end;
       fails = tt;
     }

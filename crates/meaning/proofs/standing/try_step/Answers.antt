@@ -1,7 +1,7 @@
 use Rattle.std.proofs.Common.{refl}
 use Rattle.syntax.specs.Views.{exprs_of, stmt_of}
 use Rattle.meaning.specs.declared.left.Task.TheVariants as task
-use Rattle.meaning.specs.declared.left.Way.TheVariants as way
+use Rattle.meaning.specs.declared.left.Direction.TheVariants as way
 use Rattle.meaning.specs.inner.Left.{opened, step_of}
 use Rattle.meaning.specs.inner.Does.{called}
 use Rattle.meaning.specs.inner.Going.{call_begun}

@@ -1,5 +1,5 @@
 use Rattle.std.proofs.Common.{◌∷◌, [], ap, length, length-append, subst, sym, arith}
-use Rattle.world.specs.inner.Kept.{AreFirstFrom}
+use Rattle.world.specs.inner.Following.{AreFirstFrom}
 use Rattle.world.proofs.Opening.{first_more}
 use Rattle.world.proofs.world.first_threads.Goals as goal
 

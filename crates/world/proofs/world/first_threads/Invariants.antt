@@ -1,5 +1,5 @@
 use Rattle.std.proofs.Common.{◌≡◌, length}
-use Rattle.world.specs.inner.Kept.{AreFirstFrom}
+use Rattle.world.specs.inner.Following.{AreFirstFrom}
 use Rattle.world.proofs.world.first_threads.Given as goal
 
 abbrev pub invariant-numbers : goal.invariant-numbers

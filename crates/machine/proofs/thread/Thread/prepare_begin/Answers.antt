@@ -6,14 +6,14 @@ use Rattle.machine.proofs.keeping.Calls.{runs_of, saved_same}
 use Rattle.machine.proofs.keeping.Committing.{begin_access}
 use Rattle.machine.proofs.keeping.Makes.{kept_same}
 use Rattle.machine.specs.States.{StandsAt, ThreadState}
-use Rattle.machine.specs.inner.Kept.{kept, shown_from}
+use Rattle.machine.specs.inner.Contexts.{context_of, shown_from}
 use Rattle.std.specs.Prelude.{◌<◌, ℕ, List, length}
 use Rattle.machine.proofs.keeping.Left.{none_shown}
 use Rattle.machine.proofs.thread.Thread.prepare_begin.Goals as goal
 
 pub frames-requires : goal.frames-requires
 frames-requires g c =
-    let k = kept {A = g.row.A.Denot} c.self.inside.held in
+    let k = context_of {A = g.row.A.Denot} c.self.inside.held in
     (runs_of c.args.code.now (begins_stay_open c.args.code.now c.note_valid.ensures) k c.args.self.now.thread (ap (λ (s : ThreadState). s.thread) c.self.view_is) c.self.invariant c.in-Running.is c.requires.of).stands.few
 
 pub returns-in-Running-clause-begins : goal.returns-in-Running-clause-begins
@@ -25,7 +25,7 @@ returns-in-Running-clause-begins g c = λ made. record {
 
 pub returns-in-Running-clause-access : goal.returns-in-Running-clause-access
 returns-in-Running-clause-access g c = λ made.
-    let k = kept {A = g.row.A.Denot} c.self.inside.held in
+    let k = context_of {A = g.row.A.Denot} c.self.inside.held in
     let law = begins_stay_open c.args.code.now c.note_valid.ensures in
     let l = record k { core = c.prepare_begin.new.self } in
     let runs = runs_of c.args.code.now law k c.args.self.now.thread (ap (λ (s : ThreadState). s.thread) c.self.view_is) c.self.invariant c.in-Running.is c.requires.of in

@@ -4,12 +4,12 @@ use Rattle.machine.proofs.keeping.Calls.{runs_of}
 use Rattle.machine.proofs.keeping.Committing.{kept_none}
 use Rattle.machine.proofs.keeping.Seen.{thread_of}
 use Rattle.machine.specs.States.{ThreadState}
-use Rattle.machine.specs.inner.Kept.{kept}
+use Rattle.machine.specs.inner.Contexts.{context_of}
 use Rattle.machine.proofs.thread.Thread.take_begin.Goals as goal
 
 pub take_begin-event-requires-clause-runs : goal.take_begin-event-requires-clause-runs
 take_begin-event-requires-clause-runs g c =
-    let k = kept {A = g.row.A.Denot} c.self.inside.held in
+    let k = context_of {A = g.row.A.Denot} c.self.inside.held in
     runs_of c.args.code.now (begins_stay_open c.args.code.now c.note_valid.ensures) k c.args.self.now.thread (ap (λ (s : ThreadState). s.thread) c.self.view_is) c.self.invariant
     (ap (λ (s : ThreadState). s.thread.status) c.self.view_is ∙ c.requires.begins.running) c.requires.of
 

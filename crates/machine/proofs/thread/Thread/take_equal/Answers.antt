@@ -3,12 +3,12 @@ use Rattle.frames.proofs.Keeping.{begins_stay_open}
 use Rattle.machine.proofs.keeping.Calls.{runs_of}
 use Rattle.machine.proofs.keeping.Seen.{thread_of}
 use Rattle.machine.specs.States.{ThreadState}
-use Rattle.machine.specs.inner.Kept.{kept}
+use Rattle.machine.specs.inner.Contexts.{context_of}
 use Rattle.machine.proofs.thread.Thread.take_equal.Goals as goal
 
 pub take_equal-requires-clause-runs : goal.take_equal-requires-clause-runs
 take_equal-requires-clause-runs g c =
-    let k = kept {A = g.row.A.Denot} c.self.inside.held in
+    let k = context_of {A = g.row.A.Denot} c.self.inside.held in
     runs_of c.args.code.now (begins_stay_open c.args.code.now c.note_valid.ensures) k c.args.self.now.thread (ap (λ (s : ThreadState). s.thread) c.self.view_is) c.self.invariant
     (ap (λ (s : ThreadState). s.thread.status) c.self.view_is ∙ c.requires.compares.running) c.requires.of
 

@@ -7,18 +7,18 @@ use Rattle.machine.proofs.keeping.Committing.{core_swaps}
 use Rattle.machine.proofs.keeping.Seen.{thread_of}
 use Rattle.machine.specs.States.{StandsAt, ThreadState}
 use Rattle.machine.specs.Threads.{access}
-use Rattle.machine.specs.inner.Kept.{kept}
+use Rattle.machine.specs.inner.Contexts.{context_of}
 use Rattle.machine.proofs.thread.Thread.take_swap.Goals as goal
 
 pub take_swap-event-requires-clause-runs : goal.take_swap-event-requires-clause-runs
 take_swap-event-requires-clause-runs g c =
-    let k = kept {A = g.row.A.Denot} c.self.inside.held in
+    let k = context_of {A = g.row.A.Denot} c.self.inside.held in
     runs_of c.args.code.now (begins_stay_open c.args.code.now c.note_valid.ensures) k c.args.self.now.thread (ap (λ (s : ThreadState). s.thread) c.self.view_is) c.self.invariant
     (ap (λ (s : ThreadState). s.thread.status) c.self.view_is ∙ c.requires.swaps.running) c.requires.of
 
 pub take_swap-event-requires-clause-swaps : goal.take_swap-event-requires-clause-swaps
 take_swap-event-requires-clause-swaps g c =
-    let k = kept {A = g.row.A.Denot} c.self.inside.held in
+    let k = context_of {A = g.row.A.Denot} c.self.inside.held in
     let law = begins_stay_open c.args.code.now c.note_valid.ensures in
     let running = ap (λ (s : ThreadState). s.thread.status) c.self.view_is ∙ c.requires.swaps.running in
     let runs = runs_of c.args.code.now law k c.args.self.now.thread (ap (λ (s : ThreadState). s.thread) c.self.view_is) c.self.invariant running c.requires.of in

@@ -1,0 +1,77 @@
+use Rattle.std.proofs.Common.{◌≡◌, ◌+◌, ◌-◌, Option, subst, arith}
+use Rattle.std.specs.Prelude.{IfNone, if◌then◌else◌}
+use Rattle.frames.specs.declared.doing.Doing.{Doing}
+use Rattle.local_steps.proofs.Known.{found}
+use Rattle.frames.proofs.Keeping.{begins_stay_open}
+use Rattle.machine.specs.Loads.{Counted}
+use Rattle.machine.specs.inner.Contexts.{Advances, ContextWith, context_of, machine_thread}
+use Rattle.machine.proofs.keeping.Inside.{advances_to}
+use Rattle.machine.proofs.keeping.Seen.{within}
+use Rattle.machine.proofs.context.ThreadContext.advance.Goals as goal
+
+pub passes-init : goal.passes-init
+passes-init g c =
+    let start : Counted = record { thread = machine_thread (context_of {A = g.row.A.Denot} c.args.self.now); accesses = c.args.accesses.now } in
+    let none : 0 ≡ c.args.most - c.args.most = omega arith in
+    record {
+      leads = subst (λ n. g.L.Loads.leads c.args.code.now c.args.loads.now start n c.args.loads.now start) none (c.stays.ensures c.args.code.now start);
+      running = c.requires.running;
+      runs = c.requires.runs;
+      within = within c.args.code.now (begins_stay_open c.args.code.now c.requires.valid) _ _ c.requires.runs.stands;
+      count = omega arith;
+    }
+
+pub advance_frames-steps-requires-clause-can : goal.advance_frames-steps-requires-clause-can
+advance_frames-steps-requires-clause-can g c = record {
+  s = c.args.loads.now;
+  start = record { thread = machine_thread (context_of {A = g.row.A.Denot} c.args.self.now); accesses = c.args.accesses.now };
+  before = c.args.most - c.passes.left;
+  led = c.passes.invariant.leads;
+  all = c.args.most;
+  can = c.requires.can;
+  few = (let few = c.passes.invariant.count in omega (arith, few));
+}
+
+pub returns-in_default-clause-leads : goal.returns-in_default-clause-leads
+returns-in_default-clause-leads g c =
+    let start : Counted = record { thread = machine_thread (context_of {A = g.row.A.Denot} c.args.self.now); accesses = c.args.accesses.now } in
+    let all = subst (λ (d : Option Doing). IfNone d (c.advance_frames-steps.result.0 ≡ c.passes.left)) c.in_default.is c.advance_frames-steps.ensures.all in
+    let few = c.passes.invariant.count in
+    let made : c.args.most - c.passes.left + c.advance_frames-steps.result.0 ≡ c.args.most = omega (arith, all, few) in
+    subst (λ n. g.L.Loads.leads c.args.code.now c.args.loads.now start n c.advance_frames-steps.new.loads (record { thread = machine_thread (context_of {A = g.row.A.Denot} c.advance_frames-steps.new.self); accesses = c.advance_frames-steps.new.accesses })) made
+    (c.advance_frames-steps.ensures.leads c.args.loads.now start (c.args.most - c.passes.left) c.passes.invariant.leads)
+
+pub returns-then-not-pass-clause-leads : goal.returns-then-not-pass-clause-leads
+returns-then-not-pass-clause-leads g c =
+    let start : Counted = record { thread = machine_thread (context_of {A = g.row.A.Denot} c.args.self.now); accesses = c.args.accesses.now } in
+    let m = context_of {A = g.row.A.Denot} c.advance_frames-steps.new.self in
+    let p = context_of {A = g.row.A.Denot} c.pass.new.self in
+    let none : Advances c.args.code.now m 0 p = subst (λ b. Advances c.args.code.now m (if b then 1 else 0) p) c.if-not-pass.true c.pass.ensures.advances in
+    let few = c.passes.invariant.count in
+    let steps = c.advance_frames-steps.ensures.count in
+    let made : c.args.most - c.passes.left + c.advance_frames-steps.result.0 + 0 ≡ c.args.most - (c.passes.left - c.advance_frames-steps.result.0) = omega (arith, few, steps) in
+    subst (λ n. g.L.Loads.leads c.args.code.now c.args.loads.now start n c.advance_frames-steps.new.loads (record { thread = machine_thread p; accesses = c.advance_frames-steps.new.accesses })) made
+    (advances_to g.L.Loads.leads c.args.code.now c.advance_frames-steps.new.loads (c.goes_on.ensures c.args.code.now) m p c.advance_frames-steps.new.accesses 0 c.requires.valid none
+    c.args.loads.now start (c.args.most - c.passes.left + c.advance_frames-steps.result.0) (c.advance_frames-steps.ensures.leads c.args.loads.now start (c.args.most - c.passes.left) c.passes.invariant.leads))
+
+pub passes-preserved : goal.passes-preserved
+passes-preserved g c =
+    let start : Counted = record { thread = machine_thread (context_of {A = g.row.A.Denot} c.args.self.now); accesses = c.args.accesses.now } in
+    let m = context_of {A = g.row.A.Denot} c.advance_frames-steps.new.self in
+    let p = context_of {A = g.row.A.Denot} c.pass.new.self in
+    let one : Advances c.args.code.now m 1 p = subst (λ b. Advances c.args.code.now m (if b then 1 else 0) p) c.if-not-pass.false c.pass.ensures.advances in
+    let few = c.passes.invariant.count in
+    let fewer = (found _ c.advance_frames-steps.result.1 c.in-Some.doing c.in-Some.is c.advance_frames-steps.ensures.tells).0 in
+    let made : c.args.most - c.passes.left + c.advance_frames-steps.result.0 + 1 ≡ c.args.most - (c.passes.left - c.advance_frames-steps.result.0 - 1) = omega (arith, few, fewer) in
+    record {
+      leads = subst (λ n. g.L.Loads.leads c.args.code.now c.args.loads.now start n c.advance_frames-steps.new.loads (record { thread = machine_thread p; accesses = c.advance_frames-steps.new.accesses })) made
+          (advances_to g.L.Loads.leads c.args.code.now c.advance_frames-steps.new.loads (c.goes_on.ensures c.args.code.now) m p c.advance_frames-steps.new.accesses 1 c.requires.valid one
+          c.args.loads.now start (c.args.most - c.passes.left + c.advance_frames-steps.result.0) (c.advance_frames-steps.ensures.leads c.args.loads.now start (c.args.most - c.passes.left) c.passes.invariant.leads));
+      running = c.pass.ensures.running;
+      runs = subst (ContextWith c.args.code.now p) c.pass.ensures.running one.of;
+      within = one.within;
+      count = omega (arith, few);
+    }
+
+pub returns-then-not-pass-clause-left : goal.returns-then-not-pass-clause-left
+returns-then-not-pass-clause-left g c = c.pass.ensures.left c.if-not-pass.true (found _ c.advance_frames-steps.result.1 c.in-Some.doing c.in-Some.is c.advance_frames-steps.ensures.ends)

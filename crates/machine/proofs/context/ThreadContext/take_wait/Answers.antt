@@ -1,0 +1,10 @@
+use Rattle.std.proofs.Common.{refl}
+use Rattle.frames.proofs.Keeping.{begins_stay_open}
+use Rattle.machine.specs.inner.Contexts.{context_of}
+use Rattle.machine.proofs.keeping.Validating.{waits_makes}
+use Rattle.machine.proofs.context.ThreadContext.take_wait.Goals as goal
+
+pub returns-clause-makes : goal.returns-clause-makes
+returns-clause-makes g c =
+    let k = context_of {A = g.row.A.Denot} c.args.self.now in
+    waits_makes c.args.code.now (begins_stay_open c.args.code.now c.requires.valid) k c.requires.running c.requires.runs c.requires.operation _ _ c.take_wait.ensures.step refl refl refl refl c.requires.waits
