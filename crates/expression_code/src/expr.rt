@@ -429,7 +429,7 @@ pub fn lower_due<A: Allocator + Copy>(
     }
 }
 
-/// The right side of an operator in the type that is due: it is computed, or it is a constant that lies ready.
+/// The right side of an operator in the type that is due: it is computed, or it is a constant that is preloaded.
 #[cycle(lower_expr)]
 pub(crate) fn lower_operand<A: Allocator + Copy>(
     names: &ProgramNames<'_, A>,

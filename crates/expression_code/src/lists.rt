@@ -15,9 +15,9 @@ pub struct Lists<A: Allocator> {
     /// How many registers the function needs as far as it is made.
     pub registers: u32,
 
-    /// The register from which on the function's constants lie ready.
+    /// The register from which on the function's constants are preloaded.
     pub writable: u16,
 
-    /// The constants that lie ready, in registers one after another.
+    /// The constants that are preloaded, in registers one after another.
     pub constants: Vec<u64, A>,
 }

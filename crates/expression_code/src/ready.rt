@@ -1,4 +1,4 @@
-//! Constants that lie ready in registers.
+//! Constants that are preloaded in registers.
 
 ghost use Rattle.std.specs.Prelude.{◌≡◌, ◌++◌, ◌+◌, ◌≤◌, length, pos, OnOk};
 ghost use Rattle.syntax.specs.Numbers.{word_of};
@@ -17,7 +17,7 @@ use std::alloc::{AllocError, Allocator};
 use syntax::number::word_of;
 use syntax::tree::Expr;
 
-/// A word that lies ready: its value, which no instruction gives.
+/// A word that is preloaded: its value, which no instruction gives.
 pub(crate) fn ready<A: Allocator>(
     lists: &Lists<A>,
     word: u64,
@@ -60,7 +60,7 @@ pub(crate) fn constant_of<A: Allocator>(e: &Expr<A>) -> Option<(u64, Scalar)>
     }
 }
 
-/// A constant that lies ready in this type, as the right side of an operator.
+/// A constant that is preloaded in this type, as the right side of an operator.
 pub(crate) fn constant_ready<A: Allocator>(
     lists: &Lists<A>,
     of: Scalar,

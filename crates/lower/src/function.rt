@@ -63,7 +63,7 @@ fn given_type(given: Option<Scalar>) -> Scalar
     }
 }
 
-/// A function's body with the constants that lie ready, and a return where that runs off its end; the place behind
+/// A function's body with the constants that are preloaded, and a return where that runs off its end; the place behind
 /// them.
 fn lower_body<'p, A: Allocator + Copy>(
     names: &ProgramNames<'p, A>,

@@ -8,7 +8,7 @@ ghost use Rattle.lower.specs.inner.Looped.{looped_in};
 use bytecode::Instr;
 use std::alloc::{AllocError, Allocator};
 
-/// The most constants that lie ready in a function.
+/// The most constants that are preloaded in a function.
 const MOST_READY: usize = 16;
 
 /// Of instructions, from the last one to some place: the lowest place that one of them jumps to, or else the place

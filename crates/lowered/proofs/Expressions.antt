@@ -407,7 +407,7 @@ module _ (p : Program) (call : Caller) (code : Code) (layout : Layout) (frames :
       (λ n j. after (Gives (record { of = d.typed_so j; word = sym d.here j }) (state n ls (context_of a sh) text)))
       (sets (Instr.Move r rc) t a sh text ls after q to home free r (slice_index rs rc) t old rs c refl len (subst (λ z. z < modulus t) (sym d.here) (subst (λ z. x.word < modulus z) d.typed_so d.word)) (keeps_more layout home free old rs d.keeps) d.good go)
 
-  -- a word that is set, or that lies ready
+  -- a word that is set, or that is preloaded
   pub word_comes : {N K : ℕ} (w : ℕ) (u : Scalar) (a : Around) (sh : Shared) (text : List ℕ) (scope : LocalScope) (ls : List Local) (does : ℕ → Outcome) (from to free r : ℕ) (old : List ℕ) → WordCode code layout w u from to free r → Holds scope ls layout free old → ((new : List ℕ) → slice_index new r ≡ w → Keeps layout None free old new → Agrees (effect code) N K (holding a sh text (configuration code to new frames)) does) → Agrees (effect code) N K (holding a sh text (configuration code from old frames)) does
   word_comes w u a sh text scope ls does from to free r old (inl c) h go =
       set_on (Instr.Constant r w) w u a sh text does from to None free r old old c refl h.size_is (keeps_all layout None free old) go

@@ -52,7 +52,7 @@ program = Shares (x ∷ []) ∷ Defines worker ∷ []
 abbrev function : FunctionCode
 function = record { name = codes "worker"; first = 0; registers = 5; parameters = 1 }
 
--- i is computed into its own register, the loop tests at its bottom, and its 3 and its 1 lie ready
+-- i is computed into its own register, the loop tests at its bottom, and its 3 and its 1 are preloaded
 abbrev code : Code
 code = record {
   functions = function ∷ [];

@@ -161,12 +161,12 @@ module _ (code : Code) (layout : Layout) where
     pub register : r ≡ layout.writable + number
     pub type_is : t ≡ u
 
-  -- a word is set in a register, or lies ready in one
+  -- a word is set in a register, or is preloaded in one
   abbrev pub WordCode : (w : ℕ) (u : Scalar) (from to free r : ℕ) → Type 0
   WordCode w u from to free r =
       GivenBy None (Instr.Constant r w) u from to free r u ⊎ LiesReady w u from to r u
 
-  -- an operand of an operator: a constant is set, or lies ready, as what it is converted to
+  -- an operand of an operator: a constant is set, or is preloaded, as what it is converted to
   abbrev pub OperandCode : Expr → Coded → Due
   OperandCode (Constant n s at) e u from to free r t = (t ≡ s) × WordCode (constant_in u s n) u from to free r
   OperandCode e' e u from to free r t = ConvertedCode None e u from to free r t

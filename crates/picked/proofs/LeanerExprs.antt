@@ -16,7 +16,7 @@ use Rattle.picked.specs.Conditions.{Condition, zero_test, zero_tested}
 use Rattle.picked.specs.Expressions.{Emitted, AllEmitted, above, then_one, logical_negation, value_into, variable, element, call_code, condition_of, where_same, converting, ready, constant_ready, ready_or, converted_by, in_type, in_first_type, taken_types, emitted_type, emitted, due, own_condition, condition, operand, all_emitted}
 use Rattle.picked.proofs.Growing.{due_more}
 
--- nothing lies ready in the first run, and the second one needs no more registers
+-- nothing is preloaded in the first run, and the second one needs no more registers
 pub record IsLeaner (l m : Lists) : Type 0 where
   pub registers : m.registers ≤ l.registers
   pub nothing : l.layout.constants ≡ []

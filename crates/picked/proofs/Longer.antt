@@ -1,4 +1,4 @@
--- What follows in a body only makes the lists longer, and keeps what lies ready.
+-- What follows in a body only makes the lists longer, and keeps what is preloaded.
 use Rattle.std.proofs.Common.{ℕ, suc, ◌+◌, List, [], ◌∷◌, ◌++◌, length, Option, Some, None, Bool, true, false, subst, sym, refl, arith}
 use Rattle.lex.specs.declared.token.Scalar.{Scalar}
 use Rattle.syntax.specs.declared.tree.BinaryOp.{BinaryOp}

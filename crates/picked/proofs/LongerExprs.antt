@@ -1,4 +1,4 @@
--- What follows only makes the lists longer, and keeps what lies ready: of expressions.
+-- What follows only makes the lists longer, and keeps what is preloaded: of expressions.
 use Rattle.std.proofs.Common.{ℕ, ◌+◌, List, [], ◌∷◌, ◌++◌, length, Option, Some, None, Bool, true, false, if◌then◌else◌, ◌==◌, refl, arith}
 use Rattle.std.specs.Option.{IfSome}
 use Rattle.lex.specs.declared.token.Scalar.{Scalar}

@@ -112,7 +112,7 @@ then_one e i r t = record {
 abbrev pub constant : ℕ → Scalar → (from into : ℕ) → Lists → Emitted
 constant n t from into l = one (own.Constant into n) from into t l
 
--- the register in which a word lies ready, where these words do from this register on, as far as registers have numbers
+-- the register in which a word is preloaded, where these words do from this register on, as far as registers have numbers
 abbrev pub ready_from : ℕ → List ℕ → ℕ → Option ℕ
 ready_from r [] w = None
 ready_from r (x ∷ xs) w = if x == w then Some r else if r == MOST_REGISTERS then None else ready_from (suc r) xs w
@@ -121,12 +121,12 @@ abbrev pub ready : Layout → (w : ℕ) → Scalar → (from : ℕ) → Option V
 ready layout w t from =
     option_map (λ r. record { register = r; of = t; to = from }) (ready_from layout.writable layout.constants w)
 
--- a constant that lies ready in the type that is due, as the right side of an operator
+-- a constant that is preloaded in the type that is due, as the right side of an operator
 abbrev pub constant_ready : Layout → Scalar → Expr → ℕ → Option ValueRegister
 constant_ready layout u (Constant n t at) from = ready layout (constant_in u t n) u from
 constant_ready layout u e from = None
 
--- a value that lies ready, or else one that is computed
+-- a value that is preloaded, or else one that is computed
 abbrev pub ready_or : Option ValueRegister → Lists → Emitted → Emitted
 ready_or None l e = e
 ready_or (Some held) l e = record { code = []; lists = l; location = held }

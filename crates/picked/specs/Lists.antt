@@ -3,7 +3,7 @@ use Rattle.std.specs.Prelude.{ℕ, suc, List, max}
 use Rattle.lowered.specs.Expressions.{Layout}
 
 -- the arguments of its calls, its texts, the number of registers that its function needs as far as it is made, and the
--- constants that lie ready in that function
+-- constants that are preloaded in that function
 pub record Lists : Type 0 where
   pub arguments : List ℕ
   pub texts : List (List ℕ)

@@ -27,7 +27,7 @@ abbrev pub has_word : List ℕ → ℕ → Bool
 has_word [] w = false
 has_word (x ∷ xs) w = x == w || has_word xs w
 
--- the most constants that lie ready in a function
+-- the most constants that are preloaded in a function
 abbrev pub MOST_READY : ℕ
 MOST_READY = 16
 

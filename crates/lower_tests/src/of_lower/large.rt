@@ -71,7 +71,7 @@ fn a_function_may_have_so_many_registers(rt: HostRuntime) {
     assert_that(&rt, is_so_wide(sizes, 65_535, 65_535));
 }
 
-/// Two constants lie ready in the last two registers that a function may have, and with a local more there is no room
+/// Two constants are preloaded in the last two registers that a function may have, and with a local more there is no room
 /// for them.
 #[test]
 fn constants_lie_ready_where_there_is_room(rt: HostRuntime) {

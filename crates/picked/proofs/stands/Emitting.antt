@@ -228,7 +228,7 @@ module _ (code : Code) (arguments : List ℕ) (layout : Layout) where
             };
       }
 
-  -- a word that lies ready, or else is set
+  -- a word that is preloaded, or else is set
   pub word_emits : (w : ℕ) (u : Scalar) (from free : ℕ) (l : Lists) →
       Emits (λ from to free r x. WordCode code layout w u from to free r) from free l (ready_or (ready l.layout w u from) l (constant w u from free l))
   word_emits w u from free l = by (ready_from l.layout.writable l.layout.constants w) refl

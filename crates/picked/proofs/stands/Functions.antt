@@ -147,7 +147,7 @@ module _ (p : Program) (typed : IsTypedProgram p) (cancels : CancelsAreFit p) wh
     goes_on : GoesOn l w.lists
     stands : GoesOn w.lists final → Stand code final.arguments from w.code → FunctionIsLowered p code (function_code f from w) f body
 
-  -- a body with its return, by what lies ready
+  -- a body with its return, by what is preloaded
   record BodyRuns (found : Layout) (f : Function) (body : Stmts) (from : ℕ) (l : Lists) (w : Written) : Type 0 where
     last : ℕ
     to_is : w.to ≡ from + length w.code

@@ -38,7 +38,7 @@ front_more xs ys = (ys, refl)
 pub front_front : {A : Type 0} (xs ys zs : List A) → IsFront xs ys → IsFront ys zs → IsFront xs zs
 front_front xs ys zs h g = (h.0 ++ g.0, g.1 ∙ ap (λ l. l ++ g.0) h.1 ∙ append_assoc xs h.0 g.0)
 
--- lists go on as longer ones, and the same constants lie ready
+-- lists go on as longer ones, and the same constants are preloaded
 pub record Grows (l m : Lists) : Type 0 where
   pub arguments : IsFront l.arguments m.arguments
   pub texts : IsFront l.texts m.texts
@@ -70,13 +70,13 @@ grows_used l m r h = record {
   layout = h.layout;
 }
 
--- a word lies ready in this register
+-- a word is preloaded in this register
 pub record IsFound (layout : Layout) (w r : ℕ) : Type 0 where
   pub number : ℕ
   pub known : slice_get layout.constants number ≡ Some w
   pub register : r ≡ layout.writable + number
 
--- what is found ready by one layout lies ready in another
+-- what is found ready by one layout is preloaded in another
 abbrev pub IsReadyIn : Layout → Layout → Type 0
 IsReadyIn layout own = (w r : ℕ) → ready_from own.writable own.constants w ≡ Some r → IsFound layout w r
 

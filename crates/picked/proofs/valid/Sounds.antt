@@ -256,7 +256,7 @@ module _ (code : Code) (arguments : List ℕ) (f : FunctionCode) (end : ℕ) whe
             ));
       }
 
-  -- the right side of an operator, which may lie ready
+  -- the right side of an operator, which may are preloaded
   pub record OperandSound (from : ℕ) (l : Lists) (e : Emitted) : Type 0 where
     pub to_is : e.location.to ≡ from + length e.code
     pub grows : Grows l e.lists
