@@ -7,18 +7,18 @@ use Rattle.std.proofs.lemmas.Bool.{leb-true, and_parts}
 use Rattle.syntax.specs.Tree.{Function, Stmts, Program}
 use Rattle.bytecode.specs.declared.instr.Instr.{Instr}
 use Rattle.bytecode.specs.declared.limits.TheConstants.{MOST_REGISTERS}
-use Rattle.lowered.specs.Expressions.{Layout}
-use Rattle.lowered.specs.Programs.{parameter_locals}
-use Rattle.picked.specs.Lists.{Lists}
-use Rattle.picked.specs.Simples.{Written}
-use Rattle.picked.specs.Loops.{in_loops}
-use Rattle.picked.specs.Programs.{no_exits, body_with, body_ready, body_better, body_written, nothing_ready}
-use Rattle.picked.proofs.Longer.{stmts_longer}
-use Rattle.picked.proofs.stands.Standing.{Grows, IsFront}
-use Rattle.expression_code.specs.declared.fault.Failure.{Failure}
-use Rattle.expression_code.specs.Limits.{NeedsMore}
-use Rattle.expression_code.specs.Stretches.{Adds, of_written}
-use Rattle.expression_code.proofs.Adding.{same, needs_more}
+use Rattle.lower_spec.specs.Expressions.{Layout}
+use Rattle.lower_spec.specs.Programs.{parameter_locals}
+use Rattle.selection.specs.Lists.{Lists}
+use Rattle.selection.specs.Simples.{Written}
+use Rattle.selection.specs.Loops.{in_loops}
+use Rattle.selection.specs.Programs.{no_exits, body_with, body_ready, body_better, body_written, nothing_ready}
+use Rattle.selection.proofs.Longer.{stmts_longer}
+use Rattle.selection.proofs.stands.Standing.{Grows, IsFront}
+use Rattle.lower_exprs.specs.declared.fault.Failure.{Failure}
+use Rattle.lower_exprs.specs.Limits.{NeedsMore}
+use Rattle.lower_exprs.specs.Stretches.{Adds, of_written}
+use Rattle.lower_exprs.proofs.Adding.{same, needs_more}
 
 -- a body that is made once more, in place of the one that is cut off
 pub made_once_more : {old cut new : List Instr} {a b : Written} {l : Lists} {r : Result ℕ Failure} {n : ℕ} →

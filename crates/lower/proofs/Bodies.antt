@@ -11,11 +11,11 @@ use Rattle.lex.specs.declared.token.Scalar.{Scalar}
 use Rattle.syntax.specs.Tree.{Function, Stmts, Item, Defines, Shares, Program}
 use Rattle.syntax.specs.Views.{item_of, function_of, stmts_of}
 use Rattle.bytecode.specs.Code.{FunctionCode}
-use Rattle.lowered.specs.Expressions.{LocalScope}
-use Rattle.picked.specs.Lists.{Lists}
-use Rattle.picked.specs.declared.locations.Exits.{Exits}
-use Rattle.picked.specs.Statements.{all_written}
-use Rattle.picked.specs.Programs.{body_written, FunctionCodes, nothing_made, function_code, put_before, made_first, all_made, made_for}
+use Rattle.lower_spec.specs.Expressions.{LocalScope}
+use Rattle.selection.specs.Lists.{Lists}
+use Rattle.selection.specs.declared.locations.Exits.{Exits}
+use Rattle.selection.specs.Statements.{all_written}
+use Rattle.selection.specs.Programs.{body_written, FunctionCodes, nothing_made, function_code, put_before, made_first, all_made, made_for}
 use Rattle.lower.specs.inner.Parts.{made_behind}
 
 abbrev pub exits_of : Scalar → Exits

@@ -13,11 +13,11 @@ use Rattle.syntax.specs.Views.{item_of, function_of, stmts_of}
 use Rattle.bytecode.specs.declared.instr.Instr.{Instr}
 use Rattle.bytecode.specs.Code.{FunctionCode}
 use Rattle.bytecode.specs.Views.{instr_of}
-use Rattle.lowered.specs.Programs.{parameter_locals}
-use Rattle.picked.specs.Lists.{Lists}
-use Rattle.picked.specs.Simples.{Written}
-use Rattle.picked.specs.Programs.{FunctionCodes, no_exits, body_written, nothing_ready, nothing_made, function_code, put_before, all_made, made_for, made_of, picked_code}
-use Rattle.picked.proofs.GrowingStmts.{stmts_more}
+use Rattle.lower_spec.specs.Programs.{parameter_locals}
+use Rattle.selection.specs.Lists.{Lists}
+use Rattle.selection.specs.Simples.{Written}
+use Rattle.selection.specs.Programs.{FunctionCodes, no_exits, body_written, nothing_ready, nothing_made, function_code, put_before, all_made, made_for, made_of, picked_code}
+use Rattle.selection.proofs.GrowingStmts.{stmts_more}
 use Rattle.lower.specs.declared.fault.LowerFault.{LowerFault}
 use Rattle.lower.specs.declared.fault.LowerFault.TheVariants.{OutOfMemory, TooManyRegisters, TooMuchCode, NestedTooDeep}
 use Rattle.lower.specs.Nested.{nested_too_deep}

@@ -4,11 +4,11 @@ use Rattle.std.proofs.lemmas.List.{drop_more, drop_all}
 use Rattle.lex.specs.declared.token.Scalar.{Scalar}
 use Rattle.syntax.specs.Formats.{Piece, Literal, Figure, literal, pieces}
 use Rattle.bytecode.specs.declared.instr.Instr.{Instr}
-use Rattle.picked.specs.Lists.{Lists}
-use Rattle.picked.specs.Simples.{Written, and_then}
-use Rattle.picked.specs.Statements.{pieces_written}
-use Rattle.expression_code.specs.Stretches.{Adds, of_written}
-use Rattle.expression_code.proofs.Adding.{written_behind}
+use Rattle.selection.specs.Lists.{Lists}
+use Rattle.selection.specs.Simples.{Written, and_then}
+use Rattle.selection.specs.Statements.{pieces_written}
+use Rattle.lower_exprs.specs.Stretches.{Adds, of_written}
+use Rattle.lower_exprs.proofs.Adding.{written_behind}
 use Rattle.lower.specs.inner.Formats.{with_literal, text_written, figure_written}
 
 -- bytes of text before pieces

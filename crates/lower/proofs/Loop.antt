@@ -4,14 +4,14 @@ use Rattle.syntax.specs.Tree as Tree
 use Rattle.syntax.specs.Tree.{Program}
 use Rattle.bytecode.specs.declared.instr.Instr.{Instr}
 use Rattle.bytecode.specs.declared.instr.Instr.TheVariants as own
-use Rattle.lowered.specs.Expressions.{LocalScope}
-use Rattle.lowered.specs.Statements.{locals_of_start}
-use Rattle.picked.specs.declared.locations.Exits.{Exits}
-use Rattle.picked.specs.Lists.{Lists}
-use Rattle.picked.specs.Simples.{Written, start_written}
-use Rattle.picked.specs.Statements.{for_step, for_test, looping, written}
-use Rattle.expression_code.specs.Stretches.{Adds, of_written}
-use Rattle.expression_code.proofs.Adding.{in_turn, written_alone}
+use Rattle.lower_spec.specs.Expressions.{LocalScope}
+use Rattle.lower_spec.specs.Statements.{locals_of_start}
+use Rattle.selection.specs.declared.locations.Exits.{Exits}
+use Rattle.selection.specs.Lists.{Lists}
+use Rattle.selection.specs.Simples.{Written, start_written}
+use Rattle.selection.specs.Statements.{for_step, for_test, looping, written}
+use Rattle.lower_exprs.specs.Stretches.{Adds, of_written}
+use Rattle.lower_exprs.proofs.Adding.{in_turn, written_alone}
 
 module _ (p : Program) (x : Exits) (s : LocalScope) (from : ℕ) (l : Lists) (start : Tree.Start) (c : Option Tree.Expr) (step : Option Tree.Simple) (a : Tree.Stmt) where
   abbrev Inner : LocalScope

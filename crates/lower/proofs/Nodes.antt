@@ -16,13 +16,13 @@ use Rattle.syntax.specs.Tree.{Program}
 use Rattle.syntax.specs.Views.{expr_of, exprs_of, simple_of, declarator_of, start_of, stmt_step, stmt_of, stmts_of}
 use Rattle.syntax.proofs.Seen.{stmt_of_declare, stmt_of_block, stmt_of_print, stmt_of_if, stmt_of_if_else, stmt_of_while, stmt_of_do_while, stmt_of_for, stmt_of_return, stmt_of_transaction}
 use Rattle.bytecode.specs.declared.instr.Instr.{Instr}
-use Rattle.lowered.specs.Expressions.{LocalScope}
-use Rattle.lowered.specs.Statements.{locals_after}
-use Rattle.picked.specs.declared.locations.Exits.{Exits}
-use Rattle.picked.specs.Lists.{Lists}
-use Rattle.picked.specs.Statements.{written}
-use Rattle.expression_code.specs.declared.fault.Failure.{Failure}
-use Rattle.expression_code.specs.Stretches.{Adds, of_written}
+use Rattle.lower_spec.specs.Expressions.{LocalScope}
+use Rattle.lower_spec.specs.Statements.{locals_after}
+use Rattle.selection.specs.declared.locations.Exits.{Exits}
+use Rattle.selection.specs.Lists.{Lists}
+use Rattle.selection.specs.Statements.{written}
+use Rattle.lower_exprs.specs.declared.fault.Failure.{Failure}
+use Rattle.lower_exprs.specs.Stretches.{Adds, of_written}
 
 module _ {A : Type 0} where
   pub simple_is : {s : S.Stmt A} {i : J.Simple A} → s ≡ S.Do i → stmt_of s ≡ Tree.Do (simple_of i)

@@ -2,8 +2,8 @@
 use Rattle.std.proofs.Common.{◌≡◌, ◌∙◌, ℕ, ◌+◌, ◌<◌, List, [], ◌∷◌, ◌++◌, map, length, drop, get_or, ap, sym, append_assoc, append-nil}
 use Rattle.std.proofs.lemmas.List.{at_drop_more}
 use Rattle.syntax.specs.Tree.{Parameter}
-use Rattle.lowered.specs.Expressions.{LocalScope}
-use Rattle.lowered.specs.Programs.{parameter_locals}
+use Rattle.lower_spec.specs.Expressions.{LocalScope}
+use Rattle.lower_spec.specs.Programs.{parameter_locals}
 
 -- those of one parameter, and those of the parameters behind it
 pub parameter_before : (q : Parameter) (qs : List Parameter) → parameter_locals (q ∷ qs) ≡ parameter_locals (q ∷ []) ++ parameter_locals qs

@@ -17,11 +17,11 @@ use Rattle.bytecode.specs.declared.code.Parts.{Parts}
 use Rattle.bytecode.specs.Code.{Code, FunctionCode}
 use Rattle.bytecode.specs.Valid.{IsValid}
 use Rattle.bytecode.specs.Views.{code_of, function_of, instr_of}
-use Rattle.lowered.specs.Programs.{IsLowered}
-use Rattle.lowered.specs.Means.{MeansItsProgram}
-use Rattle.lowered.specs.Laws.{LoweredCodeMeans}
-use Rattle.picked.specs.Programs.{picked_code}
-use Rattle.picked.specs.Laws.{IsWithinLimits, PickedCodeIsValid, PickedCodeStands}
+use Rattle.lower_spec.specs.Programs.{IsLowered}
+use Rattle.lower_spec.specs.Means.{MeansItsProgram}
+use Rattle.lower_spec.specs.Laws.{LoweredCodeMeans}
+use Rattle.selection.specs.Programs.{picked_code}
+use Rattle.selection.specs.Laws.{IsWithinLimits, PickedCodeIsValid, PickedCodeStands}
 use Rattle.lower.proofs.Bodies.{few_at}
 
 -- the program that an accepted one lends

@@ -3,14 +3,14 @@ use Rattle.std.proofs.Common.{ℕ, ◌+◌, ◌≤◌, List, length, Option, ari
 use Rattle.syntax.specs.Tree as Tree
 use Rattle.syntax.specs.Tree.{Program}
 use Rattle.syntax.specs.Formats.{Piece}
-use Rattle.lowered.specs.Expressions.{LocalScope}
-use Rattle.lowered.specs.Statements.{locals_of_start}
-use Rattle.picked.specs.declared.locations.Exits.{Exits}
-use Rattle.picked.specs.Lists.{Lists}
-use Rattle.picked.specs.Expressions.{AllEmitted, condition}
-use Rattle.picked.specs.Simples.{Written, start_written}
-use Rattle.picked.specs.Statements.{looping, print_written, for_step, written}
-use Rattle.picked.proofs.GrowingStmts.{pieces_same, test_more, step_more, written_more}
+use Rattle.lower_spec.specs.Expressions.{LocalScope}
+use Rattle.lower_spec.specs.Statements.{locals_of_start}
+use Rattle.selection.specs.declared.locations.Exits.{Exits}
+use Rattle.selection.specs.Lists.{Lists}
+use Rattle.selection.specs.Expressions.{AllEmitted, condition}
+use Rattle.selection.specs.Simples.{Written, start_written}
+use Rattle.selection.specs.Statements.{looping, print_written, for_step, written}
+use Rattle.selection.proofs.GrowingStmts.{pieces_same, test_more, step_more, written_more}
 
 pub arguments_within : (args : AllEmitted) (ps : List Piece) → args.lists.registers ≤ (print_written args ps).lists.registers
 arguments_within args ps = let a = pieces_same ps args.registers args.to args.lists in omega (arith, a)

@@ -5,15 +5,15 @@ use Rattle.syntax.specs.declared.tree.Stmt.{Stmt as OwnStmt}
 use Rattle.syntax.specs.Tree.{Program}
 use Rattle.syntax.specs.Views.{stmt_of, stmts_of}
 use Rattle.bytecode.specs.declared.instr.Instr.{Instr}
-use Rattle.lowered.specs.Expressions.{LocalScope}
-use Rattle.lowered.specs.Statements.{locals_after, locals_at_end}
-use Rattle.picked.specs.declared.locations.Exits.{Exits}
-use Rattle.picked.specs.Lists.{Lists}
-use Rattle.picked.specs.Simples.{Written, and_then}
-use Rattle.picked.specs.Statements.{written, all_written}
-use Rattle.picked.proofs.GrowingStmts.{stmts_more}
-use Rattle.expression_code.specs.Stretches.{Adds, of_written}
-use Rattle.expression_code.proofs.Adding.{written_behind}
+use Rattle.lower_spec.specs.Expressions.{LocalScope}
+use Rattle.lower_spec.specs.Statements.{locals_after, locals_at_end}
+use Rattle.selection.specs.declared.locations.Exits.{Exits}
+use Rattle.selection.specs.Lists.{Lists}
+use Rattle.selection.specs.Simples.{Written, and_then}
+use Rattle.selection.specs.Statements.{written, all_written}
+use Rattle.selection.proofs.GrowingStmts.{stmts_more}
+use Rattle.lower_exprs.specs.Stretches.{Adds, of_written}
+use Rattle.lower_exprs.proofs.Adding.{written_behind}
 
 module _ {A : Type 0} (ys : List (OwnStmt A)) (i : ℕ) (scope : LocalScope) where
   pub next_scope : (y : OwnStmt A) (whole scope' : LocalScope) → i < length ys → y ≡ get_or ys i y → scope' ≡ locals_after (stmt_of y) scope → locals_at_end (stmts_of (drop i ys)) scope ≡ whole → locals_at_end (stmts_of (drop (i + 1) ys)) scope' ≡ whole

@@ -3,7 +3,7 @@ use Rattle.std.specs.Prelude.{◌≡◌, ◌<◌, ◌≤◌, ℕ, ◌∷◌, [],
 use Rattle.syntax.specs.Tree.{Span, Function, Defines, Program}
 use Rattle.bytecode.specs.declared.limits.TheConstants.{MOST_INSTRUCTIONS, MOST_REGISTERS}
 use Rattle.bytecode.specs.Code.{FunctionCode}
-use Rattle.picked.specs.Programs.{made_for, picked_code}
+use Rattle.selection.specs.Programs.{made_for, picked_code}
 
 -- the code that is picked for a function of this name has more registers than a function may have
 pub record NeedsTooMany (p : Program) (at : Span) : Type 0 where

@@ -2,7 +2,7 @@
 
 ghost use Rattle.std.specs.Prelude.{◌≡◌, [], OnOk, IfOk};
 ghost use Rattle.bytecode.specs.Views.{instr_of};
-ghost use Rattle.picked.specs.Loops as loops;
+ghost use Rattle.selection.specs.Loops as loops;
 ghost use Rattle.lower.specs.inner.Looped.{looped_in};
 
 use bytecode::Instr;

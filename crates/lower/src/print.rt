@@ -2,17 +2,17 @@
 
 ghost use Rattle.std.specs.Prelude.{◌≡◌, ◌++◌, ◌∷◌, [], length, OnOk, IfOk};
 ghost use Rattle.syntax.specs.Formats.{pieces};
-ghost use Rattle.picked.specs.Statements as statements;
-ghost use Rattle.picked.specs.Statements.{pieces_written};
-ghost use Rattle.expression_code.specs.Lists.{lists_of};
-ghost use Rattle.expression_code.specs.Stretches.{Writes};
+ghost use Rattle.selection.specs.Statements as statements;
+ghost use Rattle.selection.specs.Statements.{pieces_written};
+ghost use Rattle.lower_exprs.specs.Lists.{lists_of};
+ghost use Rattle.lower_exprs.specs.Stretches.{Writes};
 ghost use Rattle.lower.specs.inner.Formats.{text_written, figure_written};
 
 use bytecode::Instr;
 use containers::Text;
-use expression_code::fault::Failure;
-use expression_code::lists::Lists;
-use expression_code::put::{after, put};
+use lower_exprs::fault::Failure;
+use lower_exprs::lists::Lists;
+use lower_exprs::put::{after, put};
 use lex::token::Scalar;
 use std::alloc::{AllocError, Allocator};
 use syntax::format::{FormatUnit, unit_at};

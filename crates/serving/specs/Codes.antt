@@ -5,7 +5,7 @@ use Rattle.syntax.specs.Names.{globals}
 use Rattle.syntax.specs.Grammar.{ParsedSource}
 use Rattle.separation.specs.Touching.{IsAccepted}
 use Rattle.bytecode.specs.Code.{Code}
-use Rattle.lowered.specs.Means.{MeansItsProgram}
+use Rattle.lower_spec.specs.Means.{MeansItsProgram}
 use Rattle.serving.specs.Checks.{IsSourceOf}
 
 -- this code means a program, and has its globals

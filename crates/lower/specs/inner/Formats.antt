@@ -3,9 +3,9 @@ use Rattle.std.specs.Prelude.{ℕ, ◌+◌, List, [], ◌∷◌, ◌++◌, lengt
 use Rattle.lex.specs.declared.token.Scalar.{Scalar}
 use Rattle.syntax.specs.Formats.{Piece, literal}
 use Rattle.bytecode.specs.declared.instr.Instr.TheVariants as own
-use Rattle.picked.specs.Lists.{Lists}
-use Rattle.picked.specs.Simples.{Written, nothing_written, one_written, and_then}
-use Rattle.picked.specs.Statements.{printing}
+use Rattle.selection.specs.Lists.{Lists}
+use Rattle.selection.specs.Simples.{Written, nothing_written, one_written, and_then}
+use Rattle.selection.specs.Statements.{printing}
 
 -- bytes of literal text before these pieces
 abbrev pub with_literal : List ℕ → List Piece → List Piece

@@ -1,5 +1,5 @@
 -- With which constants the loops of a function compute, as it is found out.
-use Rattle.picked.specs.Loops.{Looped}
+use Rattle.selection.specs.Loops.{Looped}
 use Rattle.lower.specs.declared.loops.Looped.{Looped as OwnLooped}
 
 module _ {A : Type 0} where

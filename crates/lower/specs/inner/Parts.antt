@@ -4,9 +4,9 @@ use Rattle.std.specs.Prelude.{◌≡◌, ◌<◌, ◌++◌, ◌∷◌, [], ℕ, 
 use Rattle.syntax.specs.Tree.{Function, Item, Defines, Program}
 use Rattle.bytecode.specs.Code.{FunctionCode}
 use Rattle.bytecode.specs.Views.{function_of}
-use Rattle.picked.specs.Simples.{Written}
-use Rattle.picked.specs.Programs.{FunctionCodes, function_code}
-use Rattle.expression_code.specs.Lists.{lists_of}
+use Rattle.selection.specs.Simples.{Written}
+use Rattle.selection.specs.Programs.{FunctionCodes, function_code}
+use Rattle.lower_exprs.specs.Lists.{lists_of}
 use Rattle.lower.specs.declared.generate.Making.{Making}
 use Rattle.lower.specs.declared.fault.LowerFault.{LowerFault}
 use Rattle.lower.specs.declared.fault.LowerFault.TheVariants.{OutOfMemory, TooManyRegisters, TooMuchCode, NestedTooDeep}

@@ -2,11 +2,11 @@ use Rattle.std.proofs.Common.{◌≡◌, ◌++◌, ◌∷◌, [], ◌+◌, map, 
 use Rattle.std.proofs.lemmas.List.{length-map}
 use Rattle.syntax.specs.Views.{stmts_of, parameter_of}
 use Rattle.bytecode.specs.declared.instr.Instr.TheVariants as instr
-use Rattle.lowered.specs.Programs.{parameter_locals}
-use Rattle.expression_code.specs.Lists.{lists_of}
-use Rattle.expression_code.specs.Stretches.{of_written}
-use Rattle.expression_code.specs.Views.{program_in, scope_in}
-use Rattle.expression_code.proofs.Adding.{same, stops, no_less}
+use Rattle.lower_spec.specs.Programs.{parameter_locals}
+use Rattle.lower_exprs.specs.Lists.{lists_of}
+use Rattle.lower_exprs.specs.Stretches.{of_written}
+use Rattle.lower_exprs.specs.Views.{program_in, scope_in}
+use Rattle.lower_exprs.proofs.Adding.{same, stops, no_less}
 use Rattle.lower.proofs.Bodies.{same_body}
 use Rattle.lower.proofs.function.lower_body.Goals as goal
 

@@ -2,15 +2,15 @@ use Rattle.std.proofs.Common.{◌≡◌, ℕ, ◌+◌, List, length, not, ◌&&�
 use Rattle.std.proofs.lemmas.List.{length-append}
 use Rattle.syntax.specs.Views.{function_of, stmts_of}
 use Rattle.bytecode.specs.declared.instr.Instr.{Instr}
-use Rattle.lowered.specs.Expressions.{Layout}
-use Rattle.picked.specs.Lists.{Lists}
-use Rattle.picked.specs.Loops.{in_loops}
-use Rattle.picked.specs.Programs.{body_with, nothing_ready}
-use Rattle.picked.proofs.Leaner.{body_leaner}
-use Rattle.expression_code.specs.Lists.{lists_of}
-use Rattle.expression_code.specs.Stretches.{of_written}
-use Rattle.expression_code.specs.Views.{program_in}
-use Rattle.expression_code.proofs.Adding.{same, stops}
+use Rattle.lower_spec.specs.Expressions.{Layout}
+use Rattle.selection.specs.Lists.{Lists}
+use Rattle.selection.specs.Loops.{in_loops}
+use Rattle.selection.specs.Programs.{body_with, nothing_ready}
+use Rattle.selection.proofs.Leaner.{body_leaner}
+use Rattle.lower_exprs.specs.Lists.{lists_of}
+use Rattle.lower_exprs.specs.Stretches.{of_written}
+use Rattle.lower_exprs.specs.Views.{program_in}
+use Rattle.lower_exprs.proofs.Adding.{same, stops}
 use Rattle.lower.proofs.Better.{made_once_more, arguments_fit, texts_fit, stays_plain, gets_better, body_more, has_room, behind_others, in_front}
 use Rattle.lower.proofs.function.lower_function.Goals as goal
 

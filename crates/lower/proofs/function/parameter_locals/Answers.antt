@@ -1,8 +1,8 @@
 use Rattle.std.proofs.Common.{◌∙◌, ◌++◌, map, sym, append-nil}
 use Rattle.std.proofs.lemmas.List.{at_drop_all}
 use Rattle.syntax.specs.Views.{parameter_of}
-use Rattle.lowered.specs.Programs.{parameter_locals}
-use Rattle.expression_code.specs.Views.{scope_in}
+use Rattle.lower_spec.specs.Programs.{parameter_locals}
+use Rattle.lower_exprs.specs.Views.{scope_in}
 use Rattle.lower.proofs.Parameters.{next_parameter}
 use Rattle.lower.proofs.function.parameter_locals.Goals as goal
 

@@ -1,7 +1,7 @@
 use Rattle.std.proofs.Common.{◌≡◌, ◌++◌, drop, map}
 use Rattle.syntax.specs.Views.{parameter_of}
-use Rattle.lowered.specs.Programs.{parameter_locals}
-use Rattle.expression_code.specs.Views.{scope_in}
+use Rattle.lower_spec.specs.Programs.{parameter_locals}
+use Rattle.lower_exprs.specs.Views.{scope_in}
 use Rattle.lower.proofs.function.parameter_locals.Given as goal
 
 abbrev pub invariant-each : goal.invariant-each

@@ -2,11 +2,11 @@ use Rattle.std.proofs.Common.{◌≡◌, map, None, ap, sym, ◌∙◌, subst}
 use Rattle.syntax.specs.Views.{item_of, program_of}
 use Rattle.bytecode.specs.Valid.{IsValid}
 use Rattle.bytecode.specs.Views.{code_of}
-use Rattle.picked.specs.Programs.{picked_code}
+use Rattle.selection.specs.Programs.{picked_code}
 use Rattle.lower.specs.Nested.{items_too_deep, nested_too_deep}
 use Rattle.lower.specs.Faults.{IsLowerFaultOf}
 use Rattle.lower.specs.inner.Parts.{IsOfCode}
-use Rattle.expression_code.specs.Views.{program_in}
+use Rattle.lower_exprs.specs.Views.{program_in}
 use Rattle.lower.proofs.Faulty.{handed_on, of_program}
 use Rattle.lower.proofs.Whole.{lent_program, parts_are_valid, code_means}
 use Rattle.lower.proofs.generate.lower.Goals as goal

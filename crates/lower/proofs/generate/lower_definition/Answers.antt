@@ -2,8 +2,8 @@ use Rattle.std.proofs.Common.{◌≡◌, ◌++◌, ◌∷◌, [], map, length, a
 use Rattle.std.proofs.lemmas.List.{length-map, map-append}
 use Rattle.syntax.specs.Views.{function_of, stmts_of, parameter_of}
 use Rattle.bytecode.specs.Views.{function_of as code_function}
-use Rattle.expression_code.specs.Lists.{lists_of}
-use Rattle.expression_code.specs.Views.{program_in}
+use Rattle.lower_exprs.specs.Lists.{lists_of}
+use Rattle.lower_exprs.specs.Views.{program_in}
 use Rattle.lower.proofs.Faulty.{parameters_fit}
 use Rattle.lower.proofs.generate.lower_definition.Goals as goal
 

@@ -4,10 +4,10 @@ use Rattle.syntax.specs.Names.{shared_by}
 use Rattle.syntax.specs.Views.{item_of, function_of, global_of, stmts_of}
 use Rattle.bytecode.specs.Code.{FunctionCode}
 use Rattle.bytecode.specs.Views.{function_of as code_function}
-use Rattle.picked.specs.Programs.{FunctionCodes, all_made, body_written, function_code}
-use Rattle.expression_code.specs.Lists.{lists_of}
+use Rattle.selection.specs.Programs.{FunctionCodes, all_made, body_written, function_code}
+use Rattle.lower_exprs.specs.Lists.{lists_of}
 use Rattle.lower.specs.inner.Parts.{made_in, made_behind, made_once, IsOfDefinition, IsOfItem}
-use Rattle.expression_code.specs.Views.{program_in}
+use Rattle.lower_exprs.specs.Views.{program_in}
 use Rattle.lower.proofs.Bodies.{definition_made, prototype_made, nothing_behind, few_more}
 use Rattle.lower.proofs.Faulty.{definition_fault, handed_on}
 use Rattle.lower.proofs.generate.lower_item.Goals as goal

@@ -5,9 +5,9 @@ use Rattle.syntax.specs.Names.{globals, shared_by}
 use Rattle.syntax.specs.Views.{item_of, global_of}
 use Rattle.bytecode.specs.Code.{FunctionCode}
 use Rattle.bytecode.specs.Views.{instr_of, function_of as code_function}
-use Rattle.picked.specs.Programs.{FunctionCodes, all_made}
+use Rattle.selection.specs.Programs.{FunctionCodes, all_made}
 use Rattle.lower.specs.inner.Parts.{made_in, IsOfItem, IsOfCode}
-use Rattle.expression_code.specs.Views.{program_in}
+use Rattle.lower_exprs.specs.Views.{program_in}
 use Rattle.lower.proofs.Bodies.{front_more, front_last}
 use Rattle.syntax.proofs.Items.{items_more}
 use Rattle.lower.proofs.Faulty.{item_fault, handed_on}

@@ -3,8 +3,8 @@ use Rattle.std.specs.List.{AllByRecursion}
 use Rattle.syntax.specs.Names.{globals}
 use Rattle.syntax.specs.Views.{item_of, global_of}
 use Rattle.bytecode.specs.Views.{function_of}
-use Rattle.picked.specs.Programs.{made_for}
-use Rattle.expression_code.specs.Views.{program_in}
+use Rattle.selection.specs.Programs.{made_for}
+use Rattle.lower_exprs.specs.Views.{program_in}
 use Rattle.lower.specs.inner.Parts.{made_in}
 use Rattle.lower.proofs.generate.lower_parts.Given as goal
 

@@ -1,5 +1,5 @@
 use Rattle.std.proofs.Common.{◌≡◌, drop}
-use Rattle.picked.specs.Loops as loops
+use Rattle.selection.specs.Loops as loops
 use Rattle.lower.proofs.loops.has_word.Given as goal
 
 -- none of the words that were passed is the one

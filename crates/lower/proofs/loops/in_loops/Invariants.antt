@@ -1,5 +1,5 @@
 use Rattle.std.proofs.Common.{◌≡◌, ◌≤◌, ◌+◌, length, drop}
-use Rattle.picked.specs.Loops.{looped_from}
+use Rattle.selection.specs.Loops.{looped_from}
 use Rattle.lower.specs.inner.Looped.{looped_in}
 use Rattle.lower.proofs.loops.in_loops.Given as goal
 

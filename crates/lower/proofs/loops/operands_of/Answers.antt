@@ -3,7 +3,7 @@ use Rattle.lex.specs.declared.token.Scalar.{Scalar}
 use Rattle.syntax.specs.declared.tree.BinaryOp.{BinaryOp}
 use Rattle.bytecode.specs.Code.{Instr, operator_of}
 use Rattle.bytecode.specs.Views.{instr_of}
-use Rattle.picked.specs.Loops.{operands_of}
+use Rattle.selection.specs.Loops.{operands_of}
 use Rattle.lower.proofs.loops.operands_of.Goals as goal
 
 -- the registers that an operator takes

@@ -1,10 +1,10 @@
 use Rattle.std.proofs.Common.{ap, sym, ◌∙◌, arith, refl, drop}
 use Rattle.syntax.specs.Formats.{pieces}
-use Rattle.picked.specs.Simples.{Written}
-use Rattle.picked.specs.Statements.{pieces_written}
-use Rattle.picked.proofs.GrowingStmts.{pieces_same}
-use Rattle.expression_code.specs.Lists.{lists_of}
-use Rattle.expression_code.proofs.Adding.{written_behind, goes_on, stops}
+use Rattle.selection.specs.Simples.{Written}
+use Rattle.selection.specs.Statements.{pieces_written}
+use Rattle.selection.proofs.GrowingStmts.{pieces_same}
+use Rattle.lower_exprs.specs.Lists.{lists_of}
+use Rattle.lower_exprs.proofs.Adding.{written_behind, goes_on, stops}
 use Rattle.lower.specs.inner.Formats.{with_literal}
 use Rattle.lower.proofs.Formatted.{byte_goes, figure_goes, text_same, no_register, no_piece}
 use Rattle.lower.proofs.print.put_pieces.Goals as goal

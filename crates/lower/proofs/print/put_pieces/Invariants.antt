@@ -1,8 +1,8 @@
 use Rattle.std.proofs.Common.{◌≡◌, ◌≤◌, ◌-◌, drop, length}
 use Rattle.syntax.specs.Formats.{pieces}
-use Rattle.picked.specs.Statements.{pieces_written}
-use Rattle.expression_code.specs.Lists.{lists_of}
-use Rattle.expression_code.proofs.Adding.{written_behind}
+use Rattle.selection.specs.Statements.{pieces_written}
+use Rattle.lower_exprs.specs.Lists.{lists_of}
+use Rattle.lower_exprs.proofs.Adding.{written_behind}
 use Rattle.lower.specs.inner.Formats.{with_literal}
 use Rattle.lower.proofs.print.put_pieces.Given as goal
 

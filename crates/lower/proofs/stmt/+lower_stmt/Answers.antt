@@ -5,17 +5,17 @@ use Rattle.syntax.specs.declared.tree.Stmt.TheVariants as own_stmt
 use Rattle.syntax.proofs.tree.Stmt.TheLaws.{the_size}
 use Rattle.syntax.specs.Views.{expr_of, simple_of, start_of, stmt_of, stmts_of}
 use Rattle.bytecode.specs.declared.instr.Instr.TheVariants as own
-use Rattle.picked.specs.declared.locations.ConditionRegister.{ConditionRegister}
-use Rattle.picked.specs.Conditions.{going_on}
-use Rattle.picked.specs.Expressions.{condition}
-use Rattle.picked.specs.Simples.{Written}
-use Rattle.picked.specs.Statements.{if_code, looping, tested_back, for_step, for_test, written, all_written}
-use Rattle.picked.proofs.Growing.{condition_more}
-use Rattle.picked.proofs.GrowingStmts.{written_more}
-use Rattle.expression_code.specs.Lists.{lists_of}
-use Rattle.expression_code.specs.Stretches.{of_written}
-use Rattle.expression_code.specs.Views.{program_in, scope_in}
-use Rattle.expression_code.proofs.Adding.{same, in_turn, gathered, written_alone, stops, no_less}
+use Rattle.selection.specs.declared.locations.ConditionRegister.{ConditionRegister}
+use Rattle.selection.specs.Conditions.{going_on}
+use Rattle.selection.specs.Expressions.{condition}
+use Rattle.selection.specs.Simples.{Written}
+use Rattle.selection.specs.Statements.{if_code, looping, tested_back, for_step, for_test, written, all_written}
+use Rattle.selection.proofs.Growing.{condition_more}
+use Rattle.selection.proofs.GrowingStmts.{written_more}
+use Rattle.lower_exprs.specs.Lists.{lists_of}
+use Rattle.lower_exprs.specs.Stretches.{of_written}
+use Rattle.lower_exprs.specs.Views.{program_in, scope_in}
+use Rattle.lower_exprs.proofs.Adding.{same, in_turn, gathered, written_alone, stops, no_less}
 use Rattle.lower.proofs.Within.{test_within, step_within, body_within, start_within}
 use Rattle.lower.proofs.Written.{first_within, next_stmt, next_scope, last_scope, no_more_stmts}
 use Rattle.lower.proofs.Leaving.{start_longer, start_left, stmt_longer, stmt_left, stmts_longer, stmts_left}

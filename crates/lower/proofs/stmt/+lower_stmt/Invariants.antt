@@ -1,10 +1,10 @@
 use Rattle.std.proofs.Common.{◌≡◌, drop}
 use Rattle.syntax.specs.Views.{stmts_of}
-use Rattle.lowered.specs.Statements.{locals_at_end}
-use Rattle.picked.specs.Statements.{all_written}
-use Rattle.expression_code.specs.Lists.{lists_of}
-use Rattle.expression_code.specs.Views.{program_in, scope_in}
-use Rattle.expression_code.proofs.Adding.{written_behind}
+use Rattle.lower_spec.specs.Statements.{locals_at_end}
+use Rattle.selection.specs.Statements.{all_written}
+use Rattle.lower_exprs.specs.Lists.{lists_of}
+use Rattle.lower_exprs.specs.Views.{program_in, scope_in}
+use Rattle.lower_exprs.proofs.Adding.{written_behind}
 use Rattle.lower.proofs.stmt.+lower_stmt.Given as goal
 
 -- what is made and what is to come are the whole

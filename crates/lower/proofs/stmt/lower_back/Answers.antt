@@ -1,7 +1,7 @@
 use Rattle.std.proofs.Common.{◌+◌, ◌++◌, ap, ◌∙◌}
-use Rattle.picked.specs.declared.locations.ConditionRegister.{ConditionRegister}
-use Rattle.picked.specs.Conditions.{going_back}
-use Rattle.expression_code.proofs.Adding.{gathered}
+use Rattle.selection.specs.declared.locations.ConditionRegister.{ConditionRegister}
+use Rattle.selection.specs.Conditions.{going_back}
+use Rattle.lower_exprs.proofs.Adding.{gathered}
 use Rattle.lower.proofs.stmt.lower_back.Goals as goal
 
 pub returns : goal.returns

@@ -1,10 +1,10 @@
 use Rattle.std.proofs.Common.{ap}
 use Rattle.syntax.specs.Views.{expr_of}
-use Rattle.picked.specs.Expressions.{condition}
-use Rattle.expression_code.specs.Lists.{lists_of}
-use Rattle.expression_code.specs.Stretches.{of_test}
-use Rattle.expression_code.specs.Views.{program_in, scope_in}
-use Rattle.expression_code.proofs.Adding.{same}
+use Rattle.selection.specs.Expressions.{condition}
+use Rattle.lower_exprs.specs.Lists.{lists_of}
+use Rattle.lower_exprs.specs.Stretches.{of_test}
+use Rattle.lower_exprs.specs.Views.{program_in, scope_in}
+use Rattle.lower_exprs.proofs.Adding.{same}
 use Rattle.lower.proofs.stmt.lower_head.Goals as goal
 
 pub returns : goal.returns

@@ -1,12 +1,12 @@
 use Rattle.std.proofs.Common.{◌≡◌, ◌+◌, ◌++◌, [], length, ap, ◌∙◌}
 use Rattle.syntax.specs.Formats.{pieces}
 use Rattle.syntax.specs.Views.{exprs_of}
-use Rattle.picked.specs.Expressions.{all_emitted}
-use Rattle.picked.specs.Statements.{pieces_written}
-use Rattle.expression_code.specs.Lists.{lists_of}
-use Rattle.expression_code.specs.Stretches.{of_values, of_written}
-use Rattle.expression_code.specs.Views.{program_in, scope_in}
-use Rattle.expression_code.proofs.Adding.{same, one_in_front, in_turn, stops}
+use Rattle.selection.specs.Expressions.{all_emitted}
+use Rattle.selection.specs.Statements.{pieces_written}
+use Rattle.lower_exprs.specs.Lists.{lists_of}
+use Rattle.lower_exprs.specs.Stretches.{of_values, of_written}
+use Rattle.lower_exprs.specs.Views.{program_in, scope_in}
+use Rattle.lower_exprs.proofs.Adding.{same, one_in_front, in_turn, stops}
 use Rattle.lower.proofs.Within.{arguments_within}
 use Rattle.lower.proofs.stmt.lower_print.Goals as goal
 

@@ -1,12 +1,12 @@
 use Rattle.std.proofs.Common.{ap, sym, option_map}
 use Rattle.syntax.specs.Views.{expr_of}
 use Rattle.bytecode.specs.declared.instr.Instr.TheVariants as own
-use Rattle.picked.specs.Expressions.{due}
-use Rattle.picked.specs.Statements.{left_by, return_written}
-use Rattle.expression_code.specs.Lists.{lists_of}
-use Rattle.expression_code.specs.Stretches.{of_value, of_written}
-use Rattle.expression_code.specs.Views.{program_in, scope_in}
-use Rattle.expression_code.proofs.Adding.{same, in_turn, stops, no_less}
+use Rattle.selection.specs.Expressions.{due}
+use Rattle.selection.specs.Statements.{left_by, return_written}
+use Rattle.lower_exprs.specs.Lists.{lists_of}
+use Rattle.lower_exprs.specs.Stretches.{of_value, of_written}
+use Rattle.lower_exprs.specs.Views.{program_in, scope_in}
+use Rattle.lower_exprs.proofs.Adding.{same, in_turn, stops, no_less}
 use Rattle.lower.proofs.stmt.lower_return.Goals as goal
 
 pub returns-in_ok-held-in-Some : goal.returns-in_ok-held-in-Some

@@ -1,10 +1,10 @@
 use Rattle.std.proofs.Common.{ap, sym, option_map}
 use Rattle.syntax.specs.Views.{simple_of}
-use Rattle.picked.specs.Statements.{for_step}
-use Rattle.expression_code.specs.Lists.{lists_of}
-use Rattle.expression_code.specs.Stretches.{of_written}
-use Rattle.expression_code.specs.Views.{program_in, scope_in}
-use Rattle.expression_code.proofs.Adding.{same}
+use Rattle.selection.specs.Statements.{for_step}
+use Rattle.lower_exprs.specs.Lists.{lists_of}
+use Rattle.lower_exprs.specs.Stretches.{of_written}
+use Rattle.lower_exprs.specs.Views.{program_in, scope_in}
+use Rattle.lower_exprs.proofs.Adding.{same}
 use Rattle.lower.proofs.stmt.lower_step.Goals as goal
 
 pub returns-in-Some : goal.returns-in-Some

@@ -1,5 +1,0 @@
-use Rattle.std.proofs.Common.{◌≡◌}
-use Rattle.base_tests.proofs.writes.write_to_each.Given as goal
-
-abbrev pub invariant-addresses : goal.invariant-addresses
-invariant-addresses g l = l.log.marks ≡ l.fn.log.marks

@@ -1,0 +1,141 @@
+//! Conversions: which of them are instructions, and how one is put behind the others.
+
+ghost use Rattle.std.specs.Prelude.{◌≡◌, pos, is_some};
+ghost use Rattle.lower_spec.specs.Expressions as Lowered;
+ghost use Rattle.bytecode.specs.declared.instr.Instr.TheVariants as instr;
+ghost use Rattle.selection.specs.Expressions.{then_one, converting, converted_by};
+ghost use Rattle.selection.specs.Simples.{widening};
+ghost use Rattle.lower_exprs.specs.Lists.{lists_of};
+ghost use Rattle.lower_exprs.specs.Stretches.{AddsValue};
+ghost use Rattle.lower_exprs.specs.inner.Stretches.{in_place};
+
+use crate::fault::Failure;
+use crate::lists::Lists;
+use crate::put::{after, put, take};
+use crate::ready::constant_word;
+use bytecode::Instr;
+use lex::token::Scalar;
+use selection::locations::ValueRegister;
+use std::alloc::Allocator;
+use syntax::number::number;
+
+/// The word of a constant of a type `own` in another type.
+pub(crate) fn constant_in(of: Scalar, own: Scalar, value: u64) -> u64
+    ensures { result ≡ Lowered.constant_in of own value }
+{
+    let number = number(own, constant_word(own, value)).cast_unsigned();
+    match of {
+        Scalar::Int | Scalar::Unsigned => number % 4_294_967_296,
+        Scalar::LongLong => number,
+    }
+}
+
+/// Whether a conversion is an instruction.
+pub(crate) fn converts(own: Scalar, of: Scalar) -> bool
+    ensures { result ≡ is_some (converting own of) }
+{
+    match own {
+        Scalar::Int => match of {
+            Scalar::LongLong => true,
+            Scalar::Int | Scalar::Unsigned => false,
+        },
+        Scalar::Unsigned => false,
+        Scalar::LongLong => match of {
+            Scalar::LongLong => false,
+            Scalar::Int | Scalar::Unsigned => true,
+        },
+    }
+}
+
+/// An `int` as a `long long`.
+fn put_extended<A: Allocator>(
+    lists: &mut Lists<A>,
+    code: &mut Vec<Instr, A>,
+    a: ValueRegister,
+    into: usize,
+) -> Result<ValueRegister, Failure>
+    ensures { AddsValue (then_one (in_place a (lists_of lists.old)) (instr.Extend into a.register) into
+        (Scalar.LongLong)) code.old code.new lists.new result }
+{
+    let register = take(lists, into)?;
+    put(code, Instr::Extend(register, a.register))?;
+    let to = after(a.to, 1)?;
+    Ok(ValueRegister {
+        register,
+        of: Scalar::LongLong,
+        to,
+    })
+}
+
+/// The lower half of a `long long` as a value of this type.
+fn put_low<A: Allocator>(
+    lists: &mut Lists<A>,
+    code: &mut Vec<Instr, A>,
+    a: ValueRegister,
+    of: Scalar,
+    into: usize,
+) -> Result<ValueRegister, Failure>
+    ensures { AddsValue (then_one (in_place a (lists_of lists.old)) (instr.Low into a.register) into of)
+        code.old code.new lists.new result }
+{
+    let register = take(lists, into)?;
+    put(code, Instr::Low(register, a.register))?;
+    let to = after(a.to, 1)?;
+    Ok(ValueRegister { register, of, to })
+}
+
+/// A value of a type `own` in another type.
+pub(crate) fn put_converted<A: Allocator>(
+    lists: &mut Lists<A>,
+    code: &mut Vec<Instr, A>,
+    a: ValueRegister,
+    own: Scalar,
+    of: Scalar,
+    into: usize,
+) -> Result<ValueRegister, Failure>
+    ensures { AddsValue (converted_by (converting own of) of (in_place a (lists_of lists.old)) into)
+        code.old code.new lists.new result }
+{
+    let as_it_lies = ValueRegister {
+        register: a.register,
+        of,
+        to: a.to,
+    };
+    match own {
+        Scalar::Int => match of {
+            Scalar::LongLong => put_extended(lists, code, a, into),
+            Scalar::Int | Scalar::Unsigned => Ok(as_it_lies),
+        },
+        Scalar::Unsigned => Ok(as_it_lies),
+        Scalar::LongLong => match of {
+            Scalar::LongLong => Ok(as_it_lies),
+            Scalar::Int | Scalar::Unsigned => put_low(lists, code, a, of, into),
+        },
+    }
+}
+
+/// Converts a value on its way to a cell, which takes the lower half by itself.
+pub(crate) fn put_widened<A: Allocator>(
+    lists: &mut Lists<A>,
+    code: &mut Vec<Instr, A>,
+    a: ValueRegister,
+    own: Scalar,
+    of: Scalar,
+    into: usize,
+) -> Result<ValueRegister, Failure>
+    ensures { AddsValue (converted_by (widening own of) of (in_place a (lists_of lists.old)) into)
+        code.old code.new lists.new result }
+{
+    let as_it_lies = ValueRegister {
+        register: a.register,
+        of,
+        to: a.to,
+    };
+    match own {
+        Scalar::Int => match of {
+            Scalar::LongLong => put_extended(lists, code, a, into),
+            Scalar::Int | Scalar::Unsigned => Ok(as_it_lies),
+        },
+        Scalar::Unsigned | Scalar::LongLong => Ok(as_it_lies),
+    }
+}

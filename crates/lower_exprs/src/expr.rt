@@ -1,0 +1,780 @@
+//! The instructions of expressions and conditions.
+
+ghost use Rattle.std.specs.Prelude.{◌≡◌, [], ◌∷◌, ◌++◌, ◌+◌, ◌≤◌, length, map, drop, pos, OnOk, IfOk, IfErr};
+ghost use Rattle.syntax.specs.declared.tree.Expr as tree;
+ghost use Rattle.syntax.specs.Names as Source;
+ghost use Rattle.syntax.specs.Numbers.{word_of};
+ghost use Rattle.syntax.specs.Views.{expr_of, exprs_of, global_of, parameter_of};
+ghost use Rattle.bytecode.specs.declared.instr.Instr.TheVariants as instr;
+ghost use Rattle.lower_spec.specs.Expressions.{argument_order, named_ones, nameless_ones};
+ghost use Rattle.selection.specs.Lists.{Lists as Plain, holding};
+ghost use Rattle.selection.specs.Conditions as conditions;
+ghost use Rattle.selection.specs.Expressions.{one, constant, variable, element, value_into, condition_value, call_code};
+ghost use Rattle.selection.specs.Expressions.{in_own_transaction, condition_of, taken_types, emitted, due, handed, operand};
+ghost use Rattle.selection.specs.Expressions.{condition, both_conditions, conditional, types_of, all_emitted};
+ghost use Rattle.lower_exprs.specs.Limits.{NeedsMore};
+ghost use Rattle.lower_exprs.specs.Lists.{lists_of};
+ghost use Rattle.lower_exprs.specs.Stretches.{AddsValue, AddsTest, AddsValues};
+ghost use Rattle.lower_exprs.specs.inner.Stretches.{in_place, all_in_place, AddsFirst};
+ghost use Rattle.global_tables.specs.Tables.{shared_in};
+ghost use Rattle.lower_exprs.specs.inner.Tables.{callee_in};
+ghost use Rattle.lower_exprs.specs.Views.{program_in, scope_in};
+
+use crate::cond::{opposite, zero_test};
+use crate::convert::{constant_in, converts, put_converted};
+use crate::draft::{keep, put_first, turn};
+use crate::fault::Failure;
+use crate::lists::Lists;
+use crate::names::{Callee, callee_of, global};
+use crate::program::ProgramNames;
+use crate::put::{
+    above, after, put, put_answers, put_both, put_chosen, put_compared, put_complemented,
+    put_constant, put_in_transaction, put_negated, settle, take,
+};
+use crate::ready::{constant_of, constant_ready, constant_word};
+use crate::scope::Scope;
+use crate::value_type::value_type;
+use bytecode::Instr;
+use global_tables::Shared;
+use lex::token::{Scalar, Span};
+use selection::draft::Draft;
+use selection::locations::{ValueRegister, ConditionRegister};
+use smallvec::SmallVec;
+use std::alloc::{AllocError, Allocator};
+use syntax::tree::{Expr, LogicalOp, Parameter, UnaryOp};
+use syntax::types::{common_type, operand_type};
+
+/// A constant of the program.
+fn put_number<A: Allocator>(
+    lists: &mut Lists<A>,
+    code: &mut Vec<Instr, A>,
+    value: u64,
+    of: Scalar,
+    from: u32,
+    into: usize,
+) -> Result<ValueRegister, Failure>
+    ensures { AddsValue (constant (word_of of (pos value)) of from into (lists_of lists.old))
+        code.old code.new lists.new result }
+{
+    put_constant(lists, code, constant_word(of, value), of, from, into)
+}
+
+/// The value of a global.
+fn put_read<A: Allocator + Copy>(
+    lists: &mut Lists<A>,
+    code: &mut Vec<Instr, A>,
+    g: Shared<'_, A>,
+    from: u32,
+    into: usize,
+) -> Result<ValueRegister, Failure>
+    requires { g.cell ≤ 4096 }
+    ensures { AddsValue (one (instr.Read into g.entry.cell) from into g.entry.global.now.of (lists_of lists.old))
+        code.old code.new lists.new result }
+{
+    let register = take(lists, into)?;
+    put(code, Instr::Read(register, g.cell as u32))?;
+    let to = after(from, 1)?;
+    Ok(ValueRegister {
+        register,
+        of: g.global.of,
+        to,
+    })
+}
+
+/// A variable's value.
+fn lower_variable<A: Allocator + Copy>(
+    names: &ProgramNames<'_, A>,
+    scope: &Scope<'_, A>,
+    lists: &mut Lists<A>,
+    code: &mut Vec<Instr, A>,
+    x: &str,
+    from: u32,
+    into: usize,
+) -> Result<ValueRegister, Failure>
+    ensures { AddsValue (variable (Source.newest (scope_in scope.now) x.now)
+        (Source.global_of (program_in names.now) x.now) from into (lists_of lists.old))
+        code.old code.new lists.new result }
+{
+    match scope.newest(x) {
+        Some((i, of)) => {
+            let register = take(lists, i)?;
+            Ok(ValueRegister {
+                register,
+                of,
+                to: from,
+            })
+        }
+        None => match global(names, x) {
+            Some(g) => put_read(lists, code, g, from, into),
+            None => put_constant(lists, code, 0, Scalar::Int, from, into),
+        },
+    }
+}
+
+/// An element of an array, whose index is a value.
+fn put_read_at<A: Allocator + Copy>(
+    lists: &mut Lists<A>,
+    code: &mut Vec<Instr, A>,
+    g: Shared<'_, A>,
+    index: ValueRegister,
+    into: usize,
+) -> Result<ValueRegister, Failure>
+    requires { g.cell + Source.cells (global_of g.global.now) ≤ 4096 }
+    ensures { AddsValue (element (Some (shared_in g.entry)) (in_place index (lists_of lists.old)) index.to into
+        (lists_of lists.old)) code.old code.new lists.new result }
+{
+    let register = take(lists, into)?;
+    let length = g.global.cell_count() as u32;
+    put(
+        code,
+        Instr::ReadAt(register, index.register, g.cell as u32, length),
+    )?;
+    let to = after(index.to, 1)?;
+    Ok(ValueRegister {
+        register,
+        of: g.global.of,
+        to,
+    })
+}
+
+fn push<A: Allocator>(all: &mut Vec<u16, A>, r: u16) -> Result<(), AllocError>
+    ensures { OnOk result (all.new.items ≡ all.old.items ++ r ∷ []) }
+{
+    match all.push(r) {
+        Ok(()) => Ok(()),
+        Err(_) => Err(AllocError),
+    }
+}
+
+/// The registers of arguments for the parameters that have names.
+fn push_named<A: Allocator>(
+    all: &mut Vec<u16, A>,
+    parameters: &[Parameter<A>],
+    registers: &[u16],
+) -> Result<(), AllocError>
+    ensures { OnOk result (all.new.items ≡ all.old.items ++ named_ones (map parameter_of parameters.now)
+        registers.now) }
+{
+    'each: for i in 0..parameters.len() {
+        if i >= registers.len() {
+            return Ok(());
+        }
+        if parameters[i].name.is_some() {
+            push(all, registers[i])?;
+        }
+    }
+    Ok(())
+}
+
+/// The registers of arguments for the parameters that have no names.
+fn push_nameless<A: Allocator>(
+    all: &mut Vec<u16, A>,
+    parameters: &[Parameter<A>],
+    registers: &[u16],
+) -> Result<(), AllocError>
+    ensures { OnOk result (all.new.items ≡ all.old.items ++ nameless_ones (map parameter_of parameters.now)
+        registers.now) }
+{
+    'each: for i in 0..parameters.len() {
+        if i >= registers.len() {
+            return Ok(());
+        }
+        if parameters[i].name.is_some() {} else {
+            push(all, registers[i])?;
+        }
+    }
+    Ok(())
+}
+
+/// The registers of a call's arguments, as the called function numbers them; how many they are.
+fn push_arranged<A: Allocator>(
+    all: &mut Vec<u16, A>,
+    parameters: &[Parameter<A>],
+    registers: &[u16],
+) -> Result<usize, AllocError>
+    ensures items { OnOk result (all.new.items ≡ all.old.items ++ argument_order (map parameter_of parameters.now)
+        registers.now) }
+    ensures count { IfOk result (λ n. n ≡ length (argument_order (map parameter_of parameters.now) registers.now)) }
+{
+    let first = all.len();
+    push_named(all, parameters, registers)?;
+    push_nameless(all, parameters, registers)?;
+    Ok(all.len() - first)
+}
+
+/// Notes that so many registers are used.
+fn hold<A: Allocator>(lists: &mut Lists<A>, count: usize) -> Result<u16, Failure>
+    ensures lists { OnOk result (lists_of lists.new ≡ holding count (lists_of lists.old)) }
+    ensures count { IfOk result (λ n. n ≡ count) }
+    ensures fails { IfErr result (λ why. NeedsMore why (holding count (lists_of lists.old)).registers) }
+{
+    if count > 65_535 {
+        return Err(Failure::Registers);
+    }
+    if lists.registers < count as u32 {
+        lists.registers = count as u32;
+    }
+    Ok(count as u16)
+}
+
+/// Hands over the registers of a call's arguments: their place in the list of arguments, and their number.
+fn hand_over<A: Allocator>(
+    lists: &mut Lists<A>,
+    parameters: &[Parameter<A>],
+    registers: &[u16],
+) -> Result<(u32, u16), Failure>
+    ensures lists { let handed = argument_order (map parameter_of parameters.now) registers.now in
+        let arguments = lists.old.arguments.items ++ handed in
+        OnOk result (lists_of lists.new
+        ≡ holding (length handed) (record (lists_of lists.old) { arguments = arguments })) }
+    ensures first { IfOk result (λ r. r.0 ≡ length lists.old.arguments.items) }
+    ensures count { IfOk result (λ r. r.1 ≡ length (argument_order (map parameter_of parameters.now) registers.now)) }
+    ensures fails { let n = length (argument_order (map parameter_of parameters.now) registers.now) in
+        IfErr result (λ why. NeedsMore why (holding n (lists_of lists.old)).registers) }
+{
+    let first = lists.arguments.len();
+    if first > 4_294_967_295 {
+        return Err(Failure::OutOfMemory);
+    }
+    let count = push_arranged(&mut lists.arguments, parameters, registers)?;
+    let count = hold(lists, count)?;
+    Ok((first as u32, count))
+}
+
+/// A call whose arguments are values.
+fn put_call<A: Allocator + Copy>(
+    lists: &mut Lists<A>,
+    code: &mut Vec<Instr, A>,
+    f: Callee<'_, A>,
+    registers: &[u16],
+    from: u32,
+    into: usize,
+) -> Result<ValueRegister, Failure>
+    ensures { AddsValue (call_code (Some (callee_in f.entry)) (all_in_place registers.now from (lists_of lists.old)) from
+        into (lists_of lists.old)) code.old code.new lists.new result }
+{
+    if f.number > 4_294_967_295 {
+        return Err(Failure::OutOfMemory);
+    }
+    let (first, count) = hand_over(lists, f.parameters, registers)?;
+    let register = take(lists, into)?;
+    put(code, Instr::Call(register, count, f.number as u32, first))?;
+    let to = after(from, 1)?;
+    Ok(ValueRegister {
+        register,
+        of: f.of,
+        to,
+    })
+}
+
+/// One register more of a call's arguments. A list of at most four takes no memory.
+fn add_operand<A: Allocator>(
+    registers: &mut SmallVec<u16, 4, &A>,
+    register: u16,
+) -> Result<(), AllocError>
+    ensures { OnOk result (registers.new.items ≡ registers.old.items ++ register ∷ []) }
+{
+    match registers.push(register) {
+        Ok(()) => Ok(()),
+        Err(_) => Err(AllocError),
+    }
+}
+
+/// An expression's value. A result that is computed comes into the register `into`; registers from `free` on may be
+/// written.
+#[cycle(lower_expr)]
+pub fn lower_expr<A: Allocator + Copy>(
+    names: &ProgramNames<'_, A>,
+    scope: &Scope<'_, A>,
+    lists: &mut Lists<A>,
+    code: &mut Vec<Instr, A>,
+    e: &Expr<A>,
+    from: u32,
+    into: usize,
+    free: usize,
+) -> Result<ValueRegister, Failure>
+    ensures { AddsValue (emitted (program_in names.now) (scope_in scope.now) (expr_of e.now) from into free
+        (lists_of lists.old)) code.old code.new lists.new result }
+{
+    match e {
+        Expr::Variable(x) => lower_variable(names, scope, lists, code, x.text.as_str(), from, into),
+        Expr::Constant(value, of, _) => put_number(lists, code, *value, *of, from, into),
+        Expr::Element(x, index, _) => match global(names, x.text.as_str()) {
+            Some(g) => {
+                let i = lower_expr(names, scope, lists, code, index.get(), from, free, free)?;
+                put_read_at(lists, code, g, i, into)
+            }
+            None => put_constant(lists, code, 0, Scalar::Int, from, into),
+        },
+        Expr::Call(f, args, _) => match callee_of(names, f.text.as_str()) {
+            Some(f) => {
+                let mut registers = SmallVec::<u16, 4, &A>::new(&names.alloc);
+                let all = args.as_slice();
+                lower_call(
+                    names,
+                    scope,
+                    lists,
+                    code,
+                    &mut registers,
+                    f,
+                    all,
+                    from,
+                    into,
+                    free,
+                )
+            }
+            None => put_constant(lists, code, 0, Scalar::Int, from, into),
+        },
+        Expr::Parenthesized(e, _) => {
+            lower_expr(names, scope, lists, code, e.get(), from, into, free)
+        }
+        Expr::Cast(of, e, _) => {
+            lower_due(names, scope, lists, code, e.get(), *of, from, into, free)
+        }
+        Expr::Unary(op, e, _) => match op {
+            UnaryOp::Keep => lower_expr(names, scope, lists, code, e.get(), from, into, free),
+            UnaryOp::Negate => {
+                let a = lower_expr(names, scope, lists, code, e.get(), from, free, free)?;
+                put_negated(lists, code, a, into)
+            }
+            UnaryOp::Not => {
+                let a = lower_expr(names, scope, lists, code, e.get(), from, free, free)?;
+                put_compared(lists, code, a, into, free)
+            }
+            UnaryOp::Complement => {
+                let a = lower_expr(names, scope, lists, code, e.get(), from, free, free)?;
+                put_complemented(lists, code, a, into)
+            }
+        },
+        Expr::Binary(op, left, right, _) => {
+            let own = value_type(names, scope, left.get());
+            let other = value_type(names, scope, right.get());
+            let of = operand_type(*op, own, other);
+            let due = operand_type(*op, other, own);
+            let a = lower_due(names, scope, lists, code, left.get(), of, from, free, free)?;
+            let later = above(free, a.register);
+            let b = lower_operand(names, scope, lists, code, right.get(), due, a.to, later)?;
+            put_both(lists, code, *op, of, a, b, into)
+        }
+        Expr::Logical(op, left, right, at) => {
+            let mut test = Vec::new(names.alloc);
+            lower_logical(
+                names,
+                scope,
+                lists,
+                code,
+                &mut test,
+                e,
+                *op,
+                left.get(),
+                right.get(),
+                *at,
+                from,
+                into,
+                free,
+            )
+        }
+        Expr::Conditional(c, left, right, at) => {
+            let mut test = Vec::new(names.alloc);
+            let mut first = Vec::new(names.alloc);
+            let mut second = Vec::new(names.alloc);
+            lower_conditional(
+                names,
+                scope,
+                lists,
+                code,
+                &mut test,
+                &mut first,
+                &mut second,
+                e,
+                c.get(),
+                left.get(),
+                right.get(),
+                *at,
+                from,
+                into,
+                free,
+            )
+        }
+        Expr::InTransaction(_, _, e, _) => {
+            lower_in_transaction(names, scope, lists, code, e.get(), from, into, free)
+        }
+    }
+}
+
+/// An expression's value in the type that is due: it is converted, and a constant is set as what it is converted to.
+#[cycle(lower_expr)]
+pub fn lower_due<A: Allocator + Copy>(
+    names: &ProgramNames<'_, A>,
+    scope: &Scope<'_, A>,
+    lists: &mut Lists<A>,
+    code: &mut Vec<Instr, A>,
+    e: &Expr<A>,
+    of: Scalar,
+    from: u32,
+    into: usize,
+    free: usize,
+) -> Result<ValueRegister, Failure>
+    ensures { AddsValue (due (program_in names.now) (scope_in scope.now) of (expr_of e.now) from into free
+        (lists_of lists.old)) code.old code.new lists.new result }
+{
+    match constant_of(e) {
+        Some((value, own)) => {
+            put_constant(lists, code, constant_in(of, own, value), of, from, into)
+        }
+        None => {
+            let a = lower_expr(names, scope, lists, code, e, from, into, free)?;
+            put_converted(lists, code, a, a.of, of, into)
+        }
+    }
+}
+
+/// The right side of an operator in the type that is due: it is computed, or it is a constant that is preloaded.
+#[cycle(lower_expr)]
+pub(crate) fn lower_operand<A: Allocator + Copy>(
+    names: &ProgramNames<'_, A>,
+    scope: &Scope<'_, A>,
+    lists: &mut Lists<A>,
+    code: &mut Vec<Instr, A>,
+    e: &Expr<A>,
+    of: Scalar,
+    from: u32,
+    free: usize,
+) -> Result<ValueRegister, Failure>
+    ensures { AddsValue (operand (program_in names.now) (scope_in scope.now) of (expr_of e.now) from free
+        (lists_of lists.old)) code.old code.new lists.new result }
+{
+    match constant_ready(lists, of, e, from) {
+        Some(held) => Ok(held),
+        None => lower_due(names, scope, lists, code, e, of, from, free, free),
+    }
+}
+
+/// A call; its arguments' registers are gathered in `registers`.
+#[cycle(lower_expr)]
+fn lower_call<A: Allocator + Copy>(
+    names: &ProgramNames<'_, A>,
+    scope: &Scope<'_, A>,
+    lists: &mut Lists<A>,
+    code: &mut Vec<Instr, A>,
+    registers: &mut SmallVec<u16, 4, &A>,
+    f: Callee<'_, A>,
+    all: &[Expr<A>],
+    from: u32,
+    into: usize,
+    free: usize,
+) -> Result<ValueRegister, Failure>
+    requires { registers.old.items ≡ [] }
+    ensures { AddsValue (call_code (Some (callee_in f.entry))
+        (all_emitted (program_in names.now) (scope_in scope.now) (taken_types (Some (callee_in f.entry)))
+        (exprs_of all.now) from free (lists_of lists.old))
+        from into (lists_of lists.old)) code.old code.new lists.new result }
+{
+    let to = lower_all(
+        names,
+        scope,
+        lists,
+        code,
+        registers,
+        f.parameters,
+        all,
+        from,
+        free,
+    )?;
+    put_call(lists, code, f, registers.as_slice(), to, into)
+}
+
+/// `&&` and `||` as a value; both conditions are gathered in `test`. The prover needs `e` and `at`: the parts are
+/// smaller than `e`.
+#[cycle(lower_expr)]
+fn lower_logical<A: Allocator + Copy>(
+    names: &ProgramNames<'_, A>,
+    scope: &Scope<'_, A>,
+    lists: &mut Lists<A>,
+    code: &mut Vec<Instr, A>,
+    test: &mut Vec<Draft, A>,
+    e: &Expr<A>,
+    op: LogicalOp,
+    left: &Expr<A>,
+    right: &Expr<A>,
+    at: Span,
+    from: u32,
+    into: usize,
+    free: usize,
+) -> Result<ValueRegister, Failure>
+    requires test { test.old.items ≡ [] }
+    requires parts { e.now ≡ tree.Logical op left.now right.now at }
+    ensures { AddsValue (condition_value
+        (both_conditions (program_in names.now) (scope_in scope.now) op (expr_of left.now) (expr_of right.now)
+        from free (lists_of lists.old))
+        into) code.old code.new lists.new result }
+{
+    let _whole = e;
+    let _at = at;
+    let next = lower_first(names, scope, lists, test, op, left, from, free)?;
+    let t = lower_condition(names, scope, lists, test, right, next, free)?;
+    put_answers(lists, code, test.as_slice(), t, into)
+}
+
+/// One of two values by a condition; the three parts are gathered in `test`, `first` and `second`. The prover needs `e`
+/// and `at`: the parts are smaller than `e`.
+#[cycle(lower_expr)]
+fn lower_conditional<A: Allocator + Copy>(
+    names: &ProgramNames<'_, A>,
+    scope: &Scope<'_, A>,
+    lists: &mut Lists<A>,
+    code: &mut Vec<Instr, A>,
+    test: &mut Vec<Draft, A>,
+    first: &mut Vec<Instr, A>,
+    second: &mut Vec<Instr, A>,
+    e: &Expr<A>,
+    c: &Expr<A>,
+    left: &Expr<A>,
+    right: &Expr<A>,
+    at: Span,
+    from: u32,
+    into: usize,
+    free: usize,
+) -> Result<ValueRegister, Failure>
+    requires test { test.old.items ≡ [] }
+    requires first { first.old.items ≡ [] }
+    requires second { second.old.items ≡ [] }
+    requires parts { e.now ≡ tree.Conditional c.now left.now right.now at }
+    ensures { AddsValue (conditional (program_in names.now) (scope_in scope.now) (expr_of c.now) (expr_of left.now)
+        (expr_of right.now) from into free (lists_of lists.old)) code.old code.new lists.new result }
+{
+    let _whole = e;
+    let _at = at;
+    let own = value_type(names, scope, left);
+    let another = value_type(names, scope, right);
+    let of = common_type(own, another);
+    let t = lower_condition(names, scope, lists, test, c, from, free)?;
+    let next = after(t.to, 1)?;
+    let a = lower_settled(names, scope, lists, first, left, of, next, into, free)?;
+    let other = after(a.to, 1)?;
+    let b = lower_settled(names, scope, lists, second, right, of, other, into, free)?;
+    put_chosen(code, of, test.as_slice(), t, first, a, second, b)
+}
+
+/// An expression's value in this type and in this very register.
+#[cycle(lower_expr)]
+fn lower_settled<A: Allocator + Copy>(
+    names: &ProgramNames<'_, A>,
+    scope: &Scope<'_, A>,
+    lists: &mut Lists<A>,
+    code: &mut Vec<Instr, A>,
+    e: &Expr<A>,
+    of: Scalar,
+    from: u32,
+    into: usize,
+    free: usize,
+) -> Result<ValueRegister, Failure>
+    ensures code { AddsValue (value_into into
+        (due (program_in names.now) (scope_in scope.now) of (expr_of e.now) from into free (lists_of lists.old)))
+        code.old code.new lists.new result }
+    ensures register { IfOk result (λ held. held.register ≡ into) }
+{
+    let held = lower_due(names, scope, lists, code, e, of, from, into, free)?;
+    settle(lists, code, held, into)
+}
+
+/// A value that is computed in a transaction of its own.
+#[cycle(lower_expr)]
+fn lower_in_transaction<A: Allocator + Copy>(
+    names: &ProgramNames<'_, A>,
+    scope: &Scope<'_, A>,
+    lists: &mut Lists<A>,
+    code: &mut Vec<Instr, A>,
+    e: &Expr<A>,
+    from: u32,
+    into: usize,
+    free: usize,
+) -> Result<ValueRegister, Failure>
+    ensures { AddsValue (in_own_transaction
+        (emitted (program_in names.now) (scope_in scope.now) (expr_of e.now) (from + 1) into free
+        (lists_of lists.old)))
+        code.old code.new lists.new result }
+{
+    let next = after(from, 1)?;
+    let mut operand = Vec::new(names.alloc);
+    let held = lower_expr(names, scope, lists, &mut operand, e, next, into, free)?;
+    put_in_transaction(code, &mut operand, held)
+}
+
+/// A condition that is tested by its value.
+#[cycle(lower_expr)]
+fn lower_value<A: Allocator + Copy>(
+    names: &ProgramNames<'_, A>,
+    scope: &Scope<'_, A>,
+    lists: &mut Lists<A>,
+    drafts: &mut Vec<Draft, A>,
+    e: &Expr<A>,
+    from: u32,
+    free: usize,
+) -> Result<ConditionRegister, Failure>
+    ensures { AddsTest (condition_of None
+        (emitted (program_in names.now) (scope_in scope.now) (expr_of e.now) from free free (lists_of lists.old)))
+        drafts.old drafts.new lists.new result }
+{
+    let mut code = Vec::new(names.alloc);
+    let held = lower_expr(names, scope, lists, &mut code, e, from, free, free)?;
+    keep(drafts, code.as_slice())?;
+    Ok(ConditionRegister {
+        register: held.register,
+        at_zero: false,
+        to: held.to,
+    })
+}
+
+/// The opposite of a condition.
+#[cycle(lower_expr)]
+fn lower_opposite<A: Allocator + Copy>(
+    names: &ProgramNames<'_, A>,
+    scope: &Scope<'_, A>,
+    lists: &mut Lists<A>,
+    drafts: &mut Vec<Draft, A>,
+    e: &Expr<A>,
+    from: u32,
+    free: usize,
+) -> Result<ConditionRegister, Failure>
+    ensures { AddsTest (conditions.opposite
+        (condition (program_in names.now) (scope_in scope.now) (expr_of e.now) from free (lists_of lists.old)))
+        drafts.old drafts.new lists.new result }
+{
+    let mut first = Vec::new(names.alloc);
+    let t = lower_condition(names, scope, lists, &mut first, e, from, free)?;
+    turn(drafts, first.as_slice())?;
+    Ok(opposite(t))
+}
+
+/// The first condition of `&&` and `||` and its jump; the place behind.
+#[cycle(lower_expr)]
+fn lower_first<A: Allocator + Copy>(
+    names: &ProgramNames<'_, A>,
+    scope: &Scope<'_, A>,
+    lists: &mut Lists<A>,
+    drafts: &mut Vec<Draft, A>,
+    op: LogicalOp,
+    e: &Expr<A>,
+    from: u32,
+    free: usize,
+) -> Result<u32, Failure>
+    ensures { AddsFirst op
+        (condition (program_in names.now) (scope_in scope.now) (expr_of e.now) from free (lists_of lists.old))
+        drafts.old drafts.new lists.new result }
+{
+    let mut first = Vec::new(names.alloc);
+    let t = lower_condition(names, scope, lists, &mut first, e, from, free)?;
+    Ok(put_first(drafts, first.as_slice(), op, t)?)
+}
+
+/// A condition, up to the jump that it ends in.
+#[cycle(lower_expr)]
+pub fn lower_condition<A: Allocator + Copy>(
+    names: &ProgramNames<'_, A>,
+    scope: &Scope<'_, A>,
+    lists: &mut Lists<A>,
+    drafts: &mut Vec<Draft, A>,
+    e: &Expr<A>,
+    from: u32,
+    free: usize,
+) -> Result<ConditionRegister, Failure>
+    ensures { AddsTest (condition (program_in names.now) (scope_in scope.now) (expr_of e.now) from free
+        (lists_of lists.old)) drafts.old drafts.new lists.new result }
+{
+    match e {
+        Expr::Parenthesized(e, _) => {
+            lower_condition(names, scope, lists, drafts, e.get(), from, free)
+        }
+        Expr::Cast(of, a, _) => {
+            let own = value_type(names, scope, a.get());
+            if converts(own, *of) {
+                lower_value(names, scope, lists, drafts, e, from, free)
+            } else {
+                lower_condition(names, scope, lists, drafts, a.get(), from, free)
+            }
+        }
+        Expr::Unary(op, a, _) => match op {
+            UnaryOp::Keep => lower_condition(names, scope, lists, drafts, a.get(), from, free),
+            UnaryOp::Not => lower_opposite(names, scope, lists, drafts, a.get(), from, free),
+            UnaryOp::Negate => lower_value(names, scope, lists, drafts, e, from, free),
+            UnaryOp::Complement => lower_value(names, scope, lists, drafts, e, from, free),
+        },
+        Expr::Binary(op, a, b, _) => match zero_test(*op, b.get()) {
+            Some(true) => lower_opposite(names, scope, lists, drafts, a.get(), from, free),
+            Some(false) => lower_condition(names, scope, lists, drafts, a.get(), from, free),
+            None => lower_value(names, scope, lists, drafts, e, from, free),
+        },
+        Expr::Logical(op, a, b, _) => {
+            let next = lower_first(names, scope, lists, drafts, *op, a.get(), from, free)?;
+            lower_condition(names, scope, lists, drafts, b.get(), next, free)
+        }
+        Expr::Variable(_) => lower_value(names, scope, lists, drafts, e, from, free),
+        Expr::Constant(_, _, _) => lower_value(names, scope, lists, drafts, e, from, free),
+        Expr::Element(_, _, _) => lower_value(names, scope, lists, drafts, e, from, free),
+        Expr::Call(_, _, _) => lower_value(names, scope, lists, drafts, e, from, free),
+        Expr::Conditional(_, _, _, _) => lower_value(names, scope, lists, drafts, e, from, free),
+        Expr::InTransaction(_, _, _, _) => lower_value(names, scope, lists, drafts, e, from, free),
+    }
+}
+
+/// One of several values, in the type of the parameter of its number, if there is one.
+#[cycle(lower_expr)]
+fn lower_handed<A: Allocator + Copy>(
+    names: &ProgramNames<'_, A>,
+    scope: &Scope<'_, A>,
+    lists: &mut Lists<A>,
+    code: &mut Vec<Instr, A>,
+    parameters: &[Parameter<A>],
+    number: usize,
+    e: &Expr<A>,
+    from: u32,
+    free: usize,
+) -> Result<ValueRegister, Failure>
+    ensures { AddsValue (handed (program_in names.now) (scope_in scope.now)
+        (drop number (types_of (map parameter_of parameters.now))) (expr_of e.now) from free (lists_of lists.old))
+        code.old code.new lists.new result }
+{
+    if number < parameters.len() {
+        let of = parameters[number].of;
+        lower_due(names, scope, lists, code, e, of, from, free, free)
+    } else {
+        lower_expr(names, scope, lists, code, e, from, free, free)
+    }
+}
+
+/// Values from left to right in the types of these parameters, each in a register of its own, which is added to
+/// `registers`; the place behind them.
+#[cycle(lower_expr)]
+pub fn lower_all<A: Allocator + Copy>(
+    names: &ProgramNames<'_, A>,
+    scope: &Scope<'_, A>,
+    lists: &mut Lists<A>,
+    code: &mut Vec<Instr, A>,
+    registers: &mut SmallVec<u16, 4, &A>,
+    parameters: &[Parameter<A>],
+    all: &[Expr<A>],
+    from: u32,
+    free: usize,
+) -> Result<u32, Failure>
+    ensures registers { OnOk result (registers.new.items ≡ registers.old.items
+        ++ (all_emitted (program_in names.now) (scope_in scope.now) (types_of (map parameter_of parameters.now))
+        (exprs_of all.now) from free (lists_of lists.old)).registers) }
+    ensures code { AddsValues (all_emitted (program_in names.now) (scope_in scope.now)
+        (types_of (map parameter_of parameters.now)) (exprs_of all.now) from free (lists_of lists.old))
+        code.old code.new lists.new result }
+{
+    let mut to = from;
+    let mut later = free;
+    let mut number = 0;
+    'each: for one in all {
+        let held = lower_handed(
+            names, scope, lists, code, parameters, number, one, to, later,
+        )?;
+        add_operand(registers, held.register)?;
+        later = above(later, held.register);
+        to = held.to;
+        number += 1;
+    }
+    Ok(to)
+}

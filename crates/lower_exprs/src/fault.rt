@@ -1,0 +1,24 @@
+//! Why no code is made.
+
+ghost use Rattle.std.specs.Prelude.{◌≡◌};
+ghost use Rattle.lower_exprs.specs.declared.fault.Failure.TheVariants.{OutOfMemory};
+
+use std::alloc::AllocError;
+
+/// Why a function's code is not made.
+#[derive(Clone, Copy)]
+pub enum Failure {
+    /// A growth was refused.
+    OutOfMemory,
+
+    /// A register's number is not below the most registers of a function.
+    Registers,
+}
+
+impl From<AllocError> for Failure {
+    ghost from_gives = { λ _ e. e ≡ OutOfMemory };
+
+    fn from(_error: AllocError) -> Failure {
+        Failure::OutOfMemory
+    }
+}

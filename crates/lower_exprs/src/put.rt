@@ -1,0 +1,378 @@
+//! Single instructions: which one an operator is, and how one is put behind the others.
+
+ghost use Rattle.std.specs.Prelude.{◌≡◌, [], ◌∷◌, ◌++◌, ◌<◌, ◌≤◌, ◌+◌, OnOk, IfOk, IfErr};
+ghost use Rattle.selection.specs.Lists.{Lists as Plain, with_register};
+ghost use Rattle.selection.specs.Expressions as expressions;
+ghost use Rattle.lower_exprs.specs.Limits.{NeedsMore};
+ghost use Rattle.lower_exprs.specs.Lists.{lists_of};
+ghost use Rattle.lower_exprs.specs.Stretches.{Adds, AddsValue, of_value};
+ghost use Rattle.lower_exprs.specs.inner.Stretches.{in_place, standing, test_in_place};
+
+use crate::draft::put_test;
+use crate::fault::Failure;
+use crate::lists::Lists;
+use bytecode::Instr;
+use lex::token::Scalar;
+use selection::draft::Draft;
+use selection::locations::{ValueRegister, ConditionRegister};
+use std::alloc::{AllocError, Allocator};
+use syntax::tree::BinaryOp;
+use syntax::types::result_type;
+
+/// The registers of a function have numbers below this one.
+const MOST_REGISTERS: usize = 65_535;
+
+/// One more instruction.
+pub fn put<A: Allocator>(code: &mut Vec<Instr, A>, instr: Instr) -> Result<(), AllocError>
+    ensures { OnOk result (code.new.items ≡ code.old.items ++ instr ∷ []) }
+{
+    match code.push(instr) {
+        Ok(()) => Ok(()),
+        Err(_) => Err(AllocError),
+    }
+}
+
+/// These instructions behind the others.
+pub fn append<A: Allocator>(
+    code: &mut Vec<Instr, A>,
+    more: &mut Vec<Instr, A>,
+) -> Result<(), AllocError>
+    ensures { OnOk result (code.new.items ≡ code.old.items ++ more.old.items) }
+{
+    match code.append(more) {
+        Ok(()) => Ok(()),
+        Err(_) => Err(AllocError),
+    }
+}
+
+/// The place so many places further. No memory holds a code with a place that is no `u32`.
+pub fn after(place: u32, count: u32) -> Result<u32, AllocError>
+    requires { count ≤ 4 }
+    ensures { IfOk result (λ n. n ≡ place + count) }
+{
+    if place > 4_294_967_295 - count {
+        return Err(AllocError);
+    }
+    Ok(place + count)
+}
+
+/// A register that is used.
+pub(crate) fn take<A: Allocator>(lists: &mut Lists<A>, r: usize) -> Result<u16, Failure>
+    ensures lists { OnOk result (lists_of lists.new ≡ with_register r (lists_of lists.old)) }
+    ensures register { IfOk result (λ n. n ≡ r) }
+    ensures fails { IfErr result (λ why. NeedsMore why (with_register r (lists_of lists.old)).registers) }
+{
+    if r >= MOST_REGISTERS {
+        return Err(Failure::Registers);
+    }
+    if lists.registers <= r as u32 {
+        lists.registers = r as u32 + 1;
+    }
+    Ok(r as u16)
+}
+
+/// The first free register above a value's.
+pub(crate) fn above(free: usize, r: u16) -> usize
+    ensures { result ≡ expressions.above free r }
+{
+    let next = r as usize + 1;
+    if free < next { next } else { free }
+}
+
+/// A constant in a register.
+pub(crate) fn put_constant<A: Allocator>(
+    lists: &mut Lists<A>,
+    code: &mut Vec<Instr, A>,
+    value: u64,
+    of: Scalar,
+    from: u32,
+    into: usize,
+) -> Result<ValueRegister, Failure>
+    ensures { AddsValue (expressions.constant value of from into (lists_of lists.old))
+        code.old code.new lists.new result }
+{
+    let register = take(lists, into)?;
+    put(code, Instr::Constant(register, value))?;
+    let to = after(from, 1)?;
+    Ok(ValueRegister { register, of, to })
+}
+
+/// A value in this very register.
+pub(crate) fn settle<A: Allocator>(
+    lists: &mut Lists<A>,
+    code: &mut Vec<Instr, A>,
+    held: ValueRegister,
+    r: usize,
+) -> Result<ValueRegister, Failure>
+    ensures code { AddsValue (expressions.value_into r (in_place held (lists_of lists.old)))
+        code.old code.new lists.new result }
+    ensures register { IfOk result (λ now. now.register ≡ r) }
+{
+    if held.register as usize == r {
+        return Ok(held);
+    }
+    let register = take(lists, r)?;
+    put(code, Instr::Move(register, held.register))?;
+    let to = after(held.to, 1)?;
+    Ok(ValueRegister {
+        register,
+        of: held.of,
+        to,
+    })
+}
+
+fn computing_signed(op: BinaryOp, d: u16, a: u16, b: u16) -> Instr
+    ensures { result ≡ expressions.computing op (Scalar.Int) d a b }
+{
+    match op {
+        BinaryOp::Add => Instr::AddSigned(d, a, b),
+        BinaryOp::Subtract => Instr::SubtractSigned(d, a, b),
+        BinaryOp::Multiply => Instr::MultiplySigned(d, a, b),
+        BinaryOp::Divide => Instr::DivideSigned(d, a, b),
+        BinaryOp::Remainder => Instr::RemainderSigned(d, a, b),
+        BinaryOp::ShiftLeft => Instr::ShiftLeftSigned(d, a, b),
+        BinaryOp::ShiftRight => Instr::ShiftRightSigned(d, a, b),
+        BinaryOp::And => Instr::And(d, a, b),
+        BinaryOp::Or => Instr::Or(d, a, b),
+        BinaryOp::Xor => Instr::Xor(d, a, b),
+        BinaryOp::Equal => Instr::Equal(d, a, b),
+        BinaryOp::NotEqual => Instr::NotEqual(d, a, b),
+        BinaryOp::Less => Instr::LessSigned(d, a, b),
+        BinaryOp::Greater => Instr::LessSigned(d, b, a),
+        BinaryOp::LessEqual => Instr::LessEqualSigned(d, a, b),
+        BinaryOp::GreaterEqual => Instr::LessEqualSigned(d, b, a),
+    }
+}
+
+fn computing_unsigned(op: BinaryOp, d: u16, a: u16, b: u16) -> Instr
+    ensures { result ≡ expressions.computing op (Scalar.Unsigned) d a b }
+{
+    match op {
+        BinaryOp::Add => Instr::AddUnsigned(d, a, b),
+        BinaryOp::Subtract => Instr::SubtractUnsigned(d, a, b),
+        BinaryOp::Multiply => Instr::MultiplyUnsigned(d, a, b),
+        BinaryOp::Divide => Instr::DivideUnsigned(d, a, b),
+        BinaryOp::Remainder => Instr::RemainderUnsigned(d, a, b),
+        BinaryOp::ShiftLeft => Instr::ShiftLeftUnsigned(d, a, b),
+        BinaryOp::ShiftRight => Instr::ShiftRightUnsigned(d, a, b),
+        BinaryOp::And => Instr::And(d, a, b),
+        BinaryOp::Or => Instr::Or(d, a, b),
+        BinaryOp::Xor => Instr::Xor(d, a, b),
+        BinaryOp::Equal => Instr::Equal(d, a, b),
+        BinaryOp::NotEqual => Instr::NotEqual(d, a, b),
+        BinaryOp::Less => Instr::LessUnsigned(d, a, b),
+        BinaryOp::Greater => Instr::LessUnsigned(d, b, a),
+        BinaryOp::LessEqual => Instr::LessEqualUnsigned(d, a, b),
+        BinaryOp::GreaterEqual => Instr::LessEqualUnsigned(d, b, a),
+    }
+}
+
+fn computing_long(op: BinaryOp, d: u16, a: u16, b: u16) -> Instr
+    ensures { result ≡ expressions.computing op (Scalar.LongLong) d a b }
+{
+    match op {
+        BinaryOp::Add => Instr::AddLong(d, a, b),
+        BinaryOp::Subtract => Instr::SubtractLong(d, a, b),
+        BinaryOp::Multiply => Instr::MultiplyLong(d, a, b),
+        BinaryOp::Divide => Instr::DivideLong(d, a, b),
+        BinaryOp::Remainder => Instr::RemainderLong(d, a, b),
+        BinaryOp::ShiftLeft => Instr::ShiftLeftLong(d, a, b),
+        BinaryOp::ShiftRight => Instr::ShiftRightLong(d, a, b),
+        BinaryOp::And => Instr::And(d, a, b),
+        BinaryOp::Or => Instr::Or(d, a, b),
+        BinaryOp::Xor => Instr::Xor(d, a, b),
+        BinaryOp::Equal => Instr::Equal(d, a, b),
+        BinaryOp::NotEqual => Instr::NotEqual(d, a, b),
+        BinaryOp::Less => Instr::LessLong(d, a, b),
+        BinaryOp::Greater => Instr::LessLong(d, b, a),
+        BinaryOp::LessEqual => Instr::LessEqualLong(d, a, b),
+        BinaryOp::GreaterEqual => Instr::LessEqualLong(d, b, a),
+    }
+}
+
+fn computing(op: BinaryOp, of: Scalar, d: u16, a: u16, b: u16) -> Instr
+    ensures { result ≡ expressions.computing op of d a b }
+{
+    match of {
+        Scalar::Int => computing_signed(op, d, a, b),
+        Scalar::Unsigned => computing_unsigned(op, d, a, b),
+        Scalar::LongLong => computing_long(op, d, a, b),
+    }
+}
+
+/// An operator on two values, whose instructions stand there; it computes in this type.
+pub(crate) fn put_both<A: Allocator>(
+    lists: &mut Lists<A>,
+    code: &mut Vec<Instr, A>,
+    op: BinaryOp,
+    of: Scalar,
+    a: ValueRegister,
+    b: ValueRegister,
+    into: usize,
+) -> Result<ValueRegister, Failure>
+    ensures { AddsValue (expressions.both op of (in_place a (lists_of lists.old)) (in_place b (lists_of lists.old))
+        into) code.old code.new lists.new result }
+{
+    let register = take(lists, into)?;
+    put(code, computing(op, of, register, a.register, b.register))?;
+    let to = after(b.to, 1)?;
+    Ok(ValueRegister {
+        register,
+        of: result_type(op, of),
+        to,
+    })
+}
+
+fn negating(of: Scalar, d: u16, a: u16) -> Instr
+    ensures { result ≡ expressions.negating of d a }
+{
+    match of {
+        Scalar::Int => Instr::NegateSigned(d, a),
+        Scalar::Unsigned => Instr::NegateUnsigned(d, a),
+        Scalar::LongLong => Instr::NegateLong(d, a),
+    }
+}
+
+fn complementing(of: Scalar, d: u16, a: u16) -> Instr
+    ensures { result ≡ expressions.complementing of d a }
+{
+    match of {
+        Scalar::Int | Scalar::Unsigned => Instr::Complement(d, a),
+        Scalar::LongLong => Instr::ComplementLong(d, a),
+    }
+}
+
+/// The negated value.
+pub(crate) fn put_negated<A: Allocator>(
+    lists: &mut Lists<A>,
+    code: &mut Vec<Instr, A>,
+    a: ValueRegister,
+    into: usize,
+) -> Result<ValueRegister, Failure>
+    ensures { AddsValue (expressions.negation (in_place a (lists_of lists.old)) into)
+        code.old code.new lists.new result }
+{
+    let register = take(lists, into)?;
+    put(code, negating(a.of, register, a.register))?;
+    let to = after(a.to, 1)?;
+    Ok(ValueRegister {
+        register,
+        of: a.of,
+        to,
+    })
+}
+
+/// The value with each bit turned round.
+pub(crate) fn put_complemented<A: Allocator>(
+    lists: &mut Lists<A>,
+    code: &mut Vec<Instr, A>,
+    a: ValueRegister,
+    into: usize,
+) -> Result<ValueRegister, Failure>
+    ensures { AddsValue (expressions.complement (in_place a (lists_of lists.old)) into)
+        code.old code.new lists.new result }
+{
+    let register = take(lists, into)?;
+    put(code, complementing(a.of, register, a.register))?;
+    let to = after(a.to, 1)?;
+    Ok(ValueRegister {
+        register,
+        of: a.of,
+        to,
+    })
+}
+
+/// Whether a value is 0.
+pub(crate) fn put_compared<A: Allocator>(
+    lists: &mut Lists<A>,
+    code: &mut Vec<Instr, A>,
+    a: ValueRegister,
+    into: usize,
+    free: usize,
+) -> Result<ValueRegister, Failure>
+    ensures { AddsValue (expressions.logical_negation (in_place a (lists_of lists.old)) into free)
+        code.old code.new lists.new result }
+{
+    let zero_in = take(lists, above(free, a.register))?;
+    put(code, Instr::Constant(zero_in, 0))?;
+    let register = take(lists, into)?;
+    put(code, Instr::Equal(register, a.register, zero_in))?;
+    let to = after(a.to, 2)?;
+    Ok(ValueRegister {
+        register,
+        of: Scalar::Int,
+        to,
+    })
+}
+
+/// A condition, and behind it the answers: 1 where it holds, and 0 where it does not.
+pub(crate) fn put_answers<A: Allocator>(
+    lists: &mut Lists<A>,
+    code: &mut Vec<Instr, A>,
+    test: &[Draft],
+    t: ConditionRegister,
+    into: usize,
+) -> Result<ValueRegister, Failure>
+    ensures { AddsValue (expressions.condition_value (test_in_place test.now t (lists_of lists.old)) into)
+        code.old code.new lists.new result }
+{
+    let unmet = after(t.to, 3)?;
+    let to = after(t.to, 4)?;
+    let register = take(lists, into)?;
+    put_test(code, test, t, unmet)?;
+    put(code, Instr::Constant(register, 1))?;
+    put(code, Instr::Jump(to))?;
+    put(code, Instr::Constant(register, 0))?;
+    Ok(ValueRegister {
+        register,
+        of: Scalar::Int,
+        to,
+    })
+}
+
+/// A condition, and behind it two values of this type in one register.
+pub(crate) fn put_chosen<A: Allocator>(
+    code: &mut Vec<Instr, A>,
+    of: Scalar,
+    test: &[Draft],
+    t: ConditionRegister,
+    first: &mut Vec<Instr, A>,
+    a: ValueRegister,
+    second: &mut Vec<Instr, A>,
+    b: ValueRegister,
+) -> Result<ValueRegister, Failure>
+    ensures { (l : Plain) → Adds (of_value (expressions.conditional_value of (test_in_place test.now t l)
+        (standing first.old.items a l) (standing second.old.items b l) b.register)) code.old.items code.new.items l
+        result }
+{
+    let other = after(a.to, 1)?;
+    put_test(code, test, t, other)?;
+    append(code, first)?;
+    put(code, Instr::Jump(b.to))?;
+    append(code, second)?;
+    Ok(ValueRegister {
+        register: b.register,
+        of,
+        to: b.to,
+    })
+}
+
+/// The instructions of a value between the begin and the commit of a transaction of its own.
+pub(crate) fn put_in_transaction<A: Allocator>(
+    code: &mut Vec<Instr, A>,
+    operand: &mut Vec<Instr, A>,
+    held: ValueRegister,
+) -> Result<ValueRegister, Failure>
+    ensures { (l : Plain) → Adds (of_value (expressions.in_own_transaction (standing operand.old.items held l)))
+        code.old.items code.new.items l result }
+{
+    let to = after(held.to, 1)?;
+    put(code, Instr::Begin(to))?;
+    append(code, operand)?;
+    put(code, Instr::Commit)?;
+    Ok(ValueRegister {
+        register: held.register,
+        of: held.of,
+        to,
+    })
+}

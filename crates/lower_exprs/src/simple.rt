@@ -1,0 +1,523 @@
+//! The instructions of assignments and declarations.
+
+ghost use Rattle.std.specs.Prelude.{◌≡◌, ◌+◌, ◌≤◌, List, map, option_map, OnOk};
+ghost use Rattle.std.specs.Option.{option_copied};
+ghost use Rattle.syntax.specs.Names as Source;
+ghost use Rattle.syntax.specs.Views.{expr_of, simple_of, declarator_of, global_of, start_of};
+ghost use Rattle.bytecode.specs.declared.instr.Instr.{Instr};
+ghost use Rattle.lower_spec.specs.Statements.{with_local, with_declared, locals_of_start};
+ghost use Rattle.selection.specs.Lists.{Lists as Plain};
+ghost use Rattle.selection.specs.Simples as simples;
+ghost use Rattle.selection.specs.Simples.{emitted_one, value_or_one, aimed, variable_target, element_target, target_value};
+ghost use Rattle.selection.specs.Simples.{target_store, assigned, changed, adjusted, simple_written, first_written};
+ghost use Rattle.selection.specs.Simples.{declarator_written, declared_written, start_written};
+ghost use Rattle.lower_exprs.specs.Lists.{lists_of};
+ghost use Rattle.lower_exprs.specs.Stretches.{Adds, AddsValue, Writes, of_written};
+ghost use Rattle.lower_exprs.specs.inner.Stretches.{in_place, of_aim, Aims};
+ghost use Rattle.global_tables.specs.Tables.{shared_in};
+ghost use Rattle.lower_exprs.specs.Views.{program_in, scope_in};
+
+use crate::aim::Aim;
+use crate::convert::{constant_in, put_converted, put_widened};
+use crate::expr::{lower_expr, lower_operand};
+use crate::fault::Failure;
+use crate::lists::Lists;
+use crate::names::global;
+use crate::program::ProgramNames;
+use crate::put::{above, after, put, put_both, put_constant, take};
+use crate::ready::{constant_of, ready};
+use crate::scope::Scope;
+use crate::value_type::value_type;
+use bytecode::Instr;
+use global_tables::Shared;
+use lex::token::Scalar;
+use selection::locations::{ValueRegister, AssignmentTarget};
+use std::alloc::Allocator;
+use syntax::tree::{BinaryOp, Declarator, Expr, Simple, Start};
+use syntax::types::{operand_type, result_type};
+
+fn aim_at(target: AssignmentTarget, to: u32) -> Aim
+    ensures { result ≡ record { target = target; to = to } }
+{
+    Aim { target, to }
+}
+
+/// Where an assignment to a variable goes.
+fn aim_variable<A: Allocator + Copy>(
+    names: &ProgramNames<'_, A>,
+    scope: &Scope<'_, A>,
+    lists: &mut Lists<A>,
+    x: &str,
+    from: u32,
+) -> Result<Aim, Failure>
+    ensures { (code : List Instr) → Adds (of_aim (variable_target (Source.newest (scope_in scope.now) x.now)
+        (Source.global_of (program_in names.now) x.now) from (lists_of lists.old)))
+        code code (lists_of lists.new) result }
+{
+    match scope.newest(x) {
+        Some((i, of)) => {
+            let register = take(lists, i)?;
+            Ok(aim_at(AssignmentTarget::Local(register, of), from))
+        }
+        None => match global(names, x) {
+            Some(g) => Ok(aim_at(AssignmentTarget::Cell(g.cell as u32, g.global.of), from)),
+            None => Ok(aim_at(AssignmentTarget::Nowhere, from)),
+        },
+    }
+}
+
+/// Where an assignment to an element goes, with the test of its index or without it.
+fn put_check<A: Allocator + Copy>(
+    code: &mut Vec<Instr, A>,
+    check: bool,
+    g: Shared<'_, A>,
+    index: ValueRegister,
+) -> Result<Aim, Failure>
+    requires { g.cell + Source.cells (global_of g.global.now) ≤ 4096 }
+    ensures { (l : Plain) → Adds (of_aim (element_target check (Some (shared_in g.entry)) (in_place index l) index.to
+        l)) code.old.items code.new.items l result }
+{
+    let length = g.global.cell_count() as u32;
+    let target = AssignmentTarget::Element(index.register, g.cell as u32, length, g.global.of);
+    if check {
+        put(code, Instr::Check(index.register, length))?;
+        let to = after(index.to, 1)?;
+        return Ok(aim_at(target, to));
+    }
+    Ok(aim_at(target, index.to))
+}
+
+/// Where an assignment goes.
+fn aim<A: Allocator + Copy>(
+    names: &ProgramNames<'_, A>,
+    scope: &Scope<'_, A>,
+    lists: &mut Lists<A>,
+    code: &mut Vec<Instr, A>,
+    check: bool,
+    e: &Expr<A>,
+    from: u32,
+    free: usize,
+) -> Result<Aim, Failure>
+    ensures { Aims (aimed (program_in names.now) (scope_in scope.now) check (expr_of e.now) from free
+        (lists_of lists.old)) code.old code.new lists.new result }
+{
+    match e {
+        Expr::Variable(x) => aim_variable(names, scope, lists, x.text.as_str(), from),
+        Expr::Element(x, index, _) => match global(names, x.text.as_str()) {
+            Some(g) => {
+                let i = lower_expr(names, scope, lists, code, index.get(), from, free, free)?;
+                put_check(code, check, g, i)
+            }
+            None => Ok(aim_at(AssignmentTarget::Nowhere, from)),
+        },
+        _ => Ok(aim_at(AssignmentTarget::Nowhere, from)),
+    }
+}
+
+/// The first register that a target leaves.
+fn above_target(target: AssignmentTarget, free: usize) -> usize
+    ensures { result ≡ simples.above_target target free }
+{
+    match target {
+        AssignmentTarget::Element(i, _, _, _) => above(free, i),
+        _ => free,
+    }
+}
+
+/// The register that the value takes.
+fn home_or(target: AssignmentTarget, free: usize) -> usize
+    ensures { result ≡ simples.home_or target free }
+{
+    match target {
+        AssignmentTarget::Local(i, _) => i as usize,
+        _ => free,
+    }
+}
+
+/// The old value.
+fn fetch<A: Allocator>(
+    lists: &mut Lists<A>,
+    code: &mut Vec<Instr, A>,
+    target: AssignmentTarget,
+    from: u32,
+    free: usize,
+) -> Result<ValueRegister, Failure>
+    ensures { AddsValue (target_value target from free (lists_of lists.old)) code.old code.new lists.new result }
+{
+    match target {
+        AssignmentTarget::Local(i, of) => {
+            let register = take(lists, i as usize)?;
+            Ok(ValueRegister {
+                register,
+                of,
+                to: from,
+            })
+        }
+        AssignmentTarget::Cell(cell, of) => {
+            let register = take(lists, free)?;
+            put(code, Instr::Read(register, cell))?;
+            let to = after(from, 1)?;
+            Ok(ValueRegister { register, of, to })
+        }
+        AssignmentTarget::Element(i, cell, length, of) => {
+            let register = take(lists, free)?;
+            put(code, Instr::ReadAt(register, i, cell, length))?;
+            let to = after(from, 1)?;
+            Ok(ValueRegister { register, of, to })
+        }
+        AssignmentTarget::Nowhere => put_constant(lists, code, 0, Scalar::Int, from, free),
+    }
+}
+
+/// A value goes to its target, where it does not lie there already; the place behind.
+fn store<A: Allocator>(
+    code: &mut Vec<Instr, A>,
+    target: AssignmentTarget,
+    a: u16,
+    from: u32,
+) -> Result<u32, Failure>
+    ensures { (l : Plain) → Adds (of_written (target_store target a from l)) code.old.items code.new.items l result }
+{
+    let instr = match target {
+        AssignmentTarget::Local(i, _) => {
+            if a == i {
+                return Ok(from);
+            }
+            Instr::Move(i, a)
+        }
+        AssignmentTarget::Cell(cell, _) => Instr::Write(a, cell),
+        AssignmentTarget::Element(i, cell, length, _) => Instr::WriteAt(i, a, cell, length),
+        AssignmentTarget::Nowhere => return Ok(from),
+    };
+    put(code, instr)?;
+    Ok(after(from, 1)?)
+}
+
+/// The type of what lies at a target.
+fn type_at(target: AssignmentTarget) -> Scalar
+    ensures { result ≡ simples.type_at target }
+{
+    match target {
+        AssignmentTarget::Local(_, of) | AssignmentTarget::Cell(_, of) | AssignmentTarget::Element(_, _, _, of) => of,
+        AssignmentTarget::Nowhere => Scalar::Int,
+    }
+}
+
+/// A value of a type `own` on its way to a target.
+fn put_fitting<A: Allocator>(
+    lists: &mut Lists<A>,
+    code: &mut Vec<Instr, A>,
+    target: AssignmentTarget,
+    own: Scalar,
+    a: ValueRegister,
+    into: usize,
+) -> Result<ValueRegister, Failure>
+    ensures { AddsValue (simples.fitting target own (in_place a (lists_of lists.old)) into)
+        code.old code.new lists.new result }
+{
+    match target {
+        AssignmentTarget::Local(_, of) => put_converted(lists, code, a, own, of, into),
+        AssignmentTarget::Cell(_, of) | AssignmentTarget::Element(_, _, _, of) => {
+            put_widened(lists, code, a, own, of, into)
+        }
+        AssignmentTarget::Nowhere => Ok(ValueRegister {
+            register: a.register,
+            of: Scalar::Int,
+            to: a.to,
+        }),
+    }
+}
+
+/// An expression's value on its way to a target.
+fn lower_fitting<A: Allocator + Copy>(
+    names: &ProgramNames<'_, A>,
+    scope: &Scope<'_, A>,
+    lists: &mut Lists<A>,
+    code: &mut Vec<Instr, A>,
+    target: AssignmentTarget,
+    e: &Expr<A>,
+    from: u32,
+    home: usize,
+    free: usize,
+) -> Result<ValueRegister, Failure>
+    ensures { AddsValue (simples.placed (program_in names.now) (scope_in scope.now) target (expr_of e.now) from home
+        free (lists_of lists.old)) code.old code.new lists.new result }
+{
+    match constant_of(e) {
+        Some((value, own)) => {
+            let of = type_at(target);
+            put_constant(lists, code, constant_in(of, own, value), of, from, home)
+        }
+        None => {
+            let a = lower_expr(names, scope, lists, code, e, from, home, free)?;
+            put_fitting(lists, code, target, a.of, a, home)
+        }
+    }
+}
+
+/// `to = value`
+fn lower_assign<A: Allocator + Copy>(
+    names: &ProgramNames<'_, A>,
+    scope: &Scope<'_, A>,
+    lists: &mut Lists<A>,
+    code: &mut Vec<Instr, A>,
+    to: &Expr<A>,
+    value: &Expr<A>,
+    from: u32,
+    free: usize,
+) -> Result<u32, Failure>
+    ensures { Writes (assigned (program_in names.now) (scope_in scope.now) (expr_of to.now) (expr_of value.now) from
+        free (lists_of lists.old)) code.old code.new lists.new result }
+{
+    let aim = aim(names, scope, lists, code, true, to, from, free)?;
+    let later = above_target(aim.target, free);
+    let home = home_or(aim.target, later);
+    let held = lower_fitting(
+        names, scope, lists, code, aim.target, value, aim.to, home, later,
+    )?;
+    store(code, aim.target, held.register, held.to)
+}
+
+/// The 1 that is added or subtracted, in this type.
+fn lower_one<A: Allocator>(
+    lists: &mut Lists<A>,
+    code: &mut Vec<Instr, A>,
+    of: Scalar,
+    from: u32,
+    free: usize,
+) -> Result<ValueRegister, Failure>
+    ensures { AddsValue (emitted_one of from free (lists_of lists.old)) code.old code.new lists.new result }
+{
+    match ready(lists, 1, of, from) {
+        Some(held) => Ok(held),
+        None => put_constant(lists, code, 1, of, from, free),
+    }
+}
+
+/// The type of the right side of an operator.
+fn type_or_int<A: Allocator + Copy>(
+    names: &ProgramNames<'_, A>,
+    scope: &Scope<'_, A>,
+    by: Option<&Expr<A>>,
+) -> Scalar
+    ensures { result ≡ simples.type_or_int (program_in names.now) (scope_in scope.now)
+        (option_map expr_of (option_copied by.entry)) }
+{
+    match by {
+        Some(e) => value_type(names, scope, e),
+        None => Scalar::Int,
+    }
+}
+
+/// The right side of an operator in this type: a value, or else the 1 that is added or subtracted.
+fn lower_by<A: Allocator + Copy>(
+    names: &ProgramNames<'_, A>,
+    scope: &Scope<'_, A>,
+    lists: &mut Lists<A>,
+    code: &mut Vec<Instr, A>,
+    of: Scalar,
+    by: Option<&Expr<A>>,
+    from: u32,
+    free: usize,
+) -> Result<ValueRegister, Failure>
+    ensures { AddsValue (value_or_one (program_in names.now) (scope_in scope.now) of
+        (option_map expr_of (option_copied by.entry)) from free (lists_of lists.old))
+        code.old code.new lists.new result }
+{
+    match by {
+        Some(e) => lower_operand(names, scope, lists, code, e, of, from, free),
+        None => lower_one(lists, code, of, from, free),
+    }
+}
+
+/// The old value, another one, and the operator on both, as it goes to the target.
+fn lower_changed<'e, A: Allocator + Copy>(
+    names: &ProgramNames<'_, A>,
+    scope: &Scope<'_, A>,
+    lists: &mut Lists<A>,
+    code: &mut Vec<Instr, A>,
+    op: BinaryOp,
+    by: Option<&'e Expr<A>>,
+    target: AssignmentTarget,
+    from: u32,
+    free: usize,
+) -> Result<ValueRegister, Failure>
+    ensures { AddsValue (changed (program_in names.now) (scope_in scope.now) op
+        (option_map expr_of (option_copied by.entry)) target from free (lists_of lists.old))
+        code.old code.new lists.new result }
+{
+    let own = type_at(target);
+    let other = type_or_int(names, scope, by);
+    let of = operand_type(op, own, other);
+    let due = operand_type(op, other, own);
+    let first = fetch(lists, code, target, from, free)?;
+    let old = put_converted(lists, code, first, own, of, free)?;
+    let behind = above(free, old.register);
+    let right = lower_by(names, scope, lists, code, due, by, old.to, behind)?;
+    let home = home_or(target, free);
+    let held = put_both(lists, code, op, of, old, right, home)?;
+    put_fitting(lists, code, target, result_type(op, of), held, home)
+}
+
+/// `to op= by`; with no `by`, `to++` or `to--`
+fn lower_adjust<'e, A: Allocator + Copy>(
+    names: &ProgramNames<'_, A>,
+    scope: &Scope<'_, A>,
+    lists: &mut Lists<A>,
+    code: &mut Vec<Instr, A>,
+    op: BinaryOp,
+    to: &'e Expr<A>,
+    by: Option<&'e Expr<A>>,
+    from: u32,
+    free: usize,
+) -> Result<u32, Failure>
+    ensures { Writes (adjusted (program_in names.now) (scope_in scope.now) op (expr_of to.now)
+        (option_map expr_of (option_copied by.entry)) from free (lists_of lists.old))
+        code.old code.new lists.new result }
+{
+    let aim = aim(names, scope, lists, code, false, to, from, free)?;
+    let later = above_target(aim.target, free);
+    let held = lower_changed(names, scope, lists, code, op, by, aim.target, aim.to, later)?;
+    store(code, aim.target, held.register, held.to)
+}
+
+/// An expression that stands as a statement, or an assignment.
+pub fn lower_simple<A: Allocator + Copy>(
+    names: &ProgramNames<'_, A>,
+    scope: &Scope<'_, A>,
+    lists: &mut Lists<A>,
+    code: &mut Vec<Instr, A>,
+    s: &Simple<A>,
+    from: u32,
+    free: usize,
+) -> Result<u32, Failure>
+    ensures { Writes (simple_written (program_in names.now) (scope_in scope.now) (simple_of s.now) from free
+        (lists_of lists.old)) code.old code.new lists.new result }
+{
+    match s {
+        Simple::Evaluate(e) => {
+            let held = lower_expr(names, scope, lists, code, e, from, free, free)?;
+            Ok(held.to)
+        }
+        Simple::Assign(to, op, value) => match op {
+            None => lower_assign(names, scope, lists, code, to, value, from, free),
+            Some(op) => {
+                lower_adjust(names, scope, lists, code, *op, to, Some(value), from, free)
+            }
+        },
+        Simple::Adjust(to, by) => {
+            lower_adjust(
+                names,
+                scope,
+                lists,
+                code,
+                by.operator(),
+                to,
+                None,
+                from,
+                free,
+            )
+        }
+    }
+}
+
+/// The first value of the local in this register.
+fn lower_first<A: Allocator + Copy>(
+    names: &ProgramNames<'_, A>,
+    scope: &Scope<'_, A>,
+    lists: &mut Lists<A>,
+    code: &mut Vec<Instr, A>,
+    register: u16,
+    of: Scalar,
+    first: &Option<Expr<A>>,
+    from: u32,
+) -> Result<u32, Failure>
+    ensures { Writes (first_written (program_in names.now) (scope_in scope.now) register of
+        (option_map expr_of first.now) from (lists_of lists.old)) code.old code.new lists.new result }
+{
+    match first {
+        Some(e) => {
+            let i = register as usize;
+            let target = AssignmentTarget::Local(register, of);
+            let held = lower_fitting(names, scope, lists, code, target, e, from, i, i + 1)?;
+            store(code, target, held.register, held.to)
+        }
+        None => Ok(from),
+    }
+}
+
+/// A declared local is 0 and then has its first value.
+fn lower_declarator<'p, A: Allocator + Copy>(
+    names: &ProgramNames<'p, A>,
+    scope: &mut Scope<'p, A>,
+    lists: &mut Lists<A>,
+    code: &mut Vec<Instr, A>,
+    of: Scalar,
+    d: &'p Declarator<A>,
+    from: u32,
+) -> Result<u32, Failure>
+    ensures scope { OnOk result (scope_in scope.new ≡ with_local (scope_in scope.old) d.now.name.text of) }
+    ensures code { Writes (declarator_written (program_in names.now) of (declarator_of d.now) (scope_in scope.old) from
+        (lists_of lists.old)) code.old code.new lists.new result }
+{
+    let register = take(lists, scope.len())?;
+    put(code, Instr::Constant(register, 0))?;
+    let next = after(from, 1)?;
+    scope.declare(d.name.text.as_str(), of)?;
+    lower_first(names, scope, lists, code, register, of, &d.first, next)
+}
+
+/// The locals of one declaration, in order.
+pub fn lower_declarators<'p, A: Allocator + Copy>(
+    names: &ProgramNames<'p, A>,
+    scope: &mut Scope<'p, A>,
+    lists: &mut Lists<A>,
+    code: &mut Vec<Instr, A>,
+    of: Scalar,
+    all: &'p [Declarator<A>],
+    from: u32,
+) -> Result<u32, Failure>
+    ensures scope { OnOk result (scope_in scope.new ≡ with_declared of (map declarator_of all.now)
+        (scope_in scope.old)) }
+    ensures code { Writes (declared_written (program_in names.now) of (map declarator_of all.now) (scope_in scope.old)
+        from (lists_of lists.old)) code.old code.new lists.new result }
+{
+    let mut to = from;
+    'each: for one in all {
+        to = lower_declarator(names, scope, lists, code, of, one, to)?;
+    }
+    Ok(to)
+}
+
+/// What the head of a `for` begins with.
+pub fn lower_start<'p, A: Allocator + Copy>(
+    names: &ProgramNames<'p, A>,
+    scope: &mut Scope<'p, A>,
+    lists: &mut Lists<A>,
+    code: &mut Vec<Instr, A>,
+    start: &'p Start<A>,
+    from: u32,
+) -> Result<u32, Failure>
+    ensures scope { OnOk result (scope_in scope.new ≡ locals_of_start (start_of start.now) (scope_in scope.old)) }
+    ensures code { Writes (start_written (program_in names.now) (start_of start.now) (scope_in scope.old) from
+        (lists_of lists.old)) code.old code.new lists.new result }
+{
+    match start {
+        Start::Nothing => Ok(from),
+        Start::Declare(d) => {
+            lower_declarators(
+                names,
+                scope,
+                lists,
+                code,
+                d.of,
+                d.declarators.as_slice(),
+                from,
+            )
+        }
+        Start::Do(s) => {
+            let free = scope.len();
+            lower_simple(names, scope, lists, code, s, from, free)
+        }
+    }
+}

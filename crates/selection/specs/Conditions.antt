@@ -1,0 +1,108 @@
+-- The instructions that are picked for a condition: a value and a jump, for which `!` and comparisons with 0 only say
+-- when it is taken, and for `&&` and `||` a first condition with its jump before it.
+use Rattle.std.specs.Prelude.{ℕ, zero, ◌+◌, List, [], ◌∷◌, ◌++◌, map, Bool, true, false, not, if◌then◌else◌, Option}
+use Rattle.std.specs.Prelude.{Some, None}
+use Rattle.syntax.specs.declared.tree.BinaryOp.{BinaryOp}
+use Rattle.syntax.specs.declared.tree.BinaryOp.TheVariants.{Equal, NotEqual}
+use Rattle.syntax.specs.declared.tree.LogicalOp.{LogicalOp}
+use Rattle.syntax.specs.declared.tree.LogicalOp.TheVariants.{AndThen, OrElse}
+use Rattle.syntax.specs.Tree.{Expr, Constant}
+use Rattle.bytecode.specs.declared.instr.Instr.{Instr}
+use Rattle.bytecode.specs.declared.instr.Instr.TheVariants as own
+use Rattle.selection.specs.declared.locations.ValueRegister.{ValueRegister}
+use Rattle.selection.specs.declared.locations.ConditionRegister.{ConditionRegister}
+use Rattle.selection.specs.declared.draft.Draft.{Draft}
+use Rattle.selection.specs.declared.draft.Draft.TheVariants as draft
+use Rattle.selection.specs.Lists.{Lists}
+
+-- instructions, some of which lead to where the condition holds or to where it does not; the lists after them, the
+-- register of a value, whether the condition holds where that is 0, and the place behind
+pub record Condition : Type 0 where
+  pub code : List Draft
+  pub lists : Lists
+  pub register : ℕ
+  pub at_zero : Bool
+  pub to : ℕ
+
+abbrev pub test_in : Condition → ConditionRegister
+test_in c = record { register = c.register; at_zero = c.at_zero; to = c.to }
+
+-- a jump that is taken where a register is 0, or where it is not, and the opposite one
+abbrev pub jump_if : Bool → ℕ → ℕ → Instr
+jump_if true r to = own.JumpZero r to
+jump_if false r to = own.JumpNonzero r to
+
+abbrev pub jump_if_not : Bool → ℕ → ℕ → Instr
+jump_if_not true r to = own.JumpNonzero r to
+jump_if_not false r to = own.JumpZero r to
+
+-- the instruction, once it is known where the condition leads
+abbrev pub instruction_of_draft : (met unmet : ℕ) → Draft → Instr
+instruction_of_draft met unmet (draft.Whole i) = i
+instruction_of_draft met unmet (draft.ToMet at_zero r) = jump_if at_zero r met
+instruction_of_draft met unmet (draft.ToUnmet at_zero r) = jump_if at_zero r unmet
+
+-- an instruction of the opposite condition
+abbrev pub opposite_draft : Draft → Draft
+opposite_draft (draft.Whole i) = draft.Whole i
+opposite_draft (draft.ToMet at_zero r) = draft.ToUnmet at_zero r
+opposite_draft (draft.ToUnmet at_zero r) = draft.ToMet at_zero r
+
+-- of the first condition of `&&` and `||`, where it is known where the second one begins
+abbrev pub led_on : LogicalOp → ℕ → Draft → Draft
+led_on AndThen next (draft.Whole i) = draft.Whole i
+led_on AndThen next (draft.ToMet at_zero r) = draft.Whole (jump_if at_zero r next)
+led_on AndThen next (draft.ToUnmet at_zero r) = draft.ToUnmet at_zero r
+led_on OrElse next (draft.Whole i) = draft.Whole i
+led_on OrElse next (draft.ToMet at_zero r) = draft.ToMet at_zero r
+led_on OrElse next (draft.ToUnmet at_zero r) = draft.Whole (jump_if at_zero r next)
+
+-- its jump past the second one
+abbrev pub short_jump : LogicalOp → ConditionRegister → Draft
+short_jump AndThen t = draft.ToUnmet (not t.at_zero) t.register
+short_jump OrElse t = draft.ToMet t.at_zero t.register
+
+-- a condition with its jump: behind it stands what is done where it holds, or where it does not
+abbrev pub going_on : List Draft → ConditionRegister → (unmet : ℕ) → List Instr
+going_on code t unmet = map (instruction_of_draft (t.to + 1) unmet) code ++ jump_if_not t.at_zero t.register unmet ∷ []
+
+abbrev pub going_back : List Draft → ConditionRegister → (met : ℕ) → List Instr
+going_back code t met = map (instruction_of_draft met (t.to + 1)) code ++ jump_if t.at_zero t.register met ∷ []
+
+-- the test of a value
+abbrev pub tested_by : ValueRegister → ConditionRegister
+tested_by h = record { register = h.register; at_zero = false; to = h.to }
+
+abbrev pub by_value : List Instr → Lists → ValueRegister → Condition
+by_value code l held = record {
+  code = map draft.Whole code;
+  lists = l;
+  register = held.register;
+  at_zero = false;
+  to = held.to;
+}
+
+abbrev pub opposite : Condition → Condition
+opposite c = record c { code = map opposite_draft c.code; at_zero = not c.at_zero }
+
+-- a first condition and its jump
+abbrev pub first_of : LogicalOp → Condition → List Draft
+first_of op a = map (led_on op (a.to + 1)) a.code ++ short_jump op (test_in a) ∷ []
+
+abbrev pub logical_condition : LogicalOp → (a b : Condition) → Condition
+logical_condition op a b = record b { code = first_of op a ++ b.code }
+
+abbrev pub is_nought : Expr → Bool
+is_nought (Constant zero t at) = true
+is_nought e = false
+
+-- a comparison with 0: whether it holds where the other side is 0
+abbrev pub zero_test : BinaryOp → Expr → Option Bool
+zero_test Equal b = if is_nought b then Some true else None
+zero_test NotEqual b = if is_nought b then Some false else None
+zero_test op b = None
+
+abbrev pub zero_tested : Option Bool → Condition → Option Condition
+zero_tested None other = None
+zero_tested (Some true) other = Some (opposite other)
+zero_tested (Some false) other = Some other

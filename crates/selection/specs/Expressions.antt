@@ -1,0 +1,385 @@
+-- The instructions that are picked for an expression. Each part is told its first place and gives the place behind
+-- it, so that jumps over it need no further pass. A result that is computed comes into the register `into`, and
+-- registers from `free` on may be written.
+use Rattle.std.specs.Prelude.{ℕ, suc, pos, ◌+◌, List, [], ◌∷◌, ◌++◌, length, map, Option, Some, None, option_map, max}
+use Rattle.std.specs.Prelude.{if◌then◌else◌, ◌==◌}
+use Rattle.lex.specs.declared.token.Scalar.{Scalar}
+use Rattle.lex.specs.declared.token.Scalar.TheVariants.{Int, Unsigned, LongLong}
+use Rattle.syntax.specs.declared.tree.UnaryOp.TheVariants.{Negate, Keep, Not, Complement}
+use Rattle.syntax.specs.declared.tree.BinaryOp.{BinaryOp}
+use Rattle.syntax.specs.declared.tree.BinaryOp.TheVariants.{Or, Xor, And, Equal, NotEqual, Less, Greater, LessEqual}
+use Rattle.syntax.specs.declared.tree.BinaryOp.TheVariants.{GreaterEqual, ShiftLeft, ShiftRight, Add, Subtract}
+use Rattle.syntax.specs.declared.tree.BinaryOp.TheVariants.{Multiply, Divide, Remainder}
+use Rattle.syntax.specs.declared.tree.LogicalOp.{LogicalOp}
+use Rattle.syntax.specs.Tree.{Parameter, Expr, Exprs, Variable, Constant, Element, Call, Parenthesized, Cast, Unary}
+use Rattle.syntax.specs.Tree.{Binary, Logical, Conditional, InTransaction, Program}
+use Rattle.syntax.specs.Numbers.{word_of, common, operand_type, result_type}
+use Rattle.syntax.specs.Names.{newest, global_of, cells, GlobalCells}
+use Rattle.bytecode.specs.declared.instr.Instr.{Instr}
+use Rattle.bytecode.specs.declared.instr.Instr.TheVariants as own
+use Rattle.bytecode.specs.declared.limits.TheConstants.{MOST_REGISTERS}
+use Rattle.lower_spec.specs.Expressions.{LocalScope, Layout, constant_in, types_left, argument_order}
+use Rattle.selection.specs.declared.locations.ValueRegister.{ValueRegister}
+use Rattle.selection.specs.Lists.{Lists, with_register, holding}
+use Rattle.selection.specs.Names.{Callee, callee_of}
+use Rattle.selection.specs.Conditions.{Condition, test_in, going_on, by_value, opposite, logical_condition, zero_test, zero_tested}
+
+-- the instruction of an operator: one that asks for more is the other way round
+abbrev pub computing : BinaryOp → Scalar → ℕ → ℕ → ℕ → Instr
+computing Add Int d a b = own.AddSigned d a b
+computing Add Unsigned d a b = own.AddUnsigned d a b
+computing Add LongLong d a b = own.AddLong d a b
+computing Subtract Int d a b = own.SubtractSigned d a b
+computing Subtract Unsigned d a b = own.SubtractUnsigned d a b
+computing Subtract LongLong d a b = own.SubtractLong d a b
+computing Multiply Int d a b = own.MultiplySigned d a b
+computing Multiply Unsigned d a b = own.MultiplyUnsigned d a b
+computing Multiply LongLong d a b = own.MultiplyLong d a b
+computing Divide Int d a b = own.DivideSigned d a b
+computing Divide Unsigned d a b = own.DivideUnsigned d a b
+computing Divide LongLong d a b = own.DivideLong d a b
+computing Remainder Int d a b = own.RemainderSigned d a b
+computing Remainder Unsigned d a b = own.RemainderUnsigned d a b
+computing Remainder LongLong d a b = own.RemainderLong d a b
+computing ShiftLeft Int d a b = own.ShiftLeftSigned d a b
+computing ShiftLeft Unsigned d a b = own.ShiftLeftUnsigned d a b
+computing ShiftLeft LongLong d a b = own.ShiftLeftLong d a b
+computing ShiftRight Int d a b = own.ShiftRightSigned d a b
+computing ShiftRight Unsigned d a b = own.ShiftRightUnsigned d a b
+computing ShiftRight LongLong d a b = own.ShiftRightLong d a b
+computing And t d a b = own.And d a b
+computing Or t d a b = own.Or d a b
+computing Xor t d a b = own.Xor d a b
+computing Equal t d a b = own.Equal d a b
+computing NotEqual t d a b = own.NotEqual d a b
+computing Less Int d a b = own.LessSigned d a b
+computing Less Unsigned d a b = own.LessUnsigned d a b
+computing Less LongLong d a b = own.LessLong d a b
+computing Greater Int d a b = own.LessSigned d b a
+computing Greater Unsigned d a b = own.LessUnsigned d b a
+computing Greater LongLong d a b = own.LessLong d b a
+computing LessEqual Int d a b = own.LessEqualSigned d a b
+computing LessEqual Unsigned d a b = own.LessEqualUnsigned d a b
+computing LessEqual LongLong d a b = own.LessEqualLong d a b
+computing GreaterEqual Int d a b = own.LessEqualSigned d b a
+computing GreaterEqual Unsigned d a b = own.LessEqualUnsigned d b a
+computing GreaterEqual LongLong d a b = own.LessEqualLong d b a
+
+abbrev pub negating : Scalar → ℕ → ℕ → Instr
+negating Int d a = own.NegateSigned d a
+negating Unsigned d a = own.NegateUnsigned d a
+negating LongLong d a = own.NegateLong d a
+
+abbrev pub complementing : Scalar → ℕ → ℕ → Instr
+complementing LongLong d a = own.ComplementLong d a
+complementing t d a = own.Complement d a
+
+-- the instruction of a conversion, where there is one
+abbrev pub converting : (s u : Scalar) → Option (ℕ → ℕ → Instr)
+converting Int LongLong = Some own.Extend
+converting LongLong Int = Some own.Low
+converting LongLong Unsigned = Some own.Low
+converting s u = None
+
+-- instructions, the lists after them, and where the value lies behind them
+pub record Emitted : Type 0 where
+  pub code : List Instr
+  pub lists : Lists
+  pub location : ValueRegister
+
+-- and the registers of several values
+pub record AllEmitted : Type 0 where
+  pub code : List Instr
+  pub lists : Lists
+  pub registers : List ℕ
+  pub to : ℕ
+
+-- the first free register above a value's
+abbrev pub above : ℕ → ℕ → ℕ
+above free r = max free (suc r)
+
+-- one instruction that writes a register
+abbrev pub one : Instr → (from r : ℕ) → Scalar → Lists → Emitted
+one i from r t l = record { code = i ∷ []; lists = with_register r l; location = record { register = r; of = t; to = from + 1 } }
+
+abbrev pub then_one : Emitted → Instr → ℕ → Scalar → Emitted
+then_one e i r t = record {
+  code = e.code ++ i ∷ [];
+  lists = with_register r e.lists;
+  location = record { register = r; of = t; to = e.location.to + 1 };
+}
+
+abbrev pub constant : ℕ → Scalar → (from into : ℕ) → Lists → Emitted
+constant n t from into l = one (own.Constant into n) from into t l
+
+-- the register in which a word is preloaded, where these words do from this register on, as far as registers have numbers
+abbrev pub ready_from : ℕ → List ℕ → ℕ → Option ℕ
+ready_from r [] w = None
+ready_from r (x ∷ xs) w = if x == w then Some r else if r == MOST_REGISTERS then None else ready_from (suc r) xs w
+
+abbrev pub ready : Layout → (w : ℕ) → Scalar → (from : ℕ) → Option ValueRegister
+ready layout w t from =
+    option_map (λ r. record { register = r; of = t; to = from }) (ready_from layout.writable layout.constants w)
+
+-- a constant that is preloaded in the type that is due, as the right side of an operator
+abbrev pub constant_ready : Layout → Scalar → Expr → ℕ → Option ValueRegister
+constant_ready layout u (Constant n t at) from = ready layout (constant_in u t n) u from
+constant_ready layout u e from = None
+
+-- a value that is preloaded, or else one that is computed
+abbrev pub ready_or : Option ValueRegister → Lists → Emitted → Emitted
+ready_or None l e = e
+ready_or (Some held) l e = record { code = []; lists = l; location = held }
+
+-- a local's own register
+abbrev pub in_local : ℕ → Scalar → ℕ → Lists → Emitted
+in_local i t from l = record { code = []; lists = with_register i l; location = record { register = i; of = t; to = from } }
+
+abbrev pub variable : Option (ℕ × Scalar) → Option GlobalCells → (from into : ℕ) → Lists → Emitted
+variable (Some x) g from into l = in_local x.0 x.1 from l
+variable None (Some g) from into l = one (own.Read into g.cell) from into g.global.of l
+variable None None from into l = constant 0 Int from into l
+
+abbrev pub element : Option GlobalCells → Emitted → (from into : ℕ) → Lists → Emitted
+element (Some g) i from into l =
+    then_one i (own.ReadAt into i.location.register g.cell (cells g.global)) into g.global.of
+element None i from into l = constant 0 Int from into l
+
+-- a value by a conversion: it lies where it lay, or one instruction makes it
+abbrev pub converted_by : Option (ℕ → ℕ → Instr) → Scalar → Emitted → (into : ℕ) → Emitted
+converted_by None u e into = record e { location = record { register = e.location.register; of = u; to = e.location.to } }
+converted_by (Some i) u e into = then_one e (i into e.location.register) into u
+
+-- the value and the type of a constant
+abbrev pub constant_of : Expr → Option (ℕ × Scalar)
+constant_of (Constant n t at) = Some (n, t)
+constant_of e = None
+
+-- a value of type s in type u: of an expression that is a constant, that is set as what it is converted to
+abbrev pub in_type : (s u : Scalar) → Expr → Emitted → (from into : ℕ) → Lists → Emitted
+in_type s u (Constant n t at) e from into l = constant (constant_in u t n) u from into l
+in_type s u e' e from into l = converted_by (converting s u) u e into
+
+-- a value of type s in the first of these types, where there is one
+abbrev pub in_first_type : Scalar → List Scalar → Expr → Emitted → (from into : ℕ) → Lists → Emitted
+in_first_type s [] e' e from into l = e
+in_first_type s (u ∷ us) e' e from into l = in_type s u e' e from into l
+
+-- a value that is computed in a transaction of its own
+abbrev pub in_own_transaction : Emitted → Emitted
+in_own_transaction e = record {
+  code = own.Begin (e.location.to + 1) ∷ e.code ++ own.Commit ∷ [];
+  lists = e.lists;
+  location = record { register = e.location.register; of = e.location.of; to = e.location.to + 1 };
+}
+
+abbrev pub negation : Emitted → ℕ → Emitted
+negation e into = then_one e (negating e.location.of into e.location.register) into e.location.of
+
+abbrev pub complement : Emitted → ℕ → Emitted
+complement e into = then_one e (complementing e.location.of into e.location.register) into e.location.of
+
+-- `!`: whether it is 0
+abbrev pub logical_negation : Emitted → (into free : ℕ) → Emitted
+logical_negation e into free =
+    let zero_in = above free e.location.register in
+    record {
+      code = e.code ++ own.Constant zero_in 0 ∷ own.Equal into e.location.register zero_in ∷ [];
+      lists = with_register into (with_register zero_in e.lists);
+      location = record { register = into; of = Int; to = e.location.to + 2 };
+    }
+
+-- an operator on two values, which computes in this type
+abbrev pub both : BinaryOp → Scalar → Emitted → Emitted → ℕ → Emitted
+both op t a b into = record {
+  code = a.code ++ b.code ++ computing op t into a.location.register b.location.register ∷ [];
+  lists = with_register into b.lists;
+  location = record { register = into; of = result_type op t; to = b.location.to + 1 };
+}
+
+-- the int 1 where a condition holds, and 0 where it does not
+abbrev pub condition_value : Condition → ℕ → Emitted
+condition_value c into =
+    let last = c.to in
+    record {
+      code =
+          going_on c.code (test_in c) (last + 3)
+          ++ own.Constant into 1 ∷ own.Jump (last + 4) ∷ own.Constant into 0 ∷ [];
+      lists = with_register into c.lists;
+      location = record { register = into; of = Int; to = last + 4 };
+    }
+
+-- a value in this very register
+abbrev pub value_into : ℕ → Emitted → Emitted
+value_into r e = if e.location.register == r then e else then_one e (own.Move r e.location.register) r e.location.of
+
+-- a condition, and one of two values of this type that lie in one register
+abbrev pub conditional_value : Scalar → Condition → Emitted → Emitted → ℕ → Emitted
+conditional_value t c a b into = record {
+  code = going_on c.code (test_in c) (a.location.to + 1) ++ a.code ++ own.Jump b.location.to ∷ b.code;
+  lists = b.lists;
+  location = record { register = into; of = t; to = b.location.to };
+}
+
+-- a condition as its operator has it, or else by its value
+abbrev pub condition_of : Option Condition → Emitted → Condition
+condition_of None e = by_value e.code e.lists e.location
+condition_of (Some c) e = c
+
+-- a condition under a cast, which is tested as it is where no instruction converts it
+abbrev pub where_same : Option (ℕ → ℕ → Instr) → Option Condition → Option Condition
+where_same None c = c
+where_same (Some i) c = None
+
+-- two conditions, one behind the other
+abbrev pub joining : LogicalOp → (first second : ℕ → Lists → Condition) → ℕ → Lists → Condition
+joining op first second from l = let a = first from l in logical_condition op a (second (a.to + 1) a.lists)
+
+abbrev pub none_emitted : ℕ → Lists → AllEmitted
+none_emitted from l = record { code = []; lists = l; registers = []; to = from }
+
+abbrev pub with_argument : Emitted → AllEmitted → AllEmitted
+with_argument e es = record {
+  code = e.code ++ es.code;
+  lists = es.lists;
+  registers = e.location.register ∷ es.registers;
+  to = es.to;
+}
+
+-- a call: its arguments' registers go into the code's list of arguments
+abbrev pub call_code : Option Callee → AllEmitted → (from into : ℕ) → Lists → Emitted
+call_code None args from into l = constant 0 Int from into l
+call_code (Some f) args from into l =
+    let made = args.lists.arguments in
+    let handed = argument_order f.parameters args.registers in
+    record {
+      code = args.code ++ own.Call into (length handed) f.number (length made) ∷ [];
+      lists = with_register into (holding (length handed) (record args.lists { arguments = made ++ handed }));
+      location = record { register = into; of = f.of; to = args.to + 1 };
+    }
+
+-- the types of what is emitted for variables, elements and calls
+abbrev pub variable_type : Option (ℕ × Scalar) → Option GlobalCells → Scalar
+variable_type (Some x) g = x.1
+variable_type None (Some g) = g.global.of
+variable_type None None = Int
+
+abbrev pub element_type : Option GlobalCells → Scalar
+element_type (Some g) = g.global.of
+element_type None = Int
+
+abbrev pub called_type : Option Callee → Scalar
+called_type (Some f) = f.of
+called_type None = Int
+
+-- the types of a function's parameters
+abbrev pub types_of : List Parameter → List Scalar
+types_of qs = map (λ q. q.of) qs
+
+abbrev pub taken_types : Option Callee → List Scalar
+taken_types (Some f) = types_of f.parameters
+taken_types None = []
+
+module _ (p : Program) (scope : LocalScope) where
+  -- the type of what is emitted for an expression
+  abbrev pub emitted_type : Expr → Scalar
+  emitted_type (Variable x) = variable_type (newest scope x.text) (global_of p x.text)
+  emitted_type (Constant n t at) = t
+  emitted_type (Element x i at) = element_type (global_of p x.text)
+  emitted_type (Call f es at) = called_type (callee_of p f.text)
+  emitted_type (Parenthesized e at) = emitted_type e
+  emitted_type (Cast t e at) = t
+  emitted_type (Unary Not e at) = Int
+  emitted_type (Unary op e at) = emitted_type e
+  emitted_type (Binary op a b at) = result_type op (operand_type op (emitted_type a) (emitted_type b))
+  emitted_type (Logical op a b at) = Int
+  emitted_type (Conditional c a b at) = common (emitted_type a) (emitted_type b)
+  emitted_type (InTransaction mode keyword e at) = emitted_type e
+
+  abbrev mutual
+    pub emitted : Expr → (from into free : ℕ) → Lists → Emitted
+    emitted (Variable x) from into free l = variable (newest scope x.text) (global_of p x.text) from into l
+    emitted (Constant n t at) from into free l = constant (word_of t (pos n)) t from into l
+    emitted (Element x i at) from into free l =
+        element (global_of p x.text) (emitted i from free free l) from into l
+    emitted (Call f es at) from into free l =
+        call_code (callee_of p f.text) (all_emitted (taken_types (callee_of p f.text)) es from free l) from into l
+    emitted (Parenthesized e at) from into free l = emitted e from into free l
+    emitted (Cast t e at) from into free l = in_type (emitted_type e) t e (emitted e from into free l) from into l
+    emitted (Unary Negate e at) from into free l = negation (emitted e from free free l) into
+    emitted (Unary Keep e at) from into free l = emitted e from into free l
+    emitted (Unary Not e at) from into free l = logical_negation (emitted e from free free l) into free
+    emitted (Unary Complement e at) from into free l = complement (emitted e from free free l) into
+    emitted (Binary op a b at) from into free l =
+        let t = operand_type op (emitted_type a) (emitted_type b) in
+        let u = operand_type op (emitted_type b) (emitted_type a) in
+        let left = in_type (emitted_type a) t a (emitted a from free free l) from free l in
+        let later = above free left.location.register in
+        let y = emitted b left.location.to later later left.lists in
+        let computed = in_type (emitted_type b) u b y left.location.to later left.lists in
+        both op t left (ready_or (constant_ready left.lists.layout u b left.location.to) left.lists computed) into
+    emitted (Logical op a b at) from into free l =
+        condition_value
+        (joining op (λ to m. condition_of (own_condition a to free m) (emitted a to free free m))
+        (λ to m. condition_of (own_condition b to free m) (emitted b to free free m)) from l)
+        into
+    emitted (Conditional c a b at) from into free l =
+        let test = condition_of (own_condition c from free l) (emitted c from free free l) in
+        let t = common (emitted_type a) (emitted_type b) in
+        let x = emitted a (test.to + 1) into free test.lists in
+        let first = value_into into (in_type (emitted_type a) t a x (test.to + 1) into test.lists) in
+        let y = emitted b (first.location.to + 1) into free first.lists in
+        let second = value_into into (in_type (emitted_type b) t b y (first.location.to + 1) into first.lists) in
+        conditional_value t test first second into
+    emitted (InTransaction mode keyword e at) from into free l =
+        in_own_transaction (emitted e (from + 1) into free l)
+
+    -- a condition whose operator says how it is tested
+    pub own_condition : Expr → (from free : ℕ) → Lists → Option Condition
+    own_condition (Parenthesized e at) from free l = own_condition e from free l
+    own_condition (Cast t e at) from free l = where_same (converting (emitted_type e) t) (own_condition e from free l)
+    own_condition (Unary Keep e at) from free l = own_condition e from free l
+    own_condition (Unary Not e at) from free l =
+        Some (opposite (condition_of (own_condition e from free l) (emitted e from free free l)))
+    own_condition (Binary op a b at) from free l =
+        zero_tested (zero_test op b) (condition_of (own_condition a from free l) (emitted a from free free l))
+    own_condition (Logical op a b at) from free l = Some
+        (joining op (λ to m. condition_of (own_condition a to free m) (emitted a to free free m))
+        (λ to m. condition_of (own_condition b to free m) (emitted b to free free m)) from l)
+    own_condition e from free l = None
+
+    -- values from left to right, which are due in these types, each in a register of its own
+    pub all_emitted : List Scalar → Exprs → (from free : ℕ) → Lists → AllEmitted
+    all_emitted ts Exprs.[] from free l = none_emitted from l
+    all_emitted ts (Exprs.◌∷◌ e es) from free l =
+        let first = in_first_type (emitted_type e) ts e (emitted e from free free l) from free l in
+        with_argument first
+        (all_emitted (types_left ts) es first.location.to (above free first.location.register) first.lists)
+
+  -- an expression's value in this type, in a register of its own or another one
+  abbrev pub due : Scalar → Expr → (from into free : ℕ) → Lists → Emitted
+  due u e from into free l = in_type (emitted_type e) u e (emitted e from into free l) from into l
+
+  -- one of several values, which are due in these types from it on
+  abbrev pub handed : List Scalar → Expr → (from free : ℕ) → Lists → Emitted
+  handed ts e from free l = in_first_type (emitted_type e) ts e (emitted e from free free l) from free l
+
+  -- the right side of an operator
+  abbrev pub operand : Scalar → Expr → (from free : ℕ) → Lists → Emitted
+  operand u e from free l = ready_or (constant_ready l.layout u e from) l (due u e from free free l)
+
+  abbrev pub condition : Expr → (from free : ℕ) → Lists → Condition
+  condition e from free l = condition_of (own_condition e from free l) (emitted e from free free l)
+
+  -- both conditions of `&&` and `||`
+  abbrev pub both_conditions : LogicalOp → (a b : Expr) → (from free : ℕ) → Lists → Condition
+  both_conditions op a b from free l =
+      joining op (λ to m. condition a to free m) (λ to m. condition b to free m) from l
+
+  -- `c ? a : b`
+  abbrev pub conditional : (c a b : Expr) → (from into free : ℕ) → Lists → Emitted
+  conditional c a b from into free l =
+      let test = condition c from free l in
+      let t = common (emitted_type a) (emitted_type b) in
+      let first = value_into into (due t a (test.to + 1) into free test.lists) in
+      conditional_value t test first (value_into into (due t b (first.location.to + 1) into free first.lists)) into

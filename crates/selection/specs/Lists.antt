@@ -1,0 +1,19 @@
+-- The lists of a code as it is made, but that of its instructions.
+use Rattle.std.specs.Prelude.{ℕ, suc, List, max}
+use Rattle.lower_spec.specs.Expressions.{Layout}
+
+-- the arguments of its calls, its texts, the number of registers that its function needs as far as it is made, and the
+-- constants that are preloaded in that function
+pub record Lists : Type 0 where
+  pub arguments : List ℕ
+  pub texts : List (List ℕ)
+  pub registers : ℕ
+  pub layout : Layout
+
+-- a register is used
+abbrev pub with_register : ℕ → Lists → Lists
+with_register r l = record l { registers = max l.registers (suc r) }
+
+-- so many registers are used
+abbrev pub holding : ℕ → Lists → Lists
+holding n l = record l { registers = max l.registers n }

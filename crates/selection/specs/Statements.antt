@@ -1,0 +1,172 @@
+-- The instructions that are picked for statements. A loop is tested at its bottom. In front of it stand a jump and
+-- pads: places that are known before the body is made, from which a break and a continue go on.
+use Rattle.std.specs.Prelude.{ℕ, zero, suc, ◌+◌, List, [], ◌∷◌, ◌++◌, length, replicate, Option, Some, None}
+use Rattle.lex.specs.declared.token.Scalar.{Scalar}
+use Rattle.lex.specs.declared.token.Scalar.TheVariants.{Int, Unsigned, LongLong}
+use Rattle.syntax.specs.declared.tree.Kind.{Kind}
+use Rattle.syntax.specs.declared.tree.Kind.TheVariants.{Plain, Outer}
+use Rattle.syntax.specs.Tree.{Expr, Simple, Stmt, Stmts, Empty, Declare, Do, Block, Print, If, IfElse, While, DoWhile}
+use Rattle.syntax.specs.Tree.{For, Break, Continue, Return, Transaction, Cancel, CancelOuter, Program}
+use Rattle.syntax.specs.Formats.{Piece, Literal, Figure, pieces}
+use Rattle.bytecode.specs.declared.instr.Instr.{Instr}
+use Rattle.bytecode.specs.declared.instr.Instr.TheVariants as own
+use Rattle.lower_spec.specs.Expressions.{LocalScope}
+use Rattle.lower_spec.specs.Statements.{locals_of_start, locals_after}
+use Rattle.selection.specs.declared.locations.Exits.{Exits}
+use Rattle.selection.specs.Lists.{Lists}
+use Rattle.selection.specs.Expressions.{Emitted, AllEmitted, due, all_emitted, condition}
+use Rattle.selection.specs.Conditions.{Condition, test_in, going_on, going_back}
+use Rattle.selection.specs.Simples.{Written, nothing_written, one_written, and_then, code_of_value, simple_written}
+use Rattle.selection.specs.Simples.{declared_written, start_written}
+
+-- so many commits, and then an instruction
+abbrev pub left_by : ℕ → Instr → ℕ → Lists → Written
+left_by n i from l = record { code = replicate n own.Commit ++ i ∷ []; lists = l; to = from + n + 1 }
+
+-- how many transactions are open from the innermost outer one on, it too; 0 where there is none
+abbrev pub level_in : Kind → ℕ → ℕ
+level_in Outer n = 1
+level_in (Plain mode) zero = 0
+level_in (Plain mode) (suc n) = suc (suc n)
+
+abbrev pub in_transaction : Kind → Exits → Exits
+in_transaction kind x = record x {
+  in_loop = x.in_loop + 1;
+  in_function = x.in_function + 1;
+  to_outer = level_in kind x.to_outer;
+}
+
+-- the instruction that cancels so many transactions as one
+abbrev pub cancelling : ℕ → Instr
+cancelling (suc zero) = own.Cancel
+cancelling n = own.CancelOuter n
+
+abbrev pub looping : Exits → (break_to continue_to : ℕ) → Exits
+looping x break_to continue_to = record x { break_to = break_to; continue_to = continue_to; in_loop = 0 }
+
+-- a condition, a jump to the place behind the branch where it does not hold, and the branch
+abbrev pub if_code : Condition → Written → Written
+if_code c a = record { code = going_on c.code (test_in c) a.to ++ a.code; lists = a.lists; to = a.to }
+
+abbrev pub branched_twice : Condition → Written → Written → Written
+branched_twice c a b = record {
+  code = going_on c.code (test_in c) (a.to + 1) ++ a.code ++ own.Jump b.to ∷ b.code;
+  lists = b.lists;
+  to = b.to;
+}
+
+-- a condition, and a jump where it holds
+abbrev pub tested_back : Condition → ℕ → Written
+tested_back c to = record { code = going_back c.code (test_in c) to; lists = c.lists; to = c.to + 1 }
+
+-- a jump to the test, which is a continue's pad too, a pad for breaks, the body, and the test
+abbrev pub while_written : Written → Written → Written
+while_written a test =
+    record { code = own.Jump a.to ∷ own.Jump test.to ∷ a.code ++ test.code; lists = test.lists; to = test.to }
+
+-- a jump to the body, pads for breaks and continues, the body, and the test
+abbrev pub do_written : ℕ → Written → Written → Written
+do_written body_at a test = record {
+  code = own.Jump body_at ∷ own.Jump test.to ∷ own.Jump a.to ∷ a.code ++ test.code;
+  lists = test.lists;
+  to = test.to;
+}
+
+-- the start, a jump to the test, pads for breaks and continues, the body, the step, and the test
+abbrev pub for_written : (start body step test : Written) → Written
+for_written start a step test = record {
+  code =
+      start.code
+      ++ own.Jump step.to ∷ own.Jump test.to ∷ own.Jump a.to ∷ a.code
+      ++ step.code
+      ++ test.code;
+  lists = test.lists;
+  to = test.to;
+}
+
+-- a cancel goes on behind the commit
+abbrev pub transaction_code : Written → Written
+transaction_code a = record { code = own.Begin (a.to + 1) ∷ a.code ++ own.Commit ∷ []; lists = a.lists; to = a.to + 1 }
+
+abbrev pub return_code : ℕ → Emitted → Written
+return_code n e = and_then (code_of_value e) (left_by n (own.ReturnValue e.location.register) e.location.to e.lists)
+
+abbrev pub printing : Scalar → ℕ → Instr
+printing Int r = own.PrintSigned r
+printing Unsigned r = own.PrintUnsigned r
+printing LongLong r = own.PrintLong r
+
+abbrev pub and_one : Instr → Written → Written
+and_one i a = record { code = i ∷ a.code; lists = a.lists; to = a.to }
+
+-- the pieces of a format, with these registers for its figures
+abbrev pub pieces_written : List Piece → List ℕ → ℕ → Lists → Written
+pieces_written [] rs from l = nothing_written from l
+pieces_written (Literal text ∷ ps) rs from l =
+    and_one (own.PrintText (length l.texts))
+    (pieces_written ps rs (from + 1) (record l { texts = l.texts ++ text ∷ [] }))
+pieces_written (Figure t ∷ ps) [] from l = nothing_written from l
+pieces_written (Figure t ∷ ps) (r ∷ rs) from l = and_one (printing t r) (pieces_written ps rs (from + 1) l)
+
+abbrev pub print_written : AllEmitted → List Piece → Written
+print_written args ps =
+    let all = pieces_written ps args.registers args.to args.lists in
+    record { code = own.Irrevocable ∷ args.code ++ all.code; lists = all.lists; to = all.to }
+
+module _ (p : Program) where
+  -- a missing condition always holds
+  abbrev pub for_test : LocalScope → Option Expr → ℕ → ℕ → Lists → Written
+  for_test scope None body_at from l = one_written (own.Jump body_at) from l
+  for_test scope (Some c) body_at from l = tested_back (condition p scope c from (length scope) l) body_at
+
+  abbrev pub for_step : LocalScope → Option Simple → ℕ → Lists → Written
+  for_step scope None from l = nothing_written from l
+  for_step scope (Some s) from l = simple_written p scope s from (length scope) l
+
+  abbrev pub return_written : LocalScope → Option Expr → Exits → ℕ → Lists → Written
+  return_written scope None x from l = left_by x.in_function own.Return from l
+  return_written scope (Some e) x from l =
+      return_code x.in_function (due p scope x.gives e from (length scope) (length scope) l)
+
+  abbrev mutual
+    pub written : Stmt → Exits → LocalScope → ℕ → Lists → Written
+    written Empty x scope from l = nothing_written from l
+    written (Declare d) x scope from l = declared_written p d.of d.declarators scope from l
+    written (Do s) x scope from l = simple_written p scope s from (length scope) l
+    written (Block ss) x scope from l = all_written ss x scope from l
+    written (Print at format format_at es) x scope from l =
+        print_written (all_emitted p scope [] es (from + 1) (length scope) l) (pieces format)
+    written (If c a) x scope from l =
+        let test = condition p scope c from (length scope) l in
+        if_code test (written a x scope (test.to + 1) test.lists)
+    written (IfElse c a b) x scope from l =
+        let test = condition p scope c from (length scope) l in
+        let first = written a x scope (test.to + 1) test.lists in
+        branched_twice test first (written b x scope (first.to + 1) first.lists)
+    written (While c a) x scope from l =
+        let body = written a (looping x (from + 1) from) scope (from + 2) l in
+        while_written body (tested_back (condition p scope c body.to (length scope) body.lists) (from + 2))
+    written (DoWhile a c) x scope from l =
+        let body = written a (looping x (from + 1) (from + 2)) scope (from + 3) l in
+        do_written (from + 3) body
+        (tested_back (condition p scope c body.to (length scope) body.lists) (from + 3))
+    written (For start c step a) x scope from l =
+        let inner = locals_of_start start scope in
+        let first = start_written p start scope from l in
+        let pads = first.to in
+        let body = written a (looping x (pads + 1) (pads + 2)) inner (pads + 3) first.lists in
+        let next = for_step inner step body.to body.lists in
+        for_written first body next (for_test inner c (pads + 3) next.to next.lists)
+    written (Break at) x scope from l = left_by x.in_loop (own.Jump x.break_to) from l
+    written (Continue at) x scope from l = left_by x.in_loop (own.Jump x.continue_to) from l
+    written (Return e at) x scope from l = return_written scope e x from l
+    written (Transaction kind ss at) x scope from l =
+        transaction_code (all_written ss (in_transaction kind x) scope (from + 1) l)
+    written (Cancel at) x scope from l = one_written own.Cancel from l
+    written (CancelOuter at) x scope from l = one_written (cancelling x.to_outer) from l
+
+    pub all_written : Stmts → Exits → LocalScope → ℕ → Lists → Written
+    all_written Stmts.[] x scope from l = nothing_written from l
+    all_written (Stmts.◌∷◌ s ss) x scope from l =
+        let first = written s x scope from l in
+        and_then first (all_written ss x (locals_after s scope) first.to first.lists)
