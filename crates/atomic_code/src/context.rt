@@ -13,7 +13,7 @@ ghost use Rattle.atomic_code.specs.inner.Making.{Cancels, HasMemoryAtHand, Makes
 ghost use Rattle.atomic_code.specs.inner.Making.{saved_by, transaction_of};
 
 use crate::open::{
-    OpenBegin, Open, close_inner, close_several, open_inner, open_outermost, set_word, word_in,
+    Open, OpenBegin, close_inner, close_several, open_inner, open_outermost, set_word, word_in,
 };
 use bytecode::Code;
 use frames::{Doing, Frames, push_piece};

@@ -134,6 +134,25 @@ module _ (code : Code) (f : FunctionCode) (end : ℕ) (ms : Arrivals) (work : Li
   one_open b [] e c n = cc c
   one_open b (d ∷ bs) e c n = cc (e, n)
 
+  pub fails_by : (w : Successor) (n : Arrival) → seen_one m ≡ 1 → way_of i ≡ w → m ≡ n → went_by code.instructions f.first ms work q n w ≡ None → ⊥
+  fails_by On n one w e h = no_one_way (suc q) begins m one (ap (leads_by code q begins) w) chain (ap (visit_place f.first ms work (suc q)) e ∙ h)
+  fails_by (To to) n one w e h = no_one_way to begins m one (ap (leads_by code q begins) w) chain (ap (visit_place f.first ms work to) e ∙ h)
+  fails_by (Both to) n one w e h = no_two_ways to (visit_place f.first ms work (suc q) m) one w refl (ap (λ x. twice f.first to x (visit_place f.first ms work (suc q) x)) e ∙ h)
+  fails_by Opens n one w e h = no_one_way (suc q) (q ∷ begins) (Inside q) refl (ap (leads_by code q begins) w) (refl, id_of m, opened, chain) h
+  fails_by Closes Unseen one w e h = cc (one, e)
+  fails_by Closes Outside one w e h = none_open begins refl (subst (λ x. IsChain (table f.first ms) (id_of x) begins) e chain) (subst (λ x. asks_by x begins) w asked)
+  fails_by Closes (Inside b) one w e h = no_close b begins w refl (subst (λ x. IsChain (table f.first ms) (id_of x) begins) e chain) h
+  fails_by Cancels Unseen one w e h = cc (one, e)
+  fails_by Cancels Outside one w e h = none_open begins refl (subst (λ x. IsChain (table f.first ms) (id_of x) begins) e chain) (subst (λ x. asks_by x begins) w asked)
+  fails_by Cancels (Inside b) one w e h = no_cancels b begins (reached_begins code f q begins reached) (ap (leads_by code q begins) w) (subst (λ x. IsChain (table f.first ms) (id_of x) begins) e chain) h
+  fails_by (CancelsOuter n) Unseen one w e h = cc (one, e)
+  fails_by (CancelsOuter zero) Outside one w e h = cc h
+  fails_by (CancelsOuter (suc n)) Outside one w e h = too_many n begins refl (subst (λ x. IsChain (table f.first ms) (id_of x) begins) e chain) (subst (λ x. asks_by x begins) w asked)
+  fails_by (CancelsOuter n) (Inside b) one w e h = no_cancels_outer n b (begin_round f.first ms (n - 1) b) refl w (subst (λ x. IsChain (table f.first ms) (id_of x) begins) e chain) h
+  fails_by Ends Unseen one w e h = cc (one, e)
+  fails_by Ends Outside one w e h = cc h
+  fails_by Ends (Inside b) one w e h = one_open b begins refl (subst (λ x. IsChain (table f.first ms) (id_of x) begins) e chain) (subst (λ x. asks_by x begins) w asked)
+
 pub goes_nowhere : (code : Code) (f : FunctionCode) (end : ℕ) (ms : Arrivals) (work : List ℕ) (q : ℕ) (i : Instr) (m : Arrival) → f.first + length ms ≡ end → IsFound code f (table f.first ms) → slice_get code.instructions q ≡ Some i → arrival_at f.first ms q ≡ Some m → seen_one m ≡ 1 → went_by code.instructions f.first ms work q m (way_of i) ≡ None → KeepsOpen code f end → ⊥
 goes_nowhere code f end ms work q i m long found stands arrived one h k =
     let at : table f.first ms q ≡ Some (id_of m) = ap innermost arrived ∙ seen_table m one in

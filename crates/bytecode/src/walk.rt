@@ -6,7 +6,8 @@ ghost use Rattle.bytecode.specs.Valid.{KeepsOpen};
 ghost use Rattle.bytecode.specs.Views.{code_of, function_of, instr_of};
 ghost use Rattle.bytecode.specs.Code.{Code as Plain, FunctionCode as FunctionPlain, Instr as PlainInstr};
 ghost use Rattle.bytecode.specs.declared.walk.Arrival.TheVariants.{Unseen};
-ghost use Rattle.bytecode.specs.inner.Walking.{way_of, visit_place, walk_answer, arrival_at, reopen_begin, begun_by, begin_target};
+ghost use Rattle.bytecode.specs.inner.Walking.{way_of, visit_place, walk_answer, arrival_at, reopen_begin, begun_by};
+ghost use Rattle.bytecode.specs.inner.Walking.{begin_target};
 ghost use Rattle.bytecode.specs.inner.Walking.{cancel_to, begin_round, cancelled_at, went_by};
 
 use crate::code::{FunctionCode, Parts};
@@ -148,7 +149,8 @@ fn cancel<A: Allocator>(
 ) -> Result<bool, AllocError>
     ensures cancelled { (arguments : List ℕ)
         → IfOk result (λ b. cancel_to first arrivals.old work.old.items (arrival_at first arrivals.old begin)
-        (begin_target (slice_get (map (instr_of arguments) instrs.now) begin)) ≡ walk_answer b arrivals.new work.new.items) }
+        (begin_target (slice_get (map (instr_of arguments) instrs.now) begin))
+        ≡ walk_answer b arrivals.new work.new.items) }
     ensures len { length arrivals.new ≡ length arrivals.old }
 {
     match cancel_at(instrs, begin) {

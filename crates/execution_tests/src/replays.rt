@@ -187,7 +187,13 @@ fn validation_replay() -> &'static Wanted<'static> {
 #[test]
 fn what_cancelled_levels_have_read_is_validated(rt: HostRuntime) {
     let schedule = "1 a3\n0 a9\n1 a20";
-    let holds = gives(rt.alloc(), reads_and_takes_back(), 2, schedule, validation_replay());
+    let holds = gives(
+        rt.alloc(),
+        reads_and_takes_back(),
+        2,
+        schedule,
+        validation_replay(),
+    );
     assert_that(&rt, holds);
 }
 

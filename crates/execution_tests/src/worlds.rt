@@ -93,7 +93,11 @@ fn lock_held_report() -> &'static Wanted<'static> {
 
 #[test]
 fn a_thread_has_the_lock(rt: HostRuntime) {
-    let holds = leads_to(rt.alloc(), &[1, 1, 1, 1, 1, 1, 1], (1, 4, lock_held_report()));
+    let holds = leads_to(
+        rt.alloc(),
+        &[1, 1, 1, 1, 1, 1, 1],
+        (1, 4, lock_held_report()),
+    );
     assert_that(&rt, holds);
 }
 

@@ -81,11 +81,7 @@ fn push_under<A: Allocator>(
 /// caret where there is none.
 ///
 /// Of a long line at most 100 bytes before the place and 200 from it on are shown. Both lines end with LF.
-pub fn underline<A: Allocator>(
-    alloc: A,
-    text: &str,
-    span: Span,
-) -> Result<Vec<u8, A>, AllocError> {
+pub fn underline<A: Allocator>(alloc: A, text: &str, span: Span) -> Result<Vec<u8, A>, AllocError> {
     let bytes = text.as_bytes();
     let place = span.start.min(bytes.len());
     let from = shown_from(bytes, place);

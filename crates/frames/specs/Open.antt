@@ -111,7 +111,9 @@ pub record BeginsStayOpen (code : Code) : Type 0 where
       × AreRestored c (after_cancel (effect code (begin_configuration c s)) (begin_configuration c s)) rest
   -- back at any of them, those outside it are open
   pub goes_back : (c : Configuration) (inner : List Saved) (s : Saved) (outer : List Saved) →
-      MayStand code c (inner ++ s ∷ outer) → MayStand code (begin_configuration c s) outer × AreRestored c (begin_configuration c s) outer
-      × CanRestore c s × ((d : Configuration) × (e : Configuration) × (effect code (begin_configuration c s) ≡ Effect.Begin d e))
+      MayStand code c (inner ++ s ∷ outer) → MayStand code (begin_configuration c s) outer
+      × AreRestored c (begin_configuration c s) outer
+      × CanRestore c s
+      × ((d : Configuration) × (e : Configuration) × (effect code (begin_configuration c s) ≡ Effect.Begin d e))
   -- a thread ends where none is open
   pub ends : (c : Configuration) (ss : List Saved) → MayStand code c ss → effect code c ≡ Effect.End → ss ≡ []

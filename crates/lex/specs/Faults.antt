@@ -8,7 +8,8 @@ use Rattle.lex.specs.declared.fault.LexFault.{LexFault}
 use Rattle.lex.specs.declared.fault.LexFault.TheVariants as fault
 use Rattle.lex.specs.Bytes.{is_glue, is_continuation, starts}
 use Rattle.lex.specs.Tokens.{Tok}
-use Rattle.lex.specs.Pieces.{IsOpen, IsDirective, IsInclude, Constant, constant_type, Longest, Strange, FirstOnLine, Cut}
+use Rattle.lex.specs.Pieces.{IsOpen, IsDirective, IsInclude, Constant, constant_type, Longest, Strange, FirstOnLine}
+use Rattle.lex.specs.Pieces.{Cut}
 
 -- how many bytes the character at the front has
 abbrev pub character_len : List ℕ → ℕ

@@ -70,7 +70,8 @@ pub record IsInclude (w : List ℕ) : Type 0 where
 abbrev pub IsStringBody : List ℕ → Type 0
 IsStringBody [] = Unit {0}
 IsStringBody (a ∷ []) = is_plain a ≡ true
-IsStringBody (a ∷ b ∷ w) = ((is_plain a ≡ true) × IsStringBody (b ∷ w)) ⊎ ((a ≡ 92) × (is_escape b ≡ true) × IsStringBody w)
+IsStringBody (a ∷ b ∷ w) = ((is_plain a ≡ true) × IsStringBody (b ∷ w))
+    ⊎ ((a ≡ 92) × (is_escape b ≡ true) × IsStringBody w)
 
 -- a string, by what stands between its quotes (C11 6.4.5)
 pub record IsString (w inner : List ℕ) : Type 0 where

@@ -231,7 +231,10 @@ fn a_refused_box_or_text_is_made_at_the_next_call(rt: HostRuntime) {
 type MaybeText<A> = Option<Boxed<Text<A>, A>>;
 
 /// A text in a box, where there is one.
-fn boxed_text<A: Allocator + Copy>(alloc: A, text: Option<&str>) -> Result<MaybeText<A>, AllocError> {
+fn boxed_text<A: Allocator + Copy>(
+    alloc: A,
+    text: Option<&str>,
+) -> Result<MaybeText<A>, AllocError> {
     match text {
         Some(text) => {
             let text = Text::from_str(alloc, text)?;

@@ -10,10 +10,10 @@ ghost use Rattle.lower.specs.inner.Formats.{text_written, figure_written};
 
 use bytecode::Instr;
 use containers::Text;
+use lex::token::Scalar;
 use lower_exprs::fault::Failure;
 use lower_exprs::lists::Lists;
 use lower_exprs::put::{after, put};
-use lex::token::Scalar;
 use std::alloc::{AllocError, Allocator};
 use syntax::format::{FormatUnit, unit_at};
 

@@ -30,7 +30,7 @@ use lower_exprs::put::{after, append, put};
 use lower_exprs::scope::Scope;
 use lower_exprs::simple::{lower_declarators, lower_simple, lower_start};
 use selection::draft::Draft;
-use selection::locations::{Exits, ConditionRegister};
+use selection::locations::{ConditionRegister, Exits};
 use smallvec::SmallVec;
 use std::alloc::{AllocError, Allocator};
 use syntax::tree::{Expr, ForHead, Kind, Parameter, Simple, Stmt};

@@ -136,7 +136,8 @@ fn complete<A: Allocator>(
     met: u32,
     unmet: u32,
 ) -> Result<(), AllocError>
-    ensures { OnOk result (code.new.items ≡ code.old.items ++ map (conditions.instruction_of_draft met unmet) drafts.now) }
+    ensures { OnOk result
+        (code.new.items ≡ code.old.items ++ map (conditions.instruction_of_draft met unmet) drafts.now) }
 {
     'each: for one in drafts {
         put(code, complete_one(*one, met, unmet))?;

@@ -10,7 +10,8 @@ ghost use Rattle.lower_spec.specs.Expressions.{argument_order, named_ones, namel
 ghost use Rattle.selection.specs.Lists.{Lists as Plain, holding};
 ghost use Rattle.selection.specs.Conditions as conditions;
 ghost use Rattle.selection.specs.Expressions.{one, constant, variable, element, value_into, condition_value, call_code};
-ghost use Rattle.selection.specs.Expressions.{in_own_transaction, condition_of, taken_types, emitted, due, handed, operand};
+ghost use Rattle.selection.specs.Expressions.{in_own_transaction, condition_of, taken_types, emitted, due, handed};
+ghost use Rattle.selection.specs.Expressions.{operand};
 ghost use Rattle.selection.specs.Expressions.{condition, both_conditions, conditional, types_of, all_emitted};
 ghost use Rattle.lower_exprs.specs.Limits.{NeedsMore};
 ghost use Rattle.lower_exprs.specs.Lists.{lists_of};
@@ -38,7 +39,7 @@ use bytecode::Instr;
 use global_tables::Shared;
 use lex::token::{Scalar, Span};
 use selection::draft::Draft;
-use selection::locations::{ValueRegister, ConditionRegister};
+use selection::locations::{ConditionRegister, ValueRegister};
 use smallvec::SmallVec;
 use std::alloc::{AllocError, Allocator};
 use syntax::tree::{Expr, LogicalOp, Parameter, UnaryOp};
@@ -250,7 +251,8 @@ fn put_call<A: Allocator + Copy>(
     from: u32,
     into: usize,
 ) -> Result<ValueRegister, Failure>
-    ensures { AddsValue (call_code (Some (callee_in f.entry)) (all_in_place registers.now from (lists_of lists.old)) from
+    ensures { AddsValue
+        (call_code (Some (callee_in f.entry)) (all_in_place registers.now from (lists_of lists.old)) from
         into (lists_of lists.old)) code.old code.new lists.new result }
 {
     if f.number > 4_294_967_295 {

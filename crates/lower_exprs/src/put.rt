@@ -14,7 +14,7 @@ use crate::lists::Lists;
 use bytecode::Instr;
 use lex::token::Scalar;
 use selection::draft::Draft;
-use selection::locations::{ValueRegister, ConditionRegister};
+use selection::locations::{ConditionRegister, ValueRegister};
 use std::alloc::{AllocError, Allocator};
 use syntax::tree::BinaryOp;
 use syntax::types::result_type;

@@ -8,7 +8,8 @@ ghost use Rattle.bytecode.specs.declared.instr.Instr.{Instr};
 ghost use Rattle.lower_spec.specs.Statements.{with_local, with_declared, locals_of_start};
 ghost use Rattle.selection.specs.Lists.{Lists as Plain};
 ghost use Rattle.selection.specs.Simples as simples;
-ghost use Rattle.selection.specs.Simples.{emitted_one, value_or_one, aimed, variable_target, element_target, target_value};
+ghost use Rattle.selection.specs.Simples.{emitted_one, value_or_one, aimed, variable_target, element_target};
+ghost use Rattle.selection.specs.Simples.{target_value};
 ghost use Rattle.selection.specs.Simples.{target_store, assigned, changed, adjusted, simple_written, first_written};
 ghost use Rattle.selection.specs.Simples.{declarator_written, declared_written, start_written};
 ghost use Rattle.lower_exprs.specs.Lists.{lists_of};
@@ -31,7 +32,7 @@ use crate::value_type::value_type;
 use bytecode::Instr;
 use global_tables::Shared;
 use lex::token::Scalar;
-use selection::locations::{ValueRegister, AssignmentTarget};
+use selection::locations::{AssignmentTarget, ValueRegister};
 use std::alloc::Allocator;
 use syntax::tree::{BinaryOp, Declarator, Expr, Simple, Start};
 use syntax::types::{operand_type, result_type};
@@ -198,7 +199,9 @@ fn type_at(target: AssignmentTarget) -> Scalar
     ensures { result ≡ simples.type_at target }
 {
     match target {
-        AssignmentTarget::Local(_, of) | AssignmentTarget::Cell(_, of) | AssignmentTarget::Element(_, _, _, of) => of,
+        AssignmentTarget::Local(_, of)
+        | AssignmentTarget::Cell(_, of)
+        | AssignmentTarget::Element(_, _, _, of) => of,
         AssignmentTarget::Nowhere => Scalar::Int,
     }
 }

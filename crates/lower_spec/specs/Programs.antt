@@ -31,7 +31,8 @@ no_exits result = record {
 -- words are set in registers from one on, one after another
 abbrev pub ConstantsCode : Code → ℕ → List ℕ → (from to : ℕ) → Type 0
 ConstantsCode code r [] from to = to ≡ from
-ConstantsCode code r (w ∷ ws) from to = InstructionAt code from (Instr.Constant r w) × ConstantsCode code (suc r) ws (suc from) to
+ConstantsCode code r (w ∷ ws) from to = InstructionAt code from (Instr.Constant r w)
+    × ConstantsCode code (suc r) ws (suc from) to
 
 -- the code of a function: its constants, its body, and a return where that runs off its end
 pub record FunctionIsLowered (p : Program) (code : Code) (g : FunctionCode) (f : Function) (body : Stmts) : Type 0 where

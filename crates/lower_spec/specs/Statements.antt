@@ -15,7 +15,8 @@ use Rattle.syntax.specs.Meaning.{op_of, mode_of}
 use Rattle.syntax.specs.Formats.{Piece, Literal, Figure, pieces}
 use Rattle.syntax.specs.Names.{newest, global_of, cells, GlobalCells}
 use Rattle.bytecode.specs.Code.{Instr, Code}
-use Rattle.lower_spec.specs.Expressions.{LocalScope, Layout, InstructionAt, LeadsTo, Coded, Due, Branching, converting, widening}
+use Rattle.lower_spec.specs.Expressions.{LocalScope, Layout, InstructionAt, LeadsTo, Coded, Due, Branching, converting}
+use Rattle.lower_spec.specs.Expressions.{widening}
 use Rattle.lower_spec.specs.Expressions.{constant_in, GivenBy, ConvertedBy, ConvertedCode, TypedCode, WordCode}
 use Rattle.lower_spec.specs.Expressions.{OperandCode, BinaryCode, ExprCode, CondCode, ArgsCode}
 
@@ -383,7 +384,8 @@ module _ (code : Code) (layout : Layout) (p : Program) where
   PiecesCode [] rs from to = to ≡ from
   PiecesCode (Literal text ∷ ps) rs from to = LiteralCode text from × PiecesCode ps rs (suc from) to
   PiecesCode (Figure t ∷ ps) [] from to = ⊥
-  PiecesCode (Figure t ∷ ps) (r ∷ rs) from to = InstructionAt code from (Instr.PrintNumber t r) × PiecesCode ps rs (suc from) to
+  PiecesCode (Figure t ∷ ps) (r ∷ rs) from to = InstructionAt code from (Instr.PrintNumber t r)
+      × PiecesCode ps rs (suc from) to
 
   pub record PrintCode (scope : LocalScope) (format : List ℕ) (es : Exprs) (from to : ℕ) : Type 0 where
     pub irrevocable : InstructionAt code from Instr.Irrevocable

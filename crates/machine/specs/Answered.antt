@@ -50,17 +50,20 @@ local_step code p = part_after p.base p (step_with code p.thread Done)
 -- so many local steps of a part, if they are local
 abbrev pub after_local_steps : {C : Type 0} → (C → Effect C) → ℕ → Part C → Option (Part C)
 after_local_steps code zero p = Some p
-after_local_steps code (suc k) p = if is_local (access code p.thread) then after_local_steps code k (local_step code p) else None
+after_local_steps code (suc k) p = if is_local (access code p.thread) then after_local_steps code k (local_step code p)
+    else None
 
 -- So many steps bring the thread to this one, where its accesses get these answers in order,
 -- all of them, and no step stops.
 pub data StepsHearing {C : Type 0} (code : C → Effect C) (th : Thread C) : ℕ → List Heard → Thread C → Type 0 where
   none : StepsHearing code th zero [] th
-  local_more : (n : ℕ) (hs : List Heard) (u : Thread C) → StepsHearing code th n hs u → is_local (access code u) ≡ true →
+  local_more : (n : ℕ) (hs : List Heard) (u : Thread C) → StepsHearing code th n hs u → is_local (access code u) ≡ true
+      →
       StepsHearing code th (suc n) hs (step_with code u Done).thread
   heard_more : (n : ℕ) (hs : List Heard) (u : Thread C) (a : Answer) → StepsHearing code th n hs u →
       is_local (access code u) ≡ false → stops (access code u) ≡ false
-      → StepsHearing code th (suc n) (hs ++ record { access = access code u; answer = a } ∷ []) (step_with code u a).thread
+      → StepsHearing code th (suc n) (hs ++ record { access = access code u; answer = a } ∷ [])
+      (step_with code u a).thread
 
 -- in some world that steps which do not stop lead to, the thread with this number has this part and was answered this
 pub record IsPartOf {C : Type 0} (code : C → Effect C) (init : ℕ → C) (m0 : List ℕ) (threads number : ℕ) (p : Part C)

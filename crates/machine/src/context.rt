@@ -13,13 +13,15 @@ ghost use Rattle.frames.specs.Told.{IsCall, Tells, piece_of};
 ghost use Rattle.norec_core.specs.Accesses.{IsAnswerTo, stops};
 ghost use Rattle.norec_core.specs.declared.step.Answer.{Answer as Reply};
 ghost use Rattle.norec_core.specs.declared.step.Answer.TheVariants.{Value};
-ghost use Rattle.machine.specs.Threads.{access, step_with as told_spec, resume as resume_spec, status_after, with_value};
+ghost use Rattle.machine.specs.Threads.{access, step_with as told_spec, resume as resume_spec, status_after};
+ghost use Rattle.machine.specs.Threads.{with_value};
 ghost use Rattle.norec_core.specs.Cores.{CommitsAtOnce, IsStoring};
 ghost use Rattle.norec_core.specs.Phases.{core_access};
 ghost use Rattle.machine.specs.Standing.{begins_of};
 ghost use Rattle.machine.specs.States.{IsLeft, IsReady, IsWordOf};
 ghost use Rattle.machine.specs.inner.Inside.{LeadsTo, MayAdvance};
-ghost use Rattle.machine.specs.inner.Contexts.{context_of, ready, machine_thread, AreWithin, IsContextOf, RunsInContext, MayGoBack, Makes};
+ghost use Rattle.machine.specs.inner.Contexts.{context_of, ready, machine_thread, AreWithin, IsContextOf};
+ghost use Rattle.machine.specs.inner.Contexts.{RunsInContext, MayGoBack, Makes};
 ghost use Rattle.machine.specs.inner.Contexts.{Advances, back_by, back_done, event_by, event_done, op_by, op_asked};
 
 use crate::event::Event;
@@ -141,10 +143,12 @@ fn finish<A: Allocator + Copy, B: Allocator>(
     requires of { IsConfigurationOf code.now frames.old.configuration }
     requires tells { Tells code.now frames.old.configuration doing }
     requires back { MayGoBack code.now frames.old.configuration core.now.saved
-        (back_done (effect code.now frames.old.configuration) (begin_configuration frames.old.configuration core.now.saved)) }
+        (back_done (effect code.now frames.old.configuration)
+        (begin_configuration frames.old.configuration core.now.saved)) }
     ensures configuration { frames.new.configuration ≡ resume_spec (effect code.now)
         (effect code.now frames.old.configuration) frames.old.configuration Outcome.Done
-        (back_done (effect code.now frames.old.configuration) (begin_configuration frames.old.configuration core.now.saved)) }
+        (back_done (effect code.now frames.old.configuration)
+        (begin_configuration frames.old.configuration core.now.saved)) }
     ensures status { status.new ≡ status_after Outcome.Done (effect code.now frames.old.configuration) status.old }
     ensures event { result ≡ event_done (effect code.now frames.old.configuration) core.now.attempt }
 {
@@ -429,7 +433,8 @@ impl<A: Allocator + Copy> ThreadContext<A> {
         requires runs { RunsInContext code.now (context_of self.old) }
         requires can { L.can_step code.now loads.old
             (record { thread = machine_thread (context_of self.old); accesses = accesses.old }) most }
-        ensures leads { L.leads code.now loads.old (record { thread = machine_thread (context_of self.old); accesses = accesses.old })
+        ensures leads { L.leads code.now loads.old
+            (record { thread = machine_thread (context_of self.old); accesses = accesses.old })
             result.0 loads.new (record { thread = machine_thread (context_of self.new); accesses = accesses.new }) }
         ensures of { IsContextOf code.now (context_of self.new) }
         ensures within { AreWithin self.new.frames.configuration (begins_of self.new.core.attempt) }
@@ -471,7 +476,8 @@ impl<A: Allocator + Copy> ThreadContext<A> {
         ensures trapping { self.new.trapping ≡ self.old.trapping }
         ensures text { string_bytes self.new.text ≡ string_bytes self.old.text }
         ensures status { self.new.status ≡ self.old.status }
-        ensures access { IfOk result (λ x. (x ≡ access (effect code.now) (machine_thread (context_of self.old))) × (stops x ≡ false)) }
+        ensures access { IfOk result (λ x. (x ≡ access (effect code.now) (machine_thread (context_of self.old)))
+            × (stops x ≡ false)) }
         ensures ready { OnOk result (IsReady code.now (machine_thread (context_of self.old)) (ready self.new)) }
         ensures still { OnErr result (IsReady code.now (machine_thread (context_of self.old)) (ready self.old)
             → IsReady code.now (machine_thread (context_of self.old)) (ready self.new)) }
@@ -535,7 +541,8 @@ impl<A: Allocator + Copy> ThreadContext<A> {
         requires tells { Tells code.now self.old.frames.configuration doing }
         requires asked { op_asked doing self.old.core.attempt self.old.trapping ≡ None }
         requires ready { IsReady code.now (machine_thread (context_of self.old)) (ready self.old) }
-        ensures { (answer : Reply) → Makes code.now (told_spec (effect code.now) (machine_thread (context_of self.old)) answer)
+        ensures { (answer : Reply)
+            → Makes code.now (told_spec (effect code.now) (machine_thread (context_of self.old)) answer)
             (context_of self.new) result }
     {
         let inside = self.core.has_attempt();
@@ -589,7 +596,8 @@ impl<A: Allocator + Copy> ThreadContext<A> {
         requires prints { effect code.now self.old.frames.configuration
             ≡ Effect.Print (piece_of code.now doing) (onward self.old.frames.configuration) }
         requires ready { IsReady code.now (machine_thread (context_of self.old)) (ready self.old) }
-        ensures { (answer : Reply) → Makes code.now (told_spec (effect code.now) (machine_thread (context_of self.old)) answer)
+        ensures { (answer : Reply)
+            → Makes code.now (told_spec (effect code.now) (machine_thread (context_of self.old)) answer)
             (context_of self.new) result }
     {
         if self.core.has_attempt() && !self.core.is_kept() {
@@ -662,7 +670,8 @@ impl<A: Allocator + Copy> ThreadContext<A> {
         requires tells { Tells code.now self.old.frames.configuration Doing.Commit }
         requires stores { IsSomeAnd self.old.core.attempt (λ a. IsStoring place a) }
         ensures makes { (answer : Reply)
-            → Makes code.now (told_spec (effect code.now) (machine_thread (context_of self.old)) answer) (context_of self.new) result.0 }
+            → Makes code.now (told_spec (effect code.now) (machine_thread (context_of self.old)) answer)
+            (context_of self.new) result.0 }
         ensures again { result.1 ≡ true → self.new.frames.configuration ≡ self.old.frames.configuration }
     {
         let outcome = self.core.take_store(place);

@@ -16,8 +16,8 @@ ghost use Rattle.machine.specs.States.{BeginsNext, ComparesEntry, ComparesNext, 
 ghost use Rattle.machine.specs.States.{StandsStill, StoresNext, SwapsNext, WaitsNext, first_thread, thread_has_lock};
 ghost use Rattle.machine.specs.inner.Contexts.{cost_if};
 
-use crate::event::Event;
 use crate::context::ThreadContext;
+use crate::event::Event;
 use crate::loads::Loads;
 use crate::validation::is_validated;
 use bytecode::Code;
@@ -130,7 +130,8 @@ impl<A: Allocator + Copy> Thread<A> {
     ) -> (u64, Option<Doing>)
         requires of { IsThreadOf code.now self.old.thread }
         requires can { L.can_step code.now loads.old (counted_thread self.old) most }
-        ensures leads { L.leads code.now loads.old (counted_thread self.old) result.0 loads.new (counted_thread self.new) }
+        ensures leads { L.leads code.now loads.old (counted_thread self.old) result.0 loads.new
+            (counted_thread self.new) }
         ensures count { result.0 ≤ most }
         ensures all { IfNone result.1 (result.0 ≡ most) }
         ensures stands { IfSome result.1 (λ doing. (result.0 < most) × StandsAt code.now self.new doing) }
@@ -553,7 +554,13 @@ impl<A: Allocator + Copy> Thread<A> {
     /// Makes the step past the last entry, with the lock's value that was loaded: where it is the one at which
     /// validation began it is the new snapshot, else validation begins again. It takes no memory.
     #[inline(always)]
-    pub fn take_validation<B: Allocator>(&mut self, code: &Code<B>, time: u64, place: usize, lock: u64)
+    pub fn take_validation<B: Allocator>(
+        &mut self,
+        code: &Code<B>,
+        time: u64,
+        place: usize,
+        lock: u64,
+    )
         requires of { IsThreadOf code.now self.old.thread }
         requires compares { ComparesNext code.now self.old time place }
         requires entry { ComparesEntry self.old time place None }

@@ -10,8 +10,8 @@ ghost use Rattle.machine.specs.Threads.{step_with as told_spec};
 ghost use Rattle.machine.specs.States.{IsValidated, MayValidate, asks};
 ghost use Rattle.machine.specs.inner.Contexts.{context_of, machine_thread, RunsInContext, Makes};
 
-use crate::event::Event;
 use crate::context::{ThreadContext, go_back};
+use crate::event::Event;
 use bytecode::Code;
 use frames::Doing;
 use std::alloc::Allocator;
@@ -64,7 +64,8 @@ impl<A: Allocator + Copy> ThreadContext<A> {
         requires entry { IsSomeAnd self.old.core.attempt (λ a. ComparesWith time place (Some entry) a) }
         requires next { place + 1 < 2 ^ 64 }
         requires word { entry.1 < 2 ^ 64 }
-        ensures makes { Makes code.now (told_spec (effect code.now) (machine_thread (context_of self.old)) (Value entry.1))
+        ensures makes { Makes code.now
+            (told_spec (effect code.now) (machine_thread (context_of self.old)) (Value entry.1))
             (context_of self.new) Event.Quiet }
         ensures operation { IsSomeAnd (asks (effect code.now) (machine_thread (context_of self.new))) IsValidated }
         ensures next { IsSomeAnd self.new.core.attempt (λ a. IsComparing time (place + 1) a) }

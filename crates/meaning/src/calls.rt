@@ -13,7 +13,7 @@ ghost use Rattle.meaning.specs.inner.Machine.{end_of, MeansAs, MeansWord, MeansW
 
 use crate::arithmetic::convert;
 use crate::expr::eval;
-use crate::machine::{StmtCompletion, Halted, Local, Machine, tick, trap};
+use crate::machine::{Halted, Local, Machine, StmtCompletion, tick, trap};
 use crate::names::definition;
 use crate::program::ProgramTables;
 use crate::stmt::stmts;
@@ -30,7 +30,8 @@ fn locals_of<'p, A: Allocator + Copy>(
     parameters: &'p [Parameter<A>],
     values: &[Value],
 ) -> Result<Option<Vec<Local<'p>, A>>, AllocError>
-    ensures { IfOk result (λ o. option_map items_in o ≡ meaning.call_locals (map parameter_of parameters.now) values.now) }
+    ensures { IfOk result (λ o. option_map items_in o ≡ meaning.call_locals
+        (map parameter_of parameters.now) values.now) }
 {
     if parameters.len() != values.len() {
         return Ok(None);
@@ -94,7 +95,8 @@ pub(crate) fn begin<'p, A: Allocator + Copy>(
     values: &[Value],
     m: &mut Machine<'p, '_, A>,
 ) -> Result<Begun<'p, A>, Halted>
-    ensures value { MeansAs begun_in result (begin_call (program_in source.now) f.now values.now (state_in m.old)) m.new }
+    ensures value { MeansAs begun_in result (begin_call (program_in source.now) f.now values.now (state_in m.old))
+        m.new }
     ensures deep { IfOk result (λ b. block_depth (stmts_of b.body.now) ≤ program_depth (program_in source.now)) }
 {
     let Some(d) = definition(source, f) else {

@@ -10,7 +10,7 @@ ghost use Rattle.meaning.specs.inner.Does.{called, does_expr};
 
 use crate::calls::call;
 use crate::machine::{Halted, Machine, Spot, fetch, operate, operate_unary};
-use crate::places::{element_cell, common_value, variable};
+use crate::places::{common_value, element_cell, variable};
 use crate::program::ProgramTables;
 use crate::transactions::value_transaction;
 use crate::word::{Word, constant, convert_word, flag, is_zero};

@@ -15,8 +15,8 @@ ghost use Rattle.meaning.specs.inner.Does.{called, does_turn};
 
 use crate::calls::{Begun, begin as begin_body, result_of, values};
 use crate::expr::eval;
-use crate::loops::{Loop, holds, left_by_body, for_start, for_step, loop_test};
-use crate::machine::{StmtCompletion, Halted, Local, Machine, tick};
+use crate::loops::{Loop, for_start, for_step, holds, left_by_body, loop_test};
+use crate::machine::{Halted, Local, Machine, StmtCompletion, tick};
 use crate::program::ProgramTables;
 use crate::stmt::stmt;
 use crate::transactions::copy_locals;

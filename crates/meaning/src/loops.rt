@@ -10,7 +10,7 @@ ghost use Rattle.meaning.specs.inner.Does.{called, does_turn, do_turn, for_all, 
 ghost use Rattle.meaning.specs.inner.Does.{loop_condition as tested_due, while_turn};
 
 use crate::expr::eval;
-use crate::machine::{StmtCompletion, Halted, Machine, tick};
+use crate::machine::{Halted, Machine, StmtCompletion, tick};
 use crate::program::ProgramTables;
 use crate::simple::{declare, simple};
 use crate::stmt::scoped_stmt;

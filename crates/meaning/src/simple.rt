@@ -11,7 +11,7 @@ ghost use Rattle.meaning.specs.inner.Word.{value_of};
 ghost use Rattle.meaning.specs.inner.Does.{called, declared_one};
 
 use crate::expr::{element, eval};
-use crate::machine::{StmtCompletion, Halted, Local, Machine, Spot, assign, fetch, operate};
+use crate::machine::{Halted, Local, Machine, Spot, StmtCompletion, assign, fetch, operate};
 use crate::places::name_place;
 use crate::program::ProgramTables;
 use crate::word::{Word, flag};

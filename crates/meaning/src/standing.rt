@@ -16,8 +16,10 @@ ghost use Rattle.meaning.specs.inner.Machine.{Happened, end_of, halt_of, program
 ghost use Rattle.meaning.specs.inner.Standing.{IsGone, IsStop, bare, rest};
 
 use crate::calls::{Begun, begin};
-use crate::left::{Left, Parts, Stepped, Task, Direction, call_alone, open, open_call, parts_of, step};
-use crate::machine::{Context, StmtCompletion, Local, Machine};
+use crate::left::{
+    Direction, Left, Parts, Stepped, Task, call_alone, open, open_call, parts_of, step,
+};
+use crate::machine::{Context, Local, Machine, StmtCompletion};
 use crate::program::ProgramTables;
 use crate::threads::start;
 use crate::transactions::{copy_locals, copy_memory};
@@ -253,9 +255,8 @@ fn wanting<'p, A: Allocator + Copy>(
     ensures end { IfSome result (λ w. end_of end ≡ meaning.Next) }
 {
     match (left, end, why) {
-        (Left::Next(Task::Alone(Direction::Whole, frames, s)), StmtCompletion::Next, Halt::Wants) => Some((
-            *frames, s,
-        )),
+        (Left::Next(Task::Alone(Direction::Whole, frames, s)), StmtCompletion::Next, Halt::Wants) =>
+            Some((*frames, s)),
         _ => None,
     }
 }

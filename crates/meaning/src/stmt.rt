@@ -12,7 +12,7 @@ ghost use Rattle.meaning.specs.inner.Does.{called, does_stmt, does_stmts, if_of}
 use crate::calls::values;
 use crate::expr::eval;
 use crate::loops::{Loop, for_scoped, repeat};
-use crate::machine::{StmtCompletion, Halted, Machine, tick};
+use crate::machine::{Halted, Machine, StmtCompletion, tick};
 use crate::print::{may_print, print_pieces};
 use crate::program::ProgramTables;
 use crate::simple::{declare, simple};

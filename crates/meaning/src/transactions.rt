@@ -11,7 +11,7 @@ ghost use Rattle.meaning.specs.inner.Machine.{local_in, end_of, Means, MeansEnd,
 ghost use Rattle.meaning.specs.inner.Machine.{items_in, left_too, Happened, halt_of};
 
 use crate::expr::eval;
-use crate::machine::{Context, StmtCompletion, Halted, Local, Machine, tick};
+use crate::machine::{Context, Halted, Local, Machine, StmtCompletion, tick};
 use crate::program::ProgramTables;
 use crate::stmt::block;
 use crate::word::Word;
@@ -270,7 +270,9 @@ pub(crate) fn transaction<'p, A: Allocator + Copy>(
     let none = Context::Inside(Mode::Atomic, Vec::new(source.alloc));
     match mem::replace(&mut m.context, none) {
         Context::Outside(founds, lefts) => outermost(source, frames, kind, founds, lefts, body, m),
-        Context::Inside(outer, found) => nested_transaction(source, frames, outer, found, kind, body, m),
+        Context::Inside(outer, found) => nested_transaction(
+            source, frames, outer, found, kind, body, m,
+        ),
     }
 }
 

@@ -5,10 +5,10 @@
 //! hash map, whose hash is keyed (`Keyed`); the key decides how long it takes and nothing else.
 #![tactic(auto)]
 
-mod hasher;
 mod entries;
+mod hasher;
 mod scope;
 mod table;
 
-pub use hasher::Keyed;
 pub use entries::{Scope, Table};
+pub use hasher::Keyed;

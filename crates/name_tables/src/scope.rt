@@ -9,8 +9,8 @@ ghost use Rattle.name_tables.specs.Named.{newest};
 ghost use Rattle.name_tables.specs.Known.{locals_in};
 ghost use Rattle.name_tables.specs.inner.Places.{number_at};
 
-use crate::hasher::Keyed;
 use crate::entries::{LocalEntry, Scope};
+use crate::hasher::Keyed;
 use indexmap::IndexMap;
 use std::alloc::{AllocError, Allocator};
 

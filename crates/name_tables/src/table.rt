@@ -5,8 +5,8 @@ ghost use Rattle.std.specs.Option.{option_copied};
 ghost use Rattle.name_tables.specs.Named.{first, place, declared};
 ghost use Rattle.name_tables.specs.Known.{entries_in};
 
-use crate::hasher::Keyed;
 use crate::entries::Table;
+use crate::hasher::Keyed;
 use indexmap::IndexMap;
 use std::alloc::{AllocError, Allocator};
 

@@ -5,7 +5,8 @@ ghost use Rattle.std.specs.Prelude.{IsSomeAnd, IfNone, IfOk, IfSome, OnOk, OnErr
 ghost use Rattle.norec_core.specs.Accesses.{stops};
 ghost use Rattle.norec_core.specs.Phases.{core_access, core_step};
 ghost use Rattle.norec_core.specs.Cores.{CommitsAtOnce, ComparesWith, IsAnswered, IsAskedAgain, IsComparing};
-ghost use Rattle.norec_core.specs.Cores.{IsDoneAtOnce, IsDropped, IsStoring, IsUnlocked, IsWaiting, LoadsBoth, core_step_with};
+ghost use Rattle.norec_core.specs.Cores.{IsDoneAtOnce, IsDropped, IsStoring, IsUnlocked, IsWaiting, LoadsBoth};
+ghost use Rattle.norec_core.specs.Cores.{core_step_with};
 ghost use Rattle.norec_core.specs.Cores.{stepped_twice, is_kept, has_lock};
 ghost use Rattle.norec_core.specs.declared.step.Answer.{Answer as Reply};
 ghost use Rattle.norec_core.specs.declared.step.Op.{Op as Operation};

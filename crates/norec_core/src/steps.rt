@@ -453,7 +453,8 @@ impl<A: Allocator + Copy> CoreSteps<A> {
     fn told_read(&mut self, address: u32, answer: Answer) -> Outcome
         requires begun { self.old.begun ≡ true }
         requires phase { self.old.attempt.phase ≡ Phase.AtOperation }
-        ensures { IsStep (core_read self.old.attempt (overlay_word address self.old.attempt.writes) answer) result self.new }
+        ensures { IsStep (core_read self.old.attempt (overlay_word address self.old.attempt.writes) answer) result
+            self.new }
     {
         if let Some(word) = self.logs.written_word(address) {
             return Outcome::Read(word);

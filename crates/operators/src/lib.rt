@@ -7,7 +7,8 @@
 #![tactic(auto)]
 
 ghost use Rattle.std.specs.Prelude.{◌≡◌, ◌≢◌, ◌≤ℤ◌, ◌<◌, ◌≤◌, ◌^◌, ◌==◌, pos, neg_ℤ, Ok};
-ghost use Rattle.syntax.specs.Numbers.{number as number_in, word_of, bits, residue, fit_result, operation_result, bitwise_complement};
+ghost use Rattle.syntax.specs.Numbers.{number as number_in, word_of, bits, residue, fit_result, operation_result};
+ghost use Rattle.syntax.specs.Numbers.{bitwise_complement};
 ghost use Rattle.operators.specs.inner.Checked.{word_or_trap};
 
 use lex::token::Scalar;

@@ -8,9 +8,10 @@ ghost use Rattle.lex.specs.declared.token.Punctuator.TheVariants as punct;
 ghost use Rattle.syntax.specs.declared.tree.Attribute.{Attribute};
 ghost use Rattle.syntax.specs.Grammar.{the_attribute, attribute_named};
 ghost use Rattle.parse.specs.inner.Reading.{Gives, take, head, behind, before};
-ghost use Rattle.parse.specs.inner.Items.{words, bracket_attributes, gnu_attributes, attribute_list, is_plain, attributes};
+ghost use Rattle.parse.specs.inner.Items.{words, bracket_attributes, gnu_attributes, attribute_list, is_plain};
+ghost use Rattle.parse.specs.inner.Items.{attributes};
 
-use crate::cursor::{expect_close, count_tokens, expect, is_next};
+use crate::cursor::{count_tokens, expect, expect_close, is_next};
 use crate::fault::Failure;
 use crate::list::{Element, comma_list};
 use containers::Items;

@@ -79,8 +79,8 @@ pub fn expect_close<'t, 'a, T: Drop>(
     }
 }
 
-/// What was read, and where this keyword or punctuator stands behind it; as `expect_close`, it is dropped here where none
-/// does.
+/// What was read, and where this keyword or punctuator stands behind it; as `expect_close`, it is dropped here where
+/// none does.
 pub fn closed_at<'t, 'a, T: Drop>(
     read: T,
     tokens: &'t [Token<'a>],

@@ -15,8 +15,8 @@ ghost use Rattle.parse.specs.inner.Items.{header};
 ghost use Rattle.parse.specs.inner.Items as items;
 ghost use Rattle.parse.specs.inner.Headings.{heading_of};
 
-use crate::attributes::{attributes, append_attributes};
-use crate::cursor::{expect_close, eat, expect, is_next, name};
+use crate::attributes::{append_attributes, attributes};
+use crate::cursor::{eat, expect, expect_close, is_next, name};
 use crate::fault::Failure;
 use crate::list::{Element, comma_list};
 use crate::scalar::scalar;

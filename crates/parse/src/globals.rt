@@ -9,16 +9,17 @@ ghost use Rattle.syntax.specs.Tree as Tree;
 ghost use Rattle.syntax.specs.Views.{name_of, global_of, item_of};
 ghost use Rattle.syntax.specs.Grammar.{the_length};
 ghost use Rattle.parse.specs.inner.Reading.{Gives, take, before, behind};
-ghost use Rattle.parse.specs.inner.Items.{the_placed_value, initialiser, first_value, first_values, global_tail, global};
+ghost use Rattle.parse.specs.inner.Items.{the_placed_value, initialiser, first_value, first_values, global_tail};
+ghost use Rattle.parse.specs.inner.Items.{global};
 ghost use Rattle.parse.specs.inner.Items.{value_list, several, globals_from};
 
-use crate::cursor::{expect_close, eat, expect, is_next, name, spot};
+use crate::cursor::{eat, expect, expect_close, is_next, name, spot};
 use crate::fault::Failure;
 use crate::list::{Element, further, one};
 use containers::Items;
 use lex::token::{Fixed, Kind, Punctuator, Scalar, Span, Token};
 use std::alloc::Allocator;
-use syntax::tree::{Initializer, Global, Item, Name};
+use syntax::tree::{Global, Initializer, Item, Name};
 
 /// A constant's value and type, where it stands, and the tokens after it.
 type Placed<'t, 'a> = (((u64, Scalar), Span), &'t [Token<'a>]);
@@ -27,7 +28,10 @@ type Placed<'t, 'a> = (((u64, Scalar), Span), &'t [Token<'a>]);
 type Firsts<'t, 'a, A> = (Items<Initializer, A>, &'t [Token<'a>]);
 
 /// An array's length or none, first values, and the tokens after them.
-type Sized<'t, 'a, A> = ((Option<(u64, Span)>, Items<Initializer, A>), &'t [Token<'a>]);
+type Sized<'t, 'a, A> = (
+    (Option<(u64, Span)>, Items<Initializer, A>),
+    &'t [Token<'a>],
+);
 
 /// A constant, with its type and its place.
 fn constant<'t, 'a>(tokens: &'t [Token<'a>]) -> Result<Placed<'t, 'a>, Failure<'t, 'a>>
@@ -70,7 +74,9 @@ fn array_length<'t, 'a>(
 }
 
 /// `[-] constant`
-fn initialiser<'t, 'a>(tokens: &'t [Token<'a>]) -> Result<(Initializer, &'t [Token<'a>]), Failure<'t, 'a>>
+fn initialiser<'t, 'a>(
+    tokens: &'t [Token<'a>],
+) -> Result<(Initializer, &'t [Token<'a>]), Failure<'t, 'a>>
     ensures { Gives (λ x. (x.0, toks x.1.now)) result (initialiser (toks tokens.now)) }
 {
     if !is_next(tokens, Fixed::Punctuator(Punctuator::Minus)) {

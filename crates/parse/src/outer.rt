@@ -4,7 +4,8 @@ ghost use Rattle.std.specs.Prelude.{◌≡◌, bytes_eq, codes};
 ghost use Rattle.lex.specs.Tokens.{toks};
 ghost use Rattle.syntax.specs.Grammar.{the_outer};
 ghost use Rattle.parse.specs.inner.Reading.{Gives, head, take};
-ghost use Rattle.parse.specs.inner.Statements.{enclosed_outer, begins_outer_attribute, outer_attribute_if_any, outer_attribute};
+ghost use Rattle.parse.specs.inner.Statements.{enclosed_outer, begins_outer_attribute, outer_attribute_if_any};
+ghost use Rattle.parse.specs.inner.Statements.{outer_attribute};
 
 use crate::cursor::{expect, is_next};
 use crate::fault::Failure;
@@ -80,7 +81,9 @@ fn begins_outer_attribute(tokens: &[Token]) -> bool
 }
 
 /// `[outer]`: whether it stands here.
-pub fn has_outer_mark<'t, 'a>(tokens: &'t [Token<'a>]) -> Result<(bool, &'t [Token<'a>]), Failure<'t, 'a>>
+pub fn has_outer_mark<'t, 'a>(
+    tokens: &'t [Token<'a>],
+) -> Result<(bool, &'t [Token<'a>]), Failure<'t, 'a>>
     ensures { Gives (λ x. (x.0, toks x.1.now)) result (outer_attribute_if_any (toks tokens.now)) }
 {
     if !begins_outer_attribute(tokens) {

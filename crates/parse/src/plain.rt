@@ -11,7 +11,7 @@ ghost use Rattle.syntax.specs.Grammar.{the_text};
 ghost use Rattle.parse.specs.inner.Reading.{Gives, take, map_parser, before, expect, spot};
 ghost use Rattle.parse.specs.inner.Statements.{simple_at, printed, print_stmt, cancel_stmt, return_stmt};
 
-use crate::cursor::{expect_close, expect, spot};
+use crate::cursor::{expect, expect_close, spot};
 use crate::expr::further;
 use crate::fault::Failure;
 use crate::outer::has_outer_mark;
@@ -122,7 +122,8 @@ pub fn break_stmt<'t, 'a, A: Allocator + Copy>(
     tokens: &'t [Token<'a>],
 ) -> Result<(Stmt<A>, &'t [Token<'a>]), Failure<'t, 'a>>
     ensures { Gives (λ x. (stmt_of x.0, toks x.1.now)) result
-        (map_parser Break (before (token.Punctuator punct.Semicolon) (spot (token.Keyword key.Break))) (toks tokens.now)) }
+        (map_parser Break (before (token.Punctuator punct.Semicolon) (spot (token.Keyword key.Break)))
+        (toks tokens.now)) }
 {
     let (at, rest) = alone(tokens, Fixed::Keyword(Keyword::Break))?;
     Ok((Stmt::Break(at), rest))

@@ -13,7 +13,7 @@ ghost use Rattle.parse.specs.inner.Expressions.{whole_at};
 ghost use Rattle.parse.specs.inner.Statements.{GivesToken, simple_from, simple, starts_simple, simple_at, declarator};
 ghost use Rattle.parse.specs.inner.Statements.{declaration, declaration_at, start};
 
-use crate::cursor::{expect_close, eat, name};
+use crate::cursor::{eat, expect_close, name};
 use crate::expr::{expression, starts_expr};
 use crate::fault::Failure;
 use crate::list::{Element, comma_list};

@@ -14,7 +14,7 @@ ghost use Rattle.parse.specs.inner.Statements.{in_parens, entry, branches, if_tr
 ghost use Rattle.parse.specs.inner.Statements.{end_of_do, rest_of_head, head_of_for, for_stmt, kind, transaction_stmt};
 ghost use Rattle.parse.specs.inner.Statements.{starts_stmt, stmt_at, block_at};
 
-use crate::cursor::{expect_close, eat, expect, is_next, spot};
+use crate::cursor::{eat, expect, expect_close, is_next, spot};
 use crate::expr::expression;
 use crate::fault::Failure;
 use crate::lead::{Lead, lead_at, mode_keyword};

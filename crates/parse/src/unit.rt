@@ -120,9 +120,11 @@ pub fn parse<A: Allocator + Copy>(alloc: A, tokens: &[Token<'_>]) -> Result<Unit
     // Which fault comes, and at which token.
     ensures fault { IfErr result (λ f. IsParseFaultOf (toks tokens.now) f) }
     // What is spelled within the depth is found.
-    ensures complete { (s : ParsedSource) → Spells s (toks tokens.now) → source_depth s ≤ deepest_program → Finds s result }
+    ensures complete { (s : ParsedSource) → Spells s (toks tokens.now) → source_depth s ≤ deepest_program
+        → Finds s result }
     // What is spelled deeper is refused.
-    ensures refused { (s : ParsedSource) → Spells s (toks tokens.now) → deepest_program < source_depth s → IsErr result }
+    ensures refused { (s : ParsedSource) → Spells s (toks tokens.now) → deepest_program < source_depth s
+        → IsErr result }
 {
     match program(alloc, tokens, DEEPEST) {
         Ok(items) => Ok(Unit {

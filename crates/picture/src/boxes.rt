@@ -86,8 +86,7 @@ impl<'p, A: Allocator + Copy> Sheet<'p, A> {
         row: u64,
         fate: Fate,
     ) -> Result<(), AllocError> {
-        self.boxes
-            .push(transaction_box(alloc, thread, (attempt.row, row), fate, 0)?)?;
+        self.boxes.push(transaction_box(alloc, thread, (attempt.row, row), fate, 0)?)?;
         Ok(())
     }
 

@@ -6,7 +6,7 @@ use crate::mark::Look;
 use crate::pieces::{Piece, push_pieces, put_line};
 use crate::sheet::{Effect, Fold, Sheet, Store};
 use crate::step::Step;
-use crate::words::{put_name, put_value, words_of, words};
+use crate::words::{put_name, put_value, words, words_of};
 use machine::Event;
 use norec_core::{Access, Answer};
 use std::alloc::{AllocError, Allocator};

@@ -78,14 +78,16 @@ abbrev pub Took : SeatView → ℕ → SeatView → Type 0
 Took m n w =
     (w.1 ≡ m.1)
     × ((p : ViewPart) (k : ℕ) (now : Part Configuration) → m.0 ≡ p ∷ [] →
-    after_local_steps (effect p.setup.code) k p.part ≡ Some now → is_local (access (effect p.setup.code) now.thread) ≡ false →
+    after_local_steps (effect p.setup.code) k p.part ≡ Some now
+    → is_local (access (effect p.setup.code) now.thread) ≡ false →
     TookAs p now (access (effect p.setup.code) now.thread)
     (reply (access (effect p.setup.code) now.thread) n) w.0)
 
 -- the seat speaks for one thread alone, which has made local steps since the seat's last access and now has this part
 abbrev pub SitsAt : Setup → SeatView → Part Configuration → Type 0
 SitsAt key m now =
-    (p : ViewPart) × (k : ℕ) × (m ≡ (p ∷ [], [])) × (p.setup ≡ key) × (after_local_steps (effect key.code) k p.part ≡ Some now)
+    (p : ViewPart) × (k : ℕ) × (m ≡ (p ∷ [], [])) × (p.setup ≡ key)
+    × (after_local_steps (effect key.code) k p.part ≡ Some now)
 
 -- the seat speaks for this thread alone
 abbrev pub Sits : Setup → SeatView → Thread Configuration → Type 0

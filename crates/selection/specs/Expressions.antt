@@ -22,7 +22,8 @@ use Rattle.lower_spec.specs.Expressions.{LocalScope, Layout, constant_in, types_
 use Rattle.selection.specs.declared.locations.ValueRegister.{ValueRegister}
 use Rattle.selection.specs.Lists.{Lists, with_register, holding}
 use Rattle.selection.specs.Names.{Callee, callee_of}
-use Rattle.selection.specs.Conditions.{Condition, test_in, going_on, by_value, opposite, logical_condition, zero_test, zero_tested}
+use Rattle.selection.specs.Conditions.{Condition, test_in, going_on, by_value, opposite, logical_condition, zero_test}
+use Rattle.selection.specs.Conditions.{zero_tested}
 
 -- the instruction of an operator: one that asks for more is the other way round
 abbrev pub computing : BinaryOp → Scalar → ℕ → ℕ → ℕ → Instr
@@ -100,7 +101,11 @@ above free r = max free (suc r)
 
 -- one instruction that writes a register
 abbrev pub one : Instr → (from r : ℕ) → Scalar → Lists → Emitted
-one i from r t l = record { code = i ∷ []; lists = with_register r l; location = record { register = r; of = t; to = from + 1 } }
+one i from r t l = record {
+  code = i ∷ [];
+  lists = with_register r l;
+  location = record { register = r; of = t; to = from + 1 };
+}
 
 abbrev pub then_one : Emitted → Instr → ℕ → Scalar → Emitted
 then_one e i r t = record {
@@ -112,7 +117,8 @@ then_one e i r t = record {
 abbrev pub constant : ℕ → Scalar → (from into : ℕ) → Lists → Emitted
 constant n t from into l = one (own.Constant into n) from into t l
 
--- the register in which a word is preloaded, where these words do from this register on, as far as registers have numbers
+-- the register in which a word is preloaded, where these words do from this register on, as far as registers have
+-- numbers
 abbrev pub ready_from : ℕ → List ℕ → ℕ → Option ℕ
 ready_from r [] w = None
 ready_from r (x ∷ xs) w = if x == w then Some r else if r == MOST_REGISTERS then None else ready_from (suc r) xs w
@@ -133,7 +139,11 @@ ready_or (Some held) l e = record { code = []; lists = l; location = held }
 
 -- a local's own register
 abbrev pub in_local : ℕ → Scalar → ℕ → Lists → Emitted
-in_local i t from l = record { code = []; lists = with_register i l; location = record { register = i; of = t; to = from } }
+in_local i t from l = record {
+  code = [];
+  lists = with_register i l;
+  location = record { register = i; of = t; to = from };
+}
 
 abbrev pub variable : Option (ℕ × Scalar) → Option GlobalCells → (from into : ℕ) → Lists → Emitted
 variable (Some x) g from into l = in_local x.0 x.1 from l
@@ -147,7 +157,8 @@ element None i from into l = constant 0 Int from into l
 
 -- a value by a conversion: it lies where it lay, or one instruction makes it
 abbrev pub converted_by : Option (ℕ → ℕ → Instr) → Scalar → Emitted → (into : ℕ) → Emitted
-converted_by None u e into = record e { location = record { register = e.location.register; of = u; to = e.location.to } }
+converted_by None u e into =
+    record e { location = record { register = e.location.register; of = u; to = e.location.to } }
 converted_by (Some i) u e into = then_one e (i into e.location.register) into u
 
 -- the value and the type of a constant

@@ -16,7 +16,8 @@ use Rattle.selection.specs.declared.locations.AssignmentTarget.TheVariants as ta
 use Rattle.selection.specs.Lists.{Lists, with_register}
 use Rattle.lower_spec.specs.Expressions.{LocalScope, constant_in}
 use Rattle.lower_spec.specs.Statements.{with_local}
-use Rattle.selection.specs.Expressions.{Emitted, above, one, constant, ready, ready_or, in_local, converting, converted_by}
+use Rattle.selection.specs.Expressions.{Emitted, above, one, constant, ready, ready_or, in_local, converting}
+use Rattle.selection.specs.Expressions.{converted_by}
 use Rattle.selection.specs.Expressions.{both, emitted_type, emitted, operand}
 
 -- instructions, the lists after them, and the place behind them

@@ -720,7 +720,8 @@ fn print_timeline<A: Allocator + Copy, W: Write, E: Write>(
         (timeline_text code.now (timeline_of (simulation_after code.now threads replayed.now.made.items)))
         (printed_of replayed.now.printed) result (W.contents out.old) (W.contents out.new) }
     ensures written { WritesPart
-        (λ written. written ≡ timeline_text code.now (timeline_of (simulation_after code.now threads replayed.now.made.items))
+        (λ written. written ≡ timeline_text code.now
+        (timeline_of (simulation_after code.now threads replayed.now.made.items))
         ++ report_text (printed_of replayed.now.printed)) (W.contents out.old) (W.contents out.new) }
     ensures not_refused { result ≢ 1 }
 {
@@ -739,7 +740,8 @@ fn picture_of<A: Allocator + Copy>(
     replayed: &Replayed<A>,
 ) -> Option<Vec<u8, A>>
     ensures { IfSome result
-        (λ v. IsDrawn compiled.now.code (timeline_of (simulation_after compiled.now.code threads replayed.now.made.items))
+        (λ v. IsDrawn compiled.now.code
+        (timeline_of (simulation_after compiled.now.code threads replayed.now.made.items))
         v.items) }
 {
     match replayed.stop {
@@ -769,10 +771,12 @@ fn print_picture<A: Allocator + Copy, W: Write, E: Write>(
     ensures status { result ≤ 4 }
     ensures whole { (result ≡ 0) ⊎ (result ≡ 3) → replayed.now.stop ≡ None }
     ensures picture { PrintsPicture
-        (λ svg shown. IsDrawn compiled.now.code (timeline_of (simulation_after compiled.now.code threads replayed.now.made.items))
+        (λ svg shown. IsDrawn compiled.now.code
+        (timeline_of (simulation_after compiled.now.code threads replayed.now.made.items))
         svg × (shown ≡ printed_of replayed.now.printed)) result (W.contents out.old) (W.contents out.new) }
     ensures written { WritesPart
-        (λ written. IsDrawn compiled.now.code (timeline_of (simulation_after compiled.now.code threads replayed.now.made.items))
+        (λ written. IsDrawn compiled.now.code
+        (timeline_of (simulation_after compiled.now.code threads replayed.now.made.items))
         written) (W.contents out.old) (W.contents out.new) }
     ensures not_refused { result ≢ 1 }
 {

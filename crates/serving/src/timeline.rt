@@ -17,7 +17,8 @@ pub fn lines_shown<A: Allocator + Copy>(
     threads: u32,
     steps: &[u32],
 ) -> Option<Vec<u8, A>>
-    ensures { IfSome result (λ v. v.items ≡ lines_of code.now (timeline_of (simulation_after code.now threads steps.now))) }
+    ensures { IfSome result
+        (λ v. v.items ≡ lines_of code.now (timeline_of (simulation_after code.now threads steps.now))) }
 {
     match timeline(alloc, code, threads, steps) {
         Some(shown) => match timeline_text(alloc, code, shown.as_slice()) {

@@ -160,7 +160,7 @@ fn examples() -> &'static [Example] {
     &ROWS
 }
 
-// Whether a source prints this, and nothing on standard error.
+/// Whether a source prints this, and nothing on standard error.
 fn prints<H: Threads + Wait + Sync>(rt: &H, alloc: Global, source: &[u8], out: &[u8]) -> bool {
     match serve_line(rt, alloc, "txc run a.c", source, b"", false) {
         Some(served) => served.out.as_slice() == out && served.err.is_empty(),
@@ -168,7 +168,7 @@ fn prints<H: Threads + Wait + Sync>(rt: &H, alloc: Global, source: &[u8], out: &
     }
 }
 
-// The first program that prints something else.
+/// The first program that prints something else.
 fn wrong_example<H: Threads + Wait + Sync>(rt: &H, alloc: Global) -> Option<&'static str> {
     for (file, source, out) in examples() {
         if !prints(rt, alloc, source, out) {
@@ -438,13 +438,13 @@ fn transcripts() -> &'static [Transcript] {
     &ROWS
 }
 
-// Whether this is what was served: the output, and behind it the standard error.
+/// Whether this is what was served: the output, and behind it the standard error.
 fn shows(served: &Served, shown: &[u8]) -> bool {
     let out = served.out.as_slice();
     shown.starts_with(out) && shown.get(out.len()..) == Some(served.err.as_slice())
 }
 
-// Whether a terminal shows this of a command line.
+/// Whether a terminal shows this of a command line.
 fn is_shown<H: Threads + Wait + Sync>(
     rt: &H,
     alloc: Global,
@@ -459,7 +459,7 @@ fn is_shown<H: Threads + Wait + Sync>(
     }
 }
 
-// The first command line of which a terminal shows something else.
+/// The first command line of which a terminal shows something else.
 fn wrong_transcript<H: Threads + Wait + Sync>(rt: &H, alloc: Global) -> Option<&'static str> {
     for (line, source, schedule, shown) in transcripts() {
         if !is_shown(rt, alloc, line, source, schedule, shown) {

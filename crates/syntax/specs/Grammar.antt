@@ -1,7 +1,7 @@
 -- Which tokens spell which tree.
 use Rattle.std.specs.Prelude.{◌≡◌, ℕ, ◌≤◌, ◌<◌, List, [], ◌∷◌, ◌++◌, Option, Some, None, IsSome, Bool, true, false}
 use Rattle.std.specs.Prelude.{IsFalse, codes, bytes_eq, option_map, if◌then◌else◌}
-use Rattle.lex.specs.{declared.token.Fixed.Fixed, Tokens.Terminal, Tokens.Tok, Tokens.unescaped}
+use Rattle.lex.specs.{declared.token.Fixed.Fixed, Tokens.Terminal, Tokens.Tok, Tokens.string_value}
 use Rattle.lex.specs.declared.token.Fixed.TheVariants.{Keyword, Punctuator}
 use Rattle.lex.specs.declared.token.Keyword.TheVariants as key
 use Rattle.lex.specs.declared.token.Punctuator.TheVariants as punct
@@ -48,7 +48,7 @@ the_integer_constant t = integer_constant_in t.terminal t.span
 
 -- what a string stands for, and its place
 abbrev pub text_in : Terminal → Span → Option (List ℕ × Span)
-text_in (Terminal.string_literal s) at = Some (unescaped s, at)
+text_in (Terminal.string_literal s) at = Some (string_value s, at)
 text_in _ at = None
 
 abbrev pub the_text : Tok → Option (List ℕ × Span)

@@ -54,7 +54,8 @@ TypesAgree =
 abbrev pub ScopeFits : Type 0
 ScopeFits =
     (p : Program) (frames : ℕ) (st : Stmt) (s : State) (known : Scope) → IsSubscope known (running_scope p s.locals) →
-    WhereGiven (stmt p (calls p frames) st s) (λ end now. IsSubscope (scope_after st known) (running_scope p now.locals))
+    WhereGiven (stmt p (calls p frames) st s)
+    (λ end now. IsSubscope (scope_after st known) (running_scope p now.locals))
 
 -- the names and types that a statement declares
 abbrev pub declared_by : Stmt → List (List ℕ × Scalar)

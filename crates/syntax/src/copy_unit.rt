@@ -1,6 +1,6 @@
 //! Copies of functions, globals and units.
 
-use crate::tree::{Attribute, Initializer, Function, Global, Item, Parameter, Unit};
+use crate::tree::{Attribute, Function, Global, Initializer, Item, Parameter, Unit};
 use containers::Copied;
 use std::alloc::{AllocError, Allocator};
 

@@ -5,7 +5,7 @@ ghost use Rattle.syntax.specs.Names.{cells, first_value, first_word, first_words
 ghost use Rattle.syntax.specs.Views.{global_of};
 
 use crate::number::{number, word_of};
-use crate::tree::{Initializer, Global};
+use crate::tree::{Global, Initializer};
 use lex::token::Scalar;
 use std::alloc::{AllocError, Allocator};
 

@@ -1,7 +1,7 @@
 //! Whether trees are the same, with all their places.
 
 use crate::tree::{
-    Attribute, Declaration, Declarator, Expr, Initializer, ForHead, Function, Global, Item, Name,
+    Attribute, Declaration, Declarator, Expr, ForHead, Function, Global, Initializer, Item, Name,
     Parameter, Simple, Start, Stmt, Unit,
 };
 use containers::Same;

@@ -16,7 +16,7 @@ use crate::symbol::ScopeSymbol;
 use crate::table::ScopeTable;
 use lex::token::Span;
 use std::alloc::{AllocError, Allocator};
-use syntax::tree::{Initializer, Function, Global, Item};
+use syntax::tree::{Function, Global, Initializer, Item};
 
 /// The most cells of all globals.
 const MOST_CELLS: u64 = 4096;
@@ -116,7 +116,8 @@ pub(crate) fn check_globals<'a, A: Allocator + Copy>(
     requires none { count_in names.old ≡ 0 }
     requires known { known_in names.old ≡ file_scope (map item_of earlier.now) }
     requires few { taken.old ≤ 4096 }
-    ensures answer { AnswersDemands result (AreTypedGlobals (map item_of earlier.now) [] taken.old (map global_of all.now)) }
+    ensures answer { AnswersDemands result
+        (AreTypedGlobals (map item_of earlier.now) [] taken.old (map global_of all.now)) }
     ensures known { OnOk result
         (known_in names.new ≡ file_scope (map item_of earlier.now ++ Tree.Shares (map global_of all.now) ∷ [])) }
     ensures none { OnOk result (count_in names.new ≡ 0) }

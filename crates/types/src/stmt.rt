@@ -123,7 +123,8 @@ pub(crate) fn check_stmt<'a, A: Allocator + Copy>(
 ) -> Result<(), Failure>
     requires { context.start ≤ count_in names.old }
     ensures answer { (declared : List (List ℕ)) → AreDeclared context.start names.old declared →
-        AnswersDemands result (IsTypedStmt context.gives (stmt_of stmt.now) (known_in names.old) declared context.looping) }
+        AnswersDemands result
+        (IsTypedStmt context.gives (stmt_of stmt.now) (known_in names.old) declared context.looping) }
     ensures same { OnOk result (Agrees names.old names.new) }
 {
     let inside = StmtContext {
@@ -198,7 +199,8 @@ fn check_block_item<'a, A: Allocator + Copy>(
 ) -> Result<(), Failure>
     requires { context.start ≤ count_in names.old }
     ensures answer { (declared : List (List ℕ)) → AreDeclared context.start names.old declared →
-        AnswersDemands result (IsTypedStmt context.gives (stmt_of stmt.now) (known_in names.old) declared context.looping) }
+        AnswersDemands result
+        (IsTypedStmt context.gives (stmt_of stmt.now) (known_in names.old) declared context.looping) }
     ensures known { OnOk result (known_in names.new ≡ scope_after (stmt_of stmt.now) (known_in names.old)) }
     ensures declared { OnOk result
         ((declared : List (List ℕ)) → AreDeclared context.start names.old declared →
@@ -221,7 +223,8 @@ pub(crate) fn check_stmts<'a, A: Allocator + Copy>(
 ) -> Result<(), Failure>
     requires { context.start ≤ count_in names.old }
     ensures answer { (declared : List (List ℕ)) → AreDeclared context.start names.old declared →
-        AnswersDemands result (AreTypedStmts context.gives (stmts_of all.now) (known_in names.old) declared context.looping) }
+        AnswersDemands result (AreTypedStmts context.gives (stmts_of all.now)
+        (known_in names.old) declared context.looping) }
     ensures grows { OnOk result (Grows names.old names.new) }
     ensures count { OnOk result (count_in names.old ≤ count_in names.new) }
 {

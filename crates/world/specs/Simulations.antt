@@ -62,7 +62,8 @@ stops_at s t = stops_next s.code (part_of s t)
 -- what happens in a thread's next step
 abbrev pub event_next : Code → World Configuration → Option (Part Configuration) → Event
 event_next code w None = event.Quiet
-event_next code w (Some p) = (step_with (effect code) p.thread (answer w.lock w.words (access (effect code) p.thread))).event
+event_next code w (Some p) =
+    (step_with (effect code) p.thread (answer w.lock w.words (access (effect code) p.thread))).event
 
 abbrev pub event_at : Simulation → ℕ → Event
 event_at s t = event_next s.code (world_of s) (part_of s t)

@@ -5,7 +5,7 @@ use bytecode::{Code, FunctionCode, Parts, validate};
 use containers::{Items, Text};
 use lex::token::{Scalar, Span};
 use std::alloc::{AllocError, Allocator};
-use syntax::tree::{Initializer, Global, Name};
+use syntax::tree::{Global, Initializer, Name};
 
 /// Parts with nothing in them.
 fn nothing<A: Allocator + Copy>(alloc: A) -> Parts<A> {

@@ -8,7 +8,8 @@ use Rattle.bytecode.specs.Sequential.{start, steps}
 use Rattle.atomic_code.specs.Threads.{AtomicThread, RunsAtomically, meaning_thread}
 
 -- after so many instructions the thread has left these memories, and stands outside transactions
-pub record HasComeTo (code : Code) (t : ℕ) (founds : List Memory) (most made : ℕ) (lefts : List Memory) (k : AtomicThread)
+pub record HasComeTo (code : Code) (t : ℕ) (founds : List Memory) (most made : ℕ) (lefts : List Memory)
+    (k : AtomicThread)
     : Type 0 where
   pub few : made ≤ most
   pub does : steps (effect code) made (start (beginning code t) founds)

@@ -94,7 +94,8 @@ went_by is first ms work q m Opens = visit_place first ms work (suc q) (Inside q
 went_by is first ms work q (Inside b) Closes = reopen_begin first ms work (suc q) (arrival_at first ms b)
 went_by is first ms work q Outside Closes = None
 went_by is first ms work q Unseen Closes = None
-went_by is first ms work q (Inside b) Cancels = cancel_to first ms work (arrival_at first ms b) (begin_target (slice_get is b))
+went_by is first ms work q (Inside b) Cancels =
+    cancel_to first ms work (arrival_at first ms b) (begin_target (slice_get is b))
 went_by is first ms work q (Inside b) (CancelsOuter n) = cancelled_at is first ms work (begin_round first ms (n - 1) b)
 went_by is first ms work q Outside (CancelsOuter zero) = Some (ms, work)
 went_by is first ms work q Unseen (CancelsOuter zero) = Some (ms, work)

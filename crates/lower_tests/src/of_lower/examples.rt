@@ -25,7 +25,7 @@ pub fn examples() -> &'static [&'static str] {
     &TEXTS
 }
 
-// The first of these texts that has no code.
+/// The first of these texts that has no code.
 fn has_none(alloc: Global, texts: &[&'static str]) -> Option<&'static str> {
     for text in texts {
         if fault_of(alloc, text).is_some() {

@@ -71,8 +71,8 @@ fn a_function_may_have_so_many_registers(rt: HostRuntime) {
     assert_that(&rt, is_so_wide(sizes, 65_535, 65_535));
 }
 
-/// Two constants are preloaded in the last two registers that a function may have, and with a local more there is no room
-/// for them.
+/// Two constants are preloaded in the last two registers that a function may have, and with a local more there is no
+/// room for them.
 #[test]
 fn constants_lie_ready_where_there_is_room(rt: HostRuntime) {
     let turns = " while (self < 7) self = self + 3;";

@@ -102,7 +102,7 @@ fn examples() -> &'static [Row] {
 /// Entries enough for the transactions of each program.
 const ALONE: [u32; 20] = [0; 20];
 
-// Whether a thread has printed what the row says, and is over so.
+/// Whether a thread has printed what the row says, and is over so.
 fn is_report(report: &ThreadReport, row: &Row) -> bool {
     let over = match report.end {
         ThreadEnd::Ended => row.1 == 0,
@@ -112,7 +112,7 @@ fn is_report(report: &ThreadReport, row: &Row) -> bool {
     over && report.text.as_slice() == row.2.as_bytes()
 }
 
-// Whether one thread has done what the row says.
+/// Whether one thread has done what the row says.
 fn has_done(outcome: &SourceOutcome, row: &Row) -> bool {
     match outcome.threads.as_slice() {
         [thread] => outcome.memory.as_slice() == row.3 && is_report(thread, row),
@@ -120,7 +120,7 @@ fn has_done(outcome: &SourceOutcome, row: &Row) -> bool {
     }
 }
 
-// Whether one thread of a program does what the row says.
+/// Whether one thread of a program does what the row says.
 fn does_so(alloc: Global, accepted: &Accepted, row: &Row) -> bool {
     match run_order(alloc, accepted, 1, ALONE.as_slice(), 100000) {
         Ok(outcome) => has_done(&outcome, row),
@@ -128,7 +128,7 @@ fn does_so(alloc: Global, accepted: &Accepted, row: &Row) -> bool {
     }
 }
 
-// Whether one thread of a row's text does what the row says.
+/// Whether one thread of a row's text does what the row says.
 fn is_so(alloc: Global, row: &Row) -> bool {
     match accepted_of(alloc, row.0) {
         Some(accepted) => does_so(alloc, &accepted, row),
@@ -136,7 +136,7 @@ fn is_so(alloc: Global, row: &Row) -> bool {
     }
 }
 
-// The text of the first row that is not so.
+/// The text of the first row that is not so.
 fn first_other(alloc: Global, rows: &[Row]) -> Option<&'static str> {
     for row in rows {
         if !is_so(alloc, row) {

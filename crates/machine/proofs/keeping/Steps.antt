@@ -84,7 +84,7 @@ module _ {C : Type 0} where
 pub record Leaves (code : Code) (c : Configuration) (x : Effect Configuration) (r : Outcome) (o : Option (Attempt Saved)) (d : Configuration) (s : Status) : Type 0 where
   pub stands : ContextWith code (record { configuration = d; core = record { attempt = o; asked = None; saved = saved_in c; read_room = 0; write_room = 0 }; trapping = false; text = []; status = s }) s
   pub within : AreWithin d (begins_of o)
-  pub begin_configuration : AreRestored c d (begins_of o)
+  pub restored : AreRestored c d (begins_of o)
 
 module _ (code : Code) (law : BeginsStayOpen code) where
   module _ (c : Configuration) (ss : List Saved) (m : MayStand code c ss) where

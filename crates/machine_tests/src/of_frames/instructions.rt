@@ -31,7 +31,11 @@ fn prints<A: Allocator + Copy>(alloc: A, code: &Code<A>, printed: &str) -> Optio
 }
 
 /// What is found of a code, if there is one, over a cell that holds 9, where it has printed this.
-fn what_is_found<A: Allocator + Copy>(alloc: A, code: Option<Code<A>>, printed: &str) -> Option<Found> {
+fn what_is_found<A: Allocator + Copy>(
+    alloc: A,
+    code: Option<Code<A>>,
+    printed: &str,
+) -> Option<Found> {
     match code {
         Some(code) => prints(alloc, &code, printed),
         None => None,

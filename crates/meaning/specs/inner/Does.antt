@@ -13,7 +13,8 @@ use Rattle.syntax.specs.Depth.{program_depth, expr_depth, stmt_depth, block_dept
 use Rattle.syntax.specs.Depth.{optional_simple_depth}
 use Rattle.syntax.specs.Views.{start_of}
 use Rattle.syntax.specs.Actions.{Action, Gives, pure, locals, put_locals, ◌>>=◌, ◌>>◌}
-use Rattle.syntax.specs.Meaning.{Caller, Completion, Next, calls, expr, stmt, stmts, in_scope, after_body, holds, stepped}
+use Rattle.syntax.specs.Meaning.{Caller, Completion, Next, calls, expr, stmt, stmts, in_scope, after_body, holds}
+use Rattle.syntax.specs.Meaning.{stepped}
 use Rattle.syntax.specs.Meaning.{first_value, InLocal, start_with, loop, Returns}
 use Rattle.meaning.specs.declared.machine.StmtCompletion.{StmtCompletion as OwnEnd}
 use Rattle.meaning.specs.declared.program.ProgramTables.{ProgramTables}

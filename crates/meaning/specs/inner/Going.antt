@@ -9,7 +9,8 @@ use Rattle.syntax.specs.Numbers.{is_zero}
 use Rattle.syntax.specs.Tree.{Scalar, Program, Expr, Exprs, Stmt, Stmts, Start, While, DoWhile, For}
 use Rattle.syntax.specs.Names as Names
 use Rattle.syntax.specs.Actions.{State, Gives, Action, pure, stop, tick, trap, locals, put_locals, go_on, ◌>>=◌, ◌>>◌}
-use Rattle.syntax.specs.Meaning.{Caller, Completion, Next, expr, exprs, stmt, stmts, in_scope, on_next, after_body, after_turn}
+use Rattle.syntax.specs.Meaning.{Caller, Completion, Next, expr, exprs, stmt, stmts, in_scope, on_next, after_body}
+use Rattle.syntax.specs.Meaning.{after_turn}
 use Rattle.syntax.specs.Meaning.{turns, holds, stepped, start_with, result_of, calls}
 use Rattle.meaning.specs.Frames.{IsFramed}
 use Rattle.meaning.specs.inner.Calls.{Begins, begin_call}

@@ -22,8 +22,10 @@ use Rattle.meaning.specs.declared.machine.Machine.{Machine}
 use Rattle.meaning.specs.declared.program.ProgramTables.{ProgramTables}
 use Rattle.meaning.specs.inner.Machine.{MeansAs, end_of, items_in, program_in}
 use Rattle.meaning.specs.inner.Does.{called, does_stmts, if_of}
-use Rattle.meaning.specs.inner.Going.{Follow, Ends, Goes, Nests, drop_names, call_left, when_next, scope_begun, loop_begun}
-use Rattle.meaning.specs.inner.Going.{turn_of, behind_of, turns_begun, body_left, follow_turn, apart_begun, either_begun}
+use Rattle.meaning.specs.inner.Going.{Follow, Ends, Goes, Nests, drop_names, call_left, when_next, scope_begun}
+use Rattle.meaning.specs.inner.Going.{loop_begun}
+use Rattle.meaning.specs.inner.Going.{turn_of, behind_of, turns_begun, body_left, follow_turn, apart_begun}
+use Rattle.meaning.specs.inner.Going.{either_begun}
 use Rattle.meaning.specs.inner.Going.{for_begun, gone_on}
 
 module _ {A : Type 0} where

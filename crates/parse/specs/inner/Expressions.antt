@@ -27,7 +27,8 @@ use Rattle.parse.specs.declared.lead.Operand.{Operand}
 use Rattle.parse.specs.declared.lead.Operand.TheVariants as kind
 use Rattle.parse.specs.declared.scalar.TypeWord.{TypeWord}
 use Rattle.parse.specs.declared.scalar.TypeWord.TheVariants as word
-use Rattle.parse.specs.inner.Reading.{deep, ◌>>=◌, Parser, none, give, bind, seq, map_parser, choice, either, too_deep_at}
+use Rattle.parse.specs.inner.Reading.{deep, ◌>>=◌, Parser, none, give, bind, seq, map_parser, choice, either}
+use Rattle.parse.specs.inner.Reading.{too_deep_at}
 use Rattle.parse.specs.inner.Reading.{comma_list, take, expect, spot, is_next, perhaps, behind, before, Operators}
 use Rattle.parse.specs.inner.Reading.{climb_loop, across}
 

@@ -50,7 +50,8 @@ attributes = map_parser attributes_of (many_until is_plain attribute_list)
 -- ---- functions
 
 abbrev pub result : Parser (Option Scalar)
-result = either (is_next (Keyword key.Void)) (map_parser (λ x. None) (expect (Keyword key.Void))) (map_parser Some scalar)
+result = either (is_next (Keyword key.Void)) (map_parser (λ x. None) (expect (Keyword key.Void)))
+    (map_parser Some scalar)
 
 abbrev pub parameter_tree : Scalar × Option Name → Parameter
 parameter_tree x = record { of = x.0; name = x.1 }
@@ -118,7 +119,8 @@ first_tree (Some at, x) = record { negative = true; value = x.0.0; of = x.0.1; s
 
 abbrev pub initialiser : Parser Initializer
 initialiser =
-    map_parser first_tree (seq (perhaps (Punctuator punct.Minus) (spot (Punctuator punct.Minus))) (take the_placed_value))
+    map_parser first_tree (seq (perhaps (Punctuator punct.Minus) (spot (Punctuator punct.Minus)))
+    (take the_placed_value))
 
 abbrev pub one_first : Initializer → List Initializer
 one_first i = i ∷ []

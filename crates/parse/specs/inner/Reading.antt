@@ -154,7 +154,8 @@ in_front x = x.0 ∷ x.1
 
 -- one or more, with commas between
 abbrev pub comma_list : {A : Type 0} → Parser A → Parser (List A)
-comma_list P = map_parser in_front (seq P (many_until (is_other (Punctuator punct.Comma)) (behind (Punctuator punct.Comma) P)))
+comma_list P =
+    map_parser in_front (seq P (many_until (is_other (Punctuator punct.Comma)) (behind (Punctuator punct.Comma) P)))
 
 -- further ones, each behind a comma, and perhaps a comma behind the last, up to a brace; at most n
 abbrev pub trailing : {A : Type 0} → ℕ → Parser A → Parser (List A)

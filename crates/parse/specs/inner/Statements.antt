@@ -20,7 +20,8 @@ use Rattle.syntax.specs.Views.{exprs_from, stmts_from}
 use Rattle.syntax.specs.Grammar.{the_name, the_text, the_outer, the_assigning, the_step, mode_keyword}
 use Rattle.parse.specs.declared.lead.Lead.{Lead}
 use Rattle.parse.specs.declared.lead.Lead.TheVariants as lead
-use Rattle.parse.specs.inner.Reading.{Parser, head, give, bind, seq, map_parser, choice, either, too_deep_at, unless_sunk}
+use Rattle.parse.specs.inner.Reading.{Parser, head, give, bind, seq, map_parser, choice, either, too_deep_at}
+use Rattle.parse.specs.inner.Reading.{unless_sunk}
 use Rattle.parse.specs.inner.Reading.{many_until, unless, comma_list, take, expect, spot, is_next, is_other, perhaps}
 use Rattle.parse.specs.inner.Reading.{behind, before}
 use Rattle.parse.specs.inner.Expressions.{says, starts_type, scalar, starts_expr, whole_at}
@@ -149,7 +150,9 @@ cancel_tree (at, true) = CancelOuter at
 cancel_tree (at, false) = Cancel at
 
 abbrev pub cancel_stmt : Parser Stmt
-cancel_stmt = map_parser cancel_tree (seq (spot (Keyword key.Cancel)) (before (Punctuator punct.Semicolon) outer_attribute_if_any))
+cancel_stmt =
+    map_parser cancel_tree
+    (seq (spot (Keyword key.Cancel)) (before (Punctuator punct.Semicolon) outer_attribute_if_any))
 
 -- ---- statements
 
