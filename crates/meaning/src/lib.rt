@@ -26,6 +26,6 @@ mod threads;
 mod transactions;
 mod word;
 
-pub use orders::run_order;
+pub use orders::{last_memory, run_order, wants};
 pub use outcome::{MeaningFault, SourceOutcome, ThreadEnd, ThreadOutcome, ThreadReport};
 pub use threads::thread;
