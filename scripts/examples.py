@@ -170,11 +170,11 @@ def meaning_tests():
     examples = [f"        (\n            {literal(read(name))},\n{told(read(name), read(name[:-2] + '.out'))}        ),\n" for name in names("examples/*.c")]
     return f"""//! The programs of examples/, each run alone from its tree: written by scripts/examples.py.
 
-use crate::accepted::accepted_of;
 use crate::asserted::assert_none;
 use meaning::{{SourceOutcome, ThreadEnd, ThreadReport, run_order}};
 use separation::Accepted;
 use std::alloc::Global;
+use written_programs::accepted_of;
 
 /// A program, the number of the trap in which it ends or 0, what it prints, and the words of the memory that it leaves.
 type Row = (&'static str, u32, &'static str, &'static [u64]);

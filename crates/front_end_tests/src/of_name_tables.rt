@@ -1,11 +1,11 @@
 //! Symbol tables: each call once with ample memory, many names, and each growth refused once.
 
 use crate::asserted::assert_all;
-use crate::stages::unit_of;
 use name_tables::{Keyed, Scope, Table};
 use refusing::Refusing;
 use std::alloc::{AllocError, Allocator, Global};
 use std::hash::BuildHasher;
+use written_programs::unit_of;
 
 /// `count` as 7 and `total` as 8, and once more `count` as 9; whether each was new.
 fn declare_three<A: Allocator + Copy>(

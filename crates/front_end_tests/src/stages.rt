@@ -6,9 +6,10 @@ use parse::parse;
 use safety::checked::Safe;
 use safety::safe;
 use separation::accept;
-use std::alloc::{Allocator, Global};
+use std::alloc::Global;
 use syntax::tree::Unit;
 use types::{Typed, check};
+use written_programs::{safe_of, typed_of, unit_of};
 
 /// A stage that finds faults.
 #[derive(Clone, Copy)]
@@ -21,30 +22,6 @@ pub enum Stage {
 
 /// A fault's number and place.
 pub type Fault = (u32, Option<Span>);
-
-/// The tree of a text; none where it is no program, or memory is refused.
-pub fn unit_of<A: Allocator + Copy>(alloc: A, text: &str) -> Option<Unit<A>> {
-    match lex(alloc, text) {
-        Err(_) => None,
-        Ok(tokens) => parse(alloc, tokens.as_slice()).ok(),
-    }
-}
-
-/// The typed program of a text; none where it is no such program, or memory is refused.
-pub fn typed_of<A: Allocator + Copy>(alloc: A, text: &str) -> Option<Typed<A>> {
-    match unit_of(alloc, text) {
-        None => None,
-        Some(unit) => check(alloc, unit).ok(),
-    }
-}
-
-/// The safe program of a text; none where it is no such program, or memory is refused.
-pub fn safe_of<A: Allocator + Copy>(alloc: A, text: &str) -> Option<Safe<A>> {
-    match typed_of(alloc, text) {
-        None => None,
-        Some(typed) => safe(alloc, typed).ok(),
-    }
-}
 
 /// The fault of tokens.
 fn parse_fault_in(alloc: Global, tokens: &[Token]) -> Option<Fault> {

@@ -6,4 +6,3 @@ mod large;
 mod listed;
 mod nested;
 mod outcomes;
-mod pieces;

@@ -145,30 +145,3 @@ pub fn accepted_of<A: Allocator + Copy>(
         None => None,
     }
 }
-
-/// The safe program of a tree, with no refusal.
-fn safe_at_once<A: Allocator + Copy>(alloc: A, unit: Unit<A>) -> Option<Safe<A>> {
-    match check(alloc, unit) {
-        Ok(typed) => safe(alloc, typed).ok(),
-        Err(_) => None,
-    }
-}
-
-/// The tree of a text, with no refusal.
-fn unit_at_once<A: Allocator + Copy>(alloc: A, text: &str) -> Option<Unit<A>> {
-    match lex(alloc, text) {
-        Ok(tokens) => parse(alloc, tokens.as_slice()).ok(),
-        Err(_) => None,
-    }
-}
-
-/// The accepted program of a text, with no refusal.
-pub fn accepted_at_once<A: Allocator + Copy>(alloc: A, text: &str) -> Option<Accepted<A>> {
-    match unit_at_once(alloc, text) {
-        Some(unit) => match safe_at_once(alloc, unit) {
-            Some(safe) => accept(alloc, safe).ok(),
-            None => None,
-        },
-        None => None,
-    }
-}

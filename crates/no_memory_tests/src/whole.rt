@@ -1,6 +1,6 @@
 //! The whole way of five programs, with each of its growths refused once.
 
-use crate::accepted::{accepted_at_once, accepted_of};
+use crate::accepted::accepted_of;
 use crate::codes::code_of;
 use crate::halls::work;
 use crate::meant::{carry, founds_of, mean, mean_in_order};
@@ -235,7 +235,7 @@ fn show_refused<'a>(
 /// What is seen on half of the way of a program, with growth `nth` of it refused.
 fn seen_at(inner: Global, alloc: &Refusing<Global>, row: &Row, half: Half, nth: u64) -> Seen {
     let mut seen = Seen::new(inner);
-    if let Some(wanted) = accepted_at_once(alloc, row.text) {
+    if let Some(wanted) = written_programs::accepted_of(alloc, row.text) {
         let _end = show_refused(alloc, row, half, &wanted, nth, &mut seen);
     }
     seen

@@ -1,13 +1,13 @@
 //! The outcomes of small programs: how many there are, over how many orders, and one of them; limits; and that each
 //! order that is listed gives its outcome.
 
-use crate::accepted::accepted_of;
 use crate::asserted::assert_that;
 use meaning::{MeaningFault, SourceOutcome, ThreadReport, run_order};
 use outcomes::{Listed, Outcomes, outcomes_of};
 use refusing::{Refusing, growths};
 use separation::Accepted;
 use std::alloc::{Allocator, Global};
+use written_programs::accepted_of;
 
 const ADDS: &str = "int x; void worker(int self) { __transaction_atomic { x = x + 1; } }";
 

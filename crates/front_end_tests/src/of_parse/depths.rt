@@ -1,13 +1,14 @@
 //! How deep a program may be, and how long.
 
 use crate::asserted::{assert_all, assert_none, assert_that};
-use crate::large::{LargeRow, Piece, fault_in, faulty_large, text_of};
+use crate::large::{LargeRow, fault_in, faulty_large};
 use crate::of_parse::trees::{Shape, has_shape};
 use crate::stages::Stage;
 use lex::lex;
 use lex::token::{Span, Token};
 use parse::parse;
 use std::alloc::{AllocError, Global};
+use written_programs::{Piece, text_of};
 
 /// Whether the tree of pieces is what it is to be.
 fn has_shape_in(alloc: Global, pieces: &[Piece], shape: Shape) -> bool {
@@ -23,7 +24,7 @@ fn is_too_deep(alloc: Global, pieces: &[Piece]) -> bool {
 }
 
 /// A worker with a declaration whose first value stands in so many pairs of parentheses, of which this opens each.
-fn nested_parens(open: &'static str, pairs: usize) -> [Piece; 5] {
+fn nested_parens(open: &'static str, pairs: u32) -> [Piece; 5] {
     [
         Piece::Times("void worker(int self) { int a = ", 1),
         Piece::Times(open, pairs),
@@ -58,7 +59,7 @@ fn a_program_may_be_100_deep(rt: HostRuntime) {
 }
 
 /// A worker with so many blocks in one another.
-fn blocks(times: usize) -> [Piece; 4] {
+fn blocks(times: u32) -> [Piece; 4] {
     [
         Piece::Times("void worker(int self) { ", 1),
         Piece::Times("{ ", times),

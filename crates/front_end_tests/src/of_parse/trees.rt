@@ -1,11 +1,11 @@
 //! Trees of sources: what the grammar groups, and what a tree keeps.
 
 use crate::asserted::{assert_none, assert_that};
-use crate::stages::unit_of;
 use lex::token::{Scalar, Span};
 use std::alloc::Global;
 use syntax::tree;
 use syntax::tree::{Attribute, BinaryOp, Expr, Function, Item, Simple, Stmt, Unit};
+use written_programs::unit_of;
 
 /// What a tree is to be.
 #[derive(Clone, Copy)]

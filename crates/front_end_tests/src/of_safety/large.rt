@@ -1,11 +1,10 @@
 //! Chains of 20,000 functions, in either order of the file.
 
 use crate::asserted::assert_that;
-use crate::large::{LENGTH, Piece, fault_in};
+use crate::large::{FROM_FIRST, FROM_LAST, PROTOTYPES, fault_in};
 use crate::stages::Stage;
 use std::alloc::Global;
-
-const PROTOTYPES: Piece = Piece::Numbers("void f", LENGTH, "(void);");
+use written_programs::Piece;
 
 const PRINTING: Piece = Piece::Times("void f19999(void) { printf(\"a\"); }", 1);
 
@@ -20,10 +19,7 @@ fn is_unsafe(alloc: Global, chain: &[Piece]) -> bool {
 fn a_chain_from_the_first_function(rt: HostRuntime) {
     assert_that(
         &rt,
-        is_unsafe(
-            rt.alloc(),
-            &[PROTOTYPES, Piece::Links(false), PRINTING, WORKER],
-        ),
+        is_unsafe(rt.alloc(), &[PROTOTYPES, FROM_FIRST, PRINTING, WORKER]),
     );
 }
 
@@ -31,9 +27,6 @@ fn a_chain_from_the_first_function(rt: HostRuntime) {
 fn a_chain_from_the_last_function(rt: HostRuntime) {
     assert_that(
         &rt,
-        is_unsafe(
-            rt.alloc(),
-            &[PROTOTYPES, PRINTING, Piece::Links(true), WORKER],
-        ),
+        is_unsafe(rt.alloc(), &[PROTOTYPES, PRINTING, FROM_LAST, WORKER]),
     );
 }

@@ -1,14 +1,13 @@
 //! Chains of 20,000 functions, in either order of the file.
 
 use crate::asserted::assert_all;
-use crate::large::{LENGTH, Piece, fault_in, text_of};
+use crate::large::{FROM_FIRST, FROM_LAST, PROTOTYPES, fault_in};
 use crate::stages::{Stage, fault_of};
 use lex::token::Span;
 use std::alloc::Global;
+use written_programs::{Piece, text_of};
 
 const GLOBAL: Piece = Piece::Times("int x;", 1);
-
-const PROTOTYPES: Piece = Piece::Numbers("void f", LENGTH, "(void);");
 
 const WRITING: Piece = Piece::Times("void f19999(void) { x = 1; }", 1);
 
@@ -39,8 +38,8 @@ fn is_accepted(alloc: Global, chain: &[Piece]) -> bool {
 /// A bare call of the first function is a fault, by its place, and one in a transaction is none.
 #[test]
 fn a_chain_from_the_first_function(rt: HostRuntime) {
-    let bare = [GLOBAL, PROTOTYPES, Piece::Links(false), WRITING, BARE];
-    let enclosed = [GLOBAL, PROTOTYPES, Piece::Links(false), WRITING, ENCLOSED];
+    let bare = [GLOBAL, PROTOTYPES, FROM_FIRST, WRITING, BARE];
+    let enclosed = [GLOBAL, PROTOTYPES, FROM_FIRST, WRITING, ENCLOSED];
     assert_all(
         &rt,
         &[
@@ -52,8 +51,8 @@ fn a_chain_from_the_first_function(rt: HostRuntime) {
 
 #[test]
 fn a_chain_from_the_last_function(rt: HostRuntime) {
-    let bare = [GLOBAL, PROTOTYPES, WRITING, Piece::Links(true), BARE];
-    let enclosed = [GLOBAL, PROTOTYPES, WRITING, Piece::Links(true), ENCLOSED];
+    let bare = [GLOBAL, PROTOTYPES, WRITING, FROM_LAST, BARE];
+    let enclosed = [GLOBAL, PROTOTYPES, WRITING, FROM_LAST, ENCLOSED];
     assert_all(
         &rt,
         &[

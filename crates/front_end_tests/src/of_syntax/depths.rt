@@ -4,8 +4,8 @@
 
 use crate::asserted::{assert_none, assert_that};
 use crate::of_syntax::texts::each_node;
-use crate::stages::unit_of;
 use std::alloc::Global;
+use written_programs::unit_of;
 
 /// A text, and the depth of its tree.
 type Row = (&'static str, usize);

@@ -2,10 +2,10 @@
 
 use crate::asserted::{assert_none, assert_that};
 use crate::of_syntax::texts::each_node;
-use crate::stages::unit_of;
 use containers::Same;
 use std::alloc::Global;
 use syntax::tree::Unit;
+use written_programs::unit_of;
 
 /// Whether a text has this tree; `None` where it has none.
 fn has(alloc: Global, one: &Unit, other: &str) -> Option<bool> {

@@ -1,8 +1,9 @@
 //! Programs with many names: with memory enough, each is checked.
 
 use crate::asserted::assert_none;
-use crate::large::{LargeRow, Piece, faulty_large};
+use crate::large::{LargeRow, faulty_large};
 use crate::stages::Stage;
+use written_programs::Piece;
 
 /// The rows stand in a function, so that no proof but its own looks at them.
 fn rows() -> &'static [LargeRow] {

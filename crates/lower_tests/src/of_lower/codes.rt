@@ -1,10 +1,10 @@
 //! A text's code.
 
-use crate::accepted::accepted_of;
 use bytecode::{Code, listing};
 use lex::token::Span;
 use lower::lower;
 use std::alloc::Global;
+use written_programs::accepted_of;
 
 /// The code of a text, or in its place the number and the place of the fault. A text that is not accepted has the
 /// number 1.

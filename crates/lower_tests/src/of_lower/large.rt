@@ -2,10 +2,10 @@
 
 use crate::asserted::{assert_all, assert_that};
 use crate::of_lower::codes::{code_of, fault_of};
-use crate::of_lower::pieces::{Piece, text_of};
 use bytecode::Code;
 use lex::token::Span;
 use std::alloc::Global;
+use written_programs::{Piece, text_of};
 
 /// How many functions, registers of the first one, and instructions a code has.
 type Sizes = (usize, u32, usize);

@@ -5,7 +5,6 @@
 ghost use Rattle.std.specs.Prelude.{IfSome};
 ghost use Rattle.atomic_code.specs.Threads.{IsAtomicThreadOf};
 
-use crate::accepted::accepted_of;
 use crate::asserted::assert_none;
 use crate::of_lower::codes::code_of;
 use crate::of_lower::examples::examples;
@@ -16,6 +15,7 @@ use meaning::{SourceOutcome, ThreadEnd, run_order};
 use separation::Accepted;
 use std::alloc::{AllocError, Global};
 use syntax::numbers::{Status, Trap};
+use written_programs::accepted_of;
 
 fn trap_number(trap: Trap) -> u8 {
     match trap {

@@ -1,6 +1,5 @@
 //! A program for each trap, the whole language, and programs that run long.
 
-use crate::accepted::accepted_of;
 use crate::asserted::{assert_none, assert_that};
 use crate::of_meaning::memory::zeros;
 use crate::of_meaning::run::run;
@@ -9,6 +8,7 @@ use refusing::{Refusing, growths};
 use separation::Accepted;
 use std::alloc::{Allocator, Global};
 use syntax::numbers::Trap;
+use written_programs::accepted_of;
 
 /// A text, and the trap in which its thread ends.
 type TrapRow = (&'static str, Trap);
