@@ -8,7 +8,7 @@ use std::alloc::{AllocError, Allocator};
 use syntax::tree::{Global, Initializer, Name};
 
 /// Parts with nothing in them.
-fn nothing<A: Allocator + Copy>(alloc: A) -> Parts<A> {
+pub fn no_parts<A: Allocator + Copy>(alloc: A) -> Parts<A> {
     Parts {
         functions: Items::new(alloc),
         instructions: Items::new(alloc),
@@ -46,7 +46,10 @@ fn push_functions<A: Allocator + Copy>(
 }
 
 /// Appends instructions, or the registers that calls hand over.
-fn push_each<T: Copy, A: Allocator>(to: &mut Items<T, A>, each: &[T]) -> Result<(), AllocError> {
+pub fn push_each<T: Copy, A: Allocator>(
+    to: &mut Items<T, A>,
+    each: &[T],
+) -> Result<(), AllocError> {
     for item in each {
         to.push(*item)?;
     }
@@ -63,7 +66,7 @@ fn push_text<A: Allocator + Copy>(
 }
 
 /// Appends texts.
-fn push_texts<A: Allocator + Copy>(
+pub fn push_texts<A: Allocator + Copy>(
     alloc: A,
     to: &mut Items<Text<A>, A>,
     texts: &[&str],
@@ -154,7 +157,7 @@ fn fill<A: Allocator + Copy>(
 
 /// The parts of a code.
 fn parts_of<A: Allocator + Copy>(alloc: A, written: &WrittenCode) -> Option<Parts<A>> {
-    let mut parts = nothing(alloc);
+    let mut parts = no_parts(alloc);
     match fill(alloc, &mut parts, written) {
         Ok(()) => Some(parts),
         Err(_) => None,

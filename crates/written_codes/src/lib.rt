@@ -7,9 +7,9 @@ mod samples;
 mod wide;
 mod written;
 
-pub use built::code_of;
+pub use built::{code_of, no_parts, push_each, push_texts};
 pub use levels::{Levels, NUMBERS, cancels_levels};
-pub use samples::{adds_five, traps};
+pub use samples::{adds_five, calls_for_ever, traps};
 pub use wide::{
     WideOperator, WideRow, code_over_both, shown_operator, wide_cells, wide_operators, wide_steps,
 };

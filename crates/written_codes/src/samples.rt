@@ -1,4 +1,4 @@
-//! Codes that the tests of more than one crate run, each of a `worker` with two registers over a variable `x`.
+//! Codes that tests run in more than one place, each of a `worker` with two registers over a variable `x`.
 
 use bytecode::Instr;
 
@@ -12,6 +12,18 @@ pub fn adds_five() -> &'static [Instr] {
         Instr::Write(0, 0),
         Instr::Commit,
         Instr::PrintSigned(0),
+        Instr::Return,
+    ];
+    &CODE
+}
+
+/// Calls `f`, which begins at instruction 2 and calls itself with its own parameter: in each frame that is the thread's
+/// number.
+pub fn calls_for_ever() -> &'static [Instr] {
+    static CODE: [Instr; 4] = [
+        Instr::Call(1, 1, 1, 0),
+        Instr::Return,
+        Instr::Call(0, 1, 1, 0),
         Instr::Return,
     ];
     &CODE

@@ -6,6 +6,7 @@ use atomic_code::End;
 use bytecode::Instr;
 use std::alloc::Allocator;
 use syntax::numbers::{Status, Trap};
+use written_codes::calls_for_ever;
 
 /// What a thread comes to: how many instructions it makes, how it is over, and what it has printed.
 type Came = (u64, Option<End>, &'static str);
@@ -42,17 +43,6 @@ fn gives_none() -> &'static [Instr] {
         Instr::Call(1, 1, 1, 0),
         Instr::PrintSigned(1),
         Instr::Return,
-        Instr::Return,
-    ];
-    &CODE
-}
-
-/// f calls itself
-fn calls_for_ever() -> &'static [Instr] {
-    static CODE: [Instr; 4] = [
-        Instr::Call(1, 1, 1, 0),
-        Instr::Return,
-        Instr::Call(0, 1, 1, 0),
         Instr::Return,
     ];
     &CODE

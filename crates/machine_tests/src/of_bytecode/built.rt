@@ -6,26 +6,13 @@ use lex::token::{Scalar, Span};
 use std::alloc::{AllocError, Allocator, Global};
 use syntax::tree;
 use syntax::tree::Name;
+use written_codes::{TEXTS, no_parts, push_each, push_texts};
 
 /// A function's name, its first place, its registers and its parameters.
 pub type Function<'a> = (&'a str, u32, u32, u32);
 
 /// `worker` with two registers.
 pub const WORKER: Function<'static> = ("worker", 0, 2, 1);
-
-/// Two texts to print.
-pub const TEXTS: [&str; 2] = ["\"\t\"", "\\\n"];
-
-/// Parts with nothing in them.
-fn nothing<A: Allocator + Copy>(alloc: A) -> Parts<A> {
-    Parts {
-        functions: Items::new(alloc),
-        instructions: Items::new(alloc),
-        arguments: Items::new(alloc),
-        texts: Items::new(alloc),
-        globals: Items::new(alloc),
-    }
-}
 
 /// Appends a function.
 fn push_function<A: Allocator + Copy>(
@@ -50,35 +37,6 @@ fn push_functions<A: Allocator + Copy>(
 ) -> Result<(), AllocError> {
     for function in functions {
         push_function(alloc, to, function)?;
-    }
-    Ok(())
-}
-
-/// Appends items.
-fn push_each<T: Copy, A: Allocator>(to: &mut Items<T, A>, each: &[T]) -> Result<(), AllocError> {
-    for item in each {
-        to.push(*item)?;
-    }
-    Ok(())
-}
-
-/// Appends a text.
-fn push_text<A: Allocator + Copy>(
-    alloc: A,
-    to: &mut Items<Text<A>, A>,
-    text: &str,
-) -> Result<(), AllocError> {
-    to.push(Text::from_str(alloc, text)?)
-}
-
-/// Appends texts.
-fn push_texts<A: Allocator + Copy>(
-    alloc: A,
-    to: &mut Items<Text<A>, A>,
-    texts: &[&str],
-) -> Result<(), AllocError> {
-    for text in texts {
-        push_text(alloc, to, text)?;
     }
     Ok(())
 }
@@ -142,7 +100,7 @@ pub fn parts_of<A: Allocator + Copy>(
     instructions: &[Instr],
     texts: &[&str],
 ) -> Result<Parts<A>, AllocError> {
-    let mut parts = nothing(alloc);
+    let mut parts = no_parts(alloc);
     push_names(alloc, &mut parts, functions, texts)?;
     push_code(&mut parts, arguments, instructions)?;
     Ok(parts)

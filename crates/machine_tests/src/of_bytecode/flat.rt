@@ -1,12 +1,12 @@
 //! Flat code: each instruction's words, and where they begin.
 
 use crate::asserted::{assert_none, assert_that};
-use crate::of_bytecode::built::{Function, TEXTS, WORKER, code_of_parts};
+use crate::of_bytecode::built::{Function, WORKER, code_of_parts};
 use crate::of_bytecode::listed::{BITS, COMPUTES, LEADS, LONGS, LOOPING, OTHER_SUMS, SUMMED, TURN};
 use bytecode::{Code, Instr, InstrView, kinds};
 use lex::token::Scalar;
 use std::alloc::Global;
-use written_codes::code_over_both;
+use written_codes::{TEXTS, code_over_both};
 
 /// What a row is called; functions and instructions; their words, and the first word of each instruction.
 type Row = (

@@ -1,10 +1,11 @@
 //! Each growth of `validate` refused in turn.
 
 use crate::asserted::assert_that;
-use crate::of_bytecode::built::{Function, TEXTS, WORKER, is_valid, parts_of};
+use crate::of_bytecode::built::{Function, WORKER, is_valid, parts_of};
 use bytecode::{Instr, Parts, PartsFault, validate};
 use refusing::{Refusing, growths};
 use std::alloc::{Allocator, Global};
+use written_codes::TEXTS;
 
 const FUNCTIONS: [Function<'static>; 2] = [WORKER, ("f", 4, 1, 1)];
 

@@ -7,6 +7,7 @@ use bytecode::{Code, Instr};
 use frames::Doing;
 use std::alloc::Allocator;
 use syntax::numbers::Trap;
+use written_codes::calls_for_ever;
 
 /// What thread 5 comes to, its local steps and its first two registers.
 type Found = (Doing, u64, Option<u64>, Option<u64>);
@@ -573,17 +574,6 @@ fn calls_return_what_they_give(rt: HostRuntime) {
     let once = calls(rt.alloc(), calls_once(), 2) == after_steps(2);
     let twice = calls(rt.alloc(), calls_twice(), 3) == after_steps(5);
     assert_all(&rt, &[("once", once), ("twice", twice)]);
-}
-
-/// f calls itself with its own parameter, which is the thread's number in each frame
-fn calls_for_ever() -> &'static [Instr] {
-    static CODE: [Instr; 4] = [
-        Instr::Call(1, 1, 1, 0),
-        Instr::Return,
-        Instr::Call(0, 1, 1, 0),
-        Instr::Return,
-    ];
-    &CODE
 }
 
 /// Whether a thread traps at its frames, with this one register in the last of them. How many of the calls are made in
