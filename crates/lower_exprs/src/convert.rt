@@ -11,23 +11,19 @@ ghost use Rattle.lower_exprs.specs.inner.Stretches.{in_place};
 
 use crate::fault::Failure;
 use crate::lists::Lists;
-use crate::put::{after, put, take};
+use crate::put::{put_one, take};
 use crate::ready::constant_word;
 use bytecode::Instr;
 use lex::token::Scalar;
 use selection::locations::ValueRegister;
 use std::alloc::Allocator;
-use syntax::number::number;
+use syntax::number::{number, word_of};
 
 /// The word of a constant of a type `own` in another type.
 pub(crate) fn constant_in(of: Scalar, own: Scalar, value: u64) -> u64
     ensures { result ≡ Lowered.constant_in of own value }
 {
-    let number = number(own, constant_word(own, value)).cast_unsigned();
-    match of {
-        Scalar::Int | Scalar::Unsigned => number % 4_294_967_296,
-        Scalar::LongLong => number,
-    }
+    word_of(of, i128::from(number(own, constant_word(own, value))))
 }
 
 /// Whether a conversion is an instruction.
@@ -58,13 +54,13 @@ fn put_extended<A: Allocator>(
         (Scalar.LongLong)) code.old code.new lists.new result }
 {
     let register = take(lists, into)?;
-    put(code, Instr::Extend(register, a.register))?;
-    let to = after(a.to, 1)?;
-    Ok(ValueRegister {
+    Ok(put_one(
+        code,
+        Instr::Extend(register, a.register),
+        a.to,
         register,
-        of: Scalar::LongLong,
-        to,
-    })
+        Scalar::LongLong,
+    )?)
 }
 
 /// The lower half of a `long long` as a value of this type.
@@ -79,9 +75,7 @@ fn put_low<A: Allocator>(
         code.old code.new lists.new result }
 {
     let register = take(lists, into)?;
-    put(code, Instr::Low(register, a.register))?;
-    let to = after(a.to, 1)?;
-    Ok(ValueRegister { register, of, to })
+    Ok(put_one(code, Instr::Low(register, a.register), a.to, register, of)?)
 }
 
 /// A value of a type `own` in another type.
@@ -126,16 +120,12 @@ pub(crate) fn put_widened<A: Allocator>(
     ensures { AddsValue (converted_by (widening own of) of (in_place a (lists_of lists.old)) into)
         code.old code.new lists.new result }
 {
-    let as_it_lies = ValueRegister {
-        register: a.register,
-        of,
-        to: a.to,
-    };
-    match own {
-        Scalar::Int => match of {
-            Scalar::LongLong => put_extended(lists, code, a, into),
-            Scalar::Int | Scalar::Unsigned => Ok(as_it_lies),
-        },
-        Scalar::Unsigned | Scalar::LongLong => Ok(as_it_lies),
+    match of {
+        Scalar::LongLong => put_converted(lists, code, a, own, of, into),
+        Scalar::Int | Scalar::Unsigned => Ok(ValueRegister {
+            register: a.register,
+            of,
+            to: a.to,
+        }),
     }
 }

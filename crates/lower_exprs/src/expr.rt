@@ -30,7 +30,7 @@ use crate::names::{Callee, callee_of, global};
 use crate::program::ProgramNames;
 use crate::put::{
     above, after, put, put_answers, put_both, put_chosen, put_compared, put_complemented,
-    put_constant, put_in_transaction, put_negated, settle, take,
+    put_constant, put_in_transaction, put_negated, put_one, settle, take,
 };
 use crate::ready::{constant_of, constant_ready, constant_word};
 use crate::scope::Scope;
@@ -73,13 +73,13 @@ fn put_read<A: Allocator + Copy>(
         code.old code.new lists.new result }
 {
     let register = take(lists, into)?;
-    put(code, Instr::Read(register, g.cell as u32))?;
-    let to = after(from, 1)?;
-    Ok(ValueRegister {
+    Ok(put_one(
+        code,
+        Instr::Read(register, g.cell as u32),
+        from,
         register,
-        of: g.global.of,
-        to,
-    })
+        g.global.of,
+    )?)
 }
 
 /// A variable's value.
@@ -126,16 +126,8 @@ fn put_read_at<A: Allocator + Copy>(
 {
     let register = take(lists, into)?;
     let length = g.global.cell_count() as u32;
-    put(
-        code,
-        Instr::ReadAt(register, index.register, g.cell as u32, length),
-    )?;
-    let to = after(index.to, 1)?;
-    Ok(ValueRegister {
-        register,
-        of: g.global.of,
-        to,
-    })
+    let instr = Instr::ReadAt(register, index.register, g.cell as u32, length);
+    Ok(put_one(code, instr, index.to, register, g.global.of)?)
 }
 
 fn push<A: Allocator>(all: &mut Vec<u16, A>, r: u16) -> Result<(), AllocError>
@@ -260,13 +252,13 @@ fn put_call<A: Allocator + Copy>(
     }
     let (first, count) = hand_over(lists, f.parameters, registers)?;
     let register = take(lists, into)?;
-    put(code, Instr::Call(register, count, f.number as u32, first))?;
-    let to = after(from, 1)?;
-    Ok(ValueRegister {
+    Ok(put_one(
+        code,
+        Instr::Call(register, count, f.number as u32, first),
+        from,
         register,
-        of: f.of,
-        to,
-    })
+        f.of,
+    )?)
 }
 
 /// One register more of a call's arguments. A list of at most four takes no memory.

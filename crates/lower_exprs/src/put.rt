@@ -71,6 +71,22 @@ pub(crate) fn take<A: Allocator>(lists: &mut Lists<A>, r: usize) -> Result<u16, 
     Ok(r as u16)
 }
 
+/// One more instruction, which puts a value of this type into this register; the code goes on at `from`.
+pub(crate) fn put_one<A: Allocator>(
+    code: &mut Vec<Instr, A>,
+    instr: Instr,
+    from: u32,
+    register: u16,
+    of: Scalar,
+) -> Result<ValueRegister, AllocError>
+    ensures value { IfOk result (λ value. (value.register ≡ register) × (value.of ≡ of) × (value.to ≡ from + 1)) }
+    ensures code { OnOk result (code.new.items ≡ code.old.items ++ instr ∷ []) }
+{
+    put(code, instr)?;
+    let to = after(from, 1)?;
+    Ok(ValueRegister { register, of, to })
+}
+
 /// The first free register above a value's.
 pub(crate) fn above(free: usize, r: u16) -> usize
     ensures { result ≡ expressions.above free r }
@@ -92,9 +108,7 @@ pub(crate) fn put_constant<A: Allocator>(
         code.old code.new lists.new result }
 {
     let register = take(lists, into)?;
-    put(code, Instr::Constant(register, value))?;
-    let to = after(from, 1)?;
-    Ok(ValueRegister { register, of, to })
+    Ok(put_one(code, Instr::Constant(register, value), from, register, of)?)
 }
 
 /// A value in this very register.
@@ -112,13 +126,13 @@ pub(crate) fn settle<A: Allocator>(
         return Ok(held);
     }
     let register = take(lists, r)?;
-    put(code, Instr::Move(register, held.register))?;
-    let to = after(held.to, 1)?;
-    Ok(ValueRegister {
+    Ok(put_one(
+        code,
+        Instr::Move(register, held.register),
+        held.to,
         register,
-        of: held.of,
-        to,
-    })
+        held.of,
+    )?)
 }
 
 fn computing_signed(op: BinaryOp, d: u16, a: u16, b: u16) -> Instr
@@ -214,13 +228,8 @@ pub(crate) fn put_both<A: Allocator>(
         into) code.old code.new lists.new result }
 {
     let register = take(lists, into)?;
-    put(code, computing(op, of, register, a.register, b.register))?;
-    let to = after(b.to, 1)?;
-    Ok(ValueRegister {
-        register,
-        of: result_type(op, of),
-        to,
-    })
+    let instr = computing(op, of, register, a.register, b.register);
+    Ok(put_one(code, instr, b.to, register, result_type(op, of))?)
 }
 
 fn negating(of: Scalar, d: u16, a: u16) -> Instr
@@ -253,13 +262,13 @@ pub(crate) fn put_negated<A: Allocator>(
         code.old code.new lists.new result }
 {
     let register = take(lists, into)?;
-    put(code, negating(a.of, register, a.register))?;
-    let to = after(a.to, 1)?;
-    Ok(ValueRegister {
+    Ok(put_one(
+        code,
+        negating(a.of, register, a.register),
+        a.to,
         register,
-        of: a.of,
-        to,
-    })
+        a.of,
+    )?)
 }
 
 /// The value with each bit turned round.
@@ -273,13 +282,13 @@ pub(crate) fn put_complemented<A: Allocator>(
         code.old code.new lists.new result }
 {
     let register = take(lists, into)?;
-    put(code, complementing(a.of, register, a.register))?;
-    let to = after(a.to, 1)?;
-    Ok(ValueRegister {
+    Ok(put_one(
+        code,
+        complementing(a.of, register, a.register),
+        a.to,
         register,
-        of: a.of,
-        to,
-    })
+        a.of,
+    )?)
 }
 
 /// Whether a value is 0.

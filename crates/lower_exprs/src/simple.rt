@@ -25,7 +25,7 @@ use crate::fault::Failure;
 use crate::lists::Lists;
 use crate::names::global;
 use crate::program::ProgramNames;
-use crate::put::{above, after, put, put_both, put_constant, take};
+use crate::put::{above, after, put, put_both, put_constant, put_one, take};
 use crate::ready::{constant_of, ready};
 use crate::scope::Scope;
 use crate::value_type::value_type;
@@ -156,15 +156,12 @@ fn fetch<A: Allocator>(
         }
         AssignmentTarget::Cell(cell, of) => {
             let register = take(lists, free)?;
-            put(code, Instr::Read(register, cell))?;
-            let to = after(from, 1)?;
-            Ok(ValueRegister { register, of, to })
+            Ok(put_one(code, Instr::Read(register, cell), from, register, of)?)
         }
         AssignmentTarget::Element(i, cell, length, of) => {
             let register = take(lists, free)?;
-            put(code, Instr::ReadAt(register, i, cell, length))?;
-            let to = after(from, 1)?;
-            Ok(ValueRegister { register, of, to })
+            let instr = Instr::ReadAt(register, i, cell, length);
+            Ok(put_one(code, instr, from, register, of)?)
         }
         AssignmentTarget::Nowhere => put_constant(lists, code, 0, Scalar::Int, from, free),
     }
