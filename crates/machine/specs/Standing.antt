@@ -6,6 +6,7 @@ use Rattle.syntax.specs.declared.numbers.Status.{Status}
 use Rattle.syntax.specs.declared.numbers.Status.TheVariants.{Running, Ended as HasEnded, Trapped as HasTrapped}
 use Rattle.nesting.specs.Begins.{Saved}
 use Rattle.bytecode.specs.Code.{Code, Configuration}
+use Rattle.bytecode.specs.Valid.{IsValid}
 use Rattle.frames.specs.Open.{MayStand, begin_configuration}
 use Rattle.norec_core.specs.declared.step.Phase.{Phase}
 use Rattle.norec_core.specs.declared.step.Phase.TheVariants.{ReadsLock, Stores}
@@ -51,6 +52,7 @@ IsStanding code th Running = Runs code th
 IsStanding code th HasEnded = th.attempt ≡ None
 IsStanding code th (HasTrapped cause) = th.attempt ≡ None
 
--- the thread is one of this code
-unfoldable pub IsThreadOf : Code → Thread Configuration → Type 0
-IsThreadOf code th = IsStanding code th th.status
+-- the thread is one of this code, which is valid
+pub record IsThreadOf (code : Code) (th : Thread Configuration) : Type 0 where
+  pub valid : IsValid code
+  pub stands : IsStanding code th th.status

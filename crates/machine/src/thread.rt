@@ -107,8 +107,6 @@ impl<A: Allocator + Copy> Thread<A> {
         requires { IsThreadOf code.now self.now.thread }
         ensures { StandsAt code.now self.now result }
     {
-        // The prover learns here that the code is valid.
-        code.note_valid();
         match self.held.status {
             Status::Running => self.held.frames.doing(code),
             Status::Ended => Doing::Local,
@@ -139,8 +137,6 @@ impl<A: Allocator + Copy> Thread<A> {
             → IfSome result.1 (λ doing. IsLeft self.new.thread.attempt doing) }
         ensures of { IsThreadOf code.now self.new.thread }
     {
-        // The prover learns here that the code is valid.
-        code.note_valid();
         match self.held.status {
             Status::Running => self.held.advance(code, loads, &mut self.accesses, most),
             Status::Ended => {
@@ -205,8 +201,6 @@ impl<A: Allocator + Copy> Thread<A> {
         ensures used_up { (result ≡ Err Stop.SequenceUsedUp)
             ↔ (stops (access (effect code.now) self.old.thread) ≡ true) }
     {
-        // The prover learns here that the code is valid.
-        code.note_valid();
         match self.held.status {
             Status::Running => match self.held.prepare(code, doing) {
                 Ok(access) => {
@@ -247,8 +241,6 @@ impl<A: Allocator + Copy> Thread<A> {
         ensures of { IsThreadOf code.now self.new.thread }
         ensures accesses { self.new.accesses ≡ self.old.accesses + cost (access (effect code.now) self.old.thread) }
     {
-        // The prover learns here that the code is valid.
-        code.note_valid();
         self.accesses += cost_of(self.prepared);
         self.prepared = None;
         match self.held.status {
@@ -271,8 +263,6 @@ impl<A: Allocator + Copy> Thread<A> {
         ensures full { result ≡ false → self.old.thread.status ≡ Running → self.old.thread.attempt ≡ None
             → length self.old.ready.saved.registers < length self.old.thread.configuration.registers }
     {
-        // The prover learns here that the code is valid.
-        code.note_valid();
         // The prover names by it where the begin leads.
         let _to = to;
         match self.held.status {
@@ -297,8 +287,6 @@ impl<A: Allocator + Copy> Thread<A> {
         ensures of { IsThreadOf code.now self.new.thread }
         ensures accesses { self.new.accesses ≡ self.old.accesses + 1 }
     {
-        // The prover learns here that the code is valid.
-        code.note_valid();
         self.accesses += 1;
         let _event = self.held.take_begin(code, to, lock);
     }
@@ -311,8 +299,6 @@ impl<A: Allocator + Copy> Thread<A> {
         ensures some { IfSome result (λ from. SwapsNext code.now self.now from) }
         ensures none { IfNone result ((from : ℕ) → SwapsNext code.now self.now from → ⊥) }
     {
-        // The prover learns here that the code is valid.
-        code.note_valid();
         match self.held.status {
             Status::Running => self.held.core.swaps_from(),
             Status::Ended => None,
@@ -332,8 +318,6 @@ impl<A: Allocator + Copy> Thread<A> {
         ensures stands { StandsAt code.now self.new Doing.Commit }
         ensures accesses { self.new.accesses ≡ self.old.accesses + 1 }
     {
-        // The prover learns here that the code is valid.
-        code.note_valid();
         self.accesses += 1;
         let _event = self.held.take_swap(code, from, answer);
     }
@@ -361,8 +345,6 @@ impl<A: Allocator + Copy> Thread<A> {
         ensures goes_on { stops result ≡ false }
         ensures cost { cost result ≡ 1 }
     {
-        // The prover learns here that the code is valid.
-        code.note_valid();
         self.held.core.store_access(place)
     }
 
@@ -379,8 +361,6 @@ impl<A: Allocator + Copy> Thread<A> {
         ensures of { IsThreadOf code.now self.new.thread }
         ensures accesses { self.new.accesses ≡ self.old.accesses + 1 }
     {
-        // The prover learns here that the code is valid.
-        code.note_valid();
         self.accesses += 1;
         let (_event, again) = self.held.take_store(code, place);
         again
@@ -431,8 +411,6 @@ impl<A: Allocator + Copy> Thread<A> {
         ensures not_waits { result ≡ false → WaitsNext code.now self.now → ⊥ }
         ensures access { result ≡ true → access (effect code.now) self.now.thread ≡ Access.LoadLock }
     {
-        // The prover learns here that the code is valid.
-        code.note_valid();
         match self.held.status {
             Status::Running => is_validated(doing) && self.held.core.is_waiting(),
             Status::Ended => false,
@@ -451,8 +429,6 @@ impl<A: Allocator + Copy> Thread<A> {
         ensures still { StandsStill code.now self.old self.new }
         ensures accesses { self.new.accesses ≡ self.old.accesses + 1 }
     {
-        // The prover learns here that the code is valid.
-        code.note_valid();
         self.accesses += 1;
         self.held.take_wait(code, lock);
     }
@@ -466,8 +442,6 @@ impl<A: Allocator + Copy> Thread<A> {
         ensures some { IfSome result (λ at. ComparesNext code.now self.now at.0 at.1) }
         ensures none { IfNone result ((time place : ℕ) → ComparesNext code.now self.now time place → ⊥) }
     {
-        // The prover learns here that the code is valid.
-        code.note_valid();
         match self.held.status {
             Status::Running => {
                 if is_validated(doing) {
@@ -491,8 +465,6 @@ impl<A: Allocator + Copy> Thread<A> {
         ensures next { OnSome result (place + 1 < 2 ^ 64) }
         ensures access { access (effect code.now) self.now.thread ≡ entry_access result }
     {
-        // The prover learns here that the code is valid.
-        code.note_valid();
         self.held.core.entry(time, place)
     }
 
@@ -518,8 +490,6 @@ impl<A: Allocator + Copy> Thread<A> {
         ensures still { StandsStill code.now self.old self.new }
         ensures accesses { self.new.accesses ≡ self.old.accesses + 1 }
     {
-        // The prover learns here that the code is valid.
-        code.note_valid();
         self.accesses += 1;
         self.held.take_equal(code, time, place, entry);
     }
@@ -545,8 +515,6 @@ impl<A: Allocator + Copy> Thread<A> {
         ensures of { IsThreadOf code.now self.new.thread }
         ensures accesses { self.new.accesses ≡ self.old.accesses + 1 }
     {
-        // The prover learns here that the code is valid.
-        code.note_valid();
         self.accesses += 1;
         self.held.take_unequal(code, time, place, entry, word);
     }
@@ -570,8 +538,6 @@ impl<A: Allocator + Copy> Thread<A> {
         ensures still { StandsStill code.now self.old self.new }
         ensures accesses { self.new.accesses ≡ self.old.accesses + 1 }
     {
-        // The prover learns here that the code is valid.
-        code.note_valid();
         self.accesses += 1;
         self.held.take_validation(code, time, place, lock);
     }

@@ -173,8 +173,7 @@ free_by code th HasEnded i over = i
 free_by code th (HasTrapped k) i over = i
 
 over_is_free : (code : Code) (th : Thread Configuration) → IsThreadOf code th → th.status ≢ Running → thread_has_lock th ≡ false
-unfolding IsThreadOf
-over_is_free code th i over = ap attempt_has_lock (free_by code th th.status i over)
+over_is_free code th i over = ap attempt_has_lock (free_by code th th.status i.stands over)
 
 module _ (z : TableId) (key : Setup) (w : World Configuration) (heard : List (List Heard)) where
   -- a worker's thread is the world's

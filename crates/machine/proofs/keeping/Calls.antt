@@ -9,9 +9,11 @@ use Rattle.bytecode.specs.Beginning.{beginning}
 use Rattle.bytecode.specs.Effects.{Effect}
 use Rattle.bytecode.specs.Effects.Effect.{Pure, Print}
 use Rattle.bytecode.specs.Code.{Code, Configuration, effect}
+use Rattle.bytecode.specs.Valid.{IsValid}
 use Rattle.frames.specs.declared.doing.Doing.{Doing}
 use Rattle.frames.specs.declared.doing.Doing.TheVariants as doing
-use Rattle.frames.specs.Open.{MayStand, saved_in, BeginsStayOpen}
+use Rattle.frames.proofs.Keeping.{begins_stay_open}
+use Rattle.frames.specs.Open.{MayStand, saved_in}
 use Rattle.frames.specs.Told.{Tells}
 use Rattle.norec_core.specs.declared.step.Op.{Op}
 use Rattle.norec_core.specs.declared.step.Op.TheVariants as op
@@ -107,9 +109,9 @@ module _ (code : Code) (k : PlainContext) (running : k.status ≡ Running) where
   access_operation x o t e = access_is code k o (asks_is code k running x t ∙ e)
 
 -- a thread as its contracts see it, and what it keeps
-module _ (code : Code) (law : BeginsStayOpen code) (k : PlainContext) (th : Thread Configuration) (is : machine_thread k ≡ th) where
+module _ (code : Code) (k : PlainContext) (th : Thread Configuration) (is : machine_thread k ≡ th) where
   pub runs_of : AreWithin k.configuration (begins_of k.core.attempt) → k.status ≡ Running → IsThreadOf code th → RunsInContext code k
-  runs_of w s t = subst (ContextWith code k) s (kept_of code law k w (subst (IsThreadOf code) (sym is) t))
+  runs_of w s t = subst (ContextWith code k) s (kept_of code k w (subst (IsThreadOf code) (sym is) t))
 
   running_by : (P : Attempt Saved → Type 0) → IsSomeAnd k.core.attempt P → (s : Status) → ContextWith code k s → s ≡ Running
   running_by P some Running h = refl
@@ -123,7 +125,7 @@ module _ (code : Code) (law : BeginsStayOpen code) (k : PlainContext) (th : Thre
 
   module _ (w : AreWithin k.configuration (begins_of k.core.attempt)) (over : k.status ≡ Running → ⊥) (t : IsThreadOf code th) where
     kept_so : IsContextOf code k
-    kept_so = kept_of code law k w (subst (IsThreadOf code) (sym is) t)
+    kept_so = kept_of code k w (subst (IsThreadOf code) (sym is) t)
 
     none : k.core.attempt ≡ None
     none = none_by k.status over kept_so
@@ -148,10 +150,10 @@ pub used_up_never : (x a : Access) → a ≡ Local → UsedUp (Ok x) a
 used_up_never x a e = (λ h. cc, λ h. let z : stops a ≡ false = ap stops e in cc)
 
 -- a thread at its beginning
-pub new_thread_of : (code : Code) (law : BeginsStayOpen code) (k : PlainContext) (t : ℕ) → t < 2 ^ 32 → k.configuration ≡ beginning code t → k.core.attempt ≡ None → k.status ≡ Running → IsThreadOf code (machine_thread k)
-new_thread_of code law k t lt c a s =
-    thread_of code law k (subst (ContextWith code k) (sym s) (record {
-      stands = subst (λ (z : Configuration). MayStand code z (begins_of k.core.attempt)) (sym c) (subst (λ (z : Option (Attempt Saved)). MayStand code (beginning code t) (begins_of z)) (sym a) (law.none_yet t lt));
+pub new_thread_of : (code : Code) → IsValid code → (k : PlainContext) (t : ℕ) → t < 2 ^ 32 → k.configuration ≡ beginning code t → k.core.attempt ≡ None → k.status ≡ Running → IsThreadOf code (machine_thread k)
+new_thread_of code valid k t lt c a s =
+    thread_of code valid k (subst (ContextWith code k) (sym s) (record {
+      stands = subst (λ (z : Configuration). MayStand code z (begins_of k.core.attempt)) (sym c) (subst (λ (z : Option (Attempt Saved)). MayStand code (beginning code t) (begins_of z)) (sym a) ((begins_stay_open code valid).none_yet t lt));
       words = subst GivesWordsIf (sym a) tt;
     }))
 

@@ -6,6 +6,8 @@ use Rattle.syntax.specs.declared.numbers.Status.{Status}
 use Rattle.syntax.specs.declared.numbers.Status.TheVariants.{Running, Ended as HasEnded, Trapped as HasTrapped}
 use Rattle.nesting.specs.Begins.{Saved}
 use Rattle.bytecode.specs.Code.{Code, Configuration}
+use Rattle.bytecode.specs.Valid.{IsValid}
+use Rattle.frames.proofs.Keeping.{begins_stay_open}
 use Rattle.frames.specs.Open.{MayStand, begin_configuration, saved_in, BeginsStayOpen}
 use Rattle.norec_core.specs.declared.step.Op.{Op}
 use Rattle.norec_core.specs.declared.step.Op.TheVariants as op
@@ -164,20 +166,19 @@ module _ (code : Code) (law : BeginsStayOpen code) where
   kept_by k HasEnded w r = none_shown (begin_configuration k.configuration) k.core.attempt r
   kept_by k (HasTrapped cause) w r = none_shown (begin_configuration k.configuration) k.core.attempt r
 
-  shown_by : (k : PlainContext) (s : Status) → ContextWith code k s → IsStanding code (machine_thread k) s
-  shown_by k Running r = record {
-    saved = begins_of k.core.attempt;
-    stands = r.stands;
-    begins = begins_shown (begin_configuration k.configuration) k.core.attempt;
-    words = words_shown (begin_configuration k.configuration) k.core.attempt r.words;
-  }
-  shown_by k HasEnded r = ap (shown_from k.configuration) r
-  shown_by k (HasTrapped cause) r = ap (shown_from k.configuration) r
+shown_by : (code : Code) (k : PlainContext) (s : Status) → ContextWith code k s → IsStanding code (machine_thread k) s
+shown_by code k Running r = record {
+  saved = begins_of k.core.attempt;
+  stands = r.stands;
+  begins = begins_shown (begin_configuration k.configuration) k.core.attempt;
+  words = words_shown (begin_configuration k.configuration) k.core.attempt r.words;
+}
+shown_by code k HasEnded r = ap (shown_from k.configuration) r
+shown_by code k (HasTrapped cause) r = ap (shown_from k.configuration) r
 
-  pub kept_of : (k : PlainContext) → AreWithin k.configuration (begins_of k.core.attempt) → IsThreadOf code (machine_thread k) → IsContextOf code k
-  unfolding IsThreadOf
-  kept_of k w r = kept_by k k.status w r
+-- of a whole thread
+pub kept_of : (code : Code) (k : PlainContext) → AreWithin k.configuration (begins_of k.core.attempt) → IsThreadOf code (machine_thread k) → IsContextOf code k
+kept_of code k w t = kept_by code (begins_stay_open code t.valid) k k.status w t.stands
 
-  pub thread_of : (k : PlainContext) → IsContextOf code k → IsThreadOf code (machine_thread k)
-  unfolding IsThreadOf
-  thread_of k r = shown_by k k.status r
+pub thread_of : (code : Code) → IsValid code → (k : PlainContext) → IsContextOf code k → IsThreadOf code (machine_thread k)
+thread_of code valid k r = record { valid = valid; stands = shown_by code k k.status r }

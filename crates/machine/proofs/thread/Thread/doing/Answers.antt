@@ -1,5 +1,4 @@
 use Rattle.std.proofs.Common.{ap}
-use Rattle.frames.proofs.Keeping.{begins_stay_open}
 use Rattle.machine.proofs.keeping.Calls.{runs_of}
 use Rattle.machine.specs.States.{ThreadState}
 use Rattle.machine.specs.inner.Contexts.{context_of}
@@ -7,5 +6,5 @@ use Rattle.machine.proofs.thread.Thread.doing.Goals as goal
 
 pub doing-requires : goal.doing-requires
 doing-requires g c =
-    let runs = runs_of c.args.code.now (begins_stay_open c.args.code.now c.note_valid.ensures) (context_of {A = g.row.A.Denot} c.self.inside.held) c.args.self.now.thread (ap (λ (s : ThreadState). s.thread) c.self.view_is) c.self.invariant c.in-Running.is c.requires in
+    let runs = runs_of c.args.code.now (context_of {A = g.row.A.Denot} c.self.inside.held) c.args.self.now.thread (ap (λ (s : ThreadState). s.thread) c.self.view_is) c.self.invariant c.in-Running.is c.requires in
     record { of = (_, runs.stands) }

@@ -14,7 +14,7 @@ use Rattle.machine.proofs.thread.Thread.prepare_begin.Goals as goal
 pub frames-requires : goal.frames-requires
 frames-requires g c =
     let k = context_of {A = g.row.A.Denot} c.self.inside.held in
-    (runs_of c.args.code.now (begins_stay_open c.args.code.now c.note_valid.ensures) k c.args.self.now.thread (ap (λ (s : ThreadState). s.thread) c.self.view_is) c.self.invariant c.in-Running.is c.requires.of).stands.few
+    (runs_of c.args.code.now k c.args.self.now.thread (ap (λ (s : ThreadState). s.thread) c.self.view_is) c.self.invariant c.in-Running.is c.requires.of).stands.few
 
 pub returns-in-Running-clause-begins : goal.returns-in-Running-clause-begins
 returns-in-Running-clause-begins g c = λ made. record {
@@ -26,9 +26,9 @@ returns-in-Running-clause-begins g c = λ made. record {
 pub returns-in-Running-clause-access : goal.returns-in-Running-clause-access
 returns-in-Running-clause-access g c = λ made.
     let k = context_of {A = g.row.A.Denot} c.self.inside.held in
-    let law = begins_stay_open c.args.code.now c.note_valid.ensures in
+    let law = begins_stay_open c.args.code.now c.requires.of.valid in
     let l = record k { core = c.prepare_begin.new.self } in
-    let runs = runs_of c.args.code.now law k c.args.self.now.thread (ap (λ (s : ThreadState). s.thread) c.self.view_is) c.self.invariant c.in-Running.is c.requires.of in
+    let runs = runs_of c.args.code.now k c.args.self.now.thread (ap (λ (s : ThreadState). s.thread) c.self.view_is) c.self.invariant c.in-Running.is c.requires.of in
     let tells = subst (λ (s : ThreadState). StandsAt c.args.code.now s (doing.Begin c.args.to)) (sym c.self.view_is) c.requires.stands c.in-Running.is in
     begin_access c.args.code.now law l c.args.to c.in-Running.is (kept_same c.args.code.now k l Running refl (sym c.prepare_begin.ensures.attempt) runs) tells (c.prepare_begin.ensures.none made)
 

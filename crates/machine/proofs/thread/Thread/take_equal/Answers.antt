@@ -1,5 +1,4 @@
 use Rattle.std.proofs.Common.{◌∙◌, ap}
-use Rattle.frames.proofs.Keeping.{begins_stay_open}
 use Rattle.machine.proofs.keeping.Calls.{runs_of}
 use Rattle.machine.proofs.keeping.Seen.{thread_of}
 use Rattle.machine.specs.States.{ThreadState}
@@ -9,8 +8,8 @@ use Rattle.machine.proofs.thread.Thread.take_equal.Goals as goal
 pub take_equal-requires-clause-runs : goal.take_equal-requires-clause-runs
 take_equal-requires-clause-runs g c =
     let k = context_of {A = g.row.A.Denot} c.self.inside.held in
-    runs_of c.args.code.now (begins_stay_open c.args.code.now c.note_valid.ensures) k c.args.self.now.thread (ap (λ (s : ThreadState). s.thread) c.self.view_is) c.self.invariant
+    runs_of c.args.code.now k c.args.self.now.thread (ap (λ (s : ThreadState). s.thread) c.self.view_is) c.self.invariant
     (ap (λ (s : ThreadState). s.thread.status) c.self.view_is ∙ c.requires.compares.running) c.requires.of
 
 pub returns-clause-of : goal.returns-clause-of
-returns-clause-of g c = thread_of c.args.code.now (begins_stay_open c.args.code.now c.note_valid.ensures) _ c.take_equal.ensures.makes.of
+returns-clause-of g c = thread_of c.args.code.now c.requires.of.valid _ c.take_equal.ensures.makes.of

@@ -1,6 +1,5 @@
 use Rattle.std.proofs.Common.{◌∙◌, ap, subst, sym, rules}
 use Rattle.std.specs.Prelude.{IsSomeAnd}
-use Rattle.frames.proofs.Keeping.{begins_stay_open}
 use Rattle.norec_core.specs.Cores.{IsStoring}
 use Rattle.norec_core.specs.declared.step.Answer.TheVariants.{Done}
 use Rattle.machine.proofs.keeping.Calls.{runs_of}
@@ -13,7 +12,7 @@ use Rattle.machine.proofs.thread.Thread.take_store.Goals as goal
 pub take_store-event-requires-clause-runs : goal.take_store-event-requires-clause-runs
 take_store-event-requires-clause-runs g c =
     let k = context_of {A = g.row.A.Denot} c.self.inside.held in
-    runs_of c.args.code.now (begins_stay_open c.args.code.now c.note_valid.ensures) k c.args.self.now.thread (ap (λ (s : ThreadState). s.thread) c.self.view_is) c.self.invariant
+    runs_of c.args.code.now k c.args.self.now.thread (ap (λ (s : ThreadState). s.thread) c.self.view_is) c.self.invariant
     (ap (λ (s : ThreadState). s.thread.status) c.self.view_is ∙ c.requires.stores.running) c.requires.of
 
 pub take_store-event-requires-clause-stores : goal.take_store-event-requires-clause-stores
@@ -22,7 +21,7 @@ take_store-event-requires-clause-stores g c =
     (subst (λ (s : ThreadState). IsSomeAnd s.thread.attempt (λ a. IsStoring c.args.place a)) (sym c.self.view_is) c.requires.stores.stores)
 
 pub returns-clause-of : goal.returns-clause-of
-returns-clause-of g c = thread_of c.args.code.now (begins_stay_open c.args.code.now c.note_valid.ensures) _ (c.take_store-event.ensures.makes Done).of
+returns-clause-of g c = thread_of c.args.code.now c.requires.of.valid _ (c.take_store-event.ensures.makes Done).of
 
 pub invariant_of-self : goal.invariant_of-self
 invariant_of-self g c = (c.take_store-event.ensures.makes Done).within

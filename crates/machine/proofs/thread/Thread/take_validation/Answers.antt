@@ -1,5 +1,4 @@
 use Rattle.std.proofs.Common.{◌∙◌, ap, rules}
-use Rattle.frames.proofs.Keeping.{begins_stay_open}
 use Rattle.machine.proofs.keeping.Calls.{runs_of}
 use Rattle.machine.proofs.keeping.Seen.{thread_of}
 use Rattle.machine.specs.States.{ThreadState}
@@ -9,11 +8,11 @@ use Rattle.machine.proofs.thread.Thread.take_validation.Goals as goal
 pub take_validation-requires-clause-runs : goal.take_validation-requires-clause-runs
 take_validation-requires-clause-runs g c =
     let k = context_of {A = g.row.A.Denot} c.self.inside.held in
-    runs_of c.args.code.now (begins_stay_open c.args.code.now c.note_valid.ensures) k c.args.self.now.thread (ap (λ (s : ThreadState). s.thread) c.self.view_is) c.self.invariant
+    runs_of c.args.code.now k c.args.self.now.thread (ap (λ (s : ThreadState). s.thread) c.self.view_is) c.self.invariant
     (ap (λ (s : ThreadState). s.thread.status) c.self.view_is ∙ c.requires.compares.running) c.requires.of
 
 pub returns-clause-of : goal.returns-clause-of
-returns-clause-of g c = thread_of c.args.code.now (begins_stay_open c.args.code.now c.note_valid.ensures) _ c.take_validation.ensures.makes.of
+returns-clause-of g c = thread_of c.args.code.now c.requires.of.valid _ c.take_validation.ensures.makes.of
 
 pub returns-clause-thread : goal.returns-clause-thread
 returns-clause-thread g c = search rules
