@@ -55,7 +55,7 @@ all_behind t (suc n) ts [] is = absurd is
 all_behind t (suc n) ts (w ∷ m) is = let h = all_behind t n ts m is.1 in let le = h.0 in (omega (arith, le), h.1)
 
 -- the bounds of the globals from a place on: those of the first one's cells, and the others
-pub bounds_from : {X : Type 0} (f : X → Global) (xs : List X) (i : ℕ) (x : X) → i < length xs → x ≡ get_or xs i x → bounds_of (map f (drop i xs)) ≡ map modulus (replicate (cells (f x)) (f x).of ++ cell_types (map f (drop (i + 1) xs)))
+pub bounds_from : {X : Type 0} (f : X → Global) (xs : List X) (i : ℕ) (x : X) → i < length xs → x ≡ get_or xs i x → bounds_of (map f (drop i xs)) ≡ map modulus (replicate (cells (f x)) (f x).ty ++ cell_types (map f (drop (i + 1) xs)))
 bounds_from f xs i x lt e = at_drop_more (λ ys. bounds_of (map f ys)) xs i x lt ∙ ap (λ y. bounds_of (map f (y ∷ drop (i + 1) xs))) (sym e)
 
 -- and none from their end on

@@ -13,10 +13,10 @@ use std::alloc::Allocator;
 use syntax::tree::Global;
 
 /// Whether these are words of a type.
-fn are_words(of: Scalar, words: &[u64]) -> bool
-    ensures { IsTrue result ↔ EachIndex words.now (λ i. slice_index words.now i < modulus of) }
+fn are_words(ty: Scalar, words: &[u64]) -> bool
+    ensures { IsTrue result ↔ EachIndex words.now (λ i. slice_index words.now i < modulus ty) }
 {
-    match of {
+    match ty {
         Scalar::Int | Scalar::Unsigned => words.iter().all(|word| *word < 4_294_967_296),
         Scalar::LongLong => true,
     }
@@ -32,7 +32,7 @@ fn are_cells<A: Allocator>(globals: &[Global<A>], words: &[u64]) -> bool
         if cells > words.len() - from {
             return false;
         }
-        if !are_words(global.of, &words[from..from + cells]) {
+        if !are_words(global.ty, &words[from..from + cells]) {
             return false;
         }
         from += cells;

@@ -23,5 +23,5 @@ further_within t (suc n) zero ts h k = absurd (omega (arith, h))
 further_within t (suc n) (suc a) ts h k = let r = further_within t n a ts (omega (arith, h)) (omega (arith, k)) in omega (arith, r)
 
 -- the bounds from a global on: those of its cells, and the others
-pub bounds_from : {X : Type 0} (f : X → Global) (xs : List X) (i : ℕ) (x : X) → i < length xs → x ≡ get_or xs i x → bounds_of (map f (drop i xs)) ≡ map modulus (replicate (cells (f x)) (f x).of ++ cell_types (map f (drop (i + 1) xs)))
+pub bounds_from : {X : Type 0} (f : X → Global) (xs : List X) (i : ℕ) (x : X) → i < length xs → x ≡ get_or xs i x → bounds_of (map f (drop i xs)) ≡ map modulus (replicate (cells (f x)) (f x).ty ++ cell_types (map f (drop (i + 1) xs)))
 bounds_from f xs i x lt e = at_drop_more (λ ys. bounds_of (map f ys)) xs i x lt ∙ ap (λ y. bounds_of (map f (y ∷ drop (i + 1) xs))) (sym e)

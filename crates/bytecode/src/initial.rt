@@ -12,10 +12,10 @@ use std::alloc::{AllocError, Allocator};
 use syntax::initial::push_global;
 
 /// What a type sees of a word.
-fn value_by_type(of: Scalar, word: u64) -> u64
-    ensures { result ≡ residue of word }
+fn value_by_type(ty: Scalar, word: u64) -> u64
+    ensures { result ≡ residue ty word }
 {
-    match of {
+    match ty {
         Scalar::Int | Scalar::Unsigned => word % 4294967296,
         Scalar::LongLong => word,
     }
@@ -44,7 +44,7 @@ impl<A: Allocator> Code<A> {
         'each: for global in self.globals() {
             let cells = global.cell_count();
             if left < cells {
-                return value_by_type(global.of, word);
+                return value_by_type(global.ty, word);
             }
             left -= cells;
         }

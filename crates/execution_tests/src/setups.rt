@@ -9,7 +9,7 @@ use written_codes::{WrittenCode, WrittenVariable, code_of, worker};
 /// A variable that begins with this value.
 fn variable(value: u32) -> WrittenVariable<'static> {
     WrittenVariable {
-        of: Scalar::Int,
+        ty: Scalar::Int,
         name: "x",
         value: Some(value),
     }

@@ -38,7 +38,7 @@ fn global<A: Allocator + Copy>(alloc: A, row: &Words) -> Result<Shown<A>, AllocE
     let words = Items::from_vec(Vec::from_slice(alloc, row.2)?);
     Ok(Shown {
         name: Text::from_str(alloc, row.0)?,
-        of: row.1,
+        ty: row.1,
         words,
     })
 }

@@ -11,7 +11,7 @@ use Rattle.lex.specs.declared.token.Token.{Token}
 -- what a token says: a terminal of the grammar
 pub data Terminal : Type 0 where
   name : (text : List ℕ) → Terminal
-  constant : (value : ℕ) (of : Scalar) → Terminal
+  constant : (value : ℕ) (ty : Scalar) → Terminal
   string_literal : (written : List ℕ) → Terminal
   fixed : Fixed → Terminal
   reserved : Terminal

@@ -164,8 +164,8 @@ fn typed_value(base: Base, suffix: Suffix, digits: &[u8]) -> Option<(u64, Scalar
     ensures { GivesTyped result base suffix (spec.value_from (spec.radix base) 0 digits.now) }
 {
     let value = number(base, digits)?;
-    let of = type_of(is_decimal(base), suffix, value)?;
-    Some((value, of))
+    let ty = type_of(is_decimal(base), suffix, value)?;
+    Some((value, ty))
 }
 
 /// The constant at the place.
@@ -190,7 +190,7 @@ pub(crate) fn constant<'a>(text: &'a str, at: usize) -> Result<(Option<Kind<'a>>
         start: at,
         end: at + len,
     };
-    let Some((value, of)) = typed_value(base, suffix, digits) else {
+    let Some((value, ty)) = typed_value(base, suffix, digits) else {
         return Err(LexFault::ConstantTooLarge(span));
     };
     if is_glued(after) {
@@ -199,5 +199,5 @@ pub(crate) fn constant<'a>(text: &'a str, at: usize) -> Result<(Option<Kind<'a>>
             end: at + len + 1,
         }));
     }
-    Ok((Some(Kind::Constant(value, of)), len))
+    Ok((Some(Kind::Constant(value, ty)), len))
 }

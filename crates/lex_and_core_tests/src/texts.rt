@@ -255,9 +255,9 @@ fn constants_too_large(rt: HostRuntime) {
 type Typed = (&'static str, u64, Scalar);
 
 /// Whether a token is a constant of this value and type.
-fn is_constant(token: &Token, value: u64, of: Scalar) -> bool {
+fn is_constant(token: &Token, value: u64, ty: Scalar) -> bool {
     match token.kind {
-        Kind::Constant(found, found_of) => found == value && found_of == of,
+        Kind::Constant(found, found_ty) => found == value && found_ty == ty,
         _ => false,
     }
 }

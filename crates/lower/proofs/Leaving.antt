@@ -20,16 +20,16 @@ grows_twice a b c h k = (h.0 ++ k.0, k.1 ∙ ap (λ x. x ++ k.0) h.1 ∙ append_
 grows_declared : (t : Scalar) (ds : List Declarator) (scope : LocalScope) → Grows scope (with_declared t ds scope)
 unfolding Grows
 grows_declared t [] scope = grows_not scope
-grows_declared t (d ∷ ds) scope = grows_twice scope (with_local scope d.name.text t) _ (record { name = d.name.text; of = t; word = 0 } ∷ [], refl) (grows_declared t ds (with_local scope d.name.text t))
+grows_declared t (d ∷ ds) scope = grows_twice scope (with_local scope d.name.text t) _ (record { name = d.name.text; ty = t; word = 0 } ∷ [], refl) (grows_declared t ds (with_local scope d.name.text t))
 
 grows_start : (start : Start) (scope : LocalScope) → Grows scope (locals_of_start start scope)
 grows_start Nothing scope = grows_not scope
-grows_start (Declares d) scope = grows_declared d.of d.declarators scope
+grows_start (Declares d) scope = grows_declared d.ty d.declarators scope
 grows_start (Does s) scope = grows_not scope
 
 grows_stmt : (s : Stmt) (scope : LocalScope) → Grows scope (locals_after s scope)
 grows_stmt Empty scope = grows_not scope
-grows_stmt (Declare d) scope = grows_declared d.of d.declarators scope
+grows_stmt (Declare d) scope = grows_declared d.ty d.declarators scope
 grows_stmt (Do s) scope = grows_not scope
 grows_stmt (Block ss) scope = grows_not scope
 grows_stmt (Print at format format_at es) scope = grows_not scope

@@ -37,8 +37,8 @@ module _ {A : Type 0} where
   pub return_is : {s : S.Stmt A} {e : Option (E.Expr A)} {at : Span} → s ≡ S.Return e at → stmt_of s ≡ Tree.Return (option_map expr_of e) at
   return_is {e = e} {at = at} is = ap stmt_of is ∙ stmt_of_return e at
 
-  pub declare_is : {s : S.Stmt A} {d : D.Declaration A} {ds : List (I.Declarator A)} → s ≡ S.Declare d → ds ≡ d.declarators → stmt_of s ≡ Tree.Declare (record { of = d.of; declarators = map declarator_of ds })
-  declare_is {d = d} is e = ap stmt_of is ∙ stmt_of_declare d ∙ (λ j. Tree.Declare (record { of = d.of; declarators = map declarator_of (sym e j) }))
+  pub declare_is : {s : S.Stmt A} {d : D.Declaration A} {ds : List (I.Declarator A)} → s ≡ S.Declare d → ds ≡ d.declarators → stmt_of s ≡ Tree.Declare (record { ty = d.ty; declarators = map declarator_of ds })
+  declare_is {d = d} is e = ap stmt_of is ∙ stmt_of_declare d ∙ (λ j. Tree.Declare (record { ty = d.ty; declarators = map declarator_of (sym e j) }))
 
   pub print_is : {s : S.Stmt A} {at text_at : Span} {text text' : List ℕ} {es es' : List (E.Expr A)} → s ≡ S.Print at text text_at es → text' ≡ text → es' ≡ es → stmt_of s ≡ Tree.Print at text' text_at (exprs_of es')
   print_is {at = at} {text_at = text_at} {text = text} {es = es} is f e = ap stmt_of is ∙ stmt_of_print at text text_at es ∙ (λ j. Tree.Print at (sym f j) text_at (exprs_of (sym e j)))

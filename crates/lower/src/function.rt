@@ -34,7 +34,7 @@ fn declare_parameter<'p, A: Allocator + Copy>(
         (parameter_of parameter.now ∷ [])) }
 {
     match &parameter.name {
-        Some(x) => scope.declare(x.text.as_str(), parameter.of),
+        Some(x) => scope.declare(x.text.as_str(), parameter.ty),
         None => Ok(()),
     }
 }
@@ -58,7 +58,7 @@ fn given_type(given: Option<Scalar>) -> Scalar
     ensures { result ≡ unwrap_or given (Scalar.Int) }
 {
     match given {
-        Some(of) => of,
+        Some(ty) => ty,
         None => Scalar::Int,
     }
 }

@@ -18,10 +18,10 @@ use std::alloc::{AllocError, Allocator};
 use syntax::format::{FormatUnit, unit_at};
 
 /// The instruction that prints a number.
-fn printing(of: Scalar, r: u16) -> Instr
-    ensures { result ≡ statements.printing of r }
+fn printing(ty: Scalar, r: u16) -> Instr
+    ensures { result ≡ statements.printing ty r }
 {
-    match of {
+    match ty {
         Scalar::Int => Instr::PrintSigned(r),
         Scalar::Unsigned => Instr::PrintUnsigned(r),
         Scalar::LongLong => Instr::PrintLong(r),
@@ -77,14 +77,14 @@ fn put_figure<A: Allocator>(
     lists: &mut Lists<A>,
     code: &mut Vec<Instr, A>,
     bytes: Vec<u8, A>,
-    of: Scalar,
+    ty: Scalar,
     r: u16,
     from: u32,
 ) -> Result<u32, Failure>
-    ensures { Writes (figure_written bytes.items of r from (lists_of lists.old)) code.old code.new lists.new result }
+    ensures { Writes (figure_written bytes.items ty r from (lists_of lists.old)) code.old code.new lists.new result }
 {
     let to = put_text(lists, code, bytes, from)?;
-    put(code, printing(of, r))?;
+    put(code, printing(ty, r))?;
     Ok(after(to, 1)?)
 }
 
@@ -121,11 +121,11 @@ pub(crate) fn put_pieces<A: Allocator + Copy>(
                 i = next;
                 continue;
             }
-            FormatUnit::Figure(of, next) => {
+            FormatUnit::Figure(ty, next) => {
                 if k >= registers.len() {
                     return put_text(lists, code, bytes, to);
                 }
-                to = put_figure(lists, code, bytes, of, registers[k], to)?;
+                to = put_figure(lists, code, bytes, ty, registers[k], to)?;
                 bytes = Vec::new(alloc);
                 k += 1;
                 i = next;

@@ -361,7 +361,7 @@ pub(crate) fn lower_stmt<'p, A: Allocator + Copy>(
                 scope,
                 lists,
                 code,
-                d.of,
+                d.ty,
                 d.declarators.as_slice(),
                 from,
             )

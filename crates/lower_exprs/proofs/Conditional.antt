@@ -23,8 +23,8 @@ pub settled_behind : (r : ℕ) (e : Emitted) → behind (of_value e) (of_value (
 settled_behind r e = by (e.location.register == r)
   where
     by : (b : Bool) →
-        behind (of_value e) (of_value (if b then in_place e.location e.lists else then_one (in_place e.location e.lists) (own.Move r e.location.register) r e.location.of))
-        ≡ of_value (if b then e else then_one e (own.Move r e.location.register) r e.location.of)
+        behind (of_value e) (of_value (if b then in_place e.location e.lists else then_one (in_place e.location e.lists) (own.Move r e.location.register) r e.location.ty))
+        ≡ of_value (if b then e else then_one e (own.Move r e.location.register) r e.location.ty)
     by true = λ j. record { code = append-nil e.code j; lists = e.lists; end = e.location }
     by false = refl
 
@@ -56,14 +56,14 @@ module _ (p : Program) (s : LocalScope) (c a b : Tree.Expr) (from into free : �
       let z = second_within in
       omega (arith, x, y, z)
 
-  module _ {before drafts : List Draft} {lc : Lists} {t : ConditionRegister} {next : ℕ} (kc : Adds (of_test (condition p s c from free l)) before drafts lc (Ok t)) (en : next ≡ t.to + 1) {of : Scalar} (eof : of ≡ Both) where
-    pub one_is : value_into into (due p s of a next into free lc) ≡ One
+  module _ {before drafts : List Draft} {lc : Lists} {t : ConditionRegister} {next : ℕ} (kc : Adds (of_test (condition p s c from free l)) before drafts lc (Ok t)) (en : next ≡ t.to + 1) {ty : Scalar} (eof : ty ≡ Both) where
+    pub one_is : value_into into (due p s ty a next into free lc) ≡ One
     one_is = λ j. value_into into (due p s (eof j) a ((en ∙ ap (λ (k : ConditionRegister). k.to + 1) kc.end) j) into free (kc.lists j))
 
     module _ {none first : List Instr} {la : Lists} {h : ValueRegister} {other : ℕ} (ka : Adds (of_value One) none first la (Ok h)) (eo : other ≡ h.to + 1) where
-      pub two_is : value_into into (due p s of b other into free la) ≡ Two
+      pub two_is : value_into into (due p s ty b other into free la) ≡ Two
       two_is = λ j. value_into into (due p s (eof j) b ((eo ∙ ap (λ (k : ValueRegister). k.to + 1) ka.end) j) into free (ka.lists j))
 
       pub chosen_there : {none' second : List Instr} {shown : List Draft} {lb : Lists} {k : ValueRegister} → Adds (of_value Two) none' second lb (Ok k) → before ≡ [] → none ≡ [] → none' ≡ [] → shown ≡ drafts → k.register ≡ into →
-          conditional_value of (test_in_place shown t lb) (standing first h lb) (standing second k lb) k.register ≡ conditional p s c a b from into free l
+          conditional_value ty (test_in_place shown t lb) (standing first h lb) (standing second k lb) k.register ≡ conditional p s c a b from into free l
       chosen_there kb e0 e1 e2 es er = λ j. conditional_value (eof j) (gathered kc e0 es j) (value_alone ka e1 j) (value_alone kb e2 j) (er j)

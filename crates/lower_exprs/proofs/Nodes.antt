@@ -97,14 +97,14 @@ due_other p scope u e from into free l k = refl
 
 -- a value that is converted behind its instructions is converted with them
 pub converted_behind : (o : Option (ℕ → ℕ → Instr)) (u : Scalar) (e : Emitted) (into : ℕ) → behind (of_value e) (of_value (converted_by o u (in_place e.location e.lists) into)) ≡ of_value (converted_by o u e into)
-converted_behind None u e into = λ j. record { code = append-nil e.code j; lists = e.lists; end = record { register = e.location.register; of = u; to = e.location.to } }
+converted_behind None u e into = λ j. record { code = append-nil e.code j; lists = e.lists; end = record { register = e.location.register; ty = u; to = e.location.to } }
 converted_behind (Some i) u e into = refl
 
 -- of a value that stands there already its type is the expression's
-pub due_there : (p : Program) (scope : LocalScope) (u : Scalar) (e : Tree.Expr) (from into free : ℕ) (l : Lists) → constant_of e ≡ None → {old mid new : List Instr} {l1 l2 : Lists} {h : ValueRegister} {r : Result ValueRegister Failure} → Adds (of_value (emitted p scope e from into free l)) old mid l1 (Ok h) → Adds (of_value (converted_by (converting h.of u) u (in_place h l1) into)) mid new l2 r → Adds (of_value (due p scope u e from into free l)) old new l2 r
+pub due_there : (p : Program) (scope : LocalScope) (u : Scalar) (e : Tree.Expr) (from into free : ℕ) (l : Lists) → constant_of e ≡ None → {old mid new : List Instr} {l1 l2 : Lists} {h : ValueRegister} {r : Result ValueRegister Failure} → Adds (of_value (emitted p scope e from into free l)) old mid l1 (Ok h) → Adds (of_value (converted_by (converting h.ty u) u (in_place h l1) into)) mid new l2 r → Adds (of_value (due p scope u e from into free l)) old new l2 r
 due_there p scope u e from into free l none {new = new} {l2 = l2} {r = r} k m =
     let own = emitted_is p scope e from into free l in
-    let whole = in_turn k (λ j. of_value (converted_by (converting ((ap (λ (x : ValueRegister). x.of) k.end ∙ own) j) u) u (in_place (k.end j) (k.lists j)) into)) m in
+    let whole = in_turn k (λ j. of_value (converted_by (converting ((ap (λ (x : ValueRegister). x.ty) k.end ∙ own) j) u) u (in_place (k.end j) (k.lists j)) into)) m in
     same (converted_behind (converting (emitted_type p scope e) u) u (emitted p scope e from into free l) into ∙ ap of_value (sym (due_other p scope u e from into free l none))) whole
 
 no_instruction : (s u : Scalar) → is_some (converting s u) ≡ false → IsNone (lowered_converting s u)

@@ -29,9 +29,9 @@ types_further : (ts : List Scalar) (i : ℕ) → types_left (drop i ts) ≡ drop
 types_further ts i = let next : suc i ≡ i + 1 = omega arith in further ts i ∙ ap (λ k. drop k ts) next
 
 -- the type of a parameter is the first one from there on
-pub type_there : {A : Type 0} (qs : List (OwnParameter A)) (i : ℕ) (q : OwnParameter A) → i < length qs → q ≡ get_or qs i q → drop i (types_of (map parameter_of qs)) ≡ q.of ∷ drop (suc i) (types_of (map parameter_of qs))
+pub type_there : {A : Type 0} (qs : List (OwnParameter A)) (i : ℕ) (q : OwnParameter A) → i < length qs → q ≡ get_or qs i q → drop i (types_of (map parameter_of qs)) ≡ q.ty ∷ drop (suc i) (types_of (map parameter_of qs))
 type_there [] i q h is = absurd (omega (arith, h))
-type_there {A = A} (x ∷ qs) zero q h is = ap (λ (y : OwnParameter A). y.of ∷ types_of (map parameter_of qs)) (sym is)
+type_there {A = A} (x ∷ qs) zero q h is = ap (λ (y : OwnParameter A). y.ty ∷ types_of (map parameter_of qs)) (sym is)
 type_there (x ∷ qs) (suc i) q h is = type_there qs i q (omega (arith, h)) is
 
 pub no_type : {A : Type 0} (qs : List (OwnParameter A)) (i : ℕ) → length qs ≤ i → drop i (types_of (map parameter_of qs)) ≡ []

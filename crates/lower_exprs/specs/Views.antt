@@ -10,7 +10,7 @@ use Rattle.lower_exprs.specs.declared.program.ProgramNames.{ProgramNames}
 use Rattle.lower_exprs.specs.declared.scope.Scope.{Scope}
 
 abbrev pub local_in : List ℕ × Scalar → Source.Local
-local_in l = record { name = l.0; of = l.1; word = 0 }
+local_in l = record { name = l.0; ty = l.1; word = 0 }
 
 module _ {A : Type 0} where
   abbrev pub program_in : ProgramNames A → Program

@@ -20,23 +20,23 @@ use std::alloc::Allocator;
 use syntax::number::{number, word_of};
 
 /// The word of a constant of a type `own` in another type.
-pub(crate) fn constant_in(of: Scalar, own: Scalar, value: u64) -> u64
-    ensures { result ≡ Lowered.constant_in of own value }
+pub(crate) fn constant_in(ty: Scalar, own: Scalar, value: u64) -> u64
+    ensures { result ≡ Lowered.constant_in ty own value }
 {
-    word_of(of, i128::from(number(own, constant_word(own, value))))
+    word_of(ty, i128::from(number(own, constant_word(own, value))))
 }
 
 /// Whether a conversion is an instruction.
-pub(crate) fn converts(own: Scalar, of: Scalar) -> bool
-    ensures { result ≡ is_some (converting own of) }
+pub(crate) fn converts(own: Scalar, ty: Scalar) -> bool
+    ensures { result ≡ is_some (converting own ty) }
 {
     match own {
-        Scalar::Int => match of {
+        Scalar::Int => match ty {
             Scalar::LongLong => true,
             Scalar::Int | Scalar::Unsigned => false,
         },
         Scalar::Unsigned => false,
-        Scalar::LongLong => match of {
+        Scalar::LongLong => match ty {
             Scalar::LongLong => false,
             Scalar::Int | Scalar::Unsigned => true,
         },
@@ -68,14 +68,14 @@ fn put_low<A: Allocator>(
     lists: &mut Lists<A>,
     code: &mut Vec<Instr, A>,
     a: ValueRegister,
-    of: Scalar,
+    ty: Scalar,
     into: usize,
 ) -> Result<ValueRegister, Failure>
-    ensures { AddsValue (then_one (in_place a (lists_of lists.old)) (instr.Low into a.register) into of)
+    ensures { AddsValue (then_one (in_place a (lists_of lists.old)) (instr.Low into a.register) into ty)
         code.old code.new lists.new result }
 {
     let register = take(lists, into)?;
-    Ok(put_one(code, Instr::Low(register, a.register), a.to, register, of)?)
+    Ok(put_one(code, Instr::Low(register, a.register), a.to, register, ty)?)
 }
 
 /// A value of a type `own` in another type.
@@ -84,26 +84,26 @@ pub(crate) fn put_converted<A: Allocator>(
     code: &mut Vec<Instr, A>,
     a: ValueRegister,
     own: Scalar,
-    of: Scalar,
+    ty: Scalar,
     into: usize,
 ) -> Result<ValueRegister, Failure>
-    ensures { AddsValue (converted_by (converting own of) of (in_place a (lists_of lists.old)) into)
+    ensures { AddsValue (converted_by (converting own ty) ty (in_place a (lists_of lists.old)) into)
         code.old code.new lists.new result }
 {
     let as_it_lies = ValueRegister {
         register: a.register,
-        of,
+        ty,
         to: a.to,
     };
     match own {
-        Scalar::Int => match of {
+        Scalar::Int => match ty {
             Scalar::LongLong => put_extended(lists, code, a, into),
             Scalar::Int | Scalar::Unsigned => Ok(as_it_lies),
         },
         Scalar::Unsigned => Ok(as_it_lies),
-        Scalar::LongLong => match of {
+        Scalar::LongLong => match ty {
             Scalar::LongLong => Ok(as_it_lies),
-            Scalar::Int | Scalar::Unsigned => put_low(lists, code, a, of, into),
+            Scalar::Int | Scalar::Unsigned => put_low(lists, code, a, ty, into),
         },
     }
 }
@@ -114,17 +114,17 @@ pub(crate) fn put_widened<A: Allocator>(
     code: &mut Vec<Instr, A>,
     a: ValueRegister,
     own: Scalar,
-    of: Scalar,
+    ty: Scalar,
     into: usize,
 ) -> Result<ValueRegister, Failure>
-    ensures { AddsValue (converted_by (widening own of) of (in_place a (lists_of lists.old)) into)
+    ensures { AddsValue (converted_by (widening own ty) ty (in_place a (lists_of lists.old)) into)
         code.old code.new lists.new result }
 {
-    match of {
-        Scalar::LongLong => put_converted(lists, code, a, own, of, into),
+    match ty {
+        Scalar::LongLong => put_converted(lists, code, a, own, ty, into),
         Scalar::Int | Scalar::Unsigned => Ok(ValueRegister {
             register: a.register,
-            of,
+            ty,
             to: a.to,
         }),
     }

@@ -50,14 +50,14 @@ fn put_number<A: Allocator>(
     lists: &mut Lists<A>,
     code: &mut Vec<Instr, A>,
     value: u64,
-    of: Scalar,
+    ty: Scalar,
     from: u32,
     into: usize,
 ) -> Result<ValueRegister, Failure>
-    ensures { AddsValue (constant (word_of of (pos value)) of from into (lists_of lists.old))
+    ensures { AddsValue (constant (word_of ty (pos value)) ty from into (lists_of lists.old))
         code.old code.new lists.new result }
 {
-    put_constant(lists, code, constant_word(of, value), of, from, into)
+    put_constant(lists, code, constant_word(ty, value), ty, from, into)
 }
 
 /// The value of a global.
@@ -69,7 +69,7 @@ fn put_read<A: Allocator + Copy>(
     into: usize,
 ) -> Result<ValueRegister, Failure>
     requires { g.cell ≤ 4096 }
-    ensures { AddsValue (one (instr.Read into g.entry.cell) from into g.entry.global.now.of (lists_of lists.old))
+    ensures { AddsValue (one (instr.Read into g.entry.cell) from into g.entry.global.now.ty (lists_of lists.old))
         code.old code.new lists.new result }
 {
     let register = take(lists, into)?;
@@ -78,7 +78,7 @@ fn put_read<A: Allocator + Copy>(
         Instr::Read(register, g.cell as u32),
         from,
         register,
-        g.global.of,
+        g.global.ty,
     )?)
 }
 
@@ -97,11 +97,11 @@ fn lower_variable<A: Allocator + Copy>(
         code.old code.new lists.new result }
 {
     match scope.newest(x) {
-        Some((i, of)) => {
+        Some((i, ty)) => {
             let register = take(lists, i)?;
             Ok(ValueRegister {
                 register,
-                of,
+                ty,
                 to: from,
             })
         }
@@ -127,7 +127,7 @@ fn put_read_at<A: Allocator + Copy>(
     let register = take(lists, into)?;
     let length = g.global.cell_count() as u32;
     let instr = Instr::ReadAt(register, index.register, g.cell as u32, length);
-    Ok(put_one(code, instr, index.to, register, g.global.of)?)
+    Ok(put_one(code, instr, index.to, register, g.global.ty)?)
 }
 
 fn push<A: Allocator>(all: &mut Vec<u16, A>, r: u16) -> Result<(), AllocError>
@@ -257,7 +257,7 @@ fn put_call<A: Allocator + Copy>(
         Instr::Call(register, count, f.number as u32, first),
         from,
         register,
-        f.of,
+        f.ty,
     )?)
 }
 
@@ -292,7 +292,7 @@ pub fn lower_expr<A: Allocator + Copy>(
 {
     match e {
         Expr::Variable(x) => lower_variable(names, scope, lists, code, x.text.as_str(), from, into),
-        Expr::Constant(value, of, _) => put_number(lists, code, *value, *of, from, into),
+        Expr::Constant(value, ty, _) => put_number(lists, code, *value, *ty, from, into),
         Expr::Element(x, index, _) => match global(names, x.text.as_str()) {
             Some(g) => {
                 let i = lower_expr(names, scope, lists, code, index.get(), from, free, free)?;
@@ -322,8 +322,8 @@ pub fn lower_expr<A: Allocator + Copy>(
         Expr::Parenthesized(e, _) => {
             lower_expr(names, scope, lists, code, e.get(), from, into, free)
         }
-        Expr::Cast(of, e, _) => {
-            lower_due(names, scope, lists, code, e.get(), *of, from, into, free)
+        Expr::Cast(ty, e, _) => {
+            lower_due(names, scope, lists, code, e.get(), *ty, from, into, free)
         }
         Expr::Unary(op, e, _) => match op {
             UnaryOp::Keep => lower_expr(names, scope, lists, code, e.get(), from, into, free),
@@ -343,12 +343,12 @@ pub fn lower_expr<A: Allocator + Copy>(
         Expr::Binary(op, left, right, _) => {
             let own = value_type(names, scope, left.get());
             let other = value_type(names, scope, right.get());
-            let of = operand_type(*op, own, other);
+            let ty = operand_type(*op, own, other);
             let due = operand_type(*op, other, own);
-            let a = lower_due(names, scope, lists, code, left.get(), of, from, free, free)?;
+            let a = lower_due(names, scope, lists, code, left.get(), ty, from, free, free)?;
             let later = above(free, a.register);
             let b = lower_operand(names, scope, lists, code, right.get(), due, a.to, later)?;
-            put_both(lists, code, *op, of, a, b, into)
+            put_both(lists, code, *op, ty, a, b, into)
         }
         Expr::Logical(op, left, right, at) => {
             let mut test = Vec::new(names.alloc);
@@ -404,21 +404,21 @@ pub fn lower_due<A: Allocator + Copy>(
     lists: &mut Lists<A>,
     code: &mut Vec<Instr, A>,
     e: &Expr<A>,
-    of: Scalar,
+    ty: Scalar,
     from: u32,
     into: usize,
     free: usize,
 ) -> Result<ValueRegister, Failure>
-    ensures { AddsValue (due (program_in names.now) (scope_in scope.now) of (expr_of e.now) from into free
+    ensures { AddsValue (due (program_in names.now) (scope_in scope.now) ty (expr_of e.now) from into free
         (lists_of lists.old)) code.old code.new lists.new result }
 {
     match constant_of(e) {
         Some((value, own)) => {
-            put_constant(lists, code, constant_in(of, own, value), of, from, into)
+            put_constant(lists, code, constant_in(ty, own, value), ty, from, into)
         }
         None => {
             let a = lower_expr(names, scope, lists, code, e, from, into, free)?;
-            put_converted(lists, code, a, a.of, of, into)
+            put_converted(lists, code, a, a.ty, ty, into)
         }
     }
 }
@@ -431,16 +431,16 @@ pub(crate) fn lower_operand<A: Allocator + Copy>(
     lists: &mut Lists<A>,
     code: &mut Vec<Instr, A>,
     e: &Expr<A>,
-    of: Scalar,
+    ty: Scalar,
     from: u32,
     free: usize,
 ) -> Result<ValueRegister, Failure>
-    ensures { AddsValue (operand (program_in names.now) (scope_in scope.now) of (expr_of e.now) from free
+    ensures { AddsValue (operand (program_in names.now) (scope_in scope.now) ty (expr_of e.now) from free
         (lists_of lists.old)) code.old code.new lists.new result }
 {
-    match constant_ready(lists, of, e, from) {
+    match constant_ready(lists, ty, e, from) {
         Some(held) => Ok(held),
-        None => lower_due(names, scope, lists, code, e, of, from, free, free),
+        None => lower_due(names, scope, lists, code, e, ty, from, free, free),
     }
 }
 
@@ -541,13 +541,13 @@ fn lower_conditional<A: Allocator + Copy>(
     let _at = at;
     let own = value_type(names, scope, left);
     let another = value_type(names, scope, right);
-    let of = common_type(own, another);
+    let ty = common_type(own, another);
     let t = lower_condition(names, scope, lists, test, c, from, free)?;
     let next = after(t.to, 1)?;
-    let a = lower_settled(names, scope, lists, first, left, of, next, into, free)?;
+    let a = lower_settled(names, scope, lists, first, left, ty, next, into, free)?;
     let other = after(a.to, 1)?;
-    let b = lower_settled(names, scope, lists, second, right, of, other, into, free)?;
-    put_chosen(code, of, test.as_slice(), t, first, a, second, b)
+    let b = lower_settled(names, scope, lists, second, right, ty, other, into, free)?;
+    put_chosen(code, ty, test.as_slice(), t, first, a, second, b)
 }
 
 /// An expression's value in this type and in this very register.
@@ -558,17 +558,17 @@ fn lower_settled<A: Allocator + Copy>(
     lists: &mut Lists<A>,
     code: &mut Vec<Instr, A>,
     e: &Expr<A>,
-    of: Scalar,
+    ty: Scalar,
     from: u32,
     into: usize,
     free: usize,
 ) -> Result<ValueRegister, Failure>
     ensures code { AddsValue (value_into into
-        (due (program_in names.now) (scope_in scope.now) of (expr_of e.now) from into free (lists_of lists.old)))
+        (due (program_in names.now) (scope_in scope.now) ty (expr_of e.now) from into free (lists_of lists.old)))
         code.old code.new lists.new result }
     ensures register { IfOk result (λ held. held.register ≡ into) }
 {
-    let held = lower_due(names, scope, lists, code, e, of, from, into, free)?;
+    let held = lower_due(names, scope, lists, code, e, ty, from, into, free)?;
     settle(lists, code, held, into)
 }
 
@@ -680,9 +680,9 @@ pub fn lower_condition<A: Allocator + Copy>(
         Expr::Parenthesized(e, _) => {
             lower_condition(names, scope, lists, drafts, e.get(), from, free)
         }
-        Expr::Cast(of, a, _) => {
+        Expr::Cast(ty, a, _) => {
             let own = value_type(names, scope, a.get());
-            if converts(own, *of) {
+            if converts(own, *ty) {
                 lower_value(names, scope, lists, drafts, e, from, free)
             } else {
                 lower_condition(names, scope, lists, drafts, a.get(), from, free)
@@ -730,8 +730,8 @@ fn lower_handed<A: Allocator + Copy>(
         code.old code.new lists.new result }
 {
     if number < parameters.len() {
-        let of = parameters[number].of;
-        lower_due(names, scope, lists, code, e, of, from, free, free)
+        let ty = parameters[number].ty;
+        lower_due(names, scope, lists, code, e, ty, from, free, free)
     } else {
         lower_expr(names, scope, lists, code, e, from, free, free)
     }

@@ -17,7 +17,7 @@ use syntax::tree::Parameter;
 #[derive(Clone, Copy)]
 pub(crate) struct Callee<'p, A: Allocator> {
     pub(crate) number: usize,
-    pub(crate) of: Scalar,
+    pub(crate) ty: Scalar,
     pub(crate) parameters: &'p [Parameter<A>],
 }
 
@@ -42,7 +42,7 @@ pub(crate) fn callee_of<'p, A: Allocator + Copy>(
     match names.callees.get(name) {
         Some(f) => Some(Callee {
             number: f.number,
-            of: f.of,
+            ty: f.ty,
             parameters: f.parameters,
         }),
         None => None,

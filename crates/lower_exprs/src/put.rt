@@ -77,14 +77,14 @@ pub(crate) fn put_one<A: Allocator>(
     instr: Instr,
     from: u32,
     register: u16,
-    of: Scalar,
+    ty: Scalar,
 ) -> Result<ValueRegister, AllocError>
-    ensures value { IfOk result (λ value. (value.register ≡ register) × (value.of ≡ of) × (value.to ≡ from + 1)) }
+    ensures value { IfOk result (λ value. (value.register ≡ register) × (value.ty ≡ ty) × (value.to ≡ from + 1)) }
     ensures code { OnOk result (code.new.items ≡ code.old.items ++ instr ∷ []) }
 {
     put(code, instr)?;
     let to = after(from, 1)?;
-    Ok(ValueRegister { register, of, to })
+    Ok(ValueRegister { register, ty, to })
 }
 
 /// The first free register above a value's.
@@ -100,15 +100,15 @@ pub(crate) fn put_constant<A: Allocator>(
     lists: &mut Lists<A>,
     code: &mut Vec<Instr, A>,
     value: u64,
-    of: Scalar,
+    ty: Scalar,
     from: u32,
     into: usize,
 ) -> Result<ValueRegister, Failure>
-    ensures { AddsValue (expressions.constant value of from into (lists_of lists.old))
+    ensures { AddsValue (expressions.constant value ty from into (lists_of lists.old))
         code.old code.new lists.new result }
 {
     let register = take(lists, into)?;
-    Ok(put_one(code, Instr::Constant(register, value), from, register, of)?)
+    Ok(put_one(code, Instr::Constant(register, value), from, register, ty)?)
 }
 
 /// A value in this very register.
@@ -131,7 +131,7 @@ pub(crate) fn settle<A: Allocator>(
         Instr::Move(register, held.register),
         held.to,
         register,
-        held.of,
+        held.ty,
     )?)
 }
 
@@ -204,10 +204,10 @@ fn computing_long(op: BinaryOp, d: u16, a: u16, b: u16) -> Instr
     }
 }
 
-fn computing(op: BinaryOp, of: Scalar, d: u16, a: u16, b: u16) -> Instr
-    ensures { result ≡ expressions.computing op of d a b }
+fn computing(op: BinaryOp, ty: Scalar, d: u16, a: u16, b: u16) -> Instr
+    ensures { result ≡ expressions.computing op ty d a b }
 {
-    match of {
+    match ty {
         Scalar::Int => computing_signed(op, d, a, b),
         Scalar::Unsigned => computing_unsigned(op, d, a, b),
         Scalar::LongLong => computing_long(op, d, a, b),
@@ -219,33 +219,33 @@ pub(crate) fn put_both<A: Allocator>(
     lists: &mut Lists<A>,
     code: &mut Vec<Instr, A>,
     op: BinaryOp,
-    of: Scalar,
+    ty: Scalar,
     a: ValueRegister,
     b: ValueRegister,
     into: usize,
 ) -> Result<ValueRegister, Failure>
-    ensures { AddsValue (expressions.both op of (in_place a (lists_of lists.old)) (in_place b (lists_of lists.old))
+    ensures { AddsValue (expressions.both op ty (in_place a (lists_of lists.old)) (in_place b (lists_of lists.old))
         into) code.old code.new lists.new result }
 {
     let register = take(lists, into)?;
-    let instr = computing(op, of, register, a.register, b.register);
-    Ok(put_one(code, instr, b.to, register, result_type(op, of))?)
+    let instr = computing(op, ty, register, a.register, b.register);
+    Ok(put_one(code, instr, b.to, register, result_type(op, ty))?)
 }
 
-fn negating(of: Scalar, d: u16, a: u16) -> Instr
-    ensures { result ≡ expressions.negating of d a }
+fn negating(ty: Scalar, d: u16, a: u16) -> Instr
+    ensures { result ≡ expressions.negating ty d a }
 {
-    match of {
+    match ty {
         Scalar::Int => Instr::NegateSigned(d, a),
         Scalar::Unsigned => Instr::NegateUnsigned(d, a),
         Scalar::LongLong => Instr::NegateLong(d, a),
     }
 }
 
-fn complementing(of: Scalar, d: u16, a: u16) -> Instr
-    ensures { result ≡ expressions.complementing of d a }
+fn complementing(ty: Scalar, d: u16, a: u16) -> Instr
+    ensures { result ≡ expressions.complementing ty d a }
 {
-    match of {
+    match ty {
         Scalar::Int | Scalar::Unsigned => Instr::Complement(d, a),
         Scalar::LongLong => Instr::ComplementLong(d, a),
     }
@@ -264,10 +264,10 @@ pub(crate) fn put_negated<A: Allocator>(
     let register = take(lists, into)?;
     Ok(put_one(
         code,
-        negating(a.of, register, a.register),
+        negating(a.ty, register, a.register),
         a.to,
         register,
-        a.of,
+        a.ty,
     )?)
 }
 
@@ -284,10 +284,10 @@ pub(crate) fn put_complemented<A: Allocator>(
     let register = take(lists, into)?;
     Ok(put_one(
         code,
-        complementing(a.of, register, a.register),
+        complementing(a.ty, register, a.register),
         a.to,
         register,
-        a.of,
+        a.ty,
     )?)
 }
 
@@ -309,7 +309,7 @@ pub(crate) fn put_compared<A: Allocator>(
     let to = after(a.to, 2)?;
     Ok(ValueRegister {
         register,
-        of: Scalar::Int,
+        ty: Scalar::Int,
         to,
     })
 }
@@ -334,7 +334,7 @@ pub(crate) fn put_answers<A: Allocator>(
     put(code, Instr::Constant(register, 0))?;
     Ok(ValueRegister {
         register,
-        of: Scalar::Int,
+        ty: Scalar::Int,
         to,
     })
 }
@@ -342,7 +342,7 @@ pub(crate) fn put_answers<A: Allocator>(
 /// A condition, and behind it two values of this type in one register.
 pub(crate) fn put_chosen<A: Allocator>(
     code: &mut Vec<Instr, A>,
-    of: Scalar,
+    ty: Scalar,
     test: &[Draft],
     t: ConditionRegister,
     first: &mut Vec<Instr, A>,
@@ -350,7 +350,7 @@ pub(crate) fn put_chosen<A: Allocator>(
     second: &mut Vec<Instr, A>,
     b: ValueRegister,
 ) -> Result<ValueRegister, Failure>
-    ensures { (l : Plain) → Adds (of_value (expressions.conditional_value of (test_in_place test.now t l)
+    ensures { (l : Plain) → Adds (of_value (expressions.conditional_value ty (test_in_place test.now t l)
         (standing first.old.items a l) (standing second.old.items b l) b.register)) code.old.items code.new.items l
         result }
 {
@@ -361,7 +361,7 @@ pub(crate) fn put_chosen<A: Allocator>(
     append(code, second)?;
     Ok(ValueRegister {
         register: b.register,
-        of,
+        ty,
         to: b.to,
     })
 }
@@ -381,7 +381,7 @@ pub(crate) fn put_in_transaction<A: Allocator>(
     put(code, Instr::Commit)?;
     Ok(ValueRegister {
         register: held.register,
-        of: held.of,
+        ty: held.ty,
         to,
     })
 }

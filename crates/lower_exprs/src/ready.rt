@@ -21,17 +21,17 @@ use syntax::tree::Expr;
 pub(crate) fn ready<A: Allocator>(
     lists: &Lists<A>,
     word: u64,
-    of: Scalar,
+    ty: Scalar,
     from: u32,
 ) -> Option<ValueRegister>
-    ensures { result ≡ expressions.ready (lists_of lists.now).layout word of from }
+    ensures { result ≡ expressions.ready (lists_of lists.now).layout word ty from }
 {
     let mut register = lists.writable;
     'each: for constant in lists.constants.as_slice() {
         if *constant == word {
             return Some(ValueRegister {
                 register,
-                of,
+                ty,
                 to: from,
             });
         }
@@ -44,10 +44,10 @@ pub(crate) fn ready<A: Allocator>(
 }
 
 /// The word of a constant.
-pub(crate) fn constant_word(of: Scalar, value: u64) -> u64
-    ensures { result ≡ word_of of (pos value) }
+pub(crate) fn constant_word(ty: Scalar, value: u64) -> u64
+    ensures { result ≡ word_of ty (pos value) }
 {
-    word_of(of, i128::from(value))
+    word_of(ty, i128::from(value))
 }
 
 /// The value and the type of a constant.
@@ -63,14 +63,14 @@ pub(crate) fn constant_of<A: Allocator>(e: &Expr<A>) -> Option<(u64, Scalar)>
 /// A constant that is preloaded in this type, as the right side of an operator.
 pub(crate) fn constant_ready<A: Allocator>(
     lists: &Lists<A>,
-    of: Scalar,
+    ty: Scalar,
     e: &Expr<A>,
     from: u32,
 ) -> Option<ValueRegister>
-    ensures { result ≡ expressions.constant_ready (lists_of lists.now).layout of (expr_of e.now) from }
+    ensures { result ≡ expressions.constant_ready (lists_of lists.now).layout ty (expr_of e.now) from }
 {
     match e {
-        Expr::Constant(value, own, _) => ready(lists, constant_in(of, *own, *value), of, from),
+        Expr::Constant(value, own, _) => ready(lists, constant_in(ty, *own, *value), ty, from),
         _ => None,
     }
 }

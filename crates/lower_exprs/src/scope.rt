@@ -40,10 +40,10 @@ impl<'p, A: Allocator + Copy> Scope<'p, A> {
     }
 
     /// One local more.
-    pub fn declare(&mut self, name: &'p str, of: Scalar) -> Result<(), AllocError>
-        ensures { OnOk result (scope_in self.new ≡ with_local (scope_in self.old) name.now of) }
+    pub fn declare(&mut self, name: &'p str, ty: Scalar) -> Result<(), AllocError>
+        ensures { OnOk result (scope_in self.new ≡ with_local (scope_in self.old) name.now ty) }
     {
-        self.known.declare(name, of)
+        self.known.declare(name, ty)
     }
 
     /// The locals after so many of them are forgotten.

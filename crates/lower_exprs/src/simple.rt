@@ -56,12 +56,12 @@ fn aim_variable<A: Allocator + Copy>(
         code code (lists_of lists.new) result }
 {
     match scope.newest(x) {
-        Some((i, of)) => {
+        Some((i, ty)) => {
             let register = take(lists, i)?;
-            Ok(aim_at(AssignmentTarget::Local(register, of), from))
+            Ok(aim_at(AssignmentTarget::Local(register, ty), from))
         }
         None => match global(names, x) {
-            Some(g) => Ok(aim_at(AssignmentTarget::Cell(g.cell as u32, g.global.of), from)),
+            Some(g) => Ok(aim_at(AssignmentTarget::Cell(g.cell as u32, g.global.ty), from)),
             None => Ok(aim_at(AssignmentTarget::Nowhere, from)),
         },
     }
@@ -79,7 +79,7 @@ fn put_check<A: Allocator + Copy>(
         l)) code.old.items code.new.items l result }
 {
     let length = g.global.cell_count() as u32;
-    let target = AssignmentTarget::Element(index.register, g.cell as u32, length, g.global.of);
+    let target = AssignmentTarget::Element(index.register, g.cell as u32, length, g.global.ty);
     if check {
         put(code, Instr::Check(index.register, length))?;
         let to = after(index.to, 1)?;
@@ -146,22 +146,22 @@ fn fetch<A: Allocator>(
     ensures { AddsValue (target_value target from free (lists_of lists.old)) code.old code.new lists.new result }
 {
     match target {
-        AssignmentTarget::Local(i, of) => {
+        AssignmentTarget::Local(i, ty) => {
             let register = take(lists, i as usize)?;
             Ok(ValueRegister {
                 register,
-                of,
+                ty,
                 to: from,
             })
         }
-        AssignmentTarget::Cell(cell, of) => {
+        AssignmentTarget::Cell(cell, ty) => {
             let register = take(lists, free)?;
-            Ok(put_one(code, Instr::Read(register, cell), from, register, of)?)
+            Ok(put_one(code, Instr::Read(register, cell), from, register, ty)?)
         }
-        AssignmentTarget::Element(i, cell, length, of) => {
+        AssignmentTarget::Element(i, cell, length, ty) => {
             let register = take(lists, free)?;
             let instr = Instr::ReadAt(register, i, cell, length);
-            Ok(put_one(code, instr, from, register, of)?)
+            Ok(put_one(code, instr, from, register, ty)?)
         }
         AssignmentTarget::Nowhere => put_constant(lists, code, 0, Scalar::Int, from, free),
     }
@@ -196,9 +196,9 @@ fn type_at(target: AssignmentTarget) -> Scalar
     ensures { result ≡ simples.type_at target }
 {
     match target {
-        AssignmentTarget::Local(_, of)
-        | AssignmentTarget::Cell(_, of)
-        | AssignmentTarget::Element(_, _, _, of) => of,
+        AssignmentTarget::Local(_, ty)
+        | AssignmentTarget::Cell(_, ty)
+        | AssignmentTarget::Element(_, _, _, ty) => ty,
         AssignmentTarget::Nowhere => Scalar::Int,
     }
 }
@@ -216,13 +216,13 @@ fn put_fitting<A: Allocator>(
         code.old code.new lists.new result }
 {
     match target {
-        AssignmentTarget::Local(_, of) => put_converted(lists, code, a, own, of, into),
-        AssignmentTarget::Cell(_, of) | AssignmentTarget::Element(_, _, _, of) => {
-            put_widened(lists, code, a, own, of, into)
+        AssignmentTarget::Local(_, ty) => put_converted(lists, code, a, own, ty, into),
+        AssignmentTarget::Cell(_, ty) | AssignmentTarget::Element(_, _, _, ty) => {
+            put_widened(lists, code, a, own, ty, into)
         }
         AssignmentTarget::Nowhere => Ok(ValueRegister {
             register: a.register,
-            of: Scalar::Int,
+            ty: Scalar::Int,
             to: a.to,
         }),
     }
@@ -245,12 +245,12 @@ fn lower_fitting<A: Allocator + Copy>(
 {
     match constant_of(e) {
         Some((value, own)) => {
-            let of = type_at(target);
-            put_constant(lists, code, constant_in(of, own, value), of, from, home)
+            let ty = type_at(target);
+            put_constant(lists, code, constant_in(ty, own, value), ty, from, home)
         }
         None => {
             let a = lower_expr(names, scope, lists, code, e, from, home, free)?;
-            put_fitting(lists, code, target, a.of, a, home)
+            put_fitting(lists, code, target, a.ty, a, home)
         }
     }
 }
@@ -282,15 +282,15 @@ fn lower_assign<A: Allocator + Copy>(
 fn lower_one<A: Allocator>(
     lists: &mut Lists<A>,
     code: &mut Vec<Instr, A>,
-    of: Scalar,
+    ty: Scalar,
     from: u32,
     free: usize,
 ) -> Result<ValueRegister, Failure>
-    ensures { AddsValue (emitted_one of from free (lists_of lists.old)) code.old code.new lists.new result }
+    ensures { AddsValue (emitted_one ty from free (lists_of lists.old)) code.old code.new lists.new result }
 {
-    match ready(lists, 1, of, from) {
+    match ready(lists, 1, ty, from) {
         Some(held) => Ok(held),
-        None => put_constant(lists, code, 1, of, from, free),
+        None => put_constant(lists, code, 1, ty, from, free),
     }
 }
 
@@ -315,18 +315,18 @@ fn lower_by<A: Allocator + Copy>(
     scope: &Scope<'_, A>,
     lists: &mut Lists<A>,
     code: &mut Vec<Instr, A>,
-    of: Scalar,
+    ty: Scalar,
     by: Option<&Expr<A>>,
     from: u32,
     free: usize,
 ) -> Result<ValueRegister, Failure>
-    ensures { AddsValue (value_or_one (program_in names.now) (scope_in scope.now) of
+    ensures { AddsValue (value_or_one (program_in names.now) (scope_in scope.now) ty
         (option_map expr_of (option_copied by.entry)) from free (lists_of lists.old))
         code.old code.new lists.new result }
 {
     match by {
-        Some(e) => lower_operand(names, scope, lists, code, e, of, from, free),
-        None => lower_one(lists, code, of, from, free),
+        Some(e) => lower_operand(names, scope, lists, code, e, ty, from, free),
+        None => lower_one(lists, code, ty, from, free),
     }
 }
 
@@ -348,15 +348,15 @@ fn lower_changed<'e, A: Allocator + Copy>(
 {
     let own = type_at(target);
     let other = type_or_int(names, scope, by);
-    let of = operand_type(op, own, other);
+    let ty = operand_type(op, own, other);
     let due = operand_type(op, other, own);
     let first = fetch(lists, code, target, from, free)?;
-    let old = put_converted(lists, code, first, own, of, free)?;
+    let old = put_converted(lists, code, first, own, ty, free)?;
     let behind = above(free, old.register);
     let right = lower_by(names, scope, lists, code, due, by, old.to, behind)?;
     let home = home_or(target, free);
-    let held = put_both(lists, code, op, of, old, right, home)?;
-    put_fitting(lists, code, target, result_type(op, of), held, home)
+    let held = put_both(lists, code, op, ty, old, right, home)?;
+    put_fitting(lists, code, target, result_type(op, ty), held, home)
 }
 
 /// `to op= by`; with no `by`, `to++` or `to--`
@@ -428,17 +428,17 @@ fn lower_first<A: Allocator + Copy>(
     lists: &mut Lists<A>,
     code: &mut Vec<Instr, A>,
     register: u16,
-    of: Scalar,
+    ty: Scalar,
     first: &Option<Expr<A>>,
     from: u32,
 ) -> Result<u32, Failure>
-    ensures { Writes (first_written (program_in names.now) (scope_in scope.now) register of
+    ensures { Writes (first_written (program_in names.now) (scope_in scope.now) register ty
         (option_map expr_of first.now) from (lists_of lists.old)) code.old code.new lists.new result }
 {
     match first {
         Some(e) => {
             let i = register as usize;
-            let target = AssignmentTarget::Local(register, of);
+            let target = AssignmentTarget::Local(register, ty);
             let held = lower_fitting(names, scope, lists, code, target, e, from, i, i + 1)?;
             store(code, target, held.register, held.to)
         }
@@ -452,19 +452,19 @@ fn lower_declarator<'p, A: Allocator + Copy>(
     scope: &mut Scope<'p, A>,
     lists: &mut Lists<A>,
     code: &mut Vec<Instr, A>,
-    of: Scalar,
+    ty: Scalar,
     d: &'p Declarator<A>,
     from: u32,
 ) -> Result<u32, Failure>
-    ensures scope { OnOk result (scope_in scope.new ≡ with_local (scope_in scope.old) d.now.name.text of) }
-    ensures code { Writes (declarator_written (program_in names.now) of (declarator_of d.now) (scope_in scope.old) from
+    ensures scope { OnOk result (scope_in scope.new ≡ with_local (scope_in scope.old) d.now.name.text ty) }
+    ensures code { Writes (declarator_written (program_in names.now) ty (declarator_of d.now) (scope_in scope.old) from
         (lists_of lists.old)) code.old code.new lists.new result }
 {
     let register = take(lists, scope.len())?;
     put(code, Instr::Constant(register, 0))?;
     let next = after(from, 1)?;
-    scope.declare(d.name.text.as_str(), of)?;
-    lower_first(names, scope, lists, code, register, of, &d.first, next)
+    scope.declare(d.name.text.as_str(), ty)?;
+    lower_first(names, scope, lists, code, register, ty, &d.first, next)
 }
 
 /// The locals of one declaration, in order.
@@ -473,18 +473,18 @@ pub fn lower_declarators<'p, A: Allocator + Copy>(
     scope: &mut Scope<'p, A>,
     lists: &mut Lists<A>,
     code: &mut Vec<Instr, A>,
-    of: Scalar,
+    ty: Scalar,
     all: &'p [Declarator<A>],
     from: u32,
 ) -> Result<u32, Failure>
-    ensures scope { OnOk result (scope_in scope.new ≡ with_declared of (map declarator_of all.now)
+    ensures scope { OnOk result (scope_in scope.new ≡ with_declared ty (map declarator_of all.now)
         (scope_in scope.old)) }
-    ensures code { Writes (declared_written (program_in names.now) of (map declarator_of all.now) (scope_in scope.old)
+    ensures code { Writes (declared_written (program_in names.now) ty (map declarator_of all.now) (scope_in scope.old)
         from (lists_of lists.old)) code.old code.new lists.new result }
 {
     let mut to = from;
     'each: for one in all {
-        to = lower_declarator(names, scope, lists, code, of, one, to)?;
+        to = lower_declarator(names, scope, lists, code, ty, one, to)?;
     }
     Ok(to)
 }
@@ -510,7 +510,7 @@ pub fn lower_start<'p, A: Allocator + Copy>(
                 scope,
                 lists,
                 code,
-                d.of,
+                d.ty,
                 d.declarators.as_slice(),
                 from,
             )

@@ -20,13 +20,13 @@ use types::Typed;
 fn callee_at<'p, A: Allocator + Copy>(number: usize, f: &'p Function<A>) -> Callee<'p, A>
     ensures { callee_in result ≡ Named.callee_at number (function_of f.now) }
 {
-    let of = match f.result {
-        Some(of) => of,
+    let ty = match f.result {
+        Some(ty) => ty,
         None => Scalar::Int,
     };
     Callee {
         number,
-        of,
+        ty,
         parameters: f.parameters.as_slice(),
     }
 }

@@ -25,9 +25,9 @@ fn type_of_variable<A: Allocator + Copy>(
         (Source.global_of (program_in names.now) x.now) }
 {
     match scope.newest(x) {
-        Some((_, of)) => of,
+        Some((_, ty)) => ty,
         None => match global(names, x) {
-            Some(g) => g.global.of,
+            Some(g) => g.global.ty,
             None => Scalar::Int,
         },
     }
@@ -44,17 +44,17 @@ pub(crate) fn value_type<A: Allocator + Copy>(
 {
     match e {
         Expr::Variable(x) => type_of_variable(names, scope, x.text.as_str()),
-        Expr::Constant(_, of, _) => *of,
+        Expr::Constant(_, ty, _) => *ty,
         Expr::Element(x, _, _) => match global(names, x.text.as_str()) {
-            Some(g) => g.global.of,
+            Some(g) => g.global.ty,
             None => Scalar::Int,
         },
         Expr::Call(f, _, _) => match callee_of(names, f.text.as_str()) {
-            Some(f) => f.of,
+            Some(f) => f.ty,
             None => Scalar::Int,
         },
         Expr::Parenthesized(e, _) => value_type(names, scope, e.get()),
-        Expr::Cast(of, _, _) => *of,
+        Expr::Cast(ty, _, _) => *ty,
         Expr::Unary(op, e, _) => match op {
             UnaryOp::Not => Scalar::Int,
             UnaryOp::Negate => value_type(names, scope, e.get()),

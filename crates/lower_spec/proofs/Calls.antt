@@ -39,7 +39,7 @@ use Rattle.lower_spec.proofs.Turns.{while_falls, do_falls, for_falls}
 
 -- the words of arguments in the types of parameters
 abbrev words_for : List Parameter → List Value → List ℕ
-words_for qs vs = handed (map (λ (q : Parameter). q.of) qs) vs
+words_for qs vs = handed (map (λ (q : Parameter). q.ty) qs) vs
 
 length_handed : (ts : List Scalar) (vs : List Value) → length (handed ts vs) ≡ length vs
 length_handed ts [] = refl
@@ -57,25 +57,25 @@ abbrev EnteredSo : List Parameter → List Value → Option (List Local) → Typ
 EnteredSo qs vs None = Unit {0}
 EnteredSo qs vs (Some ls) = Entered qs vs ls
 
-first_entered : (q : Parameter) (n : Option Name) (qs : List Parameter) (v : Value) (vs : List Value) (o : Option (List Local)) → q.name ≡ n → EnteredSo qs vs o → EnteredSo (q ∷ qs) (v ∷ vs) (option_map (λ ls. unwrap_or (option_map (λ (x : Name). record { name = x.text; of = q.of; word = (value_in_type q.of v).word } ∷ []) n) [] ++ ls) o)
+first_entered : (q : Parameter) (n : Option Name) (qs : List Parameter) (v : Value) (vs : List Value) (o : Option (List Local)) → q.name ≡ n → EnteredSo qs vs o → EnteredSo (q ∷ qs) (v ∷ vs) (option_map (λ ls. unwrap_or (option_map (λ (x : Name). record { name = x.text; ty = q.ty; word = (value_in_type q.ty v).word } ∷ []) n) [] ++ ls) o)
 first_entered q n qs v vs None e h = tt
 first_entered q None qs v vs (Some ls) e h =
-    let w : ℕ = (value_in_type q.of v).word in
+    let w : ℕ = (value_in_type q.ty v).word in
     let ws : List ℕ = words_for qs vs in
     record {
       count = ap suc h.count;
-      shapes = h.shapes ∙ ap (λ (n : Option Name). map shape (unwrap_or (option_map (λ (x : Name). record { name = x.text; of = q.of; word = 0 } ∷ []) n) [] ++ parameter_locals qs)) (sym e);
+      shapes = h.shapes ∙ ap (λ (n : Option Name). map shape (unwrap_or (option_map (λ (x : Name). record { name = x.text; ty = q.ty; word = 0 } ∷ []) n) [] ++ parameter_locals qs)) (sym e);
       words = h.words ∙ ap (λ (n : Option Name). if is_some n then w ∷ named_ones qs ws else named_ones qs ws) (sym e);
       own = h.own;
     }
 first_entered q (Some x) qs v vs (Some ls) e h =
-    let w : ℕ = (value_in_type q.of v).word in
+    let w : ℕ = (value_in_type q.ty v).word in
     let ws : List ℕ = words_for qs vs in
     record {
       count = ap suc h.count;
-      shapes = ap (λ (s : List (List ℕ × Scalar)). (x.text, q.of) ∷ s) h.shapes ∙ ap (λ (n : Option Name). map shape (unwrap_or (option_map (λ (x : Name). record { name = x.text; of = q.of; word = 0 } ∷ []) n) [] ++ parameter_locals qs)) (sym e);
+      shapes = ap (λ (s : List (List ℕ × Scalar)). (x.text, q.ty) ∷ s) h.shapes ∙ ap (λ (n : Option Name). map shape (unwrap_or (option_map (λ (x : Name). record { name = x.text; ty = q.ty; word = 0 } ∷ []) n) [] ++ parameter_locals qs)) (sym e);
       words = ap (λ us. w ∷ us) h.words ∙ ap (λ (n : Option Name). if is_some n then w ∷ named_ones qs ws else named_ones qs ws) (sym e);
-      own = (word_below q.of (number_of v), h.own);
+      own = (word_below q.ty (number_of v), h.own);
     }
 
 all_entered : (qs : List Parameter) (vs : List Value) → EnteredSo qs vs (call_locals qs vs)
@@ -129,11 +129,11 @@ one_arranged (q ∷ []) w e = one_of (is_some q.name) w
 one_arranged (q ∷ r ∷ qs) w e = absurd (omega (arith, e))
 
 -- a thread's number, in whatever type
-one_handed : (qs : List Parameter) (t : ℕ) → t < 2 ^ 32 → 1 ≡ length qs → argument_order qs (words_for qs (record { of = Unsigned; word = t } ∷ [])) ≡ t ∷ []
+one_handed : (qs : List Parameter) (t : ℕ) → t < 2 ^ 32 → 1 ≡ length qs → argument_order qs (words_for qs (record { ty = Unsigned; word = t } ∷ [])) ≡ t ∷ []
 one_handed [] t below e = absurd (omega (arith, e))
-one_handed (q ∷ qs) t below e = ap (λ w. argument_order (q ∷ qs) (w ∷ [])) (own q.of) ∙ one_arranged (q ∷ qs) t e
+one_handed (q ∷ qs) t below e = ap (λ w. argument_order (q ∷ qs) (w ∷ [])) (own q.ty) ∙ one_arranged (q ∷ qs) t e
   where
-    own : (u : Scalar) → (value_in_type u (record { of = Unsigned; word = t })).word ≡ t
+    own : (u : Scalar) → (value_in_type u (record { ty = Unsigned; word = t })).word ≡ t
     own Int = conversions Unsigned Int t below
     own Unsigned = conversions Unsigned Unsigned t below
     own LongLong = conversions Unsigned LongLong t below
@@ -179,7 +179,7 @@ entered_holds g layout qs vs ls h n fits all =
     let zeros : List ℕ = replicate (g.registers - g.parameters) 0 in
     let old : List ℕ = first_registers g (argument_order qs ws) in
     let len : length ls ≡ length (parameter_locals qs) = length_like (parameter_locals qs) ls h.shapes in
-    let len2 : length ws ≡ length qs = length_handed (map (λ (q : Parameter). q.of) qs) vs ∙ h.count in
+    let len2 : length ws ≡ length qs = length_handed (map (λ (q : Parameter). q.ty) qs) vs ∙ h.count in
     let len3 : length ls ≡ length (named_ones qs ws) = sym (length-map ls (λ (l : Local). l.word)) ∙ ap length h.words in
     let parts : length (named_ones qs ws) + length (nameless_ones qs ws) ≡ length qs = length_parts qs ws len2 in
     let whole : length (argument_order qs ws) ≡ length qs = length_arranged qs ws len2 in
@@ -218,7 +218,7 @@ module _ (p : Program) (code : Code) (are : HasCellsOf code p) where
   -- a function's body, up to its return
   abbrev GoesReturn : ℕ → ℕ → (a : Around) → (Answer Value → Outcome) → List Local → List Frame → Option Scalar → Type 0
   GoesReturn N K a after ls frames u =
-      (v : Value) (sh : Shared) (text : List ℕ) (rs : List ℕ) (q : ℕ) (r : Option ℕ) → InstructionAt code q (Instr.Return r) → word_in r rs ≡ v.word → v.of ≡ unwrap_or u Int → v.word < modulus v.of → IsGood code a sh →
+      (v : Value) (sh : Shared) (text : List ℕ) (rs : List ℕ) (q : ℕ) (r : Option ℕ) → InstructionAt code q (Instr.Return r) → word_in r rs ≡ v.word → v.ty ≡ unwrap_or u Int → v.word < modulus v.ty → IsGood code a sh →
       Agrees (effect code) N K (holding a sh text (configuration code q rs frames)) (λ n. after (Gives v (state n ls (context_of a sh) text)))
 
   -- what follows a body
@@ -296,12 +296,12 @@ module _ (p : Program) (code : Code) (are : HasCellsOf code p) where
     returns_end : (r : Option ℕ) (rs : List ℕ) (q : ℕ) → effect_of code (configuration code q rs []) (Some (Instr.Return r)) ≡ Effect.End
     returns_end r rs q = refl
 
-    worker_started : (N K t : ℕ) (founds : List Memory) (o : Option (Function × Stmts)) → definition_of p (codes "worker") ≡ o → t < 2 ^ 32 → AreMemories code founds → Agrees (effect code) N K (start (beginning_in (Some lowered.worker) t) founds) (λ n. outcome_of (go_on (go_on (or_astray o (first_state founds n)) (λ f. or_astray (call_locals f.0.parameters (record { of = Unsigned; word = t } ∷ [])) >>= λ mine. locals >>= λ outer. put_locals mine >> (stmts p (calls p 63) f.1 >>= λ end. put_locals outer >> result_of f.0.result end))) (λ v. tick)))
+    worker_started : (N K t : ℕ) (founds : List Memory) (o : Option (Function × Stmts)) → definition_of p (codes "worker") ≡ o → t < 2 ^ 32 → AreMemories code founds → Agrees (effect code) N K (start (beginning_in (Some lowered.worker) t) founds) (λ n. outcome_of (go_on (go_on (or_astray o (first_state founds n)) (λ f. or_astray (call_locals f.0.parameters (record { ty = Unsigned; word = t } ∷ [])) >>= λ mine. locals >>= λ outer. put_locals mine >> (stmts p (calls p 63) f.1 >>= λ end. put_locals outer >> result_of f.0.result end))) (λ v. tick)))
     worker_started N K t founds None e below good = astray (effect code) 0 refl
     worker_started N K t founds (Some d) e below good =
         let g : FunctionCode = lowered.worker in
         let w = worker_known code.functions g lowered.has_worker in
-        let vs : List Value = record { of = Unsigned; word = t } ∷ [] in
+        let vs : List Value = record { ty = Unsigned; word = t } ∷ [] in
         let after : Answer Value → Outcome = λ q. outcome_of (go_on q (λ v. tick)) in
         let sh : Shared = record { founds = founds; lefts = []; memory = []; kept = false } in
         let here : definition_of p g.name ≡ Some (d.0, d.1) = ap (definition_of p) w.2 ∙ e in

@@ -76,7 +76,7 @@ truth_under Unsigned false = omega arith
 truth_under LongLong true = omega arith
 truth_under LongLong false = omega arith
 
-pub truth_converted : (t u : Scalar) (b : Bool) → value_in_type u (record { of = t; word = truth b }) ≡ record { of = u; word = truth b }
+pub truth_converted : (t u : Scalar) (b : Bool) → value_in_type u (record { ty = t; word = truth b }) ≡ record { ty = u; word = truth b }
 truth_converted Int Int false = refl
 truth_converted Int Int true = refl
 truth_converted Int Unsigned false = refl

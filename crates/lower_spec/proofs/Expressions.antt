@@ -62,7 +62,7 @@ newest_shape i (l ∷ ls) x = option_or (newest_shape (i + 1) ls x) (if bytes_eq
 newest_shaped : (ls : List Local) (i : ℕ) (x : List ℕ) → newest_from i ls x ≡ newest_shape i (map shape ls) x
 unfolding newest_shape
 newest_shaped [] i x = refl
-newest_shaped (l ∷ ls) i x = ap (λ o. option_or o (if bytes_eq l.name x then Some (i, l.of) else None)) (newest_shaped ls (i + 1) x)
+newest_shaped (l ∷ ls) i x = ap (λ o. option_or o (if bytes_eq l.name x then Some (i, l.ty) else None)) (newest_shaped ls (i + 1) x)
 
 pub newest_like : (x : List ℕ) (scope ls : List Local) → IsLike scope ls → newest ls x ≡ newest scope x
 newest_like x scope ls e = newest_shaped ls 0 x ∙ ap (λ ss. newest_shape 0 ss x) e ∙ sym (newest_shaped scope 0 x)
@@ -78,13 +78,13 @@ handed ts (v ∷ vs) = first_word ts v ∷ handed (types_left ts) vs
 
 -- an element's cell, or a trap
 abbrev pub element_in : Option GlobalCells → Value → Action Spot
-element_in o k = or_astray o >>= λ g. if nat_lt k.word (cells g.global) then pure (InCell (g.cell + k.word) g.global.of) else trap Index
+element_in o k = or_astray o >>= λ g. if nat_lt k.word (cells g.global) then pure (InCell (g.cell + k.word) g.global.ty) else trap Index
 
 module _ (p : Program) (call : Caller) (code : Code) (layout : Layout) (frames : List Frame) where
   -- what is known where an expression's value has come into a register
   pub record Computed (a : Around) (t : Scalar) (r : ℕ) (home : Option ℕ) (free : ℕ) (old : List ℕ) (v : Value) (sh : Shared) (new : List ℕ) : Type 0 where
-    pub typed_so : v.of ≡ t
-    pub word : v.word < modulus v.of
+    pub typed_so : v.ty ≡ t
+    pub word : v.word < modulus v.ty
     pub here : slice_index new r ≡ v.word
     pub keeps : Keeps layout home free old new
     pub good : IsGood code a sh
@@ -99,7 +99,7 @@ module _ (p : Program) (call : Caller) (code : Code) (layout : Layout) (frames :
   Does N K a sh text ls from registers does = Agrees (effect code) N K (holding a sh text (configuration code from registers frames)) (λ n. does (state n ls (context_of a sh) text))
 
   -- a word is set in a register
-  arrives : (a : Around) (sh : Shared) (home : Option ℕ) (free r w : ℕ) (t : Scalar) (old rs : List ℕ) → MayTake home free r → r < layout.writable → length rs ≡ registers_in layout → w < modulus t → Keeps layout home free old rs → IsGood code a sh → Computed a t r home free old (record { of = t; word = w }) sh (slice_set rs r w)
+  arrives : (a : Around) (sh : Shared) (home : Option ℕ) (free r w : ℕ) (t : Scalar) (old rs : List ℕ) → MayTake home free r → r < layout.writable → length rs ≡ registers_in layout → w < modulus t → Keeps layout home free old rs → IsGood code a sh → Computed a t r home free old (record { ty = t; word = w }) sh (slice_set rs r w)
   arrives a sh home free r w t old rs f b len h k g = record { typed_so = refl; word = h; here = get_or-set_same rs r w 0 (omega (arith, b, len)); keeps = keeps_set layout home free old rs r w f b k; good = g }
 
   -- the end of a stretch under other names
@@ -108,10 +108,10 @@ module _ (p : Program) (call : Caller) (code : Code) (layout : Layout) (frames :
       subst (λ x. GoesOn N K a after ls x home free r u old) e (subst (λ y. GoesOn N K a after ls to home free r y old) f go)
 
   -- an instruction that gives a word in a register
-  pub sets : {N K : ℕ} (i : Instr) (u : Scalar) (a : Around) (sh : Shared) (text : List ℕ) (ls : List Local) (after : Answer Value → Outcome) (q to : ℕ) (home : Option ℕ) (free r w : ℕ) (t : Scalar) (old rs : List ℕ) → GivenBy code layout home i u q to free r t → effect_of code (configuration code q rs frames) (Some i) ≡ Effect.Pure (setting (configuration code q rs frames) r w) → length rs ≡ registers_in layout → w < modulus u → Keeps layout home free old rs → IsGood code a sh → GoesOn N K a after ls to home free r t old → Does N K a sh text ls q rs (λ s. after (Gives (record { of = u; word = w }) s))
+  pub sets : {N K : ℕ} (i : Instr) (u : Scalar) (a : Around) (sh : Shared) (text : List ℕ) (ls : List Local) (after : Answer Value → Outcome) (q to : ℕ) (home : Option ℕ) (free r w : ℕ) (t : Scalar) (old rs : List ℕ) → GivenBy code layout home i u q to free r t → effect_of code (configuration code q rs frames) (Some i) ≡ Effect.Pure (setting (configuration code q rs frames) r w) → length rs ≡ registers_in layout → w < modulus u → Keeps layout home free old rs → IsGood code a sh → GoesOn N K a after ls to home free r t old → Does N K a sh text ls q rs (λ s. after (Gives (record { ty = u; word = w }) s))
   sets i u a sh text ls after q to home free r w t old rs c e len h k g go =
       goes_by code a sh text (configuration code q rs frames) (setting (configuration code q rs frames) r w) (effect_at code q i rs frames c.instr ∙ e)
-      (go_at a after ls to (suc q) home free r t u old c.to_is c.type_is go (record { of = u; word = w }) sh text (slice_set rs r w) (arrives a sh home free r w u old rs c.takes c.register len h k g))
+      (go_at a after ls to (suc q) home free r t u old c.to_is c.type_is go (record { ty = u; word = w }) sh text (slice_set rs r w) (arrives a sh home free r w u old rs c.takes c.register len h k g))
 
   -- an operator's result, or its trap
   pub results : {N K : ℕ} (i : Instr) (u : Scalar) (a : Around) (sh : Shared) (text : List ℕ) (ls : List Local) (after : Answer Value → Outcome) (q to : ℕ) (home : Option ℕ) (free r : ℕ) (t : Scalar) (old rs : List ℕ) (res : Result ℕ Trap) → GivenBy code layout home i u q to free r t → effect_of code (configuration code q rs frames) (Some i) ≡ or_traps res (setting (configuration code q rs frames) r) → IfOk res (λ w. w < modulus u) → length rs ≡ registers_in layout → Keeps layout home free old rs → IsGood code a sh → IsSeen a after → GoesOn N K a after ls to home free r t old → Does N K a sh text ls q rs (λ s. after (or_trap (typed_result u res) s))
@@ -124,7 +124,7 @@ module _ (p : Program) (call : Caller) (code : Code) (layout : Layout) (frames :
   reads i u (Within h) sh text ls after q to home free r cell t old rs c e bounded len k g s go =
       let w = slice_index sh.memory cell in
       reads_by code h sh text (configuration code q rs frames) cell (setting (configuration code q rs frames) r) (effect_at code q i rs frames c.instr ∙ e)
-      (go_at (Within h) after ls to (suc q) home free r t u old c.to_is c.type_is go (record { of = u; word = w }) sh text (slice_set rs r w) (arrives (Within h) sh home free r w u old rs c.takes c.register len (word_read code sh.memory cell u g.0 bounded) k g))
+      (go_at (Within h) after ls to (suc q) home free r t u old c.to_is c.type_is go (record { ty = u; word = w }) sh text (slice_set rs r w) (arrives (Within h) sh home free r w u old rs c.takes c.register len (word_read code sh.memory cell u g.0 bounded) k g))
 
   -- a register is set, and the thread goes on from the place behind
   pub set_on : {N K : ℕ} (i : Instr) (w : ℕ) (u : Scalar) (a : Around) (sh : Shared) (text : List ℕ) (does : ℕ → Outcome) (q to : ℕ) (home : Option ℕ) (free r : ℕ) (old rs : List ℕ) → GivenBy code layout home i u q to free r u → effect_of code (configuration code q rs frames) (Some i) ≡ Effect.Pure (setting (configuration code q rs frames) r w) → length rs ≡ registers_in layout → Keeps layout home free old rs → ((new : List ℕ) → slice_index new r ≡ w → Keeps layout home free old new → Agrees (effect code) N K (holding a sh text (configuration code to new frames)) does) → Agrees (effect code) N K (holding a sh text (configuration code q rs frames)) does
@@ -154,7 +154,7 @@ module _ (p : Program) (call : Caller) (code : Code) (layout : Layout) (frames :
       remains s u v a sh text does q to home free ra r old rs c.0 c.1 (unconverted s u v.word (subst (λ o. v.word < modulus o) d.typed_so d.word) tt) d go
 
   -- an operator on two values that lie in registers, each in the type in which it is due
-  pub operates : {N K : ℕ} (op : BinaryOp) (v w : Value) (ta tb : Scalar) (ra rb : ℕ) (a : Around) (sh : Shared) (text : List ℕ) (ls : List Local) (after : Answer Value → Outcome) (q to : ℕ) (home : Option ℕ) (free r : ℕ) (t : Scalar) (old rs : List ℕ) → v.of ≡ ta → w.of ≡ tb → slice_index rs ra ≡ (value_in_type (operand_type op ta tb) v).word → slice_index rs rb ≡ (value_in_type (operand_type op tb ta) w).word → GivenBy code layout home (computing op (operand_type op ta tb) r ra rb) (result_type op (operand_type op ta tb)) q to free r t → length rs ≡ registers_in layout → Keeps layout home free old rs → IsGood code a sh → IsSeen a after → GoesOn N K a after ls to home free r t old → Does N K a sh text ls q rs (λ s. after (or_trap (binary op v w) s))
+  pub operates : {N K : ℕ} (op : BinaryOp) (v w : Value) (ta tb : Scalar) (ra rb : ℕ) (a : Around) (sh : Shared) (text : List ℕ) (ls : List Local) (after : Answer Value → Outcome) (q to : ℕ) (home : Option ℕ) (free r : ℕ) (t : Scalar) (old rs : List ℕ) → v.ty ≡ ta → w.ty ≡ tb → slice_index rs ra ≡ (value_in_type (operand_type op ta tb) v).word → slice_index rs rb ≡ (value_in_type (operand_type op tb ta) w).word → GivenBy code layout home (computing op (operand_type op ta tb) r ra rb) (result_type op (operand_type op ta tb)) q to free r t → length rs ≡ registers_in layout → Keeps layout home free old rs → IsGood code a sh → IsSeen a after → GoesOn N K a after ls to home free r t old → Does N K a sh text ls q rs (λ s. after (or_trap (binary op v w) s))
   operates op v w ta tb ra rb a sh text ls after q to home free r t old rs of_v of_w left right c len keeps good s go =
       let o : Scalar = operand_type op ta tb in
       let other : Scalar = operand_type op tb ta in
@@ -171,7 +171,7 @@ module _ (p : Program) (call : Caller) (code : Code) (layout : Layout) (frames :
   -- where a variable stands
   abbrev pub spot_in : Option (ℕ × Scalar) → Option GlobalCells → Action Spot
   spot_in (Some l) g = pure (InLocal l.0 l.1)
-  spot_in None g = or_astray g >>= λ g. pure (InCell g.cell g.global.of)
+  spot_in None g = or_astray g >>= λ g. pure (InCell g.cell g.global.ty)
 
   pub spot_from_is : (x : List ℕ) (o : Option (ℕ × Scalar)) (s : State) → spot_from p call x o s ≡ spot_in o (global_of p x) s
   spot_from_is x (Some l) s = refl
@@ -183,11 +183,11 @@ module _ (p : Program) (call : Caller) (code : Code) (layout : Layout) (frames :
   variable_runs : {N K : ℕ} (home : Option ℕ) (o : Option (ℕ × Scalar)) (g : Option GlobalCells) (scope : LocalScope) (from to free r : ℕ) (t : Scalar) → VariableCode code layout home (length scope) o g from to free r t → KnownLocal scope o → KnownCells code g → (a : Around) (sh : Shared) (text : List ℕ) (ls : List Local) (old : List ℕ) (after : Answer Value → Outcome) → Holds scope ls layout free old → IsGood code a sh → IsSeen a after → GoesOn N K a after ls to home free r t old → Does N K a sh text ls from old (λ s. after (go_on (spot_in o g s) fetch))
   variable_runs home (Some l) g scope from to free r t c type_is known a sh text ls old after h good s go =
       let below : l.0 < length ls = subst (λ n. l.0 < n) (sym (same_length scope ls h.like)) c.known in
-      go_at a after ls to from home free r t l.1 old c.to_is c.type_is go (record { of = l.1; word = word_at ls l.0 }) sh text old
+      go_at a after ls to from home free r t l.1 old c.to_is c.type_is go (record { ty = l.1; word = word_at ls l.0 }) sh text old
       (record { typed_so = refl; word = word_typed ls l.0 l.1 (type_like scope ls l.0 l.1 h.like type_is) h.words; here = ap (slice_index old) c.register ∙ h.each l.0 below; keeps = keeps_all layout home free old; good = good })
   variable_runs home None None scope from to free r t c type_is known a sh text ls old after h good s go = absurd c
   variable_runs home None (Some g) scope from to free r t c type_is known a sh text ls old after h good s go =
-      reads (Instr.Read r g.cell) g.global.of a sh text ls after from to home free r g.cell t old old c refl known.0 h.size_is (keeps_all layout home free old) good s go
+      reads (Instr.Read r g.cell) g.global.ty a sh text ls after from to home free r g.cell t old old c refl known.0 h.size_is (keeps_all layout home free old) good s go
 
   -- what an expression's instructions do, wherever they stand
   abbrev pub Follows : Option ℕ → LocalScope → Expr → (N K from to free r : ℕ) → Scalar → Around → Shared → List ℕ → List Local → List ℕ → (Answer Value → Outcome) → Type 0
@@ -201,9 +201,9 @@ module _ (p : Program) (call : Caller) (code : Code) (layout : Layout) (frames :
       Follows home scope e N K from to free r t a sh text ls old after
 
   -- an element that is read, once its index is there
-  indexed : {N K : ℕ} (g : GlobalCells) (ri : ℕ) (b : Bool) (k : Value) (a : Around) (sh : Shared) (text : List ℕ) (ls : List Local) (after : Answer Value → Outcome) (q to : ℕ) (home : Option ℕ) (free r : ℕ) (t : Scalar) (old rs : List ℕ) → AreBounded code g → nat_lt k.word (cells g.global) ≡ b → slice_index rs ri ≡ k.word → GivenBy code layout home (Instr.ReadAt r g.cell (cells g.global) ri) g.global.of q to free r t → length rs ≡ registers_in layout → Keeps layout home free old rs → IsGood code a sh → IsSeen a after → GoesOn N K a after ls to home free r t old → Does N K a sh text ls q rs (λ s. after (go_on ((if b then pure (InCell (g.cell + k.word) g.global.of) else trap Index) s) fetch))
+  indexed : {N K : ℕ} (g : GlobalCells) (ri : ℕ) (b : Bool) (k : Value) (a : Around) (sh : Shared) (text : List ℕ) (ls : List Local) (after : Answer Value → Outcome) (q to : ℕ) (home : Option ℕ) (free r : ℕ) (t : Scalar) (old rs : List ℕ) → AreBounded code g → nat_lt k.word (cells g.global) ≡ b → slice_index rs ri ≡ k.word → GivenBy code layout home (Instr.ReadAt r g.cell (cells g.global) ri) g.global.ty q to free r t → length rs ≡ registers_in layout → Keeps layout home free old rs → IsGood code a sh → IsSeen a after → GoesOn N K a after ls to home free r t old → Does N K a sh text ls q rs (λ s. after (go_on ((if b then pure (InCell (g.cell + k.word) g.global.ty) else trap Index) s) fetch))
   indexed g ri true k a sh text ls after q to home free r t old rs known e f c len kp good s go =
-      reads (Instr.ReadAt r g.cell (cells g.global) ri) g.global.of a sh text ls after q to home free r (g.cell + k.word) t old rs c
+      reads (Instr.ReadAt r g.cell (cells g.global) ri) g.global.ty a sh text ls after q to home free r (g.cell + k.word) t old rs c
       (ap (λ w. if nat_lt w (cells g.global) then Effect.Read (g.cell + w) (setting (configuration code q rs frames) r) else Effect.Traps Index) f
       ∙ ap (λ b. if b then Effect.Read (g.cell + k.word) (setting (configuration code q rs frames) r) else Effect.Traps Index) e)
       (known.1 k.word e) len kp good s go
@@ -242,7 +242,7 @@ module _ (p : Program) (call : Caller) (code : Code) (layout : Layout) (frames :
   -- the two places of a condition: the thread goes on from there with its value, or with the flag that it is
   abbrev pub GoesBoth : ℕ → ℕ → (a : Around) → (Answer Value → Outcome) → List Local → (met unmet free : ℕ) → List ℕ → Type 0
   GoesBoth N K a after ls met unmet free old =
-      (v : Value) (b : Bool) (sh : Shared) (text : List ℕ) (new : List ℕ) → is_zero v ≡ b → v.word < modulus v.of → Keeps layout None free old new → IsGood code a sh →
+      (v : Value) (b : Bool) (sh : Shared) (text : List ℕ) (new : List ℕ) → is_zero v ≡ b → v.word < modulus v.ty → Keeps layout None free old new → IsGood code a sh →
       Agrees (effect code) N K (holding a sh text (configuration code (if b then unmet else met) new frames)) (λ n. after (Gives v (state n ls (context_of a sh) text)))
 
   abbrev GoesFlag : ℕ → ℕ → (a : Around) → (Answer Value → Outcome) → List Local → (met unmet free : ℕ) → List ℕ → Type 0
@@ -254,11 +254,11 @@ module _ (p : Program) (call : Caller) (code : Code) (layout : Layout) (frames :
   abbrev GoesTruth : ℕ → ℕ → (a : Around) → (Answer Value → Outcome) → List Local → (met unmet free : ℕ) → List ℕ → Type 0
   GoesTruth N K a after ls met unmet free old =
       (t : Scalar) (b : Bool) (sh : Shared) (text : List ℕ) (new : List ℕ) → Keeps layout None free old new → IsGood code a sh →
-      Agrees (effect code) N K (holding a sh text (configuration code (if b then unmet else met) new frames)) (λ n. after (Gives (record { of = t; word = truth (not b) }) (state n ls (context_of a sh) text)))
+      Agrees (effect code) N K (holding a sh text (configuration code (if b then unmet else met) new frames)) (λ n. after (Gives (record { ty = t; word = truth (not b) }) (state n ls (context_of a sh) text)))
 
   truth_of : {N K : ℕ} (a : Around) (after : Answer Value → Outcome) (ls : List Local) (met unmet free : ℕ) (old : List ℕ) → GoesBoth N K a after ls met unmet free old → GoesTruth N K a after ls met unmet free old
-  truth_of a after ls met unmet free old go t true sh text new k g = go (record { of = t; word = truth false }) true sh text new refl (truth_under t false) k g
-  truth_of a after ls met unmet free old go t false sh text new k g = go (record { of = t; word = truth true }) false sh text new refl (truth_under t true) k g
+  truth_of a after ls met unmet free old go t true sh text new k g = go (record { ty = t; word = truth false }) true sh text new refl (truth_under t false) k g
+  truth_of a after ls met unmet free old go t false sh text new k g = go (record { ty = t; word = truth true }) false sh text new refl (truth_under t true) k g
 
   flag_of : {N K : ℕ} (a : Around) (after : Answer Value → Outcome) (ls : List Local) (met unmet free : ℕ) (old : List ℕ) → GoesTruth N K a after ls met unmet free old → GoesFlag N K a after ls met unmet free old
   flag_of a after ls met unmet free old go b sh text new k g = go Int b sh text new k g
@@ -347,7 +347,7 @@ module _ (p : Program) (call : Caller) (code : Code) (layout : Layout) (frames :
           (goes_tested a after ls met unmet free new (goes_later a after ls met unmet free old new k go))))
 
   -- the other way round
-  goes_swapped : {N K : ℕ} (a : Around) (after : Answer Value → Outcome) (ls : List Local) (met unmet free : ℕ) (old : List ℕ) (rest : Value → Action Value) → ((v : Value) (s : State) → v.word < modulus v.of → rest v s ≡ Gives (flag (is_zero v)) s) → GoesFlag N K a after ls met unmet free old → GoesBoth N K a (λ q. after (go_on q rest)) ls unmet met free old
+  goes_swapped : {N K : ℕ} (a : Around) (after : Answer Value → Outcome) (ls : List Local) (met unmet free : ℕ) (old : List ℕ) (rest : Value → Action Value) → ((v : Value) (s : State) → v.word < modulus v.ty → rest v s ≡ Gives (flag (is_zero v)) s) → GoesFlag N K a after ls met unmet free old → GoesBoth N K a (λ q. after (go_on q rest)) ls unmet met free old
   goes_swapped a after ls met unmet free old rest is go v true sh text new e below k g =
       same (effect code) (λ n. after (Gives (flag true) (state n ls (context_of a sh) text))) (λ n. ap after (is v (state n ls (context_of a sh) text) below) ∙ ap (λ x. after (Gives (flag x) (state n ls (context_of a sh) text))) e)
       (go false sh text new k g)
@@ -356,7 +356,7 @@ module _ (p : Program) (call : Caller) (code : Code) (layout : Layout) (frames :
       (go true sh text new k g)
 
   -- a comparison with the constant 0
-  goes_same : {N K : ℕ} (a : Around) (after : Answer Value → Outcome) (ls : List Local) (met unmet free : ℕ) (old : List ℕ) (rest : Value → Action Value) → ((v : Value) (s : State) → v.word < modulus v.of → rest v s ≡ Gives (flag (not (is_zero v))) s) → GoesFlag N K a after ls met unmet free old → GoesBoth N K a (λ q. after (go_on q rest)) ls met unmet free old
+  goes_same : {N K : ℕ} (a : Around) (after : Answer Value → Outcome) (ls : List Local) (met unmet free : ℕ) (old : List ℕ) (rest : Value → Action Value) → ((v : Value) (s : State) → v.word < modulus v.ty → rest v s ≡ Gives (flag (not (is_zero v))) s) → GoesFlag N K a after ls met unmet free old → GoesBoth N K a (λ q. after (go_on q rest)) ls met unmet free old
   goes_same a after ls met unmet free old rest is go v b sh text new e below k g =
       same (effect code) (λ n. after (Gives (flag (not b)) (state n ls (context_of a sh) text))) (λ n. ap after (is v (state n ls (context_of a sh) text) below) ∙ ap (λ x. after (Gives (flag (not x)) (state n ls (context_of a sh) text))) e)
       (go b sh text new k g)
@@ -365,13 +365,13 @@ module _ (p : Program) (call : Caller) (code : Code) (layout : Layout) (frames :
   comparing op y v = expr p call y >>= λ w. or_trap (binary op v w)
 
   -- the word of the constant, and whether the other side is 0
-  zero_asked : (t : Scalar) (v : Value) → v.word < modulus v.of → (word_of (common v.of t) (number v.of v.word) == word_of (common t v.of) (number t (word_of t (pos 0)))) ≡ is_zero v
-  zero_asked t v below = ap (λ w. word_of (common v.of t) (number v.of v.word) == w) (zero_in (common t v.of) t) ∙ zero_kept v.of t v.word below
+  zero_asked : (t : Scalar) (v : Value) → v.word < modulus v.ty → (word_of (common v.ty t) (number v.ty v.word) == word_of (common t v.ty) (number t (word_of t (pos 0)))) ≡ is_zero v
+  zero_asked t v below = ap (λ w. word_of (common v.ty t) (number v.ty v.word) == w) (zero_in (common t v.ty) t) ∙ zero_kept v.ty t v.word below
 
-  zero_differs : (t : Scalar) (at : Span) (v : Value) (s : State) → v.word < modulus v.of → comparing NotEqual (Constant 0 t at) v s ≡ Gives (flag (not (is_zero v))) s
+  zero_differs : (t : Scalar) (at : Span) (v : Value) (s : State) → v.word < modulus v.ty → comparing NotEqual (Constant 0 t at) v s ≡ Gives (flag (not (is_zero v))) s
   zero_differs t at v s below = ap (λ b. Gives (flag (not b)) s) (zero_asked t v below)
 
-  zero_equals : (t : Scalar) (at : Span) (v : Value) (s : State) → v.word < modulus v.of → comparing Equal (Constant 0 t at) v s ≡ Gives (flag (is_zero v)) s
+  zero_equals : (t : Scalar) (at : Span) (v : Value) (s : State) → v.word < modulus v.ty → comparing Equal (Constant 0 t at) v s ≡ Gives (flag (is_zero v)) s
   zero_equals t at v s below = ap (λ b. Gives (flag b) s) (zero_asked t v below)
 
   compared_follows : (scope : LocalScope) (op : BinaryOp) (x y : Expr) (A : Branching) → BranchingFollows scope (expr p call x) A → FlagFollows scope (expr p call x >>= comparing op y) (ComparedWithZero code layout op y A)
@@ -403,8 +403,8 @@ module _ (p : Program) (call : Caller) (code : Code) (layout : Layout) (frames :
 
   moved : {N K : ℕ} (x : Value) (a : Around) (sh : Shared) (text : List ℕ) (ls : List Local) (after : Answer Value → Outcome) (q to : ℕ) (home : Option ℕ) (free r rc : ℕ) (t : Scalar) (old rs : List ℕ) → GivenBy code layout home (Instr.Move r rc) t q to free r t → Computed a t rc None free old x sh rs → length rs ≡ registers_in layout → GoesOn N K a after ls to home free r t old → Does N K a sh text ls q rs (λ s. after (Gives x s))
   moved x a sh text ls after q to home free r rc t old rs c d len go =
-      same (effect code) (λ n. after (Gives (record { of = t; word = slice_index rs rc }) (state n ls (context_of a sh) text)))
-      (λ n j. after (Gives (record { of = d.typed_so j; word = sym d.here j }) (state n ls (context_of a sh) text)))
+      same (effect code) (λ n. after (Gives (record { ty = t; word = slice_index rs rc }) (state n ls (context_of a sh) text)))
+      (λ n j. after (Gives (record { ty = d.typed_so j; word = sym d.here j }) (state n ls (context_of a sh) text)))
       (sets (Instr.Move r rc) t a sh text ls after q to home free r (slice_index rs rc) t old rs c refl len (subst (λ z. z < modulus t) (sym d.here) (subst (λ z. x.word < modulus z) d.typed_so d.word)) (keeps_more layout home free old rs d.keeps) d.good go)
 
   -- a word that is set, or that is preloaded
@@ -417,7 +417,7 @@ module _ (p : Program) (call : Caller) (code : Code) (layout : Layout) (frames :
 
   -- a value of type t that is due in u: the register has its word in that type
   pub record Taken (a : Around) (u t : Scalar) (r : ℕ) (home : Option ℕ) (free : ℕ) (old : List ℕ) (v : Value) (sh : Shared) (new : List ℕ) : Type 0 where
-    pub typed_so : v.of ≡ t
+    pub typed_so : v.ty ≡ t
     pub here : slice_index new r ≡ (value_in_type u v).word
     pub keeps : Keeps layout home free old new
     pub good : IsGood code a sh
@@ -434,7 +434,7 @@ module _ (p : Program) (call : Caller) (code : Code) (layout : Layout) (frames :
 
   pub due_follows : (home : Option ℕ) (scope : LocalScope) (e : Expr) → AlwaysFollows home scope e → (u : Scalar) (N K from to free r : ℕ) (t : Scalar) (a : Around) (sh : Shared) (text : List ℕ) (ls : List Local) (old : List ℕ) (after : Answer Value → Outcome) → DueCode code layout home e (ExprCode code layout p home scope e) u from to free r t → Holds scope ls layout free old → IsGood code a sh → IsSeen a after → GoesTaken N K a after ls to home free r u t old → Does N K a sh text ls from old (λ s. after (expr p call e s))
   due_follows home scope (Constant n x at) ih u N K from to free r t a sh text ls old after c h good s go =
-      let v : Value = record { of = x; word = word_of x (pos n) } in
+      let v : Value = record { ty = x; word = word_of x (pos n) } in
       set_on (Instr.Constant r (constant_in u x n)) (constant_in u x n) u a sh text (λ m. after (Gives v (state m ls (context_of a sh) text))) from to home free r old old c.1 refl h.size_is (keeps_all layout home free old)
       (λ new here keeps. go v sh text new (record { typed_so = sym c.0; here = here; keeps = keeps; good = good }))
   due_follows home scope e ih u N K from to free r t a sh text ls old after c h good s go =
@@ -538,15 +538,15 @@ module _ (p : Program) (call : Caller) (code : Code) (layout : Layout) (frames :
       (N K : ℕ) (x : List ℕ) (vs : List Value) (number q d : ℕ) (args : List ℕ) (g : FunctionCode) (f : Function) (body : Stmts)
       (a : Around) (sh : Shared) (text : List ℕ) (ls : List Local) (rs : List ℕ) (after : Answer Value → Outcome) →
       InstructionAt code q (Instr.Call number d (argument_order f.parameters args)) → slice_get code.functions number ≡ Some g → g.name ≡ x → definition_of p x ≡ Some (f, body) →
-      map (slice_index rs) args ≡ handed (map (λ q. q.of) f.parameters) vs → IsGood code a sh → IsSeen a after →
-      ((v : Value) (sh1 : Shared) (text1 : List ℕ) → v.of ≡ unwrap_or f.result Int → v.word < modulus v.of → IsGood code a sh1 →
+      map (slice_index rs) args ≡ handed (map (λ q. q.ty) f.parameters) vs → IsGood code a sh → IsSeen a after →
+      ((v : Value) (sh1 : Shared) (text1 : List ℕ) → v.ty ≡ unwrap_or f.result Int → v.word < modulus v.ty → IsGood code a sh1 →
       Agrees (effect code) N K (holding a sh1 text1 (configuration code (suc q) (slice_set rs d v.word) frames)) (λ n. after (Gives v (state n ls (context_of a sh1) text1)))) →
       Agrees (effect code) N K (holding a sh text (configuration code q rs frames)) (λ n. after (call x vs (state n ls (context_of a sh) text)))
 
   -- an operand of an operator
   pub operand_follows : (scope : LocalScope) (e : Expr) → AlwaysFollows None scope e → (u : Scalar) (N K from to free r : ℕ) (t : Scalar) (a : Around) (sh : Shared) (text : List ℕ) (ls : List Local) (old : List ℕ) (after : Answer Value → Outcome) → OperandCode code layout e (ExprCode code layout p None scope e) u from to free r t → Holds scope ls layout free old → IsGood code a sh → IsSeen a after → GoesTaken N K a after ls to None free r u t old → Does N K a sh text ls from old (λ s. after (expr p call e s))
   operand_follows scope (Constant n x at) ih u N K from to free r t a sh text ls old after c h good s go =
-      let v : Value = record { of = x; word = word_of x (pos n) } in
+      let v : Value = record { ty = x; word = word_of x (pos n) } in
       word_comes (constant_in u x n) u a sh text scope ls (λ m. after (Gives v (state m ls (context_of a sh) text))) from to free r old c.1 h
       (λ new here keeps. go v sh text new (record { typed_so = sym c.0; here = here; keeps = keeps; good = good }))
   operand_follows scope e ih u N K from to free r t a sh text ls old after c h good s go =
@@ -583,7 +583,7 @@ module _ (p : Program) (call : Caller) (code : Code) (layout : Layout) (frames :
           element_follows home (global_of p x.text) scope i (expr_follows None scope i) N K from to free r t a sh text ls old after c (are x.text) h good s go
       expr_follows home scope (Call f es at) N K from to free r t a sh text ls old after c h good s go =
           let rest : List Value → Action Value = λ vs. tick >> call f.text vs in
-          args_follow scope (map (λ q. q.of) c.f.parameters) es N K from c.mid free c.registers_of a sh text ls old (λ q. after (go_on q rest)) c.gives_args h good (on_seen a after rest s)
+          args_follow scope (map (λ q. q.ty) c.f.parameters) es N K from c.mid free c.registers_of a sh text ls old (λ q. after (go_on q rest)) c.gives_args h good (on_seen a after rest s)
           (λ vs sh1 text1 rs1 words keeps good1.
           tick_goes code a after (call f.text vs) sh1 ls text1 (configuration code c.mid rs1 frames) s
           (cf N K f.text vs c.number c.mid r c.registers_of c.function c.f c.body a sh1 text1 ls rs1 after c.calls.instr c.known c.named c.defined words good1 s
@@ -624,8 +624,8 @@ module _ (p : Program) (call : Caller) (code : Code) (layout : Layout) (frames :
           let rest : Value → Action Value = λ v. or_trap (unary Complement v) in
           expr_follows None scope e N K from c.mid free c.ra c.ta a sh text ls old (λ q. after (go_on q rest)) c.computes h good (on_seen a after rest s)
           (λ v sh1 text1 rs1 d.
-          same (effect code) (λ n. after (Gives (record { of = c.ta; word = bitwise_complement c.ta (slice_index rs1 c.ra) }) (state n ls (context_of a sh1) text1)))
-          (λ n. ap (λ x. after (Gives x (state n ls (context_of a sh1) text1))) (ap (λ o. record { of = o; word = bitwise_complement o v.word }) d.typed_so ∙ ap (λ w. record { of = c.ta; word = bitwise_complement c.ta w }) (sym d.here)))
+          same (effect code) (λ n. after (Gives (record { ty = c.ta; word = bitwise_complement c.ta (slice_index rs1 c.ra) }) (state n ls (context_of a sh1) text1)))
+          (λ n. ap (λ x. after (Gives x (state n ls (context_of a sh1) text1))) (ap (λ o. record { ty = o; word = bitwise_complement o v.word }) d.typed_so ∙ ap (λ w. record { ty = c.ta; word = bitwise_complement c.ta w }) (sym d.here)))
           (sets (complementing c.ta r c.ra) c.ta a sh1 text1 ls after c.mid to home free r (bitwise_complement c.ta (slice_index rs1 c.ra)) t old rs1 c.operates (complementing_does code c.ta (configuration code c.mid rs1 frames) r c.ra) (d.keeps.size ∙ h.size_is) (complement_below c.ta (slice_index rs1 c.ra)) (keeps_more layout home free old rs1 d.keeps) d.good go))
       expr_follows home scope (Binary op x y at) N K from to free r t a sh text ls old after c h good s go =
           let rest : Value → Action Value = λ v. expr p call y >>= λ w. or_trap (binary op v w) in
@@ -661,7 +661,7 @@ module _ (p : Program) (call : Caller) (code : Code) (layout : Layout) (frames :
           let rest : Value → Action Value = λ v. pure (value_in_type u v) in
           own_follows scope e N K from met unmet free a sh text ls old (λ q. after (go_on q rest)) c h good (on_seen a after rest s)
           (λ t b sh1 text1 new k g.
-          same (effect code) (λ n. after (Gives (record { of = u; word = truth (not b) }) (state n ls (context_of a sh1) text1)))
+          same (effect code) (λ n. after (Gives (record { ty = u; word = truth (not b) }) (state n ls (context_of a sh1) text1)))
           (λ n. ap (λ v. after (Gives v (state n ls (context_of a sh1) text1))) (truth_converted t u (not b)))
           (go u b sh1 text1 new k g))
       own_follows scope (Unary Keep e at) N K from met unmet free a sh text ls old after c h good s go =

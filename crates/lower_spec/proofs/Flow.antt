@@ -63,10 +63,10 @@ pub declared_grows : (t : Scalar) (ds : List Declarator) (scope : LocalScope) �
 declared_grows t [] scope = ([], sym (append-nil scope))
 declared_grows t (d ∷ ds) scope =
     let g = declared_grows t ds (with_local scope d.name.text t) in
-    (record { name = d.name.text; of = t; word = 0 } ∷ g.0, g.1 ∙ append_assoc scope (record { name = d.name.text; of = t; word = 0 } ∷ []) g.0)
+    (record { name = d.name.text; ty = t; word = 0 } ∷ g.0, g.1 ∙ append_assoc scope (record { name = d.name.text; ty = t; word = 0 } ∷ []) g.0)
 
 pub after_grows : (st : Stmt) (scope : LocalScope) → (more : LocalScope) × (locals_after st scope ≡ scope ++ more)
-after_grows (Declare d) scope = declared_grows d.of d.declarators scope
+after_grows (Declare d) scope = declared_grows d.ty d.declarators scope
 after_grows Empty scope = ([], sym (append-nil scope))
 after_grows (Do s) scope = ([], sym (append-nil scope))
 after_grows (Block ss) scope = ([], sym (append-nil scope))
@@ -235,9 +235,9 @@ module _ (p : Program) (call : Caller) (code : Code) (layout : Layout) (frames :
   }
 
   -- a declaration: its register is 0, and then has its first value
-  zeroed : (scope : LocalScope) (x : List ℕ) (t : Scalar) (ls : List Local) (rs : List ℕ) → length scope < layout.writable → Here scope ls rs → Here (with_local scope x t) (ls ++ record { name = x; of = t; word = 0 } ∷ []) (slice_set rs (length scope) 0)
+  zeroed : (scope : LocalScope) (x : List ℕ) (t : Scalar) (ls : List Local) (rs : List ℕ) → length scope < layout.writable → Here scope ls rs → Here (with_local scope x t) (ls ++ record { name = x; ty = t; word = 0 } ∷ []) (slice_set rs (length scope) 0)
   zeroed scope x t ls rs below h =
-      let new : Local = record { name = x; of = t; word = 0 } in
+      let new : Local = record { name = x; ty = t; word = 0 } in
       let len : length ls ≡ length scope = length_like scope ls h.like in
       let len2 : length (ls ++ new ∷ []) ≡ length ls + 1 = length-append ls (new ∷ []) in
       let len3 : length (scope ++ new ∷ []) ≡ length scope + 1 = length-append scope (new ∷ []) in
@@ -272,7 +272,7 @@ module _ (p : Program) (call : Caller) (code : Code) (layout : Layout) (frames :
   declare_follows {N = N} {K = K} t [] x scope from to c a sh text ls old after h good s go =
       subst (λ q. Goes p call code layout frames cf are N K a sh text ls q old (λ s. after (Gives Next s))) c (go sh text ls old good h)
   declare_follows {N = N} {K = K} t (d ∷ ds) x scope from to c a sh text ls old after h good s go =
-      let new : Local = record { name = d.name.text; of = t; word = 0 } in
+      let new : Local = record { name = d.name.text; ty = t; word = 0 } in
       let inner : LocalScope = with_local scope d.name.text t in
       let rs1 : List ℕ = slice_set old (length scope) 0 in
       let len : length ls ≡ length scope = length_like scope ls h.like in
@@ -463,12 +463,12 @@ module _ (p : Program) (call : Caller) (code : Code) (layout : Layout) (frames :
   start_follows : {N K : ℕ} (st : Start) (x : Exits) (scope : LocalScope) (from to : ℕ) → StartCode code layout p scope st from to → (a : Around) (sh : Shared) (text : List ℕ) (ls : List Local) (old : List ℕ) (after : Answer Completion → Outcome) → Here scope ls old → IsGood code a sh → IsSeen a after → GoesNext p call code layout frames cf are N K a after (locals_of_start st scope) to → Goes p call code layout frames cf are N K a sh text ls from old (λ s. after (start_with p call st s))
   start_follows {N = N} {K = K} Nothing x scope from to c a sh text ls old after h good s go =
       subst (λ q. Goes p call code layout frames cf are N K a sh text ls q old (λ s. after (Gives Next s))) c (go sh text ls old good h)
-  start_follows (Declares d) x scope from to c a sh text ls old after h good s go = declare_follows d.of d.declarators x scope from to c a sh text ls old after h good s go
+  start_follows (Declares d) x scope from to c a sh text ls old after h good s go = declare_follows d.ty d.declarators x scope from to c a sh text ls old after h good s go
   start_follows (Does st) x scope from to c a sh text ls old after h good s go = simple_follows p call code layout frames cf are scope st from to c a sh text ls old after h good s go
 
   start_grows : (st : Start) (scope : LocalScope) → (more : LocalScope) × (locals_of_start st scope ≡ scope ++ more)
   start_grows Nothing scope = ([], sym (append-nil scope))
-  start_grows (Declares d) scope = declared_grows d.of d.declarators scope
+  start_grows (Declares d) scope = declared_grows d.ty d.declarators scope
   start_grows (Does st) scope = ([], sym (append-nil scope))
 
   -- a scope that a run ends with no statements
@@ -682,8 +682,8 @@ module _ (p : Program) (call : Caller) (code : Code) (layout : Layout) (frames :
       stmt_follows Empty N K x scope from to a sh text ls old after c h good s go =
           timed (pure Next) N K from a sh text ls old after s (go.ends Next sh text ls old from good (sym c, h))
       stmt_follows (Declare d) N K x scope from to a sh text ls old after c h good s go =
-          timed (declare p call d.of d.declarators) N K from a sh text ls old after s
-          (declare_follows d.of d.declarators x scope from to c a sh text ls old after h good s (λ sh1 text1 ls1 rs1 good1 h1. go.ends Next sh1 text1 ls1 rs1 to good1 (refl, h1)))
+          timed (declare p call d.ty d.declarators) N K from a sh text ls old after s
+          (declare_follows d.ty d.declarators x scope from to c a sh text ls old after h good s (λ sh1 text1 ls1 rs1 good1 h1. go.ends Next sh1 text1 ls1 rs1 to good1 (refl, h1)))
       stmt_follows (Do st) N K x scope from to a sh text ls old after c h good s go =
           timed (simple p call st) N K from a sh text ls old after s
           (simple_follows p call code layout frames cf are scope st from to c a sh text ls old after h good s (λ sh1 text1 ls1 rs1 good1 h1. go.ends Next sh1 text1 ls1 rs1 to good1 (refl, h1)))

@@ -13,12 +13,12 @@ use Rattle.lower_spec.specs.Expressions.{LocalScope, IsLike}
 
 -- each local holds a word of its type
 abbrev pub AreWords : List Local → Type 0
-AreWords ls = AllByRecursion (λ (l : Local). l.word < modulus l.of) ls
+AreWords ls = AllByRecursion (λ (l : Local). l.word < modulus l.ty) ls
 
 -- the local at a place has this type, if there is one
 abbrev pub TypeIs : List Local → ℕ → Scalar → Type 0
 TypeIs [] i t = Unit {0}
-TypeIs (l ∷ ls) zero t = l.of ≡ t
+TypeIs (l ∷ ls) zero t = l.ty ≡ t
 TypeIs (l ∷ ls) (suc i) t = TypeIs ls i t
 
 pub word_typed : (ls : List Local) (i : ℕ) (t : Scalar) → TypeIs ls i t → AreWords ls → word_at ls i < modulus t
@@ -89,11 +89,11 @@ pub word_last : (ls : List Local) (l : Local) → word_at (ls ++ l ∷ []) (leng
 word_last [] l = refl
 word_last (k ∷ ls) l = word_last ls l
 
-pub words_new : (ls : List Local) (l : Local) → AreWords ls → l.word < modulus l.of → AreWords (ls ++ l ∷ [])
+pub words_new : (ls : List Local) (l : Local) → AreWords ls → l.word < modulus l.ty → AreWords (ls ++ l ∷ [])
 words_new [] l h b = (b, tt)
 words_new (k ∷ ls) l h b = (h.0, words_new ls l h.1 b)
 
-pub type_last : (ls : List Local) (l : Local) → TypeIs (ls ++ l ∷ []) (length ls) l.of
+pub type_last : (ls : List Local) (l : Local) → TypeIs (ls ++ l ∷ []) (length ls) l.ty
 type_last [] l = refl
 type_last (k ∷ ls) l = type_last ls l
 
@@ -121,11 +121,11 @@ newest_behind before (k ∷ ls) x = by (newest_from (length before + 1) ls x) (l
         subst (λ (n : ℕ). KnownLocal (before ++ k ∷ ls) (newest_from n ls x)) (length-append before (k ∷ []))
         (subst (λ (ms : List Local). KnownLocal ms (newest_from (length (before ++ k ∷ [])) ls x)) (append_assoc before (k ∷ []) ls) h)
 
-    here : (before : List Local) → TypeIs (before ++ k ∷ ls) (length before) k.of
+    here : (before : List Local) → TypeIs (before ++ k ∷ ls) (length before) k.ty
     here [] = refl
     here (b ∷ before) = here before
 
-    by : (o : Option (ℕ × Scalar)) → KnownLocal (before ++ k ∷ ls) o → (b : Bool) → KnownLocal (before ++ k ∷ ls) (option_or o (if b then Some (length before, k.of) else None))
+    by : (o : Option (ℕ × Scalar)) → KnownLocal (before ++ k ∷ ls) o → (b : Bool) → KnownLocal (before ++ k ∷ ls) (option_or o (if b then Some (length before, k.ty) else None))
     by (Some l) h b = h
     by None h true = here before
     by None h false = tt

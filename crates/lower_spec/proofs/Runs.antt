@@ -189,7 +189,7 @@ module _ (code : Code) where
 
   -- the cells of a global have the bound of its type: the first, and each that an index reaches
   abbrev pub AreBounded : GlobalCells → Type 0
-  AreBounded g = IsBounded g.cell g.global.of × ((k : ℕ) → nat_lt k (cells g.global) ≡ true → IsBounded (g.cell + k) g.global.of)
+  AreBounded g = IsBounded g.cell g.global.ty × ((k : ℕ) → nat_lt k (cells g.global) ≡ true → IsBounded (g.cell + k) g.global.ty)
 
   abbrev pub KnownCells : Option GlobalCells → Type 0
   KnownCells None = Unit {0}

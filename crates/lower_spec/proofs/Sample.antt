@@ -35,16 +35,16 @@ abbrev looping : Stmt
 looping = While (Binary Less (Variable (named (codes "i"))) (Constant 3 Int nowhere) nowhere) (Block (Stmts.◌∷◌ adding (Stmts.◌∷◌ stepping Stmts.[])))
 
 abbrev declaring : Stmt
-declaring = Declare (record { of = Int; declarators = record { name = named (codes "i"); first = Some (Constant 0 Int nowhere) } ∷ [] })
+declaring = Declare (record { ty = Int; declarators = record { name = named (codes "i"); first = Some (Constant 0 Int nowhere) } ∷ [] })
 
 abbrev body : Stmts
 body = Stmts.◌∷◌ declaring (Stmts.◌∷◌ looping Stmts.[])
 
 abbrev worker : Function
-worker = record { attributes = []; result = None; name = named (codes "worker"); parameters = record { of = Int; name = Some (named (codes "self")) } ∷ []; body = Some body }
+worker = record { attributes = []; result = None; name = named (codes "worker"); parameters = record { ty = Int; name = Some (named (codes "self")) } ∷ []; body = Some body }
 
 abbrev x : Global
-x = record { of = Int; name = named (codes "x"); length = None; first = [] }
+x = record { ty = Int; name = named (codes "x"); length = None; first = [] }
 
 abbrev program : Program
 program = Shares (x ∷ []) ∷ Defines worker ∷ []

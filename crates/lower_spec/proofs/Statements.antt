@@ -69,13 +69,13 @@ module _ (p : Program) (call : Caller) (code : Code) (layout : Layout) (frames :
   -- where a target stands
   abbrev pub IsAt : LocalScope → Target → List ℕ → Spot → Type 0
   IsAt scope (LocalAt l) rs at = (at ≡ InLocal l.0 l.1) × (l.0 < length scope) × TypeIs scope l.0 l.1
-  IsAt scope (CellAt g) rs at = (at ≡ InCell g.cell g.global.of) × AreBounded code g
-  IsAt scope (ElementOf g ri) rs at = (at ≡ InCell (g.cell + slice_index rs ri) g.global.of) × (nat_lt (slice_index rs ri) (cells g.global) ≡ true) × AreBounded code g
+  IsAt scope (CellAt g) rs at = (at ≡ InCell g.cell g.global.ty) × AreBounded code g
+  IsAt scope (ElementOf g ri) rs at = (at ≡ InCell (g.cell + slice_index rs ri) g.global.ty) × (nat_lt (slice_index rs ri) (cells g.global) ≡ true) × AreBounded code g
 
   at_kept : (scope : LocalScope) (tg : Target) (later : ℕ) (old new : List ℕ) (at : Spot) → Spares tg later → Keeps layout None later old new → IsAt scope tg old at → IsAt scope tg new at
   at_kept scope (LocalAt l) later old new at s k i = i
   at_kept scope (CellAt g) later old new at s k i = i
-  at_kept scope (ElementOf g ri) later old new at s k i = (i.0 ∙ ap (λ w. InCell (g.cell + w) g.global.of) (sym (k.below ri s tt)), ap (λ w. nat_lt w (cells g.global)) (k.below ri s tt) ∙ i.1, i.2)
+  at_kept scope (ElementOf g ri) later old new at s k i = (i.0 ∙ ap (λ w. InCell (g.cell + w) g.global.ty) (sym (k.below ri s tt)), ap (λ w. nat_lt w (cells g.global)) (k.below ri s tt) ∙ i.1, i.2)
 
   abbrev pub Goes : ℕ → ℕ → Around → Shared → List ℕ → List Local → ℕ → List ℕ → (State → Outcome) → Type 0
   Goes N K a sh text ls from registers does = Does p call code layout frames N K a sh text ls from registers does
@@ -96,8 +96,8 @@ module _ (p : Program) (call : Caller) (code : Code) (layout : Layout) (frames :
   -- that is the residue
   abbrev pub Lies : Target → (w : ℕ) → Value → Type 0
   Lies (LocalAt l) w v = w ≡ (value_in_type l.1 v).word
-  Lies (CellAt g) w v = residue g.global.of w ≡ (value_in_type g.global.of v).word
-  Lies (ElementOf g ri) w v = residue g.global.of w ≡ (value_in_type g.global.of v).word
+  Lies (CellAt g) w v = residue g.global.ty w ≡ (value_in_type g.global.ty v).word
+  Lies (ElementOf g ri) w v = residue g.global.ty w ≡ (value_in_type g.global.ty v).word
 
   stored_is : (cell : ℕ) (t : Scalar) (v : Value) (w : ℕ) → IsBounded code cell t → residue t w ≡ (value_in_type t v).word → (value_in_type t v).word ≡ word_for_cell code cell w
   stored_is cell t v w bounded e = sym e ∙ ap (λ n. w % n) (sym bounded)
@@ -129,14 +129,14 @@ module _ (p : Program) (call : Caller) (code : Code) (layout : Layout) (frames :
       (go sh text (with_word ls l.0 w) (slice_set rs l.0 w) g
       (written_local scope ls old (slice_set rs l.0 w) layout later l.0 w l.1 is_at.1 is_at.2 room h (keeps_set layout (Some l.0) later old rs l.0 w (inr refl) (omega (arith, in_scope, len, fits)) k) (get_or-set_same rs l.0 w 0 (omega (arith, in_scope, len, fits, size_is))) (subst (λ x. x < modulus l.1) (sym here) (word_below l.1 (number_of v))))))
   assigns (CellAt c) at scope later a sh text ls after q ra old rs v room is_at sp i k here h g s go =
-      same (effect code) (λ n. after (go_on (assign (InCell c.cell c.global.of) v (state n ls (context_of a sh) text)) (λ u. pure Next)))
+      same (effect code) (λ n. after (go_on (assign (InCell c.cell c.global.ty) v (state n ls (context_of a sh) text)) (λ u. pure Next)))
       (λ n. ap (λ x. after (go_on (assign x v (state n ls (context_of a sh) text)) (λ u. pure Next))) is_at.0)
-      (cell_written scope a sh text ls after (Instr.Write c.cell ra) q ra c.cell c.global.of rs v i refl is_at.1.0 here (lowered scope ls layout later old rs room h k) g s go)
+      (cell_written scope a sh text ls after (Instr.Write c.cell ra) q ra c.cell c.global.ty rs v i refl is_at.1.0 here (lowered scope ls layout later old rs room h k) g s go)
   assigns (ElementOf c ri) at scope later a sh text ls after q ra old rs v room is_at0 sp i k here h g s go =
       let is_at : IsAt scope (ElementOf c ri) rs at = at_kept scope (ElementOf c ri) later old rs at sp k is_at0 in
-      same (effect code) (λ n. after (go_on (assign (InCell (c.cell + slice_index rs ri) c.global.of) v (state n ls (context_of a sh) text)) (λ u. pure Next)))
+      same (effect code) (λ n. after (go_on (assign (InCell (c.cell + slice_index rs ri) c.global.ty) v (state n ls (context_of a sh) text)) (λ u. pure Next)))
       (λ n. ap (λ x. after (go_on (assign x v (state n ls (context_of a sh) text)) (λ u. pure Next))) is_at.0)
-      (cell_written scope a sh text ls after (Instr.WriteAt c.cell (cells c.global) ri ra) q ra (c.cell + slice_index rs ri) c.global.of rs v i
+      (cell_written scope a sh text ls after (Instr.WriteAt c.cell (cells c.global) ri ra) q ra (c.cell + slice_index rs ri) c.global.ty rs v i
       (ap (λ b. if b then Effect.Write (c.cell + slice_index rs ri) (word_for_cell code (c.cell + slice_index rs ri) (slice_index rs ra)) (configuration code (suc q) rs frames) else Effect.Traps Index) is_at.1)
       (is_at.2.1 (slice_index rs ri) is_at.1) here (lowered scope ls layout later old rs room h k) g s go)
 
@@ -163,7 +163,7 @@ module _ (p : Program) (call : Caller) (code : Code) (layout : Layout) (frames :
       let below : v.word < modulus x = subst (λ o. v.word < modulus o) d.typed_so d.word in
       let there : slice_index rs r ≡ v.word = ap (slice_index rs) c.1 ∙ d.here in
       subst (λ y. Agrees (effect code) N K (holding a sh text (configuration code y rs frames)) does) c.0
-      (go rs (ap (residue t) there ∙ sym (cell_residue x t v.word below tt) ∙ ap (λ o. word_of t (number_of (record { of = o; word = v.word }))) (sym d.typed_so)) d.keeps)
+      (go rs (ap (residue t) there ∙ sym (cell_residue x t v.word below tt) ∙ ap (λ o. word_of t (number_of (record { ty = o; word = v.word }))) (sym d.typed_so)) d.keeps)
 
   -- a value in a register goes to its target, once it is converted
   pub stores : {N K : ℕ} (tg : Target) (at : Spot) (scope : LocalScope) (later : ℕ) (a : Around) (sh : Shared) (text : List ℕ) (ls : List Local) (after : Answer Completion → Outcome) (q to ra : ℕ) (t : Scalar) (old rs : List ℕ) (v : Value) → length scope ≤ later → IsAt scope tg old at → Spares tg later → StoredCode code layout p tg t ra q to later → Computed p call code layout frames a t ra (home_of tg) later old v sh rs → length rs ≡ registers_in layout → Holds scope ls layout (length scope) old → IsSeen a after → GoesNext N K a after scope to → Goes N K a sh text ls q rs (λ s. after (go_on (assign at v s) (λ u. pure Next)))
@@ -171,22 +171,22 @@ module _ (p : Program) (call : Caller) (code : Code) (layout : Layout) (frames :
       comes p call code layout frames t l.1 v a sh text (λ n. after (go_on (assign at v (state n ls (context_of a sh) text)) (λ u. pure Next))) q c.mid (Some l.0) later ra c.r old rs c.converts d len
       (λ new here keeps. stored_at (LocalAt l) at scope later a sh text ls after c.mid to c.r old new v room is_at sp c.stores keeps here h d.good s go)
   stores (CellAt g) at scope later a sh text ls after q to ra t old rs v room is_at sp c d len h s go =
-      widens t g.global.of v a sh text (λ n. after (go_on (assign at v (state n ls (context_of a sh) text)) (λ u. pure Next))) q c.mid later ra c.r old rs c.converts d len
+      widens t g.global.ty v a sh text (λ n. after (go_on (assign at v (state n ls (context_of a sh) text)) (λ u. pure Next))) q c.mid later ra c.r old rs c.converts d len
       (λ new here keeps. stored_at (CellAt g) at scope later a sh text ls after c.mid to c.r old new v room is_at sp c.stores keeps here h d.good s go)
   stores (ElementOf g ri) at scope later a sh text ls after q to ra t old rs v room is_at sp c d len h s go =
-      widens t g.global.of v a sh text (λ n. after (go_on (assign at v (state n ls (context_of a sh) text)) (λ u. pure Next))) q c.mid later ra c.r old rs c.converts d len
+      widens t g.global.ty v a sh text (λ n. after (go_on (assign at v (state n ls (context_of a sh) text)) (λ u. pure Next))) q c.mid later ra c.r old rs c.converts d len
       (λ new here keeps. stored_at (ElementOf g ri) at scope later a sh text ls after c.mid to c.r old new v room is_at sp c.stores keeps here h d.good s go)
 
   -- a constant's word lies at its target as it should
-  constant_lies : (tg : Target) (x : Scalar) (n w : ℕ) → w ≡ constant_in (target_type tg) x n → Lies tg w (record { of = x; word = word_of x (pos n) })
+  constant_lies : (tg : Target) (x : Scalar) (n w : ℕ) → w ≡ constant_in (target_type tg) x n → Lies tg w (record { ty = x; word = word_of x (pos n) })
   constant_lies (LocalAt l) x n w e = e
-  constant_lies (CellAt g) x n w e = ap (residue g.global.of) e ∙ residue_same g.global.of (constant_in g.global.of x n) (word_below g.global.of (number_of (record { of = x; word = word_of x (pos n) })))
-  constant_lies (ElementOf g ri) x n w e = ap (residue g.global.of) e ∙ residue_same g.global.of (constant_in g.global.of x n) (word_below g.global.of (number_of (record { of = x; word = word_of x (pos n) })))
+  constant_lies (CellAt g) x n w e = ap (residue g.global.ty) e ∙ residue_same g.global.ty (constant_in g.global.ty x n) (word_below g.global.ty (number_of (record { ty = x; word = word_of x (pos n) })))
+  constant_lies (ElementOf g ri) x n w e = ap (residue g.global.ty) e ∙ residue_same g.global.ty (constant_in g.global.ty x n) (word_below g.global.ty (number_of (record { ty = x; word = word_of x (pos n) })))
 
   -- an expression's value goes to its target, whatever follows
   pub expr_stores : {N K : ℕ} (e : Expr) (tg : Target) (at : Spot) (scope : LocalScope) (later : ℕ) (a : Around) (sh : Shared) (text : List ℕ) (ls : List Local) (after : Answer Completion → Outcome) (whole : Answer (Unit {0}) → Outcome) (from to : ℕ) (old : List ℕ) → ((v : Value) (s : State) → whole (assign at v s) ≡ after (go_on (assign at v s) (λ u. pure Next))) → length scope ≤ later → IsAt scope tg old at → Spares tg later → ExprStored code layout p scope tg e from to later → Holds scope ls layout (length scope) old → IsGood code a sh → IsSeen a after → IsSeen a whole → GoesNext N K a after scope to → Goes N K a sh text ls from old (λ s. whole (go_on (expr p call e s) (assign at)))
   expr_stores (Constant n x y) tg at scope later a sh text ls after whole from to old is room is_at sp c h g s s1 go =
-      let v : Value = record { of = x; word = word_of x (pos n) } in
+      let v : Value = record { ty = x; word = word_of x (pos n) } in
       same (effect code) (λ m. after (go_on (assign at v (state m ls (context_of a sh) text)) (λ u. pure Next))) (λ m. is v (state m ls (context_of a sh) text))
       (set_on p call code layout frames (Instr.Constant c.r (constant_in (target_type tg) x n)) (constant_in (target_type tg) x n) (target_type tg) a sh text (λ m. after (go_on (assign at v (state m ls (context_of a sh) text)) (λ u. pure Next))) from c.mid (home_of tg) later c.r old old c.sets refl h.size_is (keeps_all layout (home_of tg) later old)
       (λ new here keeps. stored_at tg at scope later a sh text ls after c.mid to c.r old new v room is_at sp c.stores keeps (constant_lies tg x n (slice_index new c.r) here) h g s go))
@@ -208,16 +208,16 @@ module _ (p : Program) (call : Caller) (code : Code) (layout : Layout) (frames :
   variable_spot None None scope tg from to e c type_is known a sh text ls old after h good go = absurd c
   variable_spot {N = N} {K = K} None (Some g) scope tg from to e c type_is known a sh text ls old after h good go =
       let go1 : GoesAt N K a after scope (CellAt g) ls from old = subst (λ x. GoesAt N K a after scope x ls from old) c (subst (λ x. GoesAt N K a after scope tg ls x old) e go) in
-      go1 (InCell g.cell g.global.of) sh text old (refl, known) h good
+      go1 (InCell g.cell g.global.ty) sh text old (refl, known) h good
 
-  checked : {N K : ℕ} (g : GlobalCells) (ri : ℕ) (b : Bool) (k : Value) (scope : LocalScope) (tg : Target) (a : Around) (sh : Shared) (text : List ℕ) (ls : List Local) (after : Answer Spot → Outcome) (q to : ℕ) (old rs : List ℕ) → AreBounded code g → nat_lt k.word (cells g.global) ≡ b → slice_index rs ri ≡ k.word → InstructionAt code q (Instr.Check ri (cells g.global)) → to ≡ suc q → tg ≡ ElementOf g ri → Holds scope ls layout (length scope) rs → IsGood code a sh → IsSeen a after → GoesAt N K a after scope tg ls to old → Goes N K a sh text ls q rs (λ s. after ((if b then pure (InCell (g.cell + k.word) g.global.of) else trap Index) s))
+  checked : {N K : ℕ} (g : GlobalCells) (ri : ℕ) (b : Bool) (k : Value) (scope : LocalScope) (tg : Target) (a : Around) (sh : Shared) (text : List ℕ) (ls : List Local) (after : Answer Spot → Outcome) (q to : ℕ) (old rs : List ℕ) → AreBounded code g → nat_lt k.word (cells g.global) ≡ b → slice_index rs ri ≡ k.word → InstructionAt code q (Instr.Check ri (cells g.global)) → to ≡ suc q → tg ≡ ElementOf g ri → Holds scope ls layout (length scope) rs → IsGood code a sh → IsSeen a after → GoesAt N K a after scope tg ls to old → Goes N K a sh text ls q rs (λ s. after ((if b then pure (InCell (g.cell + k.word) g.global.ty) else trap Index) s))
   checked {N = N} {K = K} g ri true k scope tg a sh text ls after q to old rs known e f i to_is tg_is h good s go =
       let go1 : GoesAt N K a after scope (ElementOf g ri) ls (suc q) old = subst (λ x. GoesAt N K a after scope x ls (suc q) old) tg_is (subst (λ x. GoesAt N K a after scope tg ls x old) to_is go) in
       goes_by code a sh text (configuration code q rs frames) (configuration code (suc q) rs frames)
       (effect_at code q (Instr.Check ri (cells g.global)) rs frames i
       ∙ ap (λ w. if nat_lt w (cells g.global) then Effect.Pure (configuration code (suc q) rs frames) else Effect.Traps Index) f
       ∙ ap (λ b. if b then Effect.Pure (configuration code (suc q) rs frames) else Effect.Traps Index) e)
-      (go1 (InCell (g.cell + k.word) g.global.of) sh text rs (ap (λ w. InCell (g.cell + w) g.global.of) (sym f), ap (λ w. nat_lt w (cells g.global)) f ∙ e, known) h good)
+      (go1 (InCell (g.cell + k.word) g.global.ty) sh text rs (ap (λ w. InCell (g.cell + w) g.global.ty) (sym f), ap (λ w. nat_lt w (cells g.global)) f ∙ e, known) h good)
   checked g ri false k scope tg a sh text ls after q to old rs known e f i to_is tg_is h good s go =
       traps code a after sh ls text (configuration code q rs frames) Index s
       (effect_at code q (Instr.Check ri (cells g.global)) rs frames i
@@ -240,10 +240,10 @@ module _ (p : Program) (call : Caller) (code : Code) (layout : Layout) (frames :
   spot_follows scope e tg from to c a sh text ls old after h good s go = absurd c
 
   -- an element that is read at once, whose index the read checks
-  unchecked : {N K : ℕ} (g : GlobalCells) (ri : ℕ) (b : Bool) (k : Value) (scope : LocalScope) (tg : Target) (a : Around) (sh : Shared) (text : List ℕ) (ls : List Local) (after : Answer Spot → Outcome) (q fetched free r : ℕ) (t : Scalar) (old rs : List ℕ) → AreBounded code g → nat_lt k.word (cells g.global) ≡ b → slice_index rs ri ≡ k.word → FetchCode code layout p (ElementOf g ri) q fetched free r t → tg ≡ ElementOf g ri → Holds scope ls layout (length scope) rs → IsGood code a sh → IsSeen a after → GoesAt N K a after scope tg ls q old → Goes N K a sh text ls q rs (λ s. after ((if b then pure (InCell (g.cell + k.word) g.global.of) else trap Index) s))
+  unchecked : {N K : ℕ} (g : GlobalCells) (ri : ℕ) (b : Bool) (k : Value) (scope : LocalScope) (tg : Target) (a : Around) (sh : Shared) (text : List ℕ) (ls : List Local) (after : Answer Spot → Outcome) (q fetched free r : ℕ) (t : Scalar) (old rs : List ℕ) → AreBounded code g → nat_lt k.word (cells g.global) ≡ b → slice_index rs ri ≡ k.word → FetchCode code layout p (ElementOf g ri) q fetched free r t → tg ≡ ElementOf g ri → Holds scope ls layout (length scope) rs → IsGood code a sh → IsSeen a after → GoesAt N K a after scope tg ls q old → Goes N K a sh text ls q rs (λ s. after ((if b then pure (InCell (g.cell + k.word) g.global.ty) else trap Index) s))
   unchecked {N = N} {K = K} g ri true k scope tg a sh text ls after q fetched free r t old rs known e f c tg_is h good s go =
       let go1 : GoesAt N K a after scope (ElementOf g ri) ls q old = subst (λ x. GoesAt N K a after scope x ls q old) tg_is go in
-      go1 (InCell (g.cell + k.word) g.global.of) sh text rs (ap (λ w. InCell (g.cell + w) g.global.of) (sym f), ap (λ w. nat_lt w (cells g.global)) f ∙ e, known) h good
+      go1 (InCell (g.cell + k.word) g.global.ty) sh text rs (ap (λ w. InCell (g.cell + w) g.global.ty) (sym f), ap (λ w. nat_lt w (cells g.global)) f ∙ e, known) h good
   unchecked g ri false k scope tg a sh text ls after q fetched free r t old rs known e f c tg_is h good s go =
       traps code a after sh ls text (configuration code q rs frames) Index s
       (effect_at code q (Instr.ReadAt r g.cell (cells g.global) ri) rs frames c.instr
@@ -266,15 +266,15 @@ module _ (p : Program) (call : Caller) (code : Code) (layout : Layout) (frames :
   fetch_follows {N = N} {K = K} (LocalAt l) at scope free a sh text ls after from to r t old c i h good s go =
       let below : l.0 < length ls = subst (λ n. l.0 < n) (sym (length_like scope ls h.like)) i.1 in
       let go1 : GoesOn p call code layout frames N K a after ls from None free r l.1 old = subst (λ x. GoesOn p call code layout frames N K a after ls x None free r l.1 old) c.0 (subst (λ y. GoesOn p call code layout frames N K a after ls to None free r y old) c.2 go) in
-      same (effect code) (λ n. after (Gives (record { of = l.1; word = word_at ls l.0 }) (state n ls (context_of a sh) text)))
+      same (effect code) (λ n. after (Gives (record { ty = l.1; word = word_at ls l.0 }) (state n ls (context_of a sh) text)))
       (λ n. ap (λ x. after (fetch x (state n ls (context_of a sh) text))) i.0)
-      (go1 (record { of = l.1; word = word_at ls l.0 }) sh text old (record { typed_so = refl; word = word_typed ls l.0 l.1 (type_like scope ls l.0 l.1 h.like i.2) h.words; here = ap (slice_index old) c.1 ∙ h.each l.0 below; keeps = keeps_all layout None free old; good = good }))
+      (go1 (record { ty = l.1; word = word_at ls l.0 }) sh text old (record { typed_so = refl; word = word_typed ls l.0 l.1 (type_like scope ls l.0 l.1 h.like i.2) h.words; here = ap (slice_index old) c.1 ∙ h.each l.0 below; keeps = keeps_all layout None free old; good = good }))
   fetch_follows (CellAt g) at scope free a sh text ls after from to r t old c i h good s go =
-      same (effect code) (λ n. after (fetch (InCell g.cell g.global.of) (state n ls (context_of a sh) text))) (λ n. ap (λ x. after (fetch x (state n ls (context_of a sh) text))) i.0)
-      (reads p call code layout frames (Instr.Read r g.cell) g.global.of a sh text ls after from to None free r g.cell t old old c refl i.1.0 h.size_is (keeps_all layout None free old) good s go)
+      same (effect code) (λ n. after (fetch (InCell g.cell g.global.ty) (state n ls (context_of a sh) text))) (λ n. ap (λ x. after (fetch x (state n ls (context_of a sh) text))) i.0)
+      (reads p call code layout frames (Instr.Read r g.cell) g.global.ty a sh text ls after from to None free r g.cell t old old c refl i.1.0 h.size_is (keeps_all layout None free old) good s go)
   fetch_follows (ElementOf g ri) at scope free a sh text ls after from to r t old c i h good s go =
-      same (effect code) (λ n. after (fetch (InCell (g.cell + slice_index old ri) g.global.of) (state n ls (context_of a sh) text))) (λ n. ap (λ x. after (fetch x (state n ls (context_of a sh) text))) i.0)
-      (reads p call code layout frames (Instr.ReadAt r g.cell (cells g.global) ri) g.global.of a sh text ls after from to None free r (g.cell + slice_index old ri) t old old c
+      same (effect code) (λ n. after (fetch (InCell (g.cell + slice_index old ri) g.global.ty) (state n ls (context_of a sh) text))) (λ n. ap (λ x. after (fetch x (state n ls (context_of a sh) text))) i.0)
+      (reads p call code layout frames (Instr.ReadAt r g.cell (cells g.global) ri) g.global.ty a sh text ls after from to None free r (g.cell + slice_index old ri) t old old c
       (ap (λ b. if b then Effect.Read (g.cell + slice_index old ri) (setting (configuration code from old frames) r) else Effect.Traps Index) i.1)
       (i.2.1 (slice_index old ri) i.1) h.size_is (keeps_all layout None free old) good s go)
 
@@ -329,7 +329,7 @@ module _ (p : Program) (call : Caller) (code : Code) (layout : Layout) (frames :
   -- a value somewhere above the locals
   abbrev pub GoesValue : ℕ → ℕ → (a : Around) → (Answer Value → Outcome) → LocalScope → List Local → (to r : ℕ) → Type 0
   GoesValue N K a after scope ls to r =
-      (v : Value) (sh : Shared) (text : List ℕ) (rs : List ℕ) → v.word < modulus v.of → slice_index rs r ≡ v.word → Holds scope ls layout (length scope) rs → IsGood code a sh → Goes N K a sh text ls to rs (λ s. after (Gives v s))
+      (v : Value) (sh : Shared) (text : List ℕ) (rs : List ℕ) → v.word < modulus v.ty → slice_index rs r ≡ v.word → Holds scope ls layout (length scope) rs → IsGood code a sh → Goes N K a sh text ls to rs (λ s. after (Gives v s))
 
   pub value_follows : {N K : ℕ} (scope : LocalScope) (e : Expr) (from to r : ℕ) → ValueCode code layout p scope (Coding code layout p None scope e) from to r → (a : Around) (sh : Shared) (text : List ℕ) (ls : List Local) (old : List ℕ) (after : Answer Value → Outcome) → Holds scope ls layout (length scope) old → IsGood code a sh → IsSeen a after → GoesValue N K a after scope ls to r → Goes N K a sh text ls from old (λ s. after (expr p call e s))
   value_follows {N = N} {K = K} scope e from to r c a sh text ls old after h good s go =

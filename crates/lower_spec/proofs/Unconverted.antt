@@ -23,5 +23,5 @@ own_is code layout home e u from to free r h = record { mid = to; ra = r; comput
 
 pub stored_is : (code : Code) (layout : Layout) (p : Program) (target : Target) (ra from to free : ℕ) → StoreCode code layout p target ra from to → StoredCode code layout p target (target_type target) ra from to free
 stored_is code layout p (LocalAt l) ra from to free c = record { mid = from; r = ra; converts = lies_there code layout _ l.1 ra from free; stores = c }
-stored_is code layout p (CellAt g) ra from to free c = record { mid = from; r = ra; converts = goes_there code layout _ g.global.of ra from free; stores = c }
-stored_is code layout p (ElementOf g ri) ra from to free c = record { mid = from; r = ra; converts = goes_there code layout _ g.global.of ra from free; stores = c }
+stored_is code layout p (CellAt g) ra from to free c = record { mid = from; r = ra; converts = goes_there code layout _ g.global.ty ra from free; stores = c }
+stored_is code layout p (ElementOf g ri) ra from to free c = record { mid = from; r = ra; converts = goes_there code layout _ g.global.ty ra from free; stores = c }

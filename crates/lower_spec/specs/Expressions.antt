@@ -175,7 +175,7 @@ module _ (code : Code) (layout : Layout) where
   VariableCode home locals (Some l) g from to free r t = LocalIs locals l from to r t
   VariableCode home locals None None from to free r t = ⊥
   VariableCode home locals None (Some g) from to free r t =
-      GivenBy home (Instr.Read r g.cell) g.global.of from to free r t
+      GivenBy home (Instr.Read r g.cell) g.global.ty from to free r t
 
   pub record ElementCode (home : Option ℕ) (g : GlobalCells) (index : Coded) (from to free r : ℕ) (t : Scalar) :
       Type 0 where
@@ -183,7 +183,7 @@ module _ (code : Code) (layout : Layout) where
     pub ri : ℕ
     pub ti : Scalar
     pub computes : index from mid free ri ti
-    pub reads : GivenBy home (Instr.ReadAt r g.cell (cells g.global) ri) g.global.of mid to free r t
+    pub reads : GivenBy home (Instr.ReadAt r g.cell (cells g.global) ri) g.global.ty mid to free r t
 
   abbrev pub ElementAt : Option ℕ → Option GlobalCells → Coded → Coded
   ElementAt home None index from to free r t = ⊥
@@ -317,7 +317,7 @@ module _ (code : Code) (layout : Layout) where
     pub f : Function
     pub body : Stmts
     pub registers_of : List ℕ
-    pub gives_args : args (map (λ q. q.of) f.parameters) from mid free registers_of
+    pub gives_args : args (map (λ q. q.ty) f.parameters) from mid free registers_of
     pub calls : GivenBy home (Instr.Call number r (argument_order f.parameters registers_of)) (unwrap_or f.result Int)
         mid to free r t
     pub known : slice_get code.functions number ≡ Some function

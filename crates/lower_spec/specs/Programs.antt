@@ -14,7 +14,7 @@ use Rattle.lower_spec.specs.Statements.{Exits, StmtsCode}
 abbrev pub parameter_locals : List Parameter → LocalScope
 parameter_locals [] = []
 parameter_locals (q ∷ qs) =
-    unwrap_or (option_map (λ x. record { name = x.text; of = q.of; word = 0 } ∷ []) q.name) [] ++ parameter_locals qs
+    unwrap_or (option_map (λ x. record { name = x.text; ty = q.ty; word = 0 } ∷ []) q.name) [] ++ parameter_locals qs
 
 -- a function's own statements stand in no loop and in no transaction, and return values of its type
 abbrev pub no_exits : Option Scalar → Exits

@@ -39,13 +39,13 @@ home_of target = None
 -- the type of what lies at a target, and the instruction that takes a value of another type there
 abbrev pub target_type : Target → Scalar
 target_type (LocalAt l) = l.1
-target_type (CellAt g) = g.global.of
-target_type (ElementOf g ri) = g.global.of
+target_type (CellAt g) = g.global.ty
+target_type (ElementOf g ri) = g.global.ty
 
 abbrev pub due : Target → Scalar → Option (ℕ → ℕ → Instr)
 due (LocalAt l) s = converting s l.1
-due (CellAt g) s = widening s g.global.of
-due (ElementOf g ri) s = widening s g.global.of
+due (CellAt g) s = widening s g.global.ty
+due (ElementOf g ri) s = widening s g.global.ty
 
 -- the index of an element is kept below the free registers
 abbrev pub Spares : Target → ℕ → Type 0
@@ -84,7 +84,7 @@ abbrev pub looping : Exits → (break_to continue_to : ℕ) → Exits
 looping x break_to continue_to = record x { break_to = break_to; continue_to = continue_to; in_loop = 0 }
 
 abbrev pub with_local : LocalScope → List ℕ → Scalar → LocalScope
-with_local scope x t = scope ++ record { name = x; of = t; word = 0 } ∷ []
+with_local scope x t = scope ++ record { name = x; ty = t; word = 0 } ∷ []
 
 -- the locals known after a declaration, after a statement, and at the end of statements
 abbrev pub with_declared : Scalar → List Declarator → LocalScope → LocalScope
@@ -93,11 +93,11 @@ with_declared t (d ∷ ds) scope = with_declared t ds (with_local scope d.name.t
 
 abbrev pub locals_of_start : Start → LocalScope → LocalScope
 locals_of_start Nothing scope = scope
-locals_of_start (Declares d) scope = with_declared d.of d.declarators scope
+locals_of_start (Declares d) scope = with_declared d.ty d.declarators scope
 locals_of_start (Does s) scope = scope
 
 abbrev pub locals_after : Stmt → LocalScope → LocalScope
-locals_after (Declare d) scope = with_declared d.of d.declarators scope
+locals_after (Declare d) scope = with_declared d.ty d.declarators scope
 locals_after s scope = scope
 
 abbrev pub locals_at_end : Stmts → LocalScope → LocalScope
@@ -180,9 +180,9 @@ module _ (code : Code) (layout : Layout) (p : Program) where
   abbrev pub FetchCode : Target → Coded
   FetchCode (LocalAt l) from to free r t = (to ≡ from) × (r ≡ l.0) × (t ≡ l.1)
   FetchCode (CellAt g) from to free r t =
-      GivenBy code layout None (Instr.Read r g.cell) g.global.of from to free r t
+      GivenBy code layout None (Instr.Read r g.cell) g.global.ty from to free r t
   FetchCode (ElementOf g ri) from to free r t =
-      GivenBy code layout None (Instr.ReadAt r g.cell (cells g.global) ri) g.global.of from to free r t
+      GivenBy code layout None (Instr.ReadAt r g.cell (cells g.global) ri) g.global.ty from to free r t
 
   -- a value goes to its target, or lies there already
   abbrev pub StoreCode : Target → (r from to : ℕ) → Type 0
@@ -349,7 +349,7 @@ module _ (code : Code) (layout : Layout) (p : Program) where
 
   abbrev pub StartCode : LocalScope → Start → (from to : ℕ) → Type 0
   StartCode scope Nothing from to = to ≡ from
-  StartCode scope (Declares d) from to = DeclareCode d.of d.declarators scope from to
+  StartCode scope (Declares d) from to = DeclareCode d.ty d.declarators scope from to
   StartCode scope (Does s) from to = SimpleCode scope s from to
 
   pub record ForCode (x : Exits) (inner : LocalScope) (starts : ℕ → ℕ → Type 0) (c : Option Expr) (step : Option Simple)
@@ -410,7 +410,7 @@ module _ (code : Code) (layout : Layout) (p : Program) where
   abbrev mutual
     pub StmtCode : Exits → LocalScope → Stmt → (from to : ℕ) → Type 0
     StmtCode x scope Empty from to = to ≡ from
-    StmtCode x scope (Declare d) from to = DeclareCode d.of d.declarators scope from to
+    StmtCode x scope (Declare d) from to = DeclareCode d.ty d.declarators scope from to
     StmtCode x scope (Do s) from to = SimpleCode scope s from to
     StmtCode x scope (Block ss) from to = StmtsCode x scope ss from to
     StmtCode x scope (Print at format format_at es) from to = PrintCode scope format es from to

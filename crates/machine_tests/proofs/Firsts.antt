@@ -19,4 +19,4 @@ bound_in (suc n) (suc a) t rest h = bound_in n a t rest (omega (arith, h))
 
 pub first_has : {X : Type 0} (f : X → Global) (xs : List X) (x : X) (a : ℕ) → Some x ≡ slice_get xs 0 → a < cells (f x) → 2 ^ 32 ≤ slice_index (bounds_of (map f xs)) a
 first_has f [] x a e h = absurd (cc e)
-first_has f (y ∷ ys) x a e h = bound_in (cells (f y)) a (f y).of (cell_types (map f ys)) (subst (λ z. a < cells (f z)) (cc e) h)
+first_has f (y ∷ ys) x a e h = bound_in (cells (f y)) a (f y).ty (cell_types (map f ys)) (subst (λ z. a < cells (f z)) (cc e) h)

@@ -122,13 +122,13 @@ given_by d (Gives b s) = b
 given_by d (Stops why s) = d
 
 abbrev begun_of : Option Scalar → Stmts → List Local → Begins
-begun_of of body mine = record { of = of; body = body; mine = mine }
+begun_of ty body mine = record { ty = ty; body = body; mine = mine }
 
 -- how a call begins is the same at every state
-by_entered : (o : Option (List Local)) (of : Option Scalar) (body : Stmts) (b : Begins) (s s1 : State) → go_on (or_astray o s) (λ mine. pure (begun_of of body mine)) ≡ Gives b s1 →
-    (after : Begins → Action Value) (s2 : State) → go_on (or_astray o s2) (λ mine. after (begun_of of body mine)) ≡ after b s2
-by_entered None of body b s s1 h after s2 = absurd (subst is_given (sym h) tt)
-by_entered (Some mine) of body b s s1 h after s2 = ap (λ x. after x s2) (ap (given_by b) h)
+by_entered : (o : Option (List Local)) (ty : Option Scalar) (body : Stmts) (b : Begins) (s s1 : State) → go_on (or_astray o s) (λ mine. pure (begun_of ty body mine)) ≡ Gives b s1 →
+    (after : Begins → Action Value) (s2 : State) → go_on (or_astray o s2) (λ mine. after (begun_of ty body mine)) ≡ after b s2
+by_entered None ty body b s s1 h after s2 = absurd (subst is_given (sym h) tt)
+by_entered (Some mine) ty body b s s1 h after s2 = ap (λ x. after x s2) (ap (given_by b) h)
 
 by_found : (o : Option (Function × Stmts)) (vs : List Value) (b : Begins) (s s1 : State) → go_on (or_astray o s) (λ f. or_astray (call_locals f.0.parameters vs) >>= (λ mine. pure (begun_of f.0.result f.1 mine))) ≡ Gives b s1 →
     (after : Begins → Action Value) (s2 : State) → go_on (or_astray o s2) (λ f. or_astray (call_locals f.0.parameters vs) >>= (λ mine. after (begun_of f.0.result f.1 mine))) ≡ after b s2
@@ -141,7 +141,7 @@ invoked p k b = do
   put_locals b.mine
   end ← stmts p (calls p k) b.body
   put_locals outer
-  result_of b.of end
+  result_of b.ty end
 
 invoke_is : (p : Program) (k : ℕ) (x : List ℕ) (vs : List Value) (b : Begins) (s s1 : State) → begin_call p x vs s ≡ Gives b s1 → (s2 : State) → invoke p (calls p k) x vs s2 ≡ invoked p k b s2
 invoke_is p k x vs b s s1 h s2 = by_found (definition_of p x) vs b s s1 h (invoked p k) s2
@@ -151,21 +151,21 @@ uncounted : (q : Answer Value) → go_on (go_on q (λ _. pure Next)) (λ _. tick
 uncounted (Gives v s) = refl
 uncounted (Stops why s) = refl
 
-ends_call : (of : Option Scalar) (r : Answer Completion) → go_on (go_on r (call_left of [])) (λ _. tick) ≡ go_on (go_on r (λ end. put_locals [] >> result_of of end)) (λ _. tick)
-ends_call of (Gives end s) = uncounted (result_of of end (record s { locals = [] }))
-ends_call of (Stops why s) = refl
+ends_call : (ty : Option Scalar) (r : Answer Completion) → go_on (go_on r (call_left ty [])) (λ _. tick) ≡ go_on (go_on r (λ end. put_locals [] >> result_of ty end)) (λ _. tick)
+ends_call ty (Gives end s) = uncounted (result_of ty end (record s { locals = [] }))
+ends_call ty (Stops why s) = refl
 
 module _ {A : Type 0} (source : ProgramTables A) where
   -- a call of which all is still to do
-  pub begins_left : (first second third : List (Left A)) (of : Option Scalar) (outer : Vec OwnLocal A) (t : Task A) → first ≡ [] → second ≡ first ++ left.Call of outer ∷ [] → third ≡ second ++ left.Next t ∷ [] → outer.items ≡ [] →
-      (now : State) → left_gone_on source third Next now ≡ go_on (does_task source t now) (call_left of [])
-  begins_left first second third of outer t none call all outside now =
-      ap (λ ls. left_gone_on source ls Next now) (all ∙ ap (λ ls. ls ++ left.Next t ∷ []) (call ∙ ap (λ ls. ls ++ left.Call of outer ∷ []) none))
-      ∙ ap (λ ls. go_on (does_task source t now) (call_left of ls)) (ap (map local_in) outside)
+  pub begins_left : (first second third : List (Left A)) (ty : Option Scalar) (outer : Vec OwnLocal A) (t : Task A) → first ≡ [] → second ≡ first ++ left.Call ty outer ∷ [] → third ≡ second ++ left.Next t ∷ [] → outer.items ≡ [] →
+      (now : State) → left_gone_on source third Next now ≡ go_on (does_task source t now) (call_left ty [])
+  begins_left first second third ty outer t none call all outside now =
+      ap (λ ls. left_gone_on source ls Next now) (all ∙ ap (λ ls. ls ++ left.Next t ∷ []) (call ∙ ap (λ ls. ls ++ left.Call ty outer ∷ []) none))
+      ∙ ap (λ ls. go_on (does_task source t now) (call_left ty ls)) (ap (map local_in) outside)
 
   -- a thread before its first tick
-  pub begins_so : (thread : Thread A) (ticks t : ℕ) (b : Begins) (s s1 : State) → begin_call (program_in source) (codes "worker") (record { of = Unsigned; word = t } ∷ []) s ≡ Gives b s1 →
-      ((now : State) → left_gone_on source thread.left.items (end_of thread.end) now ≡ go_on (stmts (program_in source) (calls (program_in source) 63) b.body now) (call_left b.of [])) →
+  pub begins_so : (thread : Thread A) (ticks t : ℕ) (b : Begins) (s s1 : State) → begin_call (program_in source) (codes "worker") (record { ty = Unsigned; word = t } ∷ []) s ≡ Gives b s1 →
+      ((now : State) → left_gone_on source thread.left.items (end_of thread.end) now ≡ go_on (stmts (program_in source) (calls (program_in source) 63) b.body now) (call_left b.ty [])) →
       thread.at.ticks ≡ ticks → items_in thread.at.locals ≡ b.mine → memories_in thread.at.due.items ≡ [] → memories_in thread.shown.lefts.items ≡ [] → thread.shown.text.items ≡ [] →
       (founds : List Memory) → rest source thread founds ≡ worker_run (program_in source) t (first_state founds ticks)
   begins_so thread ticks t b s s1 h left same mine due lefts text founds =
@@ -173,8 +173,8 @@ module _ {A : Type 0} (source : ProgramTables A) where
       let there : extended_state (frame_of founds thread.shown) (bare thread.at) ≡ state ticks b.mine founds [] [] =
       λ i. extended_state (record { founds = founds; lefts = lefts i; text = text i }) (state (same i) (mine i) (due i) [] []) in
       ap (λ r. go_on r (λ _. tick)) (ap (left_gone_on source thread.left.items (end_of thread.end)) there ∙ left (state ticks b.mine founds [] []))
-      ∙ ends_call b.of (stmts p (calls p 63) b.body (state ticks b.mine founds [] []))
-      ∙ ap (λ r. go_on r (λ _. tick)) (sym (invoke_is p 63 (codes "worker") (record { of = Unsigned; word = t } ∷ []) b s s1 h (first_state founds ticks)))
+      ∙ ends_call b.ty (stmts p (calls p 63) b.body (state ticks b.mine founds [] []))
+      ∙ ap (λ r. go_on r (λ _. tick)) (sym (invoke_is p 63 (codes "worker") (record { ty = Unsigned; word = t } ∷ []) b s s1 h (first_state founds ticks)))
 
 -- a machine that is made at a point, and the point that a machine leaves
 module _ {A : Type 0} where

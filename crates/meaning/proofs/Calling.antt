@@ -24,8 +24,8 @@ on_pair (Stops why s) f rest g other h = refl
 abbrev no_value : Value → Action Completion
 no_value v = pure Next
 
-leaves_call : (of : Option Scalar) (outer : List Local) (r : Answer Completion) → go_on (go_on r (λ end. put_locals outer >> result_of of end)) no_value ≡ go_on r (call_left of outer)
-leaves_call of outer r = sym (twice r (λ end. put_locals outer >> result_of of end) no_value)
+leaves_call : (ty : Option Scalar) (outer : List Local) (r : Answer Completion) → go_on (go_on r (λ end. put_locals outer >> result_of ty end)) no_value ≡ go_on r (call_left ty outer)
+leaves_call ty outer r = sym (twice r (λ end. put_locals outer >> result_of ty end) no_value)
 
 module _ (p : Program) where
   frame_is : (k : ℕ) (x : List ℕ) (vs : List Value) (s : State) → go_on (calls p k x vs s) no_value ≡ go_on (frame_begun p k x vs s) follows
@@ -33,7 +33,7 @@ module _ (p : Program) where
   frame_is (suc k) x vs s =
       ap (λ r. go_on r no_value) (invoke_begun p (calls p k) x vs s)
       ∙ on_pair (begin_call p x vs s) (call_rest p (calls p k)) no_value (frame_at p k) follows
-      (λ b now. leaves_call b.of now.locals (stmts p (calls p k) b.body (record now { locals = b.mine })))
+      (λ b now. leaves_call b.ty now.locals (stmts p (calls p k) b.body (record now { locals = b.mine })))
 
   pub call_is : (k : ℕ) (x : List ℕ) (es : Exprs) (s : State) → call_alone p (calls p k) x es s ≡ go_on (call_begun p k x es s) follows
   call_is k x es s =
@@ -43,10 +43,10 @@ module _ (p : Program) where
 
   -- a function that is entered
   pub enters : (n k : ℕ) (x : List ℕ) (vs : List Value) (s0 s1 : State) (b : Begins) (mine outer : List Local) → n ≡ suc k → begin_call p x vs s0 ≡ Gives b s1 → mine ≡ b.mine → outer ≡ s1.locals →
-      frame_begun p n x vs s0 ≡ Gives (Nests (call_left b.of outer) (stmts p (calls p k) b.body)) (record s1 { locals = mine })
+      frame_begun p n x vs s0 ≡ Gives (Nests (call_left b.ty outer) (stmts p (calls p k) b.body)) (record s1 { locals = mine })
   enters n k x vs s0 s1 b mine outer more h bound kept =
       ap (λ i. frame_begun p i x vs s0) more ∙ after (begin_call p x vs s0) (frame_at p k) b s1 h
-      ∙ (λ i. Gives (Nests (call_left b.of (sym kept i)) (stmts p (calls p k) b.body)) (record s1 { locals = sym bound i }))
+      ∙ (λ i. Gives (Nests (call_left b.ty (sym kept i)) (stmts p (calls p k) b.body)) (record s1 { locals = sym bound i }))
 
 -- the first step of a call, up to its function
 module _ (p : Program) (k : ℕ) (x : List ℕ) (es : Exprs) (s0 s1 : State) where

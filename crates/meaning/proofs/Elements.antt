@@ -11,5 +11,5 @@ use Rattle.syntax.specs.Meaning.{Caller, InCell, element}
 pub element_traps : (p : Program) (call : Caller) (x : List ℕ) (v : Value) (g : GlobalCells) (s : State) →
     global_of p x ≡ Some g → nat_lt v.word (cells g.global) ≡ false → element p call x v s ≡ trap Index s
 element_traps p call x v g s found outside =
-    ap (λ o. go_on (or_astray o s) (λ g. if nat_lt v.word (cells g.global) then pure (InCell (g.cell + v.word) g.global.of) else trap Index)) found
-    ∙ ap (λ (b : Bool). (if b then pure (InCell (g.cell + v.word) g.global.of) else trap Index) s) outside
+    ap (λ o. go_on (or_astray o s) (λ g. if nat_lt v.word (cells g.global) then pure (InCell (g.cell + v.word) g.global.ty) else trap Index)) found
+    ∙ ap (λ (b : Bool). (if b then pure (InCell (g.cell + v.word) g.global.ty) else trap Index) s) outside

@@ -39,14 +39,14 @@ module _ {A : Type 0} (ps : List (OwnParameter A)) (vs : List Value) (i : ℕ) (
   pub unnamed : q.name ≡ None → option_map (λ ls. map local_in mine ++ ls) (call_locals (map parameter_of (drop (i + 1) ps)) (drop (i + 1) vs)) ≡ whole
   unnamed none =
       entered_more (map local_in mine)
-      (sym (append-nil (map local_in mine)) ∙ sym (ap (λ o. map local_in mine ++ unwrap_or (option_map (λ x. record { name = x.text; of = q.of; word = (value_in_type q.of (get_or vs i d)).word } ∷ []) (option_map name_of o)) []) none))
+      (sym (append-nil (map local_in mine)) ∙ sym (ap (λ o. map local_in mine ++ unwrap_or (option_map (λ x. record { name = x.text; ty = q.ty; word = (value_in_type q.ty (get_or vs i d)).word } ∷ []) (option_map name_of o)) []) none))
 
-  pub named : (x : OwnName A) (l : L.Local) (now : List L.Local) → q.name ≡ Some x → now ≡ mine ++ l ∷ [] → l.name.now ≡ x.text → l.of ≡ q.of → l.word ≡ (value_in_type q.of (get_or vs i d)).word →
+  pub named : (x : OwnName A) (l : L.Local) (now : List L.Local) → q.name ≡ Some x → now ≡ mine ++ l ∷ [] → l.name.now ≡ x.text → l.ty ≡ q.ty → l.word ≡ (value_in_type q.ty (get_or vs i d)).word →
       option_map (λ ls. map local_in now ++ ls) (call_locals (map parameter_of (drop (i + 1) ps)) (drop (i + 1) vs)) ≡ whole
   named x l now some grown one two three =
       entered_more (map local_in now)
       (pushed_local mine now l grown
-      ∙ ap (λ t. map local_in mine ++ record { name = t; of = l.of; word = l.word } ∷ []) one
-      ∙ ap (λ t. map local_in mine ++ record { name = x.text; of = t; word = l.word } ∷ []) two
-      ∙ ap (λ t. map local_in mine ++ record { name = x.text; of = q.of; word = t } ∷ []) three
-      ∙ sym (ap (λ o. map local_in mine ++ unwrap_or (option_map (λ y. record { name = y.text; of = q.of; word = (value_in_type q.of (get_or vs i d)).word } ∷ []) (option_map name_of o)) []) some))
+      ∙ ap (λ t. map local_in mine ++ record { name = t; ty = l.ty; word = l.word } ∷ []) one
+      ∙ ap (λ t. map local_in mine ++ record { name = x.text; ty = t; word = l.word } ∷ []) two
+      ∙ ap (λ t. map local_in mine ++ record { name = x.text; ty = q.ty; word = t } ∷ []) three
+      ∙ sym (ap (λ o. map local_in mine ++ unwrap_or (option_map (λ y. record { name = y.text; ty = q.ty; word = (value_in_type q.ty (get_or vs i d)).word } ∷ []) (option_map name_of o)) []) some))

@@ -48,19 +48,19 @@ when_next_framed h (Returns v) = pure_framed (Ends (Returns v))
 when_next_framed h Cancels = pure_framed (Ends Cancels)
 when_next_framed h CancelsOuter = pure_framed (Ends CancelsOuter)
 
-result_framed : (of : Option Scalar) (end : Completion) → IsFramed (result_of of end)
-result_framed of Next = pure_framed _
-result_framed of (Returns v) = pure_framed _
-result_framed of Breaks = framed_kept.astray_holds
-result_framed of Continues = framed_kept.astray_holds
-result_framed of Cancels = framed_kept.astray_holds
-result_framed of CancelsOuter = framed_kept.astray_holds
+result_framed : (ty : Option Scalar) (end : Completion) → IsFramed (result_of ty end)
+result_framed ty Next = pure_framed _
+result_framed ty (Returns v) = pure_framed _
+result_framed ty Breaks = framed_kept.astray_holds
+result_framed ty Continues = framed_kept.astray_holds
+result_framed ty Cancels = framed_kept.astray_holds
+result_framed ty CancelsOuter = framed_kept.astray_holds
 
 pub cut_framed : (n : ℕ) (end : Completion) → IsFramed (drop_names n end)
 cut_framed n end = on_framed locals_framed (λ all. then_framed (put_framed _) (pure_framed end))
 
-pub call_left_framed : (of : Option Scalar) (ls : List Local) (end : Completion) → IsFramed (call_left of ls end)
-call_left_framed of ls end = then_framed (put_framed ls) (then_framed (result_framed of end) (pure_framed Next))
+pub call_left_framed : (ty : Option Scalar) (ls : List Local) (end : Completion) → IsFramed (call_left ty ls end)
+call_left_framed ty ls end = then_framed (put_framed ls) (then_framed (result_framed ty end) (pure_framed Next))
 
 pub scope_framed : (run : Action Completion) → IsFramed (scope_begun run)
 scope_framed run = on_framed locals_framed (λ outer. pure_framed _)
@@ -92,11 +92,11 @@ module _ (p : Program) (k : ℕ) where
 
   declare_framed : (t : Scalar) (ds : List Declarator) → IsFramed (declare p (calls p k) t ds)
   declare_framed t [] = pure_framed Next
-  declare_framed t (d ∷ ds) = on_framed locals_framed (λ mine. then_framed (put_framed (mine ++ record { name = d.name.text; of = t; word = 0 } ∷ [])) (then_framed (first_value_framed (length mine) t d.first) (declare_framed t ds)))
+  declare_framed t (d ∷ ds) = on_framed locals_framed (λ mine. then_framed (put_framed (mine ++ record { name = d.name.text; ty = t; word = 0 } ∷ [])) (then_framed (first_value_framed (length mine) t d.first) (declare_framed t ds)))
 
   start_framed : (start : Start) → IsFramed (start_with p (calls p k) start)
   start_framed tree.Nothing = pure_framed Next
-  start_framed (tree.Declares d) = declare_framed d.of d.declarators
+  start_framed (tree.Declares d) = declare_framed d.ty d.declarators
   start_framed (tree.Does i) = simple_framed i
 
   holds_framed : (c : Option Expr) → IsFramed (holds p (calls p k) c)

@@ -54,8 +54,8 @@ module _ {A : Type 0} where
   pub in_transaction_is : (e : E.Expr A) (mode : Mode) (keyword : Span) (a a' : E.Expr A) (at : Span) → e ≡ E.InTransaction mode keyword a at → a' ≡ a → expr_of e ≡ Tree.InTransaction mode keyword (expr_of a') at
   in_transaction_is e mode keyword a a' at is f = ap expr_of is ∙ expr_of_in_transaction mode keyword a at ∙ ap (λ y. Tree.InTransaction mode keyword (expr_of y) at) (sym f)
 
-  pub declare_is : (s : S.Stmt A) (d : D.Declaration A) (ds : List (R.Declarator A)) → s ≡ S.Declare d → ds ≡ d.declarators → stmt_of s ≡ Tree.Declare (record { of = d.of; declarators = map declarator_of ds })
-  declare_is s d ds is a = ap stmt_of is ∙ stmt_of_declare d ∙ ap (λ y. Tree.Declare (record { of = d.of; declarators = map declarator_of y })) (sym a)
+  pub declare_is : (s : S.Stmt A) (d : D.Declaration A) (ds : List (R.Declarator A)) → s ≡ S.Declare d → ds ≡ d.declarators → stmt_of s ≡ Tree.Declare (record { ty = d.ty; declarators = map declarator_of ds })
+  declare_is s d ds is a = ap stmt_of is ∙ stmt_of_declare d ∙ ap (λ y. Tree.Declare (record { ty = d.ty; declarators = map declarator_of y })) (sym a)
 
   pub do_is : (s : S.Stmt A) (i : Simple A) → s ≡ S.Do i → stmt_of s ≡ Tree.Do (simple_of i)
   do_is s i is = ap stmt_of (is ∙ sym (SV.rolls-Do i)) ∙ fold-roll-Stmt A Tree.Stmt stmt_step (Stmt-F.Do i)

@@ -54,7 +54,7 @@ module _ {A : Type 0} (source : ProgramTables A) where
   step_framed (left.Next t) e = when_next_framed (begun_framed t) e
   step_framed (left.Body frames s n) e = on_framed (after_body_framed (behind_framed (program_in source) frames (stmt_of s.now)) e) (λ o. pure_framed (follow_turn (turns_in source frames (stmt_of s.now) n) o))
   step_framed (left.Scope n) e = whole_framed (cut_framed n e)
-  step_framed (left.Call of outer) e = whole_framed (call_left_framed of (items_in outer) e)
+  step_framed (left.Call ty outer) e = whole_framed (call_left_framed ty (items_in outer) e)
 
   by_is : (w : Direction) (frames : ℕ) (st : Stmt) (s : State) → does_by source w frames st s ≡ go_on (begun_by source w frames st s) follows
   by_is way.Whole frames st s = same_end (stmt (program_in source) (called source frames) st s)
@@ -72,7 +72,7 @@ module _ {A : Type 0} (source : ProgramTables A) where
       let rest = turns_in source frames (stmt_of st.now) n in
       on_both (after_body (behind_of (program_in source) (called source frames) (stmt_of st.now)) e s) (after_turn rest) (λ o. pure (follow_turn rest o)) follows (λ o now. turned_is rest o now)
   resumed_is (left.Scope n) e s = same_end (drop_names n e s)
-  resumed_is (left.Call of outer) e s = same_end (call_left of (items_in outer) e s)
+  resumed_is (left.Call ty outer) e s = same_end (call_left ty (items_in outer) e s)
 
   pub own_step : (l : Left A) (e : Completion) → IsStep (resumed source l) e (step_of source l e)
   own_step l e = record { does = resumed_is l e; framed = step_framed l e }

@@ -34,7 +34,7 @@ ticks_then p call s clean run s0 s1 r is does t d = ap (λ x. stmt p call x s0) 
 -- where no tick is left for a statement, it does nothing
 pub spent_first : (p : Program) (call : Caller) (s : Stmt) (s0 s1 : State) (why : Halt) → tick s0 ≡ Stops why s1 → stmt p call s s0 ≡ Stops why s1
 spent_first p call tree.Empty s0 s1 why t = halts (tick s0) (λ _. pure Next) why s1 t
-spent_first p call (tree.Declare d) s0 s1 why t = halts (tick s0) (λ _. declare p call d.of d.declarators) why s1 t
+spent_first p call (tree.Declare d) s0 s1 why t = halts (tick s0) (λ _. declare p call d.ty d.declarators) why s1 t
 spent_first p call (tree.Do i) s0 s1 why t = halts (tick s0) (λ _. simple p call i) why s1 t
 spent_first p call (tree.Block ss) s0 s1 why t = halts (tick s0) (λ _. in_scope (stmts p call ss)) why s1 t
 spent_first p call (tree.Print at format format_at es) s0 s1 why t =
@@ -104,16 +104,16 @@ call_rest p call b = do
   put_locals b.mine
   end ← stmts p call b.body
   put_locals outer
-  result_of b.of end
+  result_of b.ty end
 
 bound_then : (p : Program) (call : Caller) (f : Function × Stmts) (o : Option (List Local)) (s : State) →
-    go_on (or_astray o s) (λ mine. call_rest p call (record { of = f.0.result; body = f.1; mine = mine })) ≡ go_on (go_on (or_astray o s) (λ mine. pure (record { of = f.0.result; body = f.1; mine = mine }))) (call_rest p call)
+    go_on (or_astray o s) (λ mine. call_rest p call (record { ty = f.0.result; body = f.1; mine = mine })) ≡ go_on (go_on (or_astray o s) (λ mine. pure (record { ty = f.0.result; body = f.1; mine = mine }))) (call_rest p call)
 bound_then p call f (Some mine) s = refl
 bound_then p call f None s = refl
 
 defined_then : (p : Program) (call : Caller) (o : Option (Function × Stmts)) (vs : List Value) (s : State) →
-    go_on (or_astray o s) (λ f. or_astray (call_locals f.0.parameters vs) >>= (λ mine. call_rest p call (record { of = f.0.result; body = f.1; mine = mine })))
-    ≡ go_on (go_on (or_astray o s) (λ f. or_astray (call_locals f.0.parameters vs) >>= (λ mine. pure (record { of = f.0.result; body = f.1; mine = mine })))) (call_rest p call)
+    go_on (or_astray o s) (λ f. or_astray (call_locals f.0.parameters vs) >>= (λ mine. call_rest p call (record { ty = f.0.result; body = f.1; mine = mine })))
+    ≡ go_on (go_on (or_astray o s) (λ f. or_astray (call_locals f.0.parameters vs) >>= (λ mine. pure (record { ty = f.0.result; body = f.1; mine = mine })))) (call_rest p call)
 defined_then p call (Some f) vs s = bound_then p call f (call_locals f.0.parameters vs) s
 defined_then p call None vs s = refl
 
@@ -121,17 +121,17 @@ pub invoke_begun : (p : Program) (call : Caller) (x : List ℕ) (vs : List Value
 invoke_begun p call x vs s = defined_then p call (definition_of p x) vs s
 
 module _ (p : Program) (n k : ℕ) (x : List ℕ) (vs : List Value) (s0 s1 : State) (b : Begins) (mine outer : List Local) (more : n ≡ suc k) (d : begin_call p x vs s0 ≡ Gives b s1) (bound : mine ≡ b.mine) (kept : outer ≡ s1.locals) where
-  call_begun : calls p n x vs s0 ≡ go_on (stmts p (calls p k) b.body (record s1 { locals = mine })) (λ end. put_locals outer >> result_of b.of end)
+  call_begun : calls p n x vs s0 ≡ go_on (stmts p (calls p k) b.body (record s1 { locals = mine })) (λ end. put_locals outer >> result_of b.ty end)
   call_begun =
       ap (λ i. calls p i x vs s0) more ∙ invoke_begun p (calls p k) x vs s0 ∙ after (begin_call p x vs s0) (call_rest p (calls p k)) b s1 d
-      ∙ ap (λ ls. go_on (stmts p (calls p k) b.body (record s1 { locals = ls })) (λ end. put_locals s1.locals >> result_of b.of end)) (sym bound)
-      ∙ ap (λ ls. go_on (stmts p (calls p k) b.body (record s1 { locals = mine })) (λ end. put_locals ls >> result_of b.of end)) (sym kept)
+      ∙ ap (λ ls. go_on (stmts p (calls p k) b.body (record s1 { locals = ls })) (λ end. put_locals s1.locals >> result_of b.ty end)) (sym bound)
+      ∙ ap (λ ls. go_on (stmts p (calls p k) b.body (record s1 { locals = mine })) (λ end. put_locals ls >> result_of b.ty end)) (sym kept)
 
-  pub call_gives : (s2 : State) (e : Completion) (r : Answer Value) → stmts p (calls p k) b.body (record s1 { locals = mine }) ≡ Gives e s2 → result_of b.of e (record s2 { locals = outer }) ≡ r → calls p n x vs s0 ≡ r
-  call_gives s2 e r h g = call_begun ∙ after _ (λ end. put_locals outer >> result_of b.of end) e s2 h ∙ g
+  pub call_gives : (s2 : State) (e : Completion) (r : Answer Value) → stmts p (calls p k) b.body (record s1 { locals = mine }) ≡ Gives e s2 → result_of b.ty e (record s2 { locals = outer }) ≡ r → calls p n x vs s0 ≡ r
+  call_gives s2 e r h g = call_begun ∙ after _ (λ end. put_locals outer >> result_of b.ty end) e s2 h ∙ g
 
   pub call_stops : (s2 : State) (why : Halt) → stmts p (calls p k) b.body (record s1 { locals = mine }) ≡ Stops why s2 → calls p n x vs s0 ≡ Stops why s2
-  call_stops s2 why h = call_begun ∙ halts _ (λ end. put_locals outer >> result_of b.of end) why s2 h
+  call_stops s2 why h = call_begun ∙ halts _ (λ end. put_locals outer >> result_of b.ty end) why s2 h
 
 -- transactions
 pub transaction_at : (kind : Kind) (run : Action Completion) (s : State) (before : Context) (r : Answer Completion) → s.context ≡ before → enter before kind run (record s { context = before }) ≡ r → transaction kind run s ≡ r

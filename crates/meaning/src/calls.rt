@@ -45,19 +45,19 @@ fn locals_of<'p, A: Allocator + Copy>(
         };
         mine.push(Local {
             name: x.text.as_str(),
-            of: q.of,
-            word: convert(q.of, v).word,
+            ty: q.ty,
+            word: convert(q.ty, v).word,
         })?;
     }
     Ok(Some(mine))
 }
 
 /// The type of a function's value, or `int` where it gives none.
-fn type_or_int(of: Option<Scalar>) -> Scalar
-    ensures { result ≡ unwrap_or of Int }
+fn type_or_int(ty: Option<Scalar>) -> Scalar
+    ensures { result ≡ unwrap_or ty Int }
 {
-    match of {
-        Some(t) => t,
+    match ty {
+        Some(ty) => ty,
         None => Scalar::Int,
     }
 }
@@ -65,14 +65,14 @@ fn type_or_int(of: Option<Scalar>) -> Scalar
 /// The value of a call, of the function's own type.
 pub(crate) fn result_of<A: Allocator>(
     m: &mut Machine<A>,
-    of: Option<Scalar>,
+    ty: Option<Scalar>,
     end: StmtCompletion,
 ) -> Result<Word, Halted>
-    ensures { MeansWord result (meaning.result_of of (end_of end) (state_in m.old)) m.new }
+    ensures { MeansWord result (meaning.result_of ty (end_of end) (state_in m.old)) m.new }
 {
     match end {
-        StmtCompletion::Next => Ok(convert_word(type_or_int(of), flag(false))),
-        StmtCompletion::Returns(w) => Ok(convert_word(type_or_int(of), w)),
+        StmtCompletion::Next => Ok(convert_word(type_or_int(ty), flag(false))),
+        StmtCompletion::Returns(w) => Ok(convert_word(type_or_int(ty), w)),
         _ => {
             m.why = Some(Halt::Astray);
             Err(Halted {})
@@ -83,7 +83,7 @@ pub(crate) fn result_of<A: Allocator>(
 /// A call that begins: the type of its value, its body and its locals.
 #[derive(Drop)]
 pub(crate) struct Begun<'p, A: Allocator> {
-    pub of: Option<Scalar>,
+    pub ty: Option<Scalar>,
     pub body: &'p [Stmt<A>],
     pub mine: Vec<Local<'p>, A>,
 }
@@ -112,7 +112,7 @@ pub(crate) fn begin<'p, A: Allocator + Copy>(
         return Err(Halted {});
     };
     Ok(Begun {
-        of: d.function.result,
+        ty: d.function.result,
         body: d.body,
         mine,
     })
@@ -172,9 +172,9 @@ pub(crate) fn enter_function<'p, A: Allocator + Copy>(
     if frames == 0 {
         return trap(m, Trap::Frames);
     }
-    let Begun { of, body, mine } = begin(source, f, values, m)?;
+    let Begun { ty, body, mine } = begin(source, f, values, m)?;
     let outer = mem::replace(&mut m.locals, mine);
     let end = stmts(source, frames - 1, body, m)?;
     m.locals = outer;
-    result_of(m, of, end)
+    result_of(m, ty, end)
 }

@@ -29,16 +29,16 @@ pub(crate) fn eval<'p, A: Allocator + Copy>(
 {
     match e {
         Expr::Variable(x) => variable(source, x, m),
-        Expr::Constant(n, t, _) => Ok(constant(*n, *t)),
+        Expr::Constant(n, ty, _) => Ok(constant(*n, *ty)),
         Expr::Element(x, i, _) => {
             let at = element(source, frames, x, i.get(), m)?;
             fetch(m, at)
         }
         Expr::Call(f, args, _) => call(source, frames, f, args.as_slice(), m),
         Expr::Parenthesized(e, _) => eval(source, frames, e.get(), m),
-        Expr::Cast(t, e, _) => {
+        Expr::Cast(ty, e, _) => {
             let v = eval(source, frames, e.get(), m)?;
-            Ok(convert_word(*t, v))
+            Ok(convert_word(*ty, v))
         }
         Expr::Unary(op, e, _) => {
             let v = eval(source, frames, e.get(), m)?;

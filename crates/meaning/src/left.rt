@@ -253,9 +253,9 @@ fn begin_frame<'p, A: Allocator + Copy>(
     if frames == 0 {
         return trap_frames(m);
     }
-    let Begun { of, body, mine } = begin_body(source, f, values, m)?;
+    let Begun { ty, body, mine } = begin_body(source, f, values, m)?;
     let outer = mem::replace(&mut m.locals, mine);
-    Ok(Stepped::Nests(Left::Call(of, outer), Task::Apart(frames - 1, body)))
+    Ok(Stepped::Nests(Left::Call(ty, outer), Task::Apart(frames - 1, body)))
 }
 
 /// The first step of a statement that is nothing but a call.
@@ -398,19 +398,19 @@ fn leave_body<'p, A: Allocator + Copy>(
 /// A call's end.
 fn leave_call<'p, A: Allocator + Copy>(
     alloc: A,
-    of: Option<Scalar>,
+    ty: Option<Scalar>,
     outer: &[Local<'p>],
     end: StmtCompletion,
     m: &mut Machine<'p, '_, A>,
 ) -> Result<StmtCompletion, Halted>
-    ensures { MeansEnd result (call_left of (map local_in outer.now) (end_of end) (state_in m.old)) m.new }
+    ensures { MeansEnd result (call_left ty (map local_in outer.now) (end_of end) (state_in m.old)) m.new }
 {
     let Ok(mine) = copy_locals(alloc, outer) else {
         m.why = None;
         return Err(Halted {});
     };
     m.locals = mine;
-    result_of(m, of, end)?;
+    result_of(m, ty, end)?;
     Ok(StmtCompletion::Next)
 }
 
@@ -471,8 +471,8 @@ pub(crate) fn step<'p, A: Allocator + Copy>(
             m.locals.truncate(*outer);
             Ok(Stepped::Ends(end))
         }
-        Left::Call(of, outer) => {
-            let end = leave_call(source.alloc, *of, outer.as_slice(), end, m)?;
+        Left::Call(ty, outer) => {
+            let end = leave_call(source.alloc, *ty, outer.as_slice(), end, m)?;
             Ok(Stepped::Ends(end))
         }
     }

@@ -254,7 +254,7 @@ pub(crate) fn for_start<'p, A: Allocator + Copy>(
 {
     match start {
         Start::Nothing => Ok(StmtCompletion::Next),
-        Start::Declare(d) => declare(source, frames, d.of, d.declarators.as_slice(), m),
+        Start::Declare(d) => declare(source, frames, d.ty, d.declarators.as_slice(), m),
         Start::Do(s) => simple(source, frames, s, m),
     }
 }

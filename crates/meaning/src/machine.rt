@@ -20,7 +20,7 @@ use syntax::tree::{BinaryOp, Mode, UnaryOp};
 #[derive(Drop)]
 pub(crate) struct Local<'p> {
     pub name: &'p str,
-    pub of: Scalar,
+    pub ty: Scalar,
     pub word: u64,
 }
 
@@ -138,7 +138,7 @@ pub(crate) fn newest(locals: &[Local], name: &str) -> Option<(usize, Scalar)>
         i -= 1;
         let l = &locals[i];
         if l.name == name {
-            return Some((i, l.of));
+            return Some((i, l.ty));
         }
     }
     None
@@ -149,14 +149,14 @@ pub(crate) fn fetch<A: Allocator>(m: &mut Machine<A>, at: Spot) -> Result<Word, 
     ensures { MeansWord result (meaning.fetch (spot_of at) (state_in m.old)) m.new }
 {
     match at {
-        Spot::InLocal(i, of) => match m.locals.get(i) {
-            Some(l) => Ok(pack(of, l.word)),
-            None => Ok(pack(of, 0)),
+        Spot::InLocal(i, ty) => match m.locals.get(i) {
+            Some(l) => Ok(pack(ty, l.word)),
+            None => Ok(pack(ty, 0)),
         },
-        Spot::InCell(c, of) => match &m.context {
+        Spot::InCell(c, ty) => match &m.context {
             Context::Inside(_, memory) => match memory.get(c) {
-                Some(word) => Ok(pack(of, *word)),
-                None => Ok(pack(of, 0)),
+                Some(word) => Ok(pack(ty, *word)),
+                None => Ok(pack(ty, 0)),
             },
             Context::Outside(_, _) => {
                 m.why = Some(Halt::Astray);
@@ -168,10 +168,10 @@ pub(crate) fn fetch<A: Allocator>(m: &mut Machine<A>, at: Spot) -> Result<Word, 
 
 /// The word of a value that is converted.
 #[inline(always)]
-fn word_as(of: Scalar, w: Word) -> u64
-    ensures { result ≡ (value_in_type of (value_of w)).word }
+fn word_as(ty: Scalar, w: Word) -> u64
+    ensures { result ≡ (value_in_type ty (value_of w)).word }
 {
-    convert(of, unpack(w)).word
+    convert(ty, unpack(w)).word
 }
 
 /// Writes a word into a local.
@@ -189,14 +189,14 @@ pub(crate) fn assign<A: Allocator>(m: &mut Machine<A>, at: Spot, w: Word) -> Res
     ensures { Means result (meaning.assign (spot_of at) (value_of w) (state_in m.old)) m.new }
 {
     match at {
-        Spot::InLocal(i, of) => {
-            assign_local(m.locals.as_mut_slice(), i, word_as(of, w));
+        Spot::InLocal(i, ty) => {
+            assign_local(m.locals.as_mut_slice(), i, word_as(ty, w));
             Ok(())
         }
-        Spot::InCell(c, of) => match &mut m.context {
+        Spot::InCell(c, ty) => match &mut m.context {
             Context::Inside(_, memory) => {
                 if c < memory.len() {
-                    memory[c] = word_as(of, w);
+                    memory[c] = word_as(ty, w);
                 }
                 Ok(())
             }

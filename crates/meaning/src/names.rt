@@ -89,7 +89,7 @@ impl<'p, A: Allocator> Symbol<'p, A> {
     {
         match self {
             Symbol::Unknown => Symbol::Unknown,
-            Symbol::Local(of) => Symbol::Local(*of),
+            Symbol::Local(ty) => Symbol::Local(*ty),
             Symbol::Global(g) => Symbol::Global(*g),
             Symbol::Function(f) => Symbol::Function(*f),
         }
@@ -115,7 +115,7 @@ fn symbol_of<'p, A: Allocator + Copy>(
     ensures { known_of result ≡ running_scope (program_in source.now) (map local_in locals.now) name.now }
 {
     match newest(locals, name) {
-        Some((_, of)) => Symbol::Local(of),
+        Some((_, ty)) => Symbol::Local(ty),
         None => file_symbol(source, name),
     }
 }
@@ -125,9 +125,9 @@ fn number_type<A: Allocator>(s: &Symbol<A>) -> Option<Scalar>
     ensures { result ≡ Types.number_type (known_of s.now) }
 {
     match s {
-        Symbol::Local(of) => Some(*of),
+        Symbol::Local(ty) => Some(*ty),
         Symbol::Global(g) => match g.length {
-            None => Some(g.of),
+            None => Some(g.ty),
             Some(_) => None,
         },
         _ => None,
@@ -141,7 +141,7 @@ fn element_type<A: Allocator>(s: &Symbol<A>) -> Option<Scalar>
     match s {
         Symbol::Global(g) => match g.length {
             None => None,
-            Some(_) => Some(g.of),
+            Some(_) => Some(g.ty),
         },
         _ => None,
     }
@@ -167,11 +167,11 @@ pub(crate) fn type_of<A: Allocator + Copy>(
 {
     match e {
         Expr::Variable(x) => number_type(&symbol_of(source, locals, x.text.as_str())),
-        Expr::Constant(_, t, _) => Some(*t),
+        Expr::Constant(_, ty, _) => Some(*ty),
         Expr::Element(x, _, _) => element_type(&symbol_of(source, locals, x.text.as_str())),
         Expr::Call(f, _, _) => call_type(&symbol_of(source, locals, f.text.as_str())),
         Expr::Parenthesized(e, _) => type_of(source, locals, e.get()),
-        Expr::Cast(t, _, _) => Some(*t),
+        Expr::Cast(ty, _, _) => Some(*ty),
         Expr::Unary(op, e, _) => unary_type(*op, type_of(source, locals, e.get())),
         Expr::Binary(op, a, b, _) => binary_type(
             *op,

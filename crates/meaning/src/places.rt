@@ -29,11 +29,11 @@ pub(crate) fn name_place<'p, A: Allocator + Copy>(
     ensures { MeansSpot result (meaning.named (program_in source.now) (called source.now 0) x.now.text (state_in m.old))
         m.new }
 {
-    if let Some((i, of)) = newest(m.locals.as_slice(), x.text.as_str()) {
-        return Ok(Spot::InLocal(i, of));
+    if let Some((i, ty)) = newest(m.locals.as_slice(), x.text.as_str()) {
+        return Ok(Spot::InLocal(i, ty));
     }
     match global(source, x.text.as_str()) {
-        Some(g) => Ok(Spot::InCell(g.cell, g.global.of)),
+        Some(g) => Ok(Spot::InCell(g.cell, g.global.ty)),
         None => {
             m.why = Some(Halt::Astray);
             Err(Halted {})
@@ -72,7 +72,7 @@ pub(crate) fn element_cell<'p, A: Allocator + Copy>(
     };
     let k = unpack(index).word as usize;
     if k < g.global.cell_count() {
-        Ok(Spot::InCell(g.cell + k, g.global.of))
+        Ok(Spot::InCell(g.cell + k, g.global.ty))
     } else {
         spot_trap(m, Trap::Index)
     }
@@ -94,10 +94,10 @@ pub(crate) fn common_value<'p, A: Allocator + Copy>(
         (λ t. act.pure (value_in_type t (value_of w))))
         m.new }
 {
-    let of = type_of(source, m.locals.as_slice(), a);
+    let ty = type_of(source, m.locals.as_slice(), a);
     let other = type_of(source, m.locals.as_slice(), b);
-    match common_of(of, other) {
-        Some(t) => Ok(convert_word(t, w)),
+    match common_of(ty, other) {
+        Some(ty) => Ok(convert_word(ty, w)),
         None => {
             m.why = Some(Halt::Astray);
             Err(Halted {})

@@ -49,12 +49,12 @@ fn put_byte<A: Allocator>(m: &mut Machine<A>, begun: bool, c: u8) -> Result<(), 
 }
 
 /// The number that a figure prints, as a piece of its own.
-fn put_number<A: Allocator>(m: &mut Machine<A>, t: Scalar, v: Value) -> Result<(), Halted>
-    ensures { Means result (act.print_piece (signed_decimal (numbers.number t v.word)) (state_in m.old)) m.new }
+fn put_number<A: Allocator>(m: &mut Machine<A>, ty: Scalar, v: Value) -> Result<(), Halted>
+    ensures { Means result (act.print_piece (signed_decimal (numbers.number ty v.word)) (state_in m.old)) m.new }
 {
     tick(m)?;
     let mut buffer = Buffer::new();
-    let text = buffer.format(number(t, v.word));
+    let text = buffer.format(number(ty, v.word));
     if m.text.extend_from_slice(text.as_bytes()).is_err() {
         m.why = None;
         return Err(Halted {});
@@ -65,14 +65,14 @@ fn put_number<A: Allocator>(m: &mut Machine<A>, t: Scalar, v: Value) -> Result<(
 /// The next value of a figure.
 fn put_figure<A: Allocator>(
     m: &mut Machine<A>,
-    t: Scalar,
+    ty: Scalar,
     values: &[Value],
     k: usize,
 ) -> Result<(), Halted>
-    ensures { Means result (figure t (drop k values.now) (state_in m.old)) m.new }
+    ensures { Means result (figure ty (drop k values.now) (state_in m.old)) m.new }
 {
     match values.get(k) {
-        Some(v) => put_number(m, t, *v),
+        Some(v) => put_number(m, ty, *v),
         None => {
             m.why = Some(Halt::Astray);
             Err(Halted {})
@@ -99,8 +99,8 @@ pub(crate) fn print_pieces<A: Allocator>(
                 i = next;
                 continue;
             }
-            FormatUnit::Figure(t, next) => {
-                put_figure(m, t, values, k)?;
+            FormatUnit::Figure(ty, next) => {
+                put_figure(m, ty, values, k)?;
                 begun = false;
                 k += 1;
                 i = next;

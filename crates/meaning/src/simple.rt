@@ -130,16 +130,16 @@ pub(crate) fn simple<'p, A: Allocator + Copy>(
 pub(crate) fn declare<'p, A: Allocator + Copy>(
     source: &ProgramTables<'p, A>,
     frames: u64,
-    t: Scalar,
+    ty: Scalar,
     ds: &'p [Declarator<A>],
     m: &mut Machine<'p, '_, A>,
 ) -> Result<StmtCompletion, Halted>
     ensures { MeansEnd result
-        (meaning.declare (program_in source.now) (called source.now frames) t (map declarator_of ds.now)
+        (meaning.declare (program_in source.now) (called source.now frames) ty (map declarator_of ds.now)
         (state_in m.old)) m.new }
 {
     'declarators: for d in ds {
-        declare_one(source, frames, t, d, m)?;
+        declare_one(source, frames, ty, d, m)?;
     }
     Ok(StmtCompletion::Next)
 }
@@ -149,17 +149,17 @@ pub(crate) fn declare<'p, A: Allocator + Copy>(
 fn declare_one<'p, A: Allocator + Copy>(
     source: &ProgramTables<'p, A>,
     frames: u64,
-    t: Scalar,
+    ty: Scalar,
     d: &'p Declarator<A>,
     m: &mut Machine<'p, '_, A>,
 ) -> Result<(), Halted>
-    ensures { Means result (declared_one (program_in source.now) (called source.now frames) t (declarator_of d.now)
+    ensures { Means result (declared_one (program_in source.now) (called source.now frames) ty (declarator_of d.now)
         (state_in m.old)) m.new }
 {
     let place = m.locals.len();
     let local = Local {
         name: d.name.text.as_str(),
-        of: t,
+        ty,
         word: 0,
     };
     if m.locals.push(local).is_err() {
@@ -170,7 +170,7 @@ fn declare_one<'p, A: Allocator + Copy>(
         None => Ok(()),
         Some(e) => {
             let v = eval(source, frames, e, m)?;
-            assign(m, Spot::InLocal(place, t), v)
+            assign(m, Spot::InLocal(place, ty), v)
         }
     }
 }

@@ -360,15 +360,15 @@ pub(crate) fn stand<'p, A: Allocator + Copy>(
         → rest source.now th founds ≡ worker_run (program_in source.now) t (first_state founds ticks)) }
 {
     let values = [Value {
-        of: Scalar::Unsigned,
+        ty: Scalar::Unsigned,
         word: u64::from(t),
     }];
     let mut m = start(source.alloc, &[], ticks);
-    let Ok(Begun { of, body, mine }) = begin(source, "worker", &values, &mut m) else {
+    let Ok(Begun { ty, body, mine }) = begin(source, "worker", &values, &mut m) else {
         return Err(AllocError);
     };
     let mut left = Vec::new(source.alloc);
-    left.push(Left::Call(of, Vec::new(source.alloc)))?;
+    left.push(Left::Call(ty, Vec::new(source.alloc)))?;
     left.push(Left::Next(Task::Apart(63, body)))?;
     Ok(Thread {
         left,

@@ -35,7 +35,7 @@ pub(crate) fn stmt<'p, A: Allocator + Copy>(
     tick(m)?;
     match s {
         Stmt::Empty => Ok(StmtCompletion::Next),
-        Stmt::Declare(d) => declare(source, frames, d.of, d.declarators.as_slice(), m),
+        Stmt::Declare(d) => declare(source, frames, d.ty, d.declarators.as_slice(), m),
         Stmt::Do(s) => simple(source, frames, s, m),
         Stmt::Block(ss) => block(source, frames, ss.as_slice(), m),
         Stmt::Print(_, format, _, args) => {

@@ -31,7 +31,7 @@ fn work<'p, A: Allocator + Copy>(
     ensures { Means result (worker_run (program_in source.now) t (state_in m.old)) m.new }
 {
     let values = [Value {
-        of: Scalar::Unsigned,
+        ty: Scalar::Unsigned,
         word: u64::from(t),
     }];
     enter_function(source, 64, "worker", &values, m)?;

@@ -38,7 +38,7 @@ pub(crate) fn copy_locals<'p, A: Allocator + Copy>(
     'locals: for l in locals {
         mine.push(Local {
             name: l.name,
-            of: l.of,
+            ty: l.ty,
             word: l.word,
         })?;
     }

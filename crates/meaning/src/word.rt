@@ -18,11 +18,11 @@ pub(crate) struct Word {
 /// The value of this type with this word.
 #[inline(always)]
 #[tactic(auto, unfolding(crate::specs::inner::Word::value_of))]
-pub(crate) fn pack(of: Scalar, word: u64) -> Word
-    ensures { value_of result ≡ record { of = of; word = word } }
+pub(crate) fn pack(ty: Scalar, word: u64) -> Word
+    ensures { value_of result ≡ record { ty = ty; word = word } }
 {
     let low = u128::from(word);
-    match of {
+    match ty {
         Scalar::Int => Word { bits: low },
         Scalar::Unsigned => Word {
             bits: low + 18446744073709551616,
@@ -42,18 +42,18 @@ pub(crate) fn unpack(w: Word) -> Value
     let word = (w.bits % 18446744073709551616) as u64;
     if w.bits < 18446744073709551616 {
         return Value {
-            of: Scalar::Int,
+            ty: Scalar::Int,
             word,
         };
     }
     if w.bits < 36893488147419103232 {
         return Value {
-            of: Scalar::Unsigned,
+            ty: Scalar::Unsigned,
             word,
         };
     }
     Value {
-        of: Scalar::LongLong,
+        ty: Scalar::LongLong,
         word,
     }
 }
@@ -63,15 +63,15 @@ pub(crate) fn unpack(w: Word) -> Value
 pub(crate) fn pack_value(v: Value) -> Word
     ensures { value_of result ≡ v }
 {
-    pack(v.of, v.word)
+    pack(v.ty, v.word)
 }
 
 /// The value of a constant.
 #[inline(always)]
-pub(crate) fn constant(n: u64, of: Scalar) -> Word
-    ensures { value_of result ≡ record { of = of; word = word_of of (pos n) } }
+pub(crate) fn constant(n: u64, ty: Scalar) -> Word
+    ensures { value_of result ≡ record { ty = ty; word = word_of ty (pos n) } }
 {
-    pack(of, word_of(of, i128::from(n)))
+    pack(ty, word_of(ty, i128::from(n)))
 }
 
 /// Whether a value is 0.
@@ -92,8 +92,8 @@ pub(crate) fn flag(b: bool) -> Word
 
 /// A value of the type, with the number modulo how many numbers the type has.
 #[inline(always)]
-pub(crate) fn convert_word(t: Scalar, w: Word) -> Word
-    ensures { value_of result ≡ value_in_type t (value_of w) }
+pub(crate) fn convert_word(ty: Scalar, w: Word) -> Word
+    ensures { value_of result ≡ value_in_type ty (value_of w) }
 {
-    pack_value(convert(t, unpack(w)))
+    pack_value(convert(ty, unpack(w)))
 }

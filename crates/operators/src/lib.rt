@@ -18,10 +18,10 @@ use syntax::tree::BinaryOp;
 
 /// A result's word, or a trap where a signed one is out of range.
 #[inline(always)]
-fn fit(t: Scalar, z: i64) -> Result<u64, Trap>
-    ensures { result ≡ fit_result t z }
+fn fit(ty: Scalar, z: i64) -> Result<u64, Trap>
+    ensures { result ≡ fit_result ty z }
 {
-    match t {
+    match ty {
         Scalar::Int => {
             // One test of both ends, which the processor's own flag of a sum then answers.
             if z.wrapping_add(2147483648).cast_unsigned() > 4294967295 {
@@ -36,10 +36,10 @@ fn fit(t: Scalar, z: i64) -> Result<u64, Trap>
 
 /// The word of a number of any size as a result of a type: a signed one traps outside its range, an unsigned one wraps.
 #[inline(always)]
-fn fit_wide(t: Scalar, z: i128) -> Result<u64, Trap>
-    ensures { result ≡ fit_result t z }
+fn fit_wide(ty: Scalar, z: i128) -> Result<u64, Trap>
+    ensures { result ≡ fit_result ty z }
 {
-    match t {
+    match ty {
         Scalar::Int => {
             if -2147483648 <= z && z < 2147483648 {
                 Ok(z.rem_euclid(4294967296) as u64)
@@ -71,23 +71,23 @@ fn fit_checked(z: Option<i64>) -> Result<u64, Trap>
 
 /// A sum.
 #[inline(always)]
-pub fn add(t: Scalar, a: u64, b: u64) -> Result<u64, Trap>
-    ensures { result ≡ operation_result BinaryOp.Add t a b }
+pub fn add(ty: Scalar, a: u64, b: u64) -> Result<u64, Trap>
+    ensures { result ≡ operation_result BinaryOp.Add ty a b }
 {
-    match t {
-        Scalar::LongLong => fit_checked(number(t, a).checked_add(number(t, b))),
-        Scalar::Int | Scalar::Unsigned => fit(t, number(t, a) + number(t, b)),
+    match ty {
+        Scalar::LongLong => fit_checked(number(ty, a).checked_add(number(ty, b))),
+        Scalar::Int | Scalar::Unsigned => fit(ty, number(ty, a) + number(ty, b)),
     }
 }
 
 /// A difference.
 #[inline(always)]
-pub fn subtract(t: Scalar, a: u64, b: u64) -> Result<u64, Trap>
-    ensures { result ≡ operation_result BinaryOp.Subtract t a b }
+pub fn subtract(ty: Scalar, a: u64, b: u64) -> Result<u64, Trap>
+    ensures { result ≡ operation_result BinaryOp.Subtract ty a b }
 {
-    match t {
-        Scalar::LongLong => fit_checked(number(t, a).checked_sub(number(t, b))),
-        Scalar::Int | Scalar::Unsigned => fit(t, number(t, a) - number(t, b)),
+    match ty {
+        Scalar::LongLong => fit_checked(number(ty, a).checked_sub(number(ty, b))),
+        Scalar::Int | Scalar::Unsigned => fit(ty, number(ty, a) - number(ty, b)),
     }
 }
 
@@ -101,11 +101,11 @@ fn low(w: u64) -> u32
 
 /// How many bits a type has.
 #[inline(always)]
-fn bits(t: Scalar) -> u64
-    ensures value { result ≡ bits t }
+fn bits(ty: Scalar) -> u64
+    ensures value { result ≡ bits ty }
     ensures most { result ≤ 64 }
 {
-    match t {
+    match ty {
         Scalar::Int | Scalar::Unsigned => 32,
         Scalar::LongLong => 64,
     }
@@ -164,10 +164,10 @@ fn multiply_long(a: u64, b: u64) -> Result<u64, Trap>
 
 /// A product.
 #[inline(always)]
-pub fn multiply(t: Scalar, a: u64, b: u64) -> Result<u64, Trap>
-    ensures { result ≡ operation_result BinaryOp.Multiply t a b }
+pub fn multiply(ty: Scalar, a: u64, b: u64) -> Result<u64, Trap>
+    ensures { result ≡ operation_result BinaryOp.Multiply ty a b }
 {
-    match t {
+    match ty {
         Scalar::Int => multiply_signed(a, b),
         Scalar::Unsigned => Ok(u64::from(low(a)) * u64::from(low(b)) % 4294967296),
         Scalar::LongLong => multiply_long(a, b),
@@ -221,10 +221,10 @@ fn remain_long(a: u64, b: u64) -> Result<u64, Trap>
 
 /// Whether a divisor is 0.
 #[inline(always)]
-fn is_zero(t: Scalar, b: u64) -> bool
-    ensures { result ≡ (residue t b == 0) }
+fn is_zero(ty: Scalar, b: u64) -> bool
+    ensures { result ≡ (residue ty b == 0) }
 {
-    match t {
+    match ty {
         Scalar::Int | Scalar::Unsigned => low(b) == 0,
         Scalar::LongLong => b == 0,
     }
@@ -232,13 +232,13 @@ fn is_zero(t: Scalar, b: u64) -> bool
 
 /// A quotient.
 #[inline(always)]
-pub fn divide(t: Scalar, a: u64, b: u64) -> Result<u64, Trap>
-    ensures { result ≡ operation_result BinaryOp.Divide t a b }
+pub fn divide(ty: Scalar, a: u64, b: u64) -> Result<u64, Trap>
+    ensures { result ≡ operation_result BinaryOp.Divide ty a b }
 {
-    if is_zero(t, b) {
+    if is_zero(ty, b) {
         return Err(Trap::ZeroDivisor);
     }
-    match t {
+    match ty {
         Scalar::Int => divide_signed(a, b),
         Scalar::LongLong => divide_long(a, b),
         Scalar::Unsigned => Ok(u64::from(low(a) / low(b))),
@@ -247,13 +247,13 @@ pub fn divide(t: Scalar, a: u64, b: u64) -> Result<u64, Trap>
 
 /// What is left by a division; it traps where the quotient does.
 #[inline(always)]
-pub fn remain(t: Scalar, a: u64, b: u64) -> Result<u64, Trap>
-    ensures { result ≡ operation_result BinaryOp.Remainder t a b }
+pub fn remain(ty: Scalar, a: u64, b: u64) -> Result<u64, Trap>
+    ensures { result ≡ operation_result BinaryOp.Remainder ty a b }
 {
-    if is_zero(t, b) {
+    if is_zero(ty, b) {
         return Err(Trap::ZeroDivisor);
     }
-    match t {
+    match ty {
         Scalar::Int => remain_signed(a, b),
         Scalar::LongLong => remain_long(a, b),
         Scalar::Unsigned => Ok(u64::from(low(a) % low(b))),
@@ -284,29 +284,29 @@ fn power(k: u64) -> i64
 
 /// A shift to the left.
 #[inline(always)]
-pub fn shift_left(t: Scalar, a: u64, b: u64) -> Result<u64, Trap>
-    ensures { result ≡ operation_result BinaryOp.ShiftLeft t a b }
+pub fn shift_left(ty: Scalar, a: u64, b: u64) -> Result<u64, Trap>
+    ensures { result ≡ operation_result BinaryOp.ShiftLeft ty a b }
 {
-    if b >= bits(t) {
+    if b >= bits(ty) {
         return Err(Trap::ShiftCount);
     }
-    let x = i128::from(number(t, a));
+    let x = i128::from(number(ty, a));
     let y = wide_power(b);
-    fit_wide(t, x * y)
+    fit_wide(ty, x * y)
 }
 
 /// A shift to the right.
 #[inline(always)]
-pub fn shift_right(t: Scalar, a: u64, b: u64) -> Result<u64, Trap>
-    ensures { result ≡ operation_result BinaryOp.ShiftRight t a b }
+pub fn shift_right(ty: Scalar, a: u64, b: u64) -> Result<u64, Trap>
+    ensures { result ≡ operation_result BinaryOp.ShiftRight ty a b }
 {
-    if b >= bits(t) {
+    if b >= bits(ty) {
         return Err(Trap::ShiftCount);
     }
-    let x = number(t, a);
-    match t {
-        Scalar::Int | Scalar::Unsigned => fit(t, x.div_euclid(power(b))),
-        Scalar::LongLong => fit_wide(t, i128::from(x).div_euclid(wide_power(b))),
+    let x = number(ty, a);
+    match ty {
+        Scalar::Int | Scalar::Unsigned => fit(ty, x.div_euclid(power(b))),
+        Scalar::LongLong => fit_wide(ty, i128::from(x).div_euclid(wide_power(b))),
     }
 }
 
@@ -328,10 +328,10 @@ pub fn not_equal(a: u64, b: u64) -> u64
 
 /// Whether a number is below another.
 #[inline(always)]
-pub fn less(t: Scalar, a: u64, b: u64) -> u64
-    ensures { operation_result BinaryOp.Less t a b ≡ Ok result }
+pub fn less(ty: Scalar, a: u64, b: u64) -> u64
+    ensures { operation_result BinaryOp.Less ty a b ≡ Ok result }
 {
-    match t {
+    match ty {
         Scalar::Int => u64::from(signed_number(a) < signed_number(b)),
         Scalar::Unsigned => u64::from(low(a) < low(b)),
         Scalar::LongLong => u64::from(long(a) < long(b)),
@@ -340,10 +340,10 @@ pub fn less(t: Scalar, a: u64, b: u64) -> u64
 
 /// Whether a number is at most another.
 #[inline(always)]
-pub fn less_equal(t: Scalar, a: u64, b: u64) -> u64
-    ensures { operation_result BinaryOp.LessEqual t a b ≡ Ok result }
+pub fn less_equal(ty: Scalar, a: u64, b: u64) -> u64
+    ensures { operation_result BinaryOp.LessEqual ty a b ≡ Ok result }
 {
-    match t {
+    match ty {
         Scalar::Int => u64::from(signed_number(a) <= signed_number(b)),
         Scalar::Unsigned => u64::from(low(a) <= low(b)),
         Scalar::LongLong => u64::from(long(a) <= long(b)),
@@ -352,21 +352,21 @@ pub fn less_equal(t: Scalar, a: u64, b: u64) -> u64
 
 /// The number with the other sign.
 #[inline(always)]
-pub fn negate(t: Scalar, a: u64) -> Result<u64, Trap>
-    ensures { result ≡ fit_result t (neg_ℤ (number_in t a)) }
+pub fn negate(ty: Scalar, a: u64) -> Result<u64, Trap>
+    ensures { result ≡ fit_result ty (neg_ℤ (number_in ty a)) }
 {
-    match t {
-        Scalar::Int | Scalar::Unsigned => fit(t, -number(t, a)),
-        Scalar::LongLong => fit_wide(t, -i128::from(number(t, a))),
+    match ty {
+        Scalar::Int | Scalar::Unsigned => fit(ty, -number(ty, a)),
+        Scalar::LongLong => fit_wide(ty, -i128::from(number(ty, a))),
     }
 }
 
 /// Each bit the other way.
 #[inline(always)]
-pub fn complement(t: Scalar, a: u64) -> u64
-    ensures { result ≡ bitwise_complement t a }
+pub fn complement(ty: Scalar, a: u64) -> u64
+    ensures { result ≡ bitwise_complement ty a }
 {
-    match t {
+    match ty {
         Scalar::Int | Scalar::Unsigned => u64::from(4294967295 - low(a)),
         Scalar::LongLong => 18446744073709551615 - a,
     }
@@ -391,8 +391,8 @@ pub fn lower(a: u64) -> u64
 /// The result of an operator on two words of one type. Not always inlined: where the operator is given, little is left
 /// of it, but a function with all of it for each operator would be too large to be put into another.
 #[inline]
-pub fn compute(op: BinaryOp, t: Scalar, a: u64, b: u64) -> Result<u64, Trap>
-    ensures { result ≡ operation_result op t a b }
+pub fn compute(op: BinaryOp, ty: Scalar, a: u64, b: u64) -> Result<u64, Trap>
+    ensures { result ≡ operation_result op ty a b }
 {
     match op {
         BinaryOp::Or => Ok(a | b),
@@ -400,16 +400,16 @@ pub fn compute(op: BinaryOp, t: Scalar, a: u64, b: u64) -> Result<u64, Trap>
         BinaryOp::And => Ok(a & b),
         BinaryOp::Equal => Ok(equal(a, b)),
         BinaryOp::NotEqual => Ok(not_equal(a, b)),
-        BinaryOp::Less => Ok(less(t, a, b)),
-        BinaryOp::Greater => Ok(less(t, b, a)),
-        BinaryOp::LessEqual => Ok(less_equal(t, a, b)),
-        BinaryOp::GreaterEqual => Ok(less_equal(t, b, a)),
-        BinaryOp::ShiftLeft => shift_left(t, a, b),
-        BinaryOp::ShiftRight => shift_right(t, a, b),
-        BinaryOp::Add => add(t, a, b),
-        BinaryOp::Subtract => subtract(t, a, b),
-        BinaryOp::Multiply => multiply(t, a, b),
-        BinaryOp::Divide => divide(t, a, b),
-        BinaryOp::Remainder => remain(t, a, b),
+        BinaryOp::Less => Ok(less(ty, a, b)),
+        BinaryOp::Greater => Ok(less(ty, b, a)),
+        BinaryOp::LessEqual => Ok(less_equal(ty, a, b)),
+        BinaryOp::GreaterEqual => Ok(less_equal(ty, b, a)),
+        BinaryOp::ShiftLeft => shift_left(ty, a, b),
+        BinaryOp::ShiftRight => shift_right(ty, a, b),
+        BinaryOp::Add => add(ty, a, b),
+        BinaryOp::Subtract => subtract(ty, a, b),
+        BinaryOp::Multiply => multiply(ty, a, b),
+        BinaryOp::Divide => divide(ty, a, b),
+        BinaryOp::Remainder => remain(ty, a, b),
     }
 }

@@ -79,7 +79,7 @@ fn constant<'t, 'a, A: Allocator>(
 {
     match tokens {
         [first, rest @ ..] => match first.kind {
-            Kind::Constant(n, of) => Ok((Expr::Constant(n, of, first.span), 1, rest)),
+            Kind::Constant(n, ty) => Ok((Expr::Constant(n, ty, first.span), 1, rest)),
             _ => Err(Failure::Wrong(tokens)),
         },
         [] => Err(Failure::Wrong(tokens)),

@@ -45,8 +45,8 @@ fn result<'t, 'a>(
     if let Some(rest) = eat(tokens, Fixed::Keyword(Keyword::Void)) {
         return Ok((None, rest));
     }
-    let (of, rest) = scalar(tokens)?;
-    Ok((Some(of), rest))
+    let (ty, rest) = scalar(tokens)?;
+    Ok((Some(ty), rest))
 }
 
 /// `attributes result name`
@@ -86,13 +86,13 @@ fn parameter<'t, 'a, A: Allocator + Copy>(
 ) -> Result<(Parameter<A>, &'t [Token<'a>]), Failure<'t, 'a>>
     ensures { Gives (λ x. (parameter_of x.0, toks x.1.now)) result (parameter (toks tokens.now)) }
 {
-    let (of, rest) = scalar(tokens)?;
+    let (ty, rest) = scalar(tokens)?;
     if is_name(rest) {
         let (name, rest) = name(alloc, rest)?;
         let name = Some(name);
-        return Ok((Parameter { of, name }, rest));
+        return Ok((Parameter { ty, name }, rest));
     }
-    Ok((Parameter { of, name: None }, rest))
+    Ok((Parameter { ty, name: None }, rest))
 }
 
 /// How the parameters of a list are read.

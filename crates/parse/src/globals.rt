@@ -39,7 +39,7 @@ fn constant<'t, 'a>(tokens: &'t [Token<'a>]) -> Result<Placed<'t, 'a>, Failure<'
 {
     match tokens {
         [first, rest @ ..] => match first.kind {
-            Kind::Constant(n, of) => Ok((((n, of), first.span), rest)),
+            Kind::Constant(n, ty) => Ok((((n, ty), first.span), rest)),
             _ => Err(Failure::Wrong(tokens)),
         },
         [] => Err(Failure::Wrong(tokens)),
@@ -80,21 +80,21 @@ fn initialiser<'t, 'a>(
     ensures { Gives (λ x. (x.0, toks x.1.now)) result (initialiser (toks tokens.now)) }
 {
     if !is_next(tokens, Fixed::Punctuator(Punctuator::Minus)) {
-        let (((value, of), span), rest) = constant(tokens)?;
+        let (((value, ty), span), rest) = constant(tokens)?;
         let first = Initializer {
             negative: false,
             value,
-            of,
+            ty,
             span,
         };
         return Ok((first, rest));
     }
     let (minus, rest) = spot(tokens, Fixed::Punctuator(Punctuator::Minus))?;
-    let (((value, of), at), rest) = constant(rest)?;
+    let (((value, ty), at), rest) = constant(rest)?;
     let first = Initializer {
         negative: true,
         value,
-        of,
+        ty,
         span: Span {
             start: minus.start,
             end: at.end,
@@ -182,7 +182,7 @@ fn global_tail<'t, 'a, A: Allocator + Copy>(
 #[derive(Drop)]
 struct EachGlobal<A: Allocator> {
     alloc: A,
-    of: Scalar,
+    ty: Scalar,
 }
 
 impl<A: Allocator + Copy> Element<Global<A>> for EachGlobal<A> {
@@ -192,7 +192,7 @@ impl<A: Allocator + Copy> Element<Global<A>> for EachGlobal<A> {
 
     ghost can = { λ each. Unit {0} };
 
-    ghost reads = { λ each. global each.of };
+    ghost reads = { λ each. global each.ty };
 
     fn read<'t, 'a>(
         &self,
@@ -200,10 +200,10 @@ impl<A: Allocator + Copy> Element<Global<A>> for EachGlobal<A> {
     ) -> Result<(Global<A>, &'t [Token<'a>]), Failure<'t, 'a>> {
         let (name, rest) = name(self.alloc, tokens)?;
         let ((length, first), rest) = global_tail(self.alloc, rest)?;
-        let of = self.of;
+        let ty = self.ty;
         Ok((
             Global {
-                of,
+                ty,
                 name,
                 length,
                 first,
@@ -217,33 +217,33 @@ impl<A: Allocator + Copy> Element<Global<A>> for EachGlobal<A> {
 fn several<'t, 'a, A: Allocator + Copy>(
     alloc: A,
     tokens: &'t [Token<'a>],
-    of: Scalar,
+    ty: Scalar,
     name: Name<A>,
 ) -> Result<(Items<Global<A>, A>, &'t [Token<'a>]), Failure<'t, 'a>>
-    ensures { Gives (λ x. (map global_of x.0, toks x.1.now)) result (several of (name_of name) (toks tokens.now)) }
+    ensures { Gives (λ x. (map global_of x.0, toks x.1.now)) result (several ty (name_of name) (toks tokens.now)) }
 {
     let ((length, first), rest) = global_tail(alloc, tokens)?;
     let first = Global {
-        of,
+        ty,
         name,
         length,
         first,
     };
     let all = one(alloc, first)?;
-    further(&EachGlobal { alloc, of }, all, rest)
+    further(&EachGlobal { alloc, ty }, all, rest)
 }
 
 /// `sized { , name sized } ;`, behind the first global's type and name.
 pub fn globals<'t, 'a, A: Allocator + Copy>(
     alloc: A,
     tokens: &'t [Token<'a>],
-    of: Scalar,
+    ty: Scalar,
     name: Name<A>,
 ) -> Result<(Item<A>, &'t [Token<'a>]), Failure<'t, 'a>>
-    ensures { Gives (λ x. (item_of x.0, toks x.1.now)) result (globals_from of (name_of name) (toks tokens.now)) }
+    ensures { Gives (λ x. (item_of x.0, toks x.1.now)) result (globals_from ty (name_of name) (toks tokens.now)) }
 {
     let (all, rest) = expect_close(
-        several(alloc, tokens, of, name),
+        several(alloc, tokens, ty, name),
         Fixed::Punctuator(Punctuator::Semicolon),
     )?;
     Ok((Item::Globals(all), rest))

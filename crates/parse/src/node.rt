@@ -95,13 +95,13 @@ pub fn transaction<A: Allocator + Copy>(
 pub fn cast<A: Allocator + Copy>(
     alloc: A,
     first: Span,
-    to: Scalar,
+    ty: Scalar,
     inner: Expr<A>,
 ) -> Result<Expr<A>, AllocError>
-    ensures { IfOk result (λ e. expr_of e ≡ Cast to (expr_of inner) (across first (span_of (expr_of inner)))) }
+    ensures { IfOk result (λ e. expr_of e ≡ Cast ty (expr_of inner) (across first (span_of (expr_of inner)))) }
 {
     let at = across(first, span_of(&inner));
-    Ok(Expr::Cast(to, Boxed::new(alloc, inner)?, at))
+    Ok(Expr::Cast(ty, Boxed::new(alloc, inner)?, at))
 }
 
 /// An operator, which stands at a place, and its operand.

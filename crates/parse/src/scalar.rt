@@ -52,14 +52,14 @@ fn type_word<'t, 'a>(
 
 /// A type, behind which `int` may stand.
 fn longer<'t, 'a>(
-    of: Scalar,
+    ty: Scalar,
     tokens: &'t [Token<'a>],
 ) -> Result<(Scalar, &'t [Token<'a>]), Failure<'t, 'a>>
-    ensures { Gives (λ x. (x.0, toks x.1.now)) result (longer of (toks tokens.now)) }
+    ensures { Gives (λ x. (x.0, toks x.1.now)) result (longer ty (toks tokens.now)) }
 {
     match eat(tokens, Fixed::Keyword(Keyword::Int)) {
-        Some(rest) => Ok((of, rest)),
-        None => Ok((of, tokens)),
+        Some(rest) => Ok((ty, rest)),
+        None => Ok((ty, tokens)),
     }
 }
 

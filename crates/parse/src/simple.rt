@@ -242,9 +242,9 @@ fn declaration_over<'t, 'a, A: Allocator + Copy>(
     requires { depth < 2 ^ 32 }
     ensures { Gives (λ x. (declaration_of x.0, toks x.1.now)) result (declaration (whole_at depth) (toks tokens.now)) }
 {
-    let (of, rest) = scalar(tokens)?;
+    let (ty, rest) = scalar(tokens)?;
     let (declarators, rest) = declarators(alloc, rest, depth)?;
-    Ok((Declaration { of, declarators }, rest))
+    Ok((Declaration { ty, declarators }, rest))
 }
 
 /// A declaration within a depth.

@@ -36,7 +36,7 @@ fn shared_globals<'t, 'a, A: Allocator + Copy>(
         return Err(Failure::Wrong(tokens));
     }
     match heading.result {
-        Some(of) => globals(alloc, tokens, of, heading.name),
+        Some(ty) => globals(alloc, tokens, ty, heading.name),
         None => Err(Failure::Wrong(tokens)),
     }
 }

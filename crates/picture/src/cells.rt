@@ -22,7 +22,7 @@ fn add_cell<A: Allocator + Copy>(
     }
     cells.push(Cell {
         name,
-        of: global.of,
+        ty: global.ty,
     })?;
     Ok(())
 }

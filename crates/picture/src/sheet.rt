@@ -10,7 +10,7 @@ pub struct Cell<A: Allocator = Global> {
     /// The name of its global, with its place where that is an array.
     pub name: Vec<u8, A>,
     /// The type of its numbers.
-    pub of: Scalar,
+    pub ty: Scalar,
 }
 
 /// How the last row may go on.

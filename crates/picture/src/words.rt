@@ -26,7 +26,7 @@ pub(crate) fn put_value<A: Allocator>(
     word: u64,
 ) -> Result<(), AllocError> {
     let value = match cells.get(cell as usize) {
-        Some(found) => number(found.of, word),
+        Some(found) => number(found.ty, word),
         None => return push_pieces(to, &[Piece::Number(word)]),
     };
     if value < 0 {

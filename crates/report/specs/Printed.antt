@@ -12,7 +12,7 @@ pub record ThreadShown : Type 0 where
 -- a global, with a word for each of its cells
 pub record Shown : Type 0 where
   pub name : List ℕ
-  pub of : Scalar
+  pub ty : Scalar
   pub words : List ℕ
 
 -- the events of a replay, with the shared accesses made so far and the thread; the threads; the globals; who holds the

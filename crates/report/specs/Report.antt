@@ -49,7 +49,7 @@ lines_of text = text ++ (if is_open text then codes "\n" else [])
 
 -- the numbers that words stand for, each after a space
 abbrev pub values_text : Scalar → List ℕ → List ℕ
-values_text of = flat_map (λ w. codes " " ++ signed_decimal (number of w))
+values_text ty = flat_map (λ w. codes " " ++ signed_decimal (number ty w))
 
 -- how a thread is found, and what it has printed
 abbrev pub thread_text : ℕ → ThreadShown → List ℕ
@@ -63,7 +63,7 @@ threads_text t (thread ∷ threads) = thread_text t thread ++ threads_text (t + 
 
 -- a global's line: its name and its values
 abbrev pub global_line : Shown → List ℕ
-global_line g = g.name ++ codes " =" ++ values_text g.of g.words ++ codes "\n"
+global_line g = g.name ++ codes " =" ++ values_text g.ty g.words ++ codes "\n"
 
 -- the globals, in order of declaration, or else the thread that holds the lock
 abbrev pub memory_text : Option ℕ → List Shown → List ℕ

@@ -10,7 +10,7 @@ module _ {A : Type 0} where
   thread_of thread = record { end = thread.end; text = thread.text }
 
   abbrev pub shown_of : Shown A → plain.Shown
-  shown_of global = record { name = global.name; of = global.of; words = global.words }
+  shown_of global = record { name = global.name; ty = global.ty; words = global.words }
 
   abbrev pub printed_of : Printed A → plain.Printed
   printed_of p = record {

@@ -39,7 +39,7 @@ pub struct ThreadShown<A: Allocator = std::alloc::Global> {
 #[derive(Drop)]
 pub struct Shown<A: Allocator = std::alloc::Global> {
     pub name: Text<A>,
-    pub of: Scalar,
+    pub ty: Scalar,
     /// A word for each of its cells.
     pub words: Items<u64, A>,
 }

@@ -133,14 +133,14 @@ pub(crate) fn push_event<A: Allocator>(
 /// Adds the numbers that words stand for, with a space before each.
 fn push_values<A: Allocator>(
     report: &mut Vec<u8, A>,
-    of: Scalar,
+    ty: Scalar,
     words: &[u64],
 ) -> Result<(), AllocError>
-    ensures { OnOk result (report.new.items ≡ report.old.items ++ values_text of words.now) }
+    ensures { OnOk result (report.new.items ≡ report.old.items ++ values_text ty words.now) }
 {
     'words: for word in words {
         push_bytes(report, b" ")?;
-        push_bytes(report, Buffer::new().format(number(of, *word)).as_bytes())?;
+        push_bytes(report, Buffer::new().format(number(ty, *word)).as_bytes())?;
     }
     Ok(())
 }
@@ -154,6 +154,6 @@ pub(crate) fn push_global<A: Allocator>(
 {
     push_bytes(report, global.name.as_str().as_bytes())?;
     push_bytes(report, b" =")?;
-    push_values(report, global.of, global.words.as_slice())?;
+    push_values(report, global.ty, global.words.as_slice())?;
     push_bytes(report, b"\n")
 }

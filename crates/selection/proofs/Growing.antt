@@ -44,7 +44,7 @@ called_more (Some f) args from into l h =
 pub settled_more : (r : ℕ) (e : Emitted) → e.lists.registers ≤ (value_into r e).lists.registers
 settled_more r e = by (e.location.register == r)
   where
-    by : (b : Bool) → e.lists.registers ≤ (if b then e else then_one e (own.Move r e.location.register) r e.location.of).lists.registers
+    by : (b : Bool) → e.lists.registers ≤ (if b then e else then_one e (own.Move r e.location.register) r e.location.ty).lists.registers
     by true = omega arith
     by false = used_more r e.lists
 

@@ -136,7 +136,7 @@ module _ (p : Program) where
 
   pub start_more : (start : Start) (scope : LocalScope) (from : ℕ) (l : Lists) → l.registers ≤ (start_written p start scope from l).lists.registers
   start_more Nothing scope from l = omega arith
-  start_more (Declares d) scope from l = declared_more d.of d.declarators scope from l
+  start_more (Declares d) scope from l = declared_more d.ty d.declarators scope from l
   start_more (Does s) scope from l = simple_more p scope s from (length scope) l
 
   pub test_more : (scope : LocalScope) (c : Option Expr) (at from : ℕ) (l : Lists) → l.registers ≤ (for_test p scope c at from l).lists.registers
@@ -150,7 +150,7 @@ module _ (p : Program) where
   mutual
     pub written_more : (s : Stmt) (x : Exits) (scope : LocalScope) (from : ℕ) (l : Lists) → l.registers ≤ (written p s x scope from l).lists.registers
     written_more Empty x scope from l = omega arith
-    written_more (Declare d) x scope from l = declared_more d.of d.declarators scope from l
+    written_more (Declare d) x scope from l = declared_more d.ty d.declarators scope from l
     written_more (Do s) x scope from l = simple_more p scope s from (length scope) l
     written_more (Block ss) x scope from l = stmts_more ss x scope from l
     written_more (Print at format format_at es) x scope from l =

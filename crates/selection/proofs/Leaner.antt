@@ -37,7 +37,7 @@ element_leaner check (Some g) i j from to l m h k = k
 element_leaner check None i j from to l m h k = h
 
 same_element : (check : Bool) (g : Option GlobalCells) (i j : Emitted) (from to : ℕ) (l m : Lists) → i.location.register ≡ j.location.register → (element_target check g i from l).target ≡ (element_target check g j to m).target
-same_element check (Some g) i j from to l m same = ap (λ (r : ℕ). target.Element r g.cell (cells g.global) g.global.of) same
+same_element check (Some g) i j from to l m same = ap (λ (r : ℕ). target.Element r g.cell (cells g.global) g.global.ty) same
 same_element check None i j from to l m same = refl
 
 fetched_leaner : (t : AssignmentTarget) (from to free : ℕ) (l m : Lists) → IsLeaner l m → IsLeaner (target_value t from free l).lists (target_value t to free m).lists
@@ -169,7 +169,7 @@ module _ (p : Program) where
 
   start_leaner : (start : Start) (scope : LocalScope) (from to : ℕ) (l m : Lists) → IsLeaner l m → IsLeaner (start_written p start scope from l).lists (start_written p start scope to m).lists
   start_leaner Nothing scope from to l m h = h
-  start_leaner (Declares d) scope from to l m h = declared_leaner d.of d.declarators scope from to l m h
+  start_leaner (Declares d) scope from to l m h = declared_leaner d.ty d.declarators scope from to l m h
   start_leaner (Does s) scope from to l m h = simple_leaner p scope s from to (length scope) l m h
 
   test_leaner : (scope : LocalScope) (c : Option Expr) (at at' from to : ℕ) (l m : Lists) → IsLeaner l m → IsLeaner (for_test p scope c at from l).lists (for_test p scope c at' to m).lists
@@ -183,7 +183,7 @@ module _ (p : Program) where
   mutual
     written_leaner : (s : Stmt) (x y : Exits) (scope : LocalScope) (from to : ℕ) (l m : Lists) → x.gives ≡ y.gives → IsLeaner l m → IsLeaner (written p s x scope from l).lists (written p s y scope to m).lists
     written_leaner Empty x y scope from to l m g h = h
-    written_leaner (Declare d) x y scope from to l m g h = declared_leaner d.of d.declarators scope from to l m h
+    written_leaner (Declare d) x y scope from to l m g h = declared_leaner d.ty d.declarators scope from to l m h
     written_leaner (Do s) x y scope from to l m g h = simple_leaner p scope s from to (length scope) l m h
     written_leaner (Block ss) x y scope from to l m g h = stmts_leaner ss x y scope from to l m g h
     written_leaner (Print at format format_at es) x y scope from to l m g h =

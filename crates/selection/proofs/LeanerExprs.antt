@@ -87,9 +87,9 @@ called_register (Some f) args others from to into l m = refl
 
 settled_leaner : (r : ℕ) (e d : Emitted) → e.location.register ≡ d.location.register → IsLeaner e.lists d.lists → IsLeaner (value_into r e).lists (value_into r d).lists
 settled_leaner r e d same h =
-    subst (λ (x : ℕ). IsLeaner (value_into r e).lists (if x == r then d else then_one d (own.Move r d.location.register) r d.location.of).lists) same (by (e.location.register == r))
+    subst (λ (x : ℕ). IsLeaner (value_into r e).lists (if x == r then d else then_one d (own.Move r d.location.register) r d.location.ty).lists) same (by (e.location.register == r))
   where
-    by : (b : Bool) → IsLeaner (if b then e else then_one e (own.Move r e.location.register) r e.location.of).lists (if b then d else then_one d (own.Move r d.location.register) r d.location.of).lists
+    by : (b : Bool) → IsLeaner (if b then e else then_one e (own.Move r e.location.register) r e.location.ty).lists (if b then d else then_one d (own.Move r d.location.register) r d.location.ty).lists
     by true = h
     by false = used_leaner r e.lists d.lists h
 

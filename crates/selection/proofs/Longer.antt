@@ -122,7 +122,7 @@ module _ (p : Program) where
 
   start_longer : (start : Start) (scope : LocalScope) (from : ℕ) (l : Lists) → Grows l (start_written p start scope from l).lists
   start_longer Nothing scope from l = grows_same l
-  start_longer (Declares d) scope from l = declared_longer d.of d.declarators scope from l
+  start_longer (Declares d) scope from l = declared_longer d.ty d.declarators scope from l
   start_longer (Does s) scope from l = simple_longer p scope s from (length scope) l
 
   test_longer : (scope : LocalScope) (c : Option Expr) (at from : ℕ) (l : Lists) → Grows l (for_test p scope c at from l).lists
@@ -136,7 +136,7 @@ module _ (p : Program) where
   mutual
     written_longer : (s : Stmt) (x : Exits) (scope : LocalScope) (from : ℕ) (l : Lists) → Grows l (written p s x scope from l).lists
     written_longer Empty x scope from l = grows_same l
-    written_longer (Declare d) x scope from l = declared_longer d.of d.declarators scope from l
+    written_longer (Declare d) x scope from l = declared_longer d.ty d.declarators scope from l
     written_longer (Do s) x scope from l = simple_longer p scope s from (length scope) l
     written_longer (Block ss) x scope from l = stmts_longer ss x scope from l
     written_longer (Print at format format_at es) x scope from l =

@@ -47,7 +47,7 @@ called_longer (Some f) args from into l h = handed_longer (argument_order f.para
 settled_longer : (r : ℕ) (e : Emitted) (l : Lists) → Grows l e.lists → Grows l (value_into r e).lists
 settled_longer r e l h = by (e.location.register == r)
   where
-    by : (b : Bool) → Grows l (if b then e else then_one e (own.Move r e.location.register) r e.location.of).lists
+    by : (b : Bool) → Grows l (if b then e else then_one e (own.Move r e.location.register) r e.location.ty).lists
     by true = h
     by false = grows_used l e.lists r h
 

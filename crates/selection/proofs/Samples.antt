@@ -35,13 +35,13 @@ abbrev num : ℕ → Expr
 num n = Constant n Int no_span
 
 abbrev body : Stmts → Function
-body ss = record { attributes = []; result = None; name = named (codes "worker"); parameters = record { of = Int; name = Some (named (codes "self")) } ∷ []; body = Some ss }
+body ss = record { attributes = []; result = None; name = named (codes "worker"); parameters = record { ty = Int; name = Some (named (codes "self")) } ∷ []; body = Some ss }
 
 abbrev x : Global
-x = record { of = Int; name = named (codes "x"); length = None; first = [] }
+x = record { ty = Int; name = named (codes "x"); length = None; first = [] }
 
 abbrev a : Global
-a = record { of = Int; name = named (codes "a"); length = Some (4, no_span); first = [] }
+a = record { ty = Int; name = named (codes "a"); length = Some (4, no_span); first = [] }
 
 -- int x; void worker(int self) { __transaction_atomic { x = x + 1; } }
 first_code : (picked_code (Shares (x ∷ []) ∷ Defines (body (Stmts.◌∷◌ (Transaction (Plain Atomic) (Stmts.◌∷◌ (Do (Assign (var (codes "x")) None (Binary Add (var (codes "x")) (num 1) no_span))) Stmts.[]) no_span) Stmts.[])) ∷ [])).instructions ≡
@@ -84,7 +84,7 @@ f = record {
   attributes = [];
   result = Some Int;
   name = named (codes "f");
-  parameters = record { of = Int; name = Some (named (codes "n")) } ∷ [];
+  parameters = record { ty = Int; name = Some (named (codes "n")) } ∷ [];
   body = Some (Stmts.◌∷◌ (If (Logical AndThen (Binary Greater (var (codes "n")) (num 1) no_span) (var (codes "n")) no_span) (Return (Some (Call (named (codes "f")) (Exprs.◌∷◌ (var (codes "n")) Exprs.[]) no_span)) no_span)) (Stmts.◌∷◌ (Return (Some (num 0)) no_span) Stmts.[]));
 }
 
@@ -95,7 +95,7 @@ abbrev turn : Stmts
 turn = Stmts.◌∷◌ (Do (Assign element (Some Add) (Call (named (codes "f")) (Exprs.◌∷◌ (var (codes "i")) Exprs.[]) no_span))) (Stmts.◌∷◌ (Print no_span (codes "%d!") no_span (Exprs.◌∷◌ element Exprs.[])) (Stmts.◌∷◌ (Break no_span) Stmts.[]))
 
 abbrev counting : Stmts
-counting = Stmts.◌∷◌ (For (Declares (record { of = Int; declarators = record { name = named (codes "i"); first = Some (num 0) } ∷ [] })) (Some (Binary Less (var (codes "i")) (num 3) no_span)) (Some (Adjust (var (codes "i")) Increment)) (Transaction (Plain Relaxed) turn no_span)) Stmts.[]
+counting = Stmts.◌∷◌ (For (Declares (record { ty = Int; declarators = record { name = named (codes "i"); first = Some (num 0) } ∷ [] })) (Some (Binary Less (var (codes "i")) (num 3) no_span)) (Some (Adjust (var (codes "i")) Increment)) (Transaction (Plain Relaxed) turn no_span)) Stmts.[]
 
 abbrev second : Code
 second = picked_code (Shares (a ∷ []) ∷ Defines f ∷ Defines (body counting) ∷ [])
@@ -127,16 +127,16 @@ unfolding of_f of_worker
 second_code = refl
 
 -- while (!(v != 0)) v = 5;
-waiting : (written [] (While (Unary Not (Parenthesized (Binary NotEqual (var (codes "v")) (num 0) no_span) no_span) no_span) (Do (Assign (var (codes "v")) None (num 5)))) (no_exits None) (record { name = codes "v"; of = Int; word = 0 } ∷ []) 7 no_lists).code ≡
+waiting : (written [] (While (Unary Not (Parenthesized (Binary NotEqual (var (codes "v")) (num 0) no_span) no_span) no_span) (Do (Assign (var (codes "v")) None (num 5)))) (no_exits None) (record { name = codes "v"; ty = Int; word = 0 } ∷ []) 7 no_lists).code ≡
     own.Jump 10 ∷ own.Jump 11 ∷ own.Constant 0 5 ∷ own.JumpZero 0 9 ∷ []
 waiting = refl
 
 -- long long y; int x; and locals: long long v; int i;
 abbrev wide : Program
-wide = Shares (record { of = LongLong; name = named (codes "y"); length = None; first = [] } ∷ x ∷ []) ∷ []
+wide = Shares (record { ty = LongLong; name = named (codes "y"); length = None; first = [] } ∷ x ∷ []) ∷ []
 
 abbrev locals : LocalScope
-locals = record { name = codes "v"; of = LongLong; word = 0 } ∷ record { name = codes "i"; of = Int; word = 0 } ∷ []
+locals = record { name = codes "v"; ty = LongLong; word = 0 } ∷ record { name = codes "i"; ty = Int; word = 0 } ∷ []
 
 abbrev assigned : List ℕ → Expr → List Own
 assigned to e = (written wide (Do (Assign (var to) None e)) (no_exits None) locals 7 no_lists).code

@@ -104,14 +104,14 @@ abbrev pub one : Instr → (from r : ℕ) → Scalar → Lists → Emitted
 one i from r t l = record {
   code = i ∷ [];
   lists = with_register r l;
-  location = record { register = r; of = t; to = from + 1 };
+  location = record { register = r; ty = t; to = from + 1 };
 }
 
 abbrev pub then_one : Emitted → Instr → ℕ → Scalar → Emitted
 then_one e i r t = record {
   code = e.code ++ i ∷ [];
   lists = with_register r e.lists;
-  location = record { register = r; of = t; to = e.location.to + 1 };
+  location = record { register = r; ty = t; to = e.location.to + 1 };
 }
 
 abbrev pub constant : ℕ → Scalar → (from into : ℕ) → Lists → Emitted
@@ -125,7 +125,7 @@ ready_from r (x ∷ xs) w = if x == w then Some r else if r == MOST_REGISTERS th
 
 abbrev pub ready : Layout → (w : ℕ) → Scalar → (from : ℕ) → Option ValueRegister
 ready layout w t from =
-    option_map (λ r. record { register = r; of = t; to = from }) (ready_from layout.writable layout.constants w)
+    option_map (λ r. record { register = r; ty = t; to = from }) (ready_from layout.writable layout.constants w)
 
 -- a constant that is preloaded in the type that is due, as the right side of an operator
 abbrev pub constant_ready : Layout → Scalar → Expr → ℕ → Option ValueRegister
@@ -142,23 +142,23 @@ abbrev pub in_local : ℕ → Scalar → ℕ → Lists → Emitted
 in_local i t from l = record {
   code = [];
   lists = with_register i l;
-  location = record { register = i; of = t; to = from };
+  location = record { register = i; ty = t; to = from };
 }
 
 abbrev pub variable : Option (ℕ × Scalar) → Option GlobalCells → (from into : ℕ) → Lists → Emitted
 variable (Some x) g from into l = in_local x.0 x.1 from l
-variable None (Some g) from into l = one (own.Read into g.cell) from into g.global.of l
+variable None (Some g) from into l = one (own.Read into g.cell) from into g.global.ty l
 variable None None from into l = constant 0 Int from into l
 
 abbrev pub element : Option GlobalCells → Emitted → (from into : ℕ) → Lists → Emitted
 element (Some g) i from into l =
-    then_one i (own.ReadAt into i.location.register g.cell (cells g.global)) into g.global.of
+    then_one i (own.ReadAt into i.location.register g.cell (cells g.global)) into g.global.ty
 element None i from into l = constant 0 Int from into l
 
 -- a value by a conversion: it lies where it lay, or one instruction makes it
 abbrev pub converted_by : Option (ℕ → ℕ → Instr) → Scalar → Emitted → (into : ℕ) → Emitted
 converted_by None u e into =
-    record e { location = record { register = e.location.register; of = u; to = e.location.to } }
+    record e { location = record { register = e.location.register; ty = u; to = e.location.to } }
 converted_by (Some i) u e into = then_one e (i into e.location.register) into u
 
 -- the value and the type of a constant
@@ -181,14 +181,14 @@ abbrev pub in_own_transaction : Emitted → Emitted
 in_own_transaction e = record {
   code = own.Begin (e.location.to + 1) ∷ e.code ++ own.Commit ∷ [];
   lists = e.lists;
-  location = record { register = e.location.register; of = e.location.of; to = e.location.to + 1 };
+  location = record { register = e.location.register; ty = e.location.ty; to = e.location.to + 1 };
 }
 
 abbrev pub negation : Emitted → ℕ → Emitted
-negation e into = then_one e (negating e.location.of into e.location.register) into e.location.of
+negation e into = then_one e (negating e.location.ty into e.location.register) into e.location.ty
 
 abbrev pub complement : Emitted → ℕ → Emitted
-complement e into = then_one e (complementing e.location.of into e.location.register) into e.location.of
+complement e into = then_one e (complementing e.location.ty into e.location.register) into e.location.ty
 
 -- `!`: whether it is 0
 abbrev pub logical_negation : Emitted → (into free : ℕ) → Emitted
@@ -197,7 +197,7 @@ logical_negation e into free =
     record {
       code = e.code ++ own.Constant zero_in 0 ∷ own.Equal into e.location.register zero_in ∷ [];
       lists = with_register into (with_register zero_in e.lists);
-      location = record { register = into; of = Int; to = e.location.to + 2 };
+      location = record { register = into; ty = Int; to = e.location.to + 2 };
     }
 
 -- an operator on two values, which computes in this type
@@ -205,7 +205,7 @@ abbrev pub both : BinaryOp → Scalar → Emitted → Emitted → ℕ → Emitte
 both op t a b into = record {
   code = a.code ++ b.code ++ computing op t into a.location.register b.location.register ∷ [];
   lists = with_register into b.lists;
-  location = record { register = into; of = result_type op t; to = b.location.to + 1 };
+  location = record { register = into; ty = result_type op t; to = b.location.to + 1 };
 }
 
 -- the int 1 where a condition holds, and 0 where it does not
@@ -217,19 +217,19 @@ condition_value c into =
           going_on c.code (test_in c) (last + 3)
           ++ own.Constant into 1 ∷ own.Jump (last + 4) ∷ own.Constant into 0 ∷ [];
       lists = with_register into c.lists;
-      location = record { register = into; of = Int; to = last + 4 };
+      location = record { register = into; ty = Int; to = last + 4 };
     }
 
 -- a value in this very register
 abbrev pub value_into : ℕ → Emitted → Emitted
-value_into r e = if e.location.register == r then e else then_one e (own.Move r e.location.register) r e.location.of
+value_into r e = if e.location.register == r then e else then_one e (own.Move r e.location.register) r e.location.ty
 
 -- a condition, and one of two values of this type that lie in one register
 abbrev pub conditional_value : Scalar → Condition → Emitted → Emitted → ℕ → Emitted
 conditional_value t c a b into = record {
   code = going_on c.code (test_in c) (a.location.to + 1) ++ a.code ++ own.Jump b.location.to ∷ b.code;
   lists = b.lists;
-  location = record { register = into; of = t; to = b.location.to };
+  location = record { register = into; ty = t; to = b.location.to };
 }
 
 -- a condition as its operator has it, or else by its value
@@ -266,26 +266,26 @@ call_code (Some f) args from into l =
     record {
       code = args.code ++ own.Call into (length handed) f.number (length made) ∷ [];
       lists = with_register into (holding (length handed) (record args.lists { arguments = made ++ handed }));
-      location = record { register = into; of = f.of; to = args.to + 1 };
+      location = record { register = into; ty = f.ty; to = args.to + 1 };
     }
 
 -- the types of what is emitted for variables, elements and calls
 abbrev pub variable_type : Option (ℕ × Scalar) → Option GlobalCells → Scalar
 variable_type (Some x) g = x.1
-variable_type None (Some g) = g.global.of
+variable_type None (Some g) = g.global.ty
 variable_type None None = Int
 
 abbrev pub element_type : Option GlobalCells → Scalar
-element_type (Some g) = g.global.of
+element_type (Some g) = g.global.ty
 element_type None = Int
 
 abbrev pub called_type : Option Callee → Scalar
-called_type (Some f) = f.of
+called_type (Some f) = f.ty
 called_type None = Int
 
 -- the types of a function's parameters
 abbrev pub types_of : List Parameter → List Scalar
-types_of qs = map (λ q. q.of) qs
+types_of qs = map (λ q. q.ty) qs
 
 abbrev pub taken_types : Option Callee → List Scalar
 taken_types (Some f) = types_of f.parameters

@@ -7,11 +7,11 @@ use Rattle.syntax.specs.Tree.{Stmts, Parameter, Function, Defines, Shares, Progr
 -- a function that may be called: its number among the code's functions, the type of its value, and its parameters
 pub record Callee : Type 0 where
   pub number : ℕ
-  pub of : Scalar
+  pub ty : Scalar
   pub parameters : List Parameter
 
 abbrev pub callee_at : ℕ → Function → Callee
-callee_at n f = record { number = n; of = unwrap_or f.result Int; parameters = f.parameters }
+callee_at n f = record { number = n; ty = unwrap_or f.result Int; parameters = f.parameters }
 
 -- a function of this name, where it has a body, or else one of the rest
 abbrev pub callee_first : ℕ → Function → Option Stmts → (ℕ → Option Callee) → List ℕ → Option Callee

@@ -41,7 +41,7 @@ aimed_at t from l = record { code = []; lists = l; target = t; to = from }
 
 abbrev pub variable_target : Option (ℕ × Scalar) → Option GlobalCells → ℕ → Lists → Aimed
 variable_target (Some x) g from l = aimed_at (target.Local x.0 x.1) from (with_register x.0 l)
-variable_target None (Some g) from l = aimed_at (target.Cell g.cell g.global.of) from l
+variable_target None (Some g) from l = aimed_at (target.Cell g.cell g.global.ty) from l
 variable_target None None from l = aimed_at target.Nowhere from l
 
 -- an element's index is computed first, and tested where nothing is read there at once
@@ -58,7 +58,7 @@ element_target check None i from l = aimed_at target.Nowhere from l
 element_target check (Some g) i from l = record {
   code = i.code ++ checked_by check i.location.register (cells g.global);
   lists = i.lists;
-  target = target.Element i.location.register g.cell (cells g.global) g.global.of;
+  target = target.Element i.location.register g.cell (cells g.global) g.global.ty;
   to = i.location.to + checks check;
 }
 
@@ -206,5 +206,5 @@ declared_written p t (d ∷ ds) scope from l =
 
 abbrev pub start_written : Program → Start → LocalScope → ℕ → Lists → Written
 start_written p Nothing scope from l = nothing_written from l
-start_written p (Declares d) scope from l = declared_written p d.of d.declarators scope from l
+start_written p (Declares d) scope from l = declared_written p d.ty d.declarators scope from l
 start_written p (Does s) scope from l = simple_written p scope s from (length scope) l

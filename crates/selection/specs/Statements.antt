@@ -131,7 +131,7 @@ module _ (p : Program) where
   abbrev mutual
     pub written : Stmt → Exits → LocalScope → ℕ → Lists → Written
     written Empty x scope from l = nothing_written from l
-    written (Declare d) x scope from l = declared_written p d.of d.declarators scope from l
+    written (Declare d) x scope from l = declared_written p d.ty d.declarators scope from l
     written (Do s) x scope from l = simple_written p scope s from (length scope) l
     written (Block ss) x scope from l = all_written ss x scope from l
     written (Print at format format_at es) x scope from l =

@@ -6,7 +6,7 @@ use lex::token::Scalar;
 #[derive(Clone, Copy)]
 pub struct ValueRegister {
     pub register: u16,
-    pub of: Scalar,
+    pub ty: Scalar,
     pub to: u32,
 }
 

@@ -154,8 +154,8 @@ SpotFits w (InLocal i t) = Unit {0}
 SpotFits w (InCell c t) = IsInside w
 
 pub fetch_goes : {w : Option Mode} {ls : Shapes} (at : Spot) → SpotFits w at → Goes w ls ls Any (fetch at)
-fetch_goes (InLocal i t) h = on_goes locals_goes (λ mine e. pure_goes (record { of = t; word = word_at mine i }) tt)
-fetch_goes (InCell c t) h = on_goes (load_goes c h) (λ v e. pure_goes (record { of = t; word = v }) tt)
+fetch_goes (InLocal i t) h = on_goes locals_goes (λ mine e. pure_goes (record { ty = t; word = word_at mine i }) tt)
+fetch_goes (InCell c t) h = on_goes (load_goes c h) (λ v e. pure_goes (record { ty = t; word = v }) tt)
 
 pub assign_goes : {w : Option Mode} {ls : Shapes} (at : Spot) (v : Value) → SpotFits w at → Goes w ls ls Any (assign at v)
 assign_goes (InLocal i t) v h = on_goes locals_goes (λ mine e. put_goes (with_word mine i (value_in_type t v).word) (same_shapes mine i (value_in_type t v).word ∙ e))

@@ -111,9 +111,9 @@ parameters_named : (qs : List Parameter) (y : List ℕ) → IsTrue (has_name (pa
 parameters_named [] y h = absurd (cc)
 parameters_named (q ∷ qs) y h = by_name q.name (λ k. parameters_named qs y k) h
   where
-    by_name : (n : Option Name) → (IsTrue (has_name (parameter_names qs) y) → IsTrue (is_some (newest_in (shapes_of qs) y))) → IsTrue (has_name (unwrap_or (option_map (λ x. x.text ∷ parameter_names qs) n) (parameter_names qs)) y) → IsTrue (is_some (newest_in (unwrap_or (option_map (λ x. (x.text, q.of) ∷ []) n) [] ++ shapes_of qs) y))
+    by_name : (n : Option Name) → (IsTrue (has_name (parameter_names qs) y) → IsTrue (is_some (newest_in (shapes_of qs) y))) → IsTrue (has_name (unwrap_or (option_map (λ x. x.text ∷ parameter_names qs) n) (parameter_names qs)) y) → IsTrue (is_some (newest_in (unwrap_or (option_map (λ x. (x.text, q.ty) ∷ []) n) [] ++ shapes_of qs) y))
     by_name None others h = others h
-    by_name (Some x) others h = first_named (bytes_eq x.text y) q.of (has_name (parameter_names qs) y) (newest_in (shapes_of qs) y) others h
+    by_name (Some x) others h = first_named (bytes_eq x.text y) q.ty (has_name (parameter_names qs) y) (newest_in (shapes_of qs) y) others h
 
 either_named : (a b : Bool) (o q : Option Scalar) → (IsTrue a → IsTrue (is_some o)) → (IsTrue b → IsTrue (is_some q)) → IsTrue (a || b) → IsTrue (is_some (option_or o q))
 either_named true b o q f g h = or_there o q (f refl)
@@ -140,7 +140,7 @@ here_still : (p : Program) (known : Scope) (ls : Shapes) (a : Around) → Here p
 here_still p known ls a h = record { fits = subst (λ ms. IsSubscope known (scope_in p ms)) (sym (append-nil ls)) h.fits; named = subst (λ ms. Named a.locals ms) (sym (append-nil ls)) h.named }
 
 here_after : (p : Program) (known : Scope) (ls : Shapes) (a : Around) (s : Stmt) → Here p known ls a → Here p (scope_after s known) (ls ++ declared_by s) (with_names (names_of s) a)
-here_after p known ls a (Declare d) h = here_declared p known ls a d.of d.declarators h
+here_after p known ls a (Declare d) h = here_declared p known ls a d.ty d.declarators h
 here_after p known ls a Empty h = here_still p known ls a h
 here_after p known ls a (Do s) h = here_still p known ls a h
 here_after p known ls a (Block ss) h = here_still p known ls a h
@@ -159,12 +159,12 @@ here_after p known ls a (CancelOuter at) h = here_still p known ls a h
 
 abbrev started_by : Start → Shapes
 started_by Nothing = []
-started_by (Declares d) = map (λ e. (e.name.text, d.of)) d.declarators
+started_by (Declares d) = map (λ e. (e.name.text, d.ty)) d.declarators
 started_by (Does s) = []
 
 here_started : (p : Program) (known : Scope) (ls : Shapes) (a : Around) (s : Start) → Here p known ls a → Here p (scope_of_start s known) (ls ++ started_by s) (with_names (names_of_start s) a)
 here_started p known ls a Nothing h = here_still p known ls a h
-here_started p known ls a (Declares d) h = here_declared p known ls a d.of d.declarators h
+here_started p known ls a (Declares d) h = here_declared p known ls a d.ty d.declarators h
 here_started p known ls a (Does s) h = here_still p known ls a h
 
 -- a call goes well wherever it is permitted
@@ -196,7 +196,7 @@ module _ (p : Program) (call : Caller) (called : CallsGo p call) (outer : Option
   spot_goes w ls x t inside e (Some l) g = pure_goes (InLocal l.0 l.1) tt
   spot_goes w ls x t inside e None g =
       let here : Found (global_of p x) t = found p x t (ap shared_type (over_number (newest_in ls x) (file_scope p x) t (sym g) e)) in
-      on_goes (there_goes (global_of p x) (is_there (global_of p x) here.0 here.1)) (λ c f. pure_goes (InCell c.cell c.global.of) (inside (sym g)))
+      on_goes (there_goes (global_of p x) (is_there (global_of p x) here.0 here.1)) (λ c f. pure_goes (InCell c.cell c.global.ty) (inside (sym g)))
 
   module _ (known : Scope) (ls : Shapes) where
     module _ (a : Around) (here : Here p known ls a) where
@@ -211,7 +211,7 @@ module _ (p : Program) (call : Caller) (called : CallsGo p call) (outer : Option
           let hidden = over_array (newest_in ls x.text) (file_scope p x.text) array.0 array.1 (here.fits x.text g ∙ array.2) in
           let cell : Found (global_of p x.text) array.0 = found p x.text array.0 (ap shared_type hidden.1) in
           on_goes (there_goes (global_of p x.text) (is_there (global_of p x.text) cell.0 cell.1))
-          (λ c f. if_goes (nat_lt k.word (cells c.global)) (pure_goes (InCell (c.cell + k.word) c.global.of) (used_inside known ls a x here m hidden.0)) (trap_goes Index))
+          (λ c f. if_goes (nat_lt k.word (cells c.global)) (pure_goes (InCell (c.cell + k.word) c.global.ty) (used_inside known ls a x here m hidden.0)) (trap_goes Index))
 
       call_goes : (f : Name) (es : Exprs) (vs : List Value) → IsTrue (not (is_unknown (known f.text))) → IsTrue (may_be_function (known f.text)) → IsTrue (takes_so_many (known f.text) (count es)) → length vs ≡ count es → AllPermitted p outer (site a (Calls f.text) f.at) → Goes (mode_of a) ls ls Any (call f.text vs)
       call_goes f es vs g h e n m =
@@ -227,7 +227,7 @@ module _ (p : Program) (call : Caller) (called : CallsGo p call) (outer : Option
     mutual
       expr_goes : (a : Around) → Here p known ls a → (e : Expr) → TypedExpr known e → AllPermitted p outer (expr_sites e a) → Goes (mode_of a) ls ls Any (expr p call e)
       expr_goes a here (Variable x) h m = on_goes (named_goes a here x h.0 h.1 m) (λ at f. fetch_goes at f)
-      expr_goes a here (Constant n t at) h m = pure_goes (record { of = t; word = word_of t (pos n) }) tt
+      expr_goes a here (Constant n t at) h m = pure_goes (record { ty = t; word = word_of t (pos n) }) tt
       expr_goes a here (Element x i at) h m =
           on_goes (expr_goes a here i h.1 (back_permitted (uses x a) (expr_sites i a) m)) (λ k _. on_goes (element_goes a here x k h.0 h.2 (front_permitted (uses x a) (expr_sites i a) m)) (λ at f. fetch_goes at f))
       expr_goes a here (Call f es at) h m =
@@ -317,20 +317,20 @@ module _ (p : Program) (call : Caller) (called : CallsGo p call) (outer : Option
       let more = map (λ (d : Declarator). (d.name.text, t)) ds in
       let here' = here_more p known ls a x t here in
       let own = sites_if_any expr_sites d.first a' in
-      on_goes locals_goes (λ mine e. then_goes (put_goes (mine ++ record { name = x; of = t; word = 0 } ∷ []) (map-append shape mine (record { name = x; of = t; word = 0 } ∷ []) ∙ ap (λ ms. ms ++ (x, t) ∷ []) e))
+      on_goes locals_goes (λ mine e. then_goes (put_goes (mine ++ record { name = x; ty = t; word = 0 } ∷ []) (map-append shape mine (record { name = x; ty = t; word = 0 } ∷ []) ∙ ap (λ ms. ms ++ (x, t) ∷ []) e))
       (then_goes (first_goes known' (ls ++ (x, t) ∷ []) a' here' (length mine) t d.first h.0 (front_permitted own (declarator_sites ds a') m))
       (subst (λ ms. Goes (mode_of a) (ls ++ (x, t) ∷ []) ms (EndFits l b u) (declare p call t ds)) (append_assoc ls ((x, t) ∷ []) more)
       (declare_goes l b u t ds known' (ls ++ (x, t) ∷ []) a' here' h.1 (back_permitted own (declarator_sites ds a') m)))))
 
   start_goes : (l b u : Bool) (s : Start) (known : Scope) (ls : Shapes) (a : Around) → Here p known ls a → TypedStart known s → AllPermitted p outer (start_sites s a) → Goes (mode_of a) ls (ls ++ started_by s) (EndFits l b u) (start_with p call s)
   start_goes l b u Nothing known ls a here h m = no_further (pure_goes Next tt)
-  start_goes l b u (Declares d) known ls a here h m = declare_goes l b u d.of d.declarators known ls a here h m
+  start_goes l b u (Declares d) known ls a here h m = declare_goes l b u d.ty d.declarators known ls a here h m
   start_goes l b u (Does s) known ls a here h m = no_further (simple_goes known ls a here l b u s h m)
 
   mutual
     stmt_goes : (s : Stmt) (known : Scope) (ls : Shapes) (a : Around) (l : Bool) → Here p known ls a → TypedStmt s known l → AllPermitted p outer (stmt_sites s a) → Goes (mode_of a) ls (ls ++ declared_by s) (EndFits l a.atomic a.outer) (stmt p call s)
     stmt_goes Empty known ls a l here h m = no_further (then_goes tick_goes (pure_goes Next tt))
-    stmt_goes (Declare d) known ls a l here h m = then_goes tick_goes (declare_goes l a.atomic a.outer d.of d.declarators known ls a here h m)
+    stmt_goes (Declare d) known ls a l here h m = then_goes tick_goes (declare_goes l a.atomic a.outer d.ty d.declarators known ls a here h m)
     stmt_goes (Do s) known ls a l here h m = no_further (then_goes tick_goes (simple_goes known ls a here l a.atomic a.outer s h m))
     stmt_goes (Block ss) known ls a l here h m = no_further (then_goes tick_goes (scoped_goes (stmts_open ss known ls a l here h m)))
     stmt_goes (Print at format format_at es) known ls a l here h m =
@@ -408,7 +408,7 @@ takes_of (Callable r ts) = ts
 takes_of other = []
 
 takes_as_many : (d : Function) (result : Option Scalar) (takes : List Scalar) (n : ℕ) → known_function d ≡ Callable result takes → n ≡ length takes → n ≡ length d.parameters
-takes_as_many d result takes n e h = h ∙ ap (λ k. length (takes_of k)) (sym e) ∙ length-map d.parameters (λ q. q.of)
+takes_as_many d result takes n e h = h ∙ ap (λ k. length (takes_of k)) (sym e) ∙ length-map d.parameters (λ q. q.ty)
 
 module _ (p : Program) (accepted : IsAccepted p) where
   body_goes : (call : Caller) → CallsGo p call → (w : Option Mode) (x : List ℕ) (d : Function × Stmts) (vs : List Value) (mine : List Local) → definition_of p x ≡ Some d → call_locals d.0.parameters vs ≡ Some mine → Permits p w (Calls x) → (ms : Shapes) → map shape mine ≡ ms → Opens w ms (EndFits false false false) (stmts p call d.1)
@@ -454,7 +454,7 @@ module _ (p : Program) (accepted : IsAccepted p) where
   worker_goes : (t : ℕ) → Goes None [] [] Any (worker_run p t)
   worker_goes t =
       let worker = worker_types (file_scope p (codes "worker")) (worker_known p accepted.typed) in
-      then_goes (invoke_goes (calls p 63) (calls_go 63) None [] (codes "worker") (record { of = Unsigned; word = t } ∷ []) worker.0 worker.1 worker.2 worker.3 (worker_permitted p accepted)) tick_goes
+      then_goes (invoke_goes (calls p 63) (calls_go 63) None [] (codes "worker") (record { ty = Unsigned; word = t } ∷ []) worker.0 worker.1 worker.2 worker.3 (worker_permitted p accepted)) tick_goes
 
 not_astray : (r : Answer (Unit {0})) → Fine None [] Any r → (outcome_of r).end ≢ Stopped Astray
 not_astray (Stops Astray s) h e = h

@@ -18,7 +18,7 @@ order_end (Stopped why) = end.Spent
 
 -- a global with the words of its cells
 abbrev pub shown_global : Global → List ℕ → Shown
-shown_global g ws = record { name = g.name.text; of = g.of; words = ws }
+shown_global g ws = record { name = g.name.text; ty = g.ty; words = ws }
 
 -- globals in order of declaration, whose cells stand in a memory one after another
 abbrev pub shown_globals : List Global → Memory → List Shown

@@ -149,7 +149,7 @@ fn global_shown<A: Allocator + Copy>(
     let words = Vec::from_slice(alloc, words)?;
     Ok(Shown {
         name,
-        of: global.of,
+        ty: global.ty,
         words: Items::from_vec(words),
     })
 }

@@ -70,8 +70,8 @@ agreeing_types g Unknown result takes h e = e
 agreeing_types g (Number t) result takes h e = absurd (cc)
 agreeing_types g (Array t n) result takes h e = absurd (cc)
 agreeing_types g (Callable r ts) result takes h e =
-    ap (λ o. Callable o (map (λ q. q.of) g.parameters)) (result_is r g.result (both_true (same_result r g.result) (same_types ts (map (λ q. q.of) g.parameters)) h))
-    ∙ ap (λ xs. Callable r xs) (sym (same_types_is ts (map (λ q. q.of) g.parameters) (second_true (same_result r g.result) (same_types ts (map (λ q. q.of) g.parameters)) h)))
+    ap (λ o. Callable o (map (λ q. q.ty) g.parameters)) (result_is r g.result (both_true (same_result r g.result) (same_types ts (map (λ q. q.ty) g.parameters)) h))
+    ∙ ap (λ xs. Callable r xs) (sym (same_types_is ts (map (λ q. q.ty) g.parameters) (second_true (same_result r g.result) (same_types ts (map (λ q. q.ty) g.parameters)) h)))
     ∙ e
   where
     second_true : (a b : Bool) → IsTrue (a && b) → IsTrue b
@@ -90,11 +90,11 @@ types_of p x d result takes s e =
 
 -- globals stand for no function, and leave a function as it is known
 globals_apart : (g : Global) (result : Option Scalar) (takes : List Scalar) → known_global g ≡ Callable result takes → ⊥
-globals_apart g result takes e = apart g.of g.length e
+globals_apart g result takes e = apart g.ty g.length e
   where
-    apart : (of : Scalar) (length : Option (ℕ × Span)) → unwrap_or (option_map (λ n. Array of n.0) length) (Number of) ≡ Callable result takes → ⊥
-    apart of None e = cc
-    apart of (Some n) e = cc
+    apart : (ty : Scalar) (length : Option (ℕ × Span)) → unwrap_or (option_map (λ n. Array ty n.0) length) (Number ty) ≡ Callable result takes → ⊥
+    apart ty None e = cc
+    apart ty (Some n) e = cc
 
 behind_globals : (gs : List Global) (rest other : Scope) (x : List ℕ) (result : Option Scalar) (takes : List Scalar) → known_among gs rest x ≡ Callable result takes → (rest x ≡ Callable result takes) × (known_among gs other x ≡ other x)
 behind_globals [] rest other x result takes e = (e, refl)
@@ -148,12 +148,12 @@ called_are_defined p h x result takes e = there (definition_of p x) refl (define
 -- the names and types of parameters
 abbrev pub shapes_of : List Parameter → List (List ℕ × Scalar)
 shapes_of [] = []
-shapes_of (q ∷ qs) = unwrap_or (option_map (λ x. (x.text, q.of) ∷ []) q.name) [] ++ shapes_of qs
+shapes_of (q ∷ qs) = unwrap_or (option_map (λ x. (x.text, q.ty) ∷ []) q.name) [] ++ shapes_of qs
 
-bound_shape : (q : Parameter) (v : Value) → map shape (parameter_local q v) ≡ unwrap_or (option_map (λ x. (x.text, q.of) ∷ []) q.name) []
+bound_shape : (q : Parameter) (v : Value) → map shape (parameter_local q v) ≡ unwrap_or (option_map (λ x. (x.text, q.ty) ∷ []) q.name) []
 bound_shape q v = named q.name
   where
-    named : (n : Option Name) → map shape (unwrap_or (option_map (λ (x : Name). record { name = x.text; of = q.of; word = (value_in_type q.of v).word } ∷ []) n) []) ≡ unwrap_or (option_map (λ x. (x.text, q.of) ∷ []) n) []
+    named : (n : Option Name) → map shape (unwrap_or (option_map (λ (x : Name). record { name = x.text; ty = q.ty; word = (value_in_type q.ty v).word } ∷ []) n) []) ≡ unwrap_or (option_map (λ x. (x.text, q.ty) ∷ []) n) []
     named None = refl
     named (Some x) = refl
 
@@ -167,7 +167,7 @@ entered_shapes (q ∷ qs) (v ∷ vs) ls e = behind (call_locals qs vs) (λ ms f.
     behind None h e = absurd (cc)
     behind (Some ms) h e =
         ap (λ o. map shape (unwrap_or o [])) (sym e) ∙ map-append shape (parameter_local q v) ms ∙ ap (λ x. x ++ map shape ms) (bound_shape q v)
-        ∙ ap (λ x. unwrap_or (option_map (λ x. (x.text, q.of) ∷ []) q.name) [] ++ x) (h ms refl)
+        ∙ ap (λ x. unwrap_or (option_map (λ x. (x.text, q.ty) ∷ []) q.name) [] ++ x) (h ms refl)
 
 -- as many arguments as parameters enter
 pub all_enter : (qs : List Parameter) (vs : List Value) → length vs ≡ length qs → (ls : List Local) × (call_locals qs vs ≡ Some ls)
@@ -181,13 +181,13 @@ all_enter (q ∷ qs) (v ∷ vs) e =
 -- the parameters' names are known as those locals
 parameters_fit : (p : Program) (known : Scope) (ls : List (List ℕ × Scalar)) (qs : List Parameter) → IsSubscope known (scope_in p ls) → IsSubscope (with_parameters qs known) (scope_in p (ls ++ shapes_of qs))
 parameters_fit p known ls [] h = subst (λ ms. IsSubscope known (scope_in p ms)) (sym (append-nil ls)) h
-parameters_fit p known ls (q ∷ qs) h = named q.of q.name (λ known ls h. parameters_fit p known ls qs h)
+parameters_fit p known ls (q ∷ qs) h = named q.ty q.name (λ known ls h. parameters_fit p known ls qs h)
   where
-    named : (of : Scalar) (n : Option Name) → ((known : Scope) (ls : List (List ℕ × Scalar)) → IsSubscope known (scope_in p ls) → IsSubscope (with_parameters qs known) (scope_in p (ls ++ shapes_of qs))) → IsSubscope (with_parameters qs (unwrap_or (option_map (λ x. with_number x.text of known) n) known)) (scope_in p (ls ++ (unwrap_or (option_map (λ x. (x.text, of) ∷ []) n) [] ++ shapes_of qs)))
-    named of None others = others known ls h
-    named of (Some x) others =
-        subst (λ ms. IsSubscope (with_parameters qs (with_number x.text of known)) (scope_in p ms)) (append_assoc ls ((x.text, of) ∷ []) (shapes_of qs))
-        (others (with_number x.text of known) (ls ++ (x.text, of) ∷ []) (one_more_fits p known ls x.text of h))
+    named : (ty : Scalar) (n : Option Name) → ((known : Scope) (ls : List (List ℕ × Scalar)) → IsSubscope known (scope_in p ls) → IsSubscope (with_parameters qs known) (scope_in p (ls ++ shapes_of qs))) → IsSubscope (with_parameters qs (unwrap_or (option_map (λ x. with_number x.text ty known) n) known)) (scope_in p (ls ++ (unwrap_or (option_map (λ x. (x.text, ty) ∷ []) n) [] ++ shapes_of qs)))
+    named ty None others = others known ls h
+    named ty (Some x) others =
+        subst (λ ms. IsSubscope (with_parameters qs (with_number x.text ty known)) (scope_in p ms)) (append_assoc ls ((x.text, ty) ∷ []) (shapes_of qs))
+        (others (with_number x.text ty known) (ls ++ (x.text, ty) ∷ []) (one_more_fits p known ls x.text ty h))
 
 first_known : (k k' : Known) → IsTrue (not (is_unknown k)) → or_known k k' ≡ k
 first_known Unknown k' h = absurd (cc)

@@ -190,7 +190,7 @@ module _ (p : Program) (call : Caller) where
   declare_ends : (l c o : Bool) (t : Scalar) (ds : List Declarator) → EndsSo l c o (declare p call t ds)
   declare_ends l c o t [] = ends_by Next tt
   declare_ends l c o t (d ∷ ds) =
-      last_ends locals (λ mine. then_ends (put_locals (mine ++ record { name = d.name.text; of = t; word = 0 } ∷ [])) (then_ends (first_value p call (InLocal (length mine) t) d.first) (declare_ends l c o t ds)))
+      last_ends locals (λ mine. then_ends (put_locals (mine ++ record { name = d.name.text; ty = t; word = 0 } ∷ [])) (then_ends (first_value p call (InLocal (length mine) t) d.first) (declare_ends l c o t ds)))
 
   stepped_turns : (c o : Bool) (q : Option Simple) → TurnsSo c o (stepped p call q)
   stepped_turns c o None = turns_by None tt
@@ -203,7 +203,7 @@ module _ (p : Program) (call : Caller) where
   mutual
     pub stmt_ends : (s : Stmt) (l c o : Bool) → JumpsFit s l c o → EndsSo l c o (stmt p call s)
     stmt_ends Empty l c o h = then_ends tick (ends_by Next tt)
-    stmt_ends (Declare d) l c o h = then_ends tick (declare_ends l c o d.of d.declarators)
+    stmt_ends (Declare d) l c o h = then_ends tick (declare_ends l c o d.ty d.declarators)
     stmt_ends (Do s) l c o h = then_ends tick (simple_ends l c o s)
     stmt_ends (Block ss) l c o h = then_ends tick (scoped_ends (stmts_end ss l c o h))
     stmt_ends (Print at format format_at es) l c o h = then_ends tick (then_ends may_print (last_ends (exprs p call es) (λ vs. then_ends (print_pieces (pieces format) vs) (ends_by Next tt))))

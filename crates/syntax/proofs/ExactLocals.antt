@@ -206,7 +206,7 @@ module _ (p : Program) (call : Caller) (h : (x : List ℕ) (vs : List Value) →
   declare_adds : (t : Scalar) (ds : List Declarator) → Adds (map (λ d. (d.name.text, t)) ds) (declare p call t ds)
   declare_adds t [] s = sym (append-nil (map shape s.locals))
   declare_adds t (d ∷ ds) s =
-      let new : Local = record { name = d.name.text; of = t; word = 0 } in
+      let new : Local = record { name = d.name.text; ty = t; word = 0 } in
       let more = map (λ (d : Declarator). (d.name.text, t)) ds in
       let begun = record s { locals = s.locals ++ new ∷ [] } in
       moved s.locals new more (go_on (first_value p call (InLocal (length s.locals) t) d.first begun) (λ _. declare p call t ds))
@@ -225,7 +225,7 @@ module _ (p : Program) (call : Caller) (h : (x : List ℕ) (vs : List Value) →
 
   pub stmt_adds : (st : Stmt) → Adds (declared_by st) (stmt p call st)
   stmt_adds Empty = exact [] refl (then_same tick_same (pure_same Next))
-  stmt_adds (Declare d) = λ s. then_adds s.locals (map (λ e. (e.name.text, d.of)) d.declarators) (tick s) (declare p call d.of d.declarators) (spend_same s.ticks s) (declare_adds d.of d.declarators)
+  stmt_adds (Declare d) = λ s. then_adds s.locals (map (λ e. (e.name.text, d.ty)) d.declarators) (tick s) (declare p call d.ty d.declarators) (spend_same s.ticks s) (declare_adds d.ty d.declarators)
   stmt_adds (Do s) = exact [] refl (then_same tick_same (simple_same s))
   stmt_adds (Block ss) = exact [] refl (then_same tick_same (scoped_same (stmts_older p call h ss)))
   stmt_adds (Print at format format_at es) = exact [] refl (then_same tick_same (then_same may_print_same (on_same (leaves_same (exprs_holds p call h es)) (λ vs. then_same (pieces_same (pieces format) vs) (pure_same Next)))))
@@ -253,7 +253,7 @@ after_agrees p st known ls ms g e = agrees_by_shape p (scope_after st known) ms 
 
     behind : (st : Stmt) → IsSubscope known (scope_in p (map shape ls)) → IsSubscope (scope_after st known) (scope_in p (map shape ls ++ declared_by st))
     behind Empty h = none h
-    behind (Declare d) h = declared_fit p known (map shape ls) d.of d.declarators h
+    behind (Declare d) h = declared_fit p known (map shape ls) d.ty d.declarators h
     behind (Do s) h = none h
     behind (Block ss) h = none h
     behind (Print at format format_at es) h = none h

@@ -107,9 +107,9 @@ one_newest false i t = refl
 pub newest_by_shape : (i : ℕ) (ls : List Local) (x : List ℕ) → option_map (λ (l : ℕ × Scalar). l.1) (newest_from i ls x) ≡ newest_in (map shape ls) x
 newest_by_shape i [] x = refl
 newest_by_shape i (l ∷ ls) x =
-    either_newest (newest_from (i + 1) ls x) (if bytes_eq l.name x then Some (i, l.of) else None)
-    ∙ ap (λ o. option_or o (type_at (if bytes_eq l.name x then Some (i, l.of) else None))) (newest_by_shape (i + 1) ls x)
-    ∙ ap (option_or (newest_in (map shape ls) x)) (one_newest (bytes_eq l.name x) i l.of)
+    either_newest (newest_from (i + 1) ls x) (if bytes_eq l.name x then Some (i, l.ty) else None)
+    ∙ ap (λ o. option_or o (type_at (if bytes_eq l.name x then Some (i, l.ty) else None))) (newest_by_shape (i + 1) ls x)
+    ∙ ap (option_or (newest_in (map shape ls) x)) (one_newest (bytes_eq l.name x) i l.ty)
 
 or_three : (a b c : Option Scalar) → option_or (option_or a b) c ≡ option_or a (option_or b c)
 or_three None b c = refl

@@ -64,8 +64,8 @@ trap_stops {A} {B} k rest = λ i s. go s s.ticks i
 
 -- the cells that names stand for are of the globals' types
 pub record AreCells (p : Program) (IsCell : ℕ → Scalar → Type 0) : Type 0 where
-  pub first : (x : List ℕ) (g : GlobalCells) → global_of p x ≡ Some g → IsCell g.cell g.global.of
-  pub each : (x : List ℕ) (g : GlobalCells) (k : ℕ) → global_of p x ≡ Some g → nat_lt k (cells g.global) ≡ true → IsCell (g.cell + k) g.global.of
+  pub first : (x : List ℕ) (g : GlobalCells) → global_of p x ≡ Some g → IsCell g.cell g.global.ty
+  pub each : (x : List ℕ) (g : GlobalCells) (k : ℕ) → global_of p x ≡ Some g → nat_lt k (cells g.global) ≡ true → IsCell (g.cell + k) g.global.ty
 
 -- numbers are such pieces, and so is the literal text of the program's formats
 module _ (p : Program) (IsPiece : List ℕ → Type 0) (IsCell : ℕ → Scalar → Type 0) (cells_are : AreCells p IsCell) (number_piece : (z : ℤ) → IsPiece (signed_decimal z)) (literal_piece : (format : List ℕ) → IsFormatOf p format → (text : List ℕ) → Contains (pieces format) (Literal text) → IsPiece text) (Q : (A : Type 0) → Action A → Type 0) (kept : IsKept IsPiece IsCell Q) where
@@ -182,8 +182,8 @@ module _ (p : Program) (IsPiece : List ℕ → Type 0) (IsCell : ℕ → Scalar 
     abbrev Follows : {B : Type 0} → (Spot → Action B) → Type 0
     Follows {B} rest = (at : Spot) → IsSpot at → Q B (rest at)
 
-    global_then : {B : Type 0} (x : List ℕ) (rest : Spot → Action B) → Follows rest → (o : Option GlobalCells) → global_of p x ≡ o → Q B ((or_astray o >>= λ g. pure (InCell g.cell g.global.of)) >>= rest)
-    global_then x rest h (Some g) e = h (InCell g.cell g.global.of) (cells_are.first x g e)
+    global_then : {B : Type 0} (x : List ℕ) (rest : Spot → Action B) → Follows rest → (o : Option GlobalCells) → global_of p x ≡ o → Q B ((or_astray o >>= λ g. pure (InCell g.cell g.global.ty)) >>= rest)
+    global_then x rest h (Some g) e = h (InCell g.cell g.global.ty) (cells_are.first x g e)
     global_then x rest h None e = astray_holds
 
     spot_from_then : {B : Type 0} (x : List ℕ) (rest : Spot → Action B) → Follows rest → (o : Option (ℕ × Scalar)) → Q B (spot_from p call x o >>= rest)
@@ -193,11 +193,11 @@ module _ (p : Program) (IsPiece : List ℕ → Type 0) (IsCell : ℕ → Scalar 
     named_then : {B : Type 0} (x : List ℕ) (rest : Spot → Action B) → Follows rest → Q B (named p call x >>= rest)
     named_then x rest h = subst (Q _) (on_assoc locals (λ mine. spot_from p call x (newest mine x)) rest) (on_holds locals_holds (λ mine. spot_from_then x rest h (newest mine x)))
 
-    element_if : {B : Type 0} (x : List ℕ) (k : Value) (rest : Spot → Action B) → Follows rest → (g : GlobalCells) → global_of p x ≡ Some g → (b : Bool) → nat_lt k.word (cells g.global) ≡ b → Q B ((if b then pure (InCell (g.cell + k.word) g.global.of) else trap Index) >>= rest)
-    element_if x k rest h g e true lt = h (InCell (g.cell + k.word) g.global.of) (cells_are.each x g k.word e lt)
+    element_if : {B : Type 0} (x : List ℕ) (k : Value) (rest : Spot → Action B) → Follows rest → (g : GlobalCells) → global_of p x ≡ Some g → (b : Bool) → nat_lt k.word (cells g.global) ≡ b → Q B ((if b then pure (InCell (g.cell + k.word) g.global.ty) else trap Index) >>= rest)
+    element_if x k rest h g e true lt = h (InCell (g.cell + k.word) g.global.ty) (cells_are.each x g k.word e lt)
     element_if x k rest h g e false lt = subst (Q _) (trap_stops Index rest) (trap_holds Index)
 
-    element_then : {B : Type 0} (x : List ℕ) (k : Value) (rest : Spot → Action B) → Follows rest → (o : Option GlobalCells) → global_of p x ≡ o → Q B ((or_astray o >>= λ g. if nat_lt k.word (cells g.global) then pure (InCell (g.cell + k.word) g.global.of) else trap Index) >>= rest)
+    element_then : {B : Type 0} (x : List ℕ) (k : Value) (rest : Spot → Action B) → Follows rest → (o : Option GlobalCells) → global_of p x ≡ o → Q B ((or_astray o >>= λ g. if nat_lt k.word (cells g.global) then pure (InCell (g.cell + k.word) g.global.ty) else trap Index) >>= rest)
     element_then x k rest h (Some g) e = element_if x k rest h g e (nat_lt k.word (cells g.global)) refl
     element_then x k rest h None e = astray_holds
 
@@ -224,11 +224,11 @@ module _ (p : Program) (IsPiece : List ℕ → Type 0) (IsCell : ℕ → Scalar 
 
     declare_holds : (t : Scalar) (ds : List Declarator) → Q _ (declare p call t ds)
     declare_holds t [] = pure_holds Next
-    declare_holds t (d ∷ ds) = on_holds locals_holds (λ mine. then_holds (put_locals_holds (mine ++ record { name = d.name.text; of = t; word = 0 } ∷ [])) (then_holds (first_value_holds (InLocal (length mine) t) tt d.first) (declare_holds t ds)))
+    declare_holds t (d ∷ ds) = on_holds locals_holds (λ mine. then_holds (put_locals_holds (mine ++ record { name = d.name.text; ty = t; word = 0 } ∷ [])) (then_holds (first_value_holds (InLocal (length mine) t) tt d.first) (declare_holds t ds)))
 
     start_with_holds : (s : Start) → Q _ (start_with p call s)
     start_with_holds Nothing = pure_holds Next
-    start_with_holds (Declares d) = declare_holds d.of d.declarators
+    start_with_holds (Declares d) = declare_holds d.ty d.declarators
     start_with_holds (Does s) = simple_holds s
 
     holds_holds : (o : Option Expr) → Q _ (holds p call o)
@@ -246,7 +246,7 @@ module _ (p : Program) (IsPiece : List ℕ → Type 0) (IsCell : ℕ → Scalar 
     mutual
       pub stmt_holds : (s : Stmt) → Stand (formats_in s) → Q _ (stmt p call s)
       stmt_holds Empty st = then_holds tick_holds (pure_holds Next)
-      stmt_holds (Declare d) st = then_holds tick_holds (declare_holds d.of d.declarators)
+      stmt_holds (Declare d) st = then_holds tick_holds (declare_holds d.ty d.declarators)
       stmt_holds (Do s) st = then_holds tick_holds (simple_holds s)
       stmt_holds (Block ss) st = then_holds tick_holds (scoped_holds (stmts_holds ss st))
       stmt_holds (Print at format format_at es) st = then_holds tick_holds (then_holds may_print_holds (on_holds (exprs_holds es) (λ vs. then_holds (print_pieces_holds (pieces format) vs (λ text c. st format (contains_first format []) text c)) (pure_holds Next))))

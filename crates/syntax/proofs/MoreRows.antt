@@ -26,7 +26,7 @@ abbrev pub then_ : Stmt → Stmts → Stmts
 then_ s ss = Tree.◌∷◌ s ss
 
 abbrev declare_int : List ℕ → Expr → Stmt
-declare_int x e = Declare (record { of = Int; declarators = record { name = called x; first = Some e } ∷ [] })
+declare_int x e = Declare (record { ty = Int; declarators = record { name = called x; first = Some e } ∷ [] })
 
 -- int x = 1; W{ int a = 5; atomic { a = 6; x = 2; cancel; } printf("%d\n", a); }
 abbrev cancels : Program
@@ -58,7 +58,7 @@ downs_1 = refl
 
 -- int x; W{ int i; for (i = 0; i < 100; i++) { atomic { x = x + 1; } } }
 abbrev declare_only : List ℕ → Stmt
-declare_only x = Declare (record { of = Int; declarators = record { name = called x; first = None } ∷ [] })
+declare_only x = Declare (record { ty = Int; declarators = record { name = called x; first = None } ∷ [] })
 
 abbrev hundred : Program
 hundred = global (codes "x") ∷ worker_with (then_ (declare_only (codes "i")) (just (For (Does (Assign (var (codes "i")) None (num 0))) (Some (Binary Less (var (codes "i")) (num 100) here)) (Some (Adjust (var (codes "i")) Increment)) (Block (just (atomic (just (set_to (codes "x") (plus (var (codes "x")) (num 1)))))))))) ∷ []
@@ -94,12 +94,12 @@ nearer_row = refl
 
 -- unsigned a[3] = {1, 2}; int b = -1; W{ atomic { b = 7; a[3] = 1; } }: a trap leaves what was found
 abbrev first_number : Bool → ℕ → Initializer
-first_number minus n = record { negative = minus; value = n; of = Int; span = here }
+first_number minus n = record { negative = minus; value = n; ty = Int; span = here }
 
 abbrev past_end : Program
 past_end =
-    Shares (record { of = Unsigned; name = called (codes "a"); length = Some (3, here); first = first_number false 1 ∷ first_number false 2 ∷ [] } ∷ [])
-    ∷ Shares (record { of = Int; name = called (codes "b"); length = None; first = first_number true 1 ∷ [] } ∷ [])
+    Shares (record { ty = Unsigned; name = called (codes "a"); length = Some (3, here); first = first_number false 1 ∷ first_number false 2 ∷ [] } ∷ [])
+    ∷ Shares (record { ty = Int; name = called (codes "b"); length = None; first = first_number true 1 ∷ [] } ∷ [])
     ∷ worker_with (just (atomic (then_ (set_to (codes "b") (num 7)) (just (Do (Assign (Element (called (codes "a")) (num 3) here) None (num 1))))))) ∷ []
 
 past_end_begins : initial_memory past_end ≡ 1 ∷ 2 ∷ 0 ∷ (2 ^ 32 - 1) ∷ []

@@ -219,7 +219,7 @@ module _ (p : Program) (call : Caller) (h : (x : List ℕ) (vs : List Value) →
 
       begun : (s : State) → WhereGiven (declare p call t (d ∷ ds) s) (λ a now. BeginsWithLocals s.locals now.locals)
       begun s =
-          let new : Local = record { name = d.name.text; of = t; word = 0 } in
+          let new : Local = record { name = d.name.text; ty = t; word = 0 } in
           from_earlier s.locals (s.locals ++ new ∷ []) _ (one_more s.locals new) ((rest_older (length s.locals)).keeps (record s { locals = s.locals ++ new ∷ [] }))
 
   declare_older : (t : Scalar) (ds : List Declarator) → KeepsOlder (declare p call t ds)
@@ -228,7 +228,7 @@ module _ (p : Program) (call : Caller) (h : (x : List ℕ) (vs : List Value) →
 
   pub start_older : (s : Start) → KeepsOlder (start_with p call s)
   start_older Nothing = pure_older Next
-  start_older (Declares d) = declare_older d.of d.declarators
+  start_older (Declares d) = declare_older d.ty d.declarators
   start_older (Does s) = simple_older s
 
   pub holds_older : (o : Option Expr) → KeepsOlder (holds p call o)
@@ -246,7 +246,7 @@ module _ (p : Program) (call : Caller) (h : (x : List ℕ) (vs : List Value) →
   mutual
     pub stmt_older : (s : Stmt) → KeepsOlder (stmt p call s)
     stmt_older Empty = then_older tick_older (pure_older Next)
-    stmt_older (Declare d) = then_older tick_older (declare_older d.of d.declarators)
+    stmt_older (Declare d) = then_older tick_older (declare_older d.ty d.declarators)
     stmt_older (Do s) = then_older tick_older (simple_older s)
     stmt_older (Block ss) = then_older tick_older (scoped_older (stmts_older ss))
     stmt_older (Print at format format_at es) = then_older tick_older (then_older may_print_older (on_older (leaves_older (exprs_holds p call h es)) (λ vs. then_older (pieces_older (pieces format) vs) (pure_older Next))))

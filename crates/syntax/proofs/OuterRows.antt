@@ -30,7 +30,7 @@ abbrev undone : Program
 undone =
     global (codes "x")
     ∷ worker_with
-    (then_ (Declare (record { of = Int; declarators = record { name = called (codes "a"); first = Some (num 5) } ∷ [] }))
+    (then_ (Declare (record { ty = Int; declarators = record { name = called (codes "a"); first = Some (num 5) } ∷ [] }))
     (then_ (outer (then_ (set_to (codes "a") (num 6)) (then_ (sets_x 2) (then_ (atomic (then_ (sets_x 3) (just (CancelOuter here)))) (just (sets_x 4))))))
     (just (Print here (codes "%d") here (Tree.◌∷◌ (var (codes "a")) Tree.[])))))
     ∷ []

@@ -42,7 +42,7 @@ no_number = refl
 
 -- int a[4096], b, c; W{ }: the first global beyond 4,096 cells
 abbrev int_global : List ℕ → ℕ → Option (ℕ × Span) → Global
-int_global x n length = record { of = Int; name = named x n; length = length; first = [] }
+int_global x n length = record { ty = Int; name = named x n; length = length; first = [] }
 
 no_cell : fault (Shares (int_global (codes "a") 1 (Some (4096, at 2)) ∷ int_global (codes "b") 3 None ∷ int_global (codes "c") 4 None ∷ []) ∷ worker_with Tree.[] ∷ []) ≡ Some (25, at 3)
 no_cell = refl

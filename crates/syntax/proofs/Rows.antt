@@ -33,13 +33,13 @@ abbrev pub just : Stmt → Stmts
 just s = Tree.◌∷◌ s Tree.[]
 
 abbrev pub function : List ℕ → List ℕ → Stmts → Item
-function f q body = Defines (record { attributes = []; result = None; name = called f; parameters = record { of = Int; name = Some (called q) } ∷ []; body = Some body })
+function f q body = Defines (record { attributes = []; result = None; name = called f; parameters = record { ty = Int; name = Some (called q) } ∷ []; body = Some body })
 
 abbrev pub worker_with : Stmts → Item
 worker_with body = function (codes "worker") (codes "self") body
 
 abbrev pub global : List ℕ → Item
-global x = Shares (record { of = Int; name = called x; length = None; first = [] } ∷ [])
+global x = Shares (record { ty = Int; name = called x; length = None; first = [] } ∷ [])
 
 -- void worker(int self) { }
 abbrev idle : Program

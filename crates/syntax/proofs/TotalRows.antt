@@ -14,7 +14,7 @@ use Rattle.syntax.proofs.MoreRows.{then_}
 -- void f(int) { } W{ f(1); }: a parameter without a name binds nothing
 abbrev nameless : Program
 nameless =
-    Defines (record { attributes = []; result = None; name = called (codes "f"); parameters = record { of = Int; name = None } ∷ []; body = Some Tree.[] })
+    Defines (record { attributes = []; result = None; name = called (codes "f"); parameters = record { ty = Int; name = None } ∷ []; body = Some Tree.[] })
     ∷ worker_with (just (Do (Evaluate (Call (called (codes "f")) (Tree.◌∷◌ (num 1) Tree.[]) here)))) ∷ []
 
 nameless_typed : IsTypedProgram nameless
@@ -26,8 +26,8 @@ nameless_ends = refl
 -- int a[1]; W{ atomic { if (1) int a; self ? a[0] : 1; } }: a declaration that is a branch is gone after it
 abbrev branch_declares : Program
 branch_declares =
-    Shares (record { of = Int; name = called (codes "a"); length = Some (1, here); first = [] } ∷ [])
-    ∷ worker_with (just (atomic (then_ (If (num 1) (Declare (record { of = Int; declarators = record { name = called (codes "a"); first = None } ∷ [] })))
+    Shares (record { ty = Int; name = called (codes "a"); length = Some (1, here); first = [] } ∷ [])
+    ∷ worker_with (just (atomic (then_ (If (num 1) (Declare (record { ty = Int; declarators = record { name = called (codes "a"); first = None } ∷ [] })))
     (just (Do (Evaluate (Conditional (var (codes "self")) (Element (called (codes "a")) (num 0) here) (num 1) here))))))) ∷ []
 
 branch_typed : IsTypedProgram branch_declares

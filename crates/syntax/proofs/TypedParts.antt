@@ -170,18 +170,18 @@ declarators_parts known declared t (d ∷ ds) h =
 
 abbrev pub TypedStart : Scope → Start → Type 0
 TypedStart known Nothing = Unit {0}
-TypedStart known (Declares d) = TypedDeclarators known d.of d.declarators
+TypedStart known (Declares d) = TypedDeclarators known d.ty d.declarators
 TypedStart known (Does s) = TypedSimple known s
 
 start_parts : (known : Scope) (s : Start) → AreMet (IsTypedStart known s) → TypedStart known s
 start_parts known Nothing h = tt
-start_parts known (Declares d) h = declarators_parts known [] d.of d.declarators h
+start_parts known (Declares d) h = declarators_parts known [] d.ty d.declarators h
 start_parts known (Does s) h = simple_parts known s h
 
 abbrev mutual
   pub TypedStmt : Stmt → Scope → (looping : Bool) → Type 0
   TypedStmt Empty known looping = Unit {0}
-  TypedStmt (Declare d) known looping = TypedDeclarators known d.of d.declarators
+  TypedStmt (Declare d) known looping = TypedDeclarators known d.ty d.declarators
   TypedStmt (Do s) known looping = TypedSimple known s
   TypedStmt (Block ss) known looping = TypedStmts ss known looping
   TypedStmt (Print at format format_at es) known looping = TypedPrint known format es
@@ -207,7 +207,7 @@ module _ (gives : Option Scalar) where
   mutual
     pub stmt_parts : (s : Stmt) (known : Scope) (declared : List (List ℕ)) (looping : Bool) → AreMet (IsTypedStmt gives s known declared looping) → TypedStmt s known looping
     stmt_parts Empty known declared looping h = tt
-    stmt_parts (Declare d) known declared looping h = declarators_parts known declared d.of d.declarators h
+    stmt_parts (Declare d) known declared looping h = declarators_parts known declared d.ty d.declarators h
     stmt_parts (Do s) known declared looping h = simple_parts known s h
     stmt_parts (Block ss) known declared looping h = stmts_parts ss known [] looping h
     stmt_parts (Print at format format_at es) known declared looping h = print_parts known format format_at es h

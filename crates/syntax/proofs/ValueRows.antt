@@ -31,7 +31,7 @@ abbrev prints : Expr → Stmt
 prints e = Print here (codes "%d") here (Tree.◌∷◌ e Tree.[])
 
 abbrev declares : Expr → Stmt
-declares e = Declare (record { of = Int; declarators = record { name = called (codes "v"); first = Some e } ∷ [] })
+declares e = Declare (record { ty = Int; declarators = record { name = called (codes "v"); first = Some e } ∷ [] })
 
 -- int x; W{ int v = __transaction_atomic(x); }: a tick before the memory is wanted, and a tick when it is left
 abbrev reads : Program
@@ -86,11 +86,11 @@ inside_5 = refl
 
 -- int x = 2147483647; W{ printf("a"); int v = 1 + __transaction_atomic(x + 1); }: a trap leaves the memory that was found
 abbrev greatest : Initializer
-greatest = record { negative = false; value = 2 ^ 31 - 1; of = Int; span = here }
+greatest = record { negative = false; value = 2 ^ 31 - 1; ty = Int; span = here }
 
 abbrev traps : Program
 traps =
-    Shares (record { of = Int; name = called (codes "x"); length = None; first = greatest ∷ [] } ∷ [])
+    Shares (record { ty = Int; name = called (codes "x"); length = None; first = greatest ∷ [] } ∷ [])
     ∷ worker_with (then_ (Print here (codes "a") here Tree.[]) (just (declares (plus (num 1) (atomic_value (plus (var (codes "x")) (num 1))))))) ∷ []
 
 traps_row : thread traps 0 (((2 ^ 31 - 1) ∷ []) ∷ []) 100 ≡ record { lefts = ((2 ^ 31 - 1) ∷ []) ∷ []; text = codes "a"; end = Stopped (Trapped OutOfRange) }

@@ -53,7 +53,7 @@ element_shared Unknown t e = none_some t e
 
 -- a name that the file knows as shared is a global of that type
 abbrev pub Found : Option GlobalCells → Scalar → Type 0
-Found o t = (g : GlobalCells) × (o ≡ Some g) × (g.global.of ≡ t)
+Found o t = (g : GlobalCells) × (o ≡ Some g) × (g.global.ty ≡ t)
 
 either : (b : Bool) (k k' : Known) (o o' : Option GlobalCells) (t : Scalar) → (shared_type k ≡ Some t → Found o t) → (shared_type k' ≡ Some t → Found o' t) → shared_type (if b then k else k') ≡ Some t → Found (if b then o else o') t
 either true k k' o o' t g h e = g e
@@ -63,15 +63,15 @@ other : (b : Bool) (f : Function) (k : Known) (o : Option GlobalCells) (t : Scal
 other true f k o t h e = none_some t e
 other false f k o t h e = h e
 
-global_type : (of : Scalar) (length : Option (ℕ × Span)) (t : Scalar) → shared_type (unwrap_or (option_map (λ n. Array of n.0) length) (Number of)) ≡ Some t → of ≡ t
-global_type of None t e = some_same of t e
-global_type of (Some n) t e = some_same of t e
+global_type : (ty : Scalar) (length : Option (ℕ × Span)) (t : Scalar) → shared_type (unwrap_or (option_map (λ n. Array ty n.0) length) (Number ty)) ≡ Some t → ty ≡ t
+global_type ty None t e = some_same ty t e
+global_type ty (Some n) t e = some_same ty t e
 
 among : (rest : Scope) (gs more : List Global) (c : ℕ) (x : List ℕ) (t : Scalar) → ((c : ℕ) → shared_type (rest x) ≡ Some t → Found (global_from c more x) t) → shared_type (known_among gs rest x) ≡ Some t → Found (global_from c (gs ++ more) x) t
 among rest [] more c x t h e = h c e
 among rest (g ∷ gs) more c x t h e =
     either (bytes_eq g.name.text x) (known_global g) (known_among gs rest x) (Some (record { global = g; cell = c })) (global_from (c + cells g) (gs ++ more) x) t
-    (λ f. (record { global = g; cell = c }, refl, global_type g.of g.length t f))
+    (λ f. (record { global = g; cell = c }, refl, global_type g.ty g.length t f))
     (λ f. among rest gs more (c + cells g) x t h f) e
 
 found_from : (items : List Item) (c : ℕ) (x : List ℕ) (t : Scalar) → shared_type (file_scope items x) ≡ Some t → Found (global_from c (globals items) x) t
@@ -84,7 +84,7 @@ found p x t e = found_from p 0 x t e
 
 -- where something is given, this holds of it
 abbrev HasType : Option Scalar → Value → Type 0
-HasType o v = (t : Scalar) → o ≡ Some t → v.of ≡ t
+HasType o v = (t : Scalar) → o ≡ Some t → v.ty ≡ t
 
 abbrev GivesType : Option Scalar → Answer Value → Type 0
 GivesType o r = WhereGiven r (λ v now. HasType o v)
@@ -105,25 +105,25 @@ trap_typed : (o : Option Scalar) (k : Trap) (s : State) → GivesType o (trap k 
 trap_typed o k s = trapped o k s.ticks s
 
 -- an operator's result as a value of type t
-result_typed : (o : Option Scalar) (t : Scalar) (r : Result ℕ Trap) (s : State) → ((v : Value) → v.of ≡ t → HasType o v) → GivesType o (or_trap (typed_result t r) s)
-result_typed o t (Ok w) s h = h (record { of = t; word = w }) refl
+result_typed : (o : Option Scalar) (t : Scalar) (r : Result ℕ Trap) (s : State) → ((v : Value) → v.ty ≡ t → HasType o v) → GivesType o (or_trap (typed_result t r) s)
+result_typed o t (Ok w) s h = h (record { ty = t; word = w }) refl
 result_typed o t (Err k) s h = trap_typed o k s
 
 unary_typed : (op : UnaryOp) (o : Option Scalar) (v : Value) (s : State) → HasType o v → GivesType (unary_type op o) (or_trap (unary op v) s)
-unary_typed Negate o v s h = result_typed o v.of _ s (λ w e t f. e ∙ h t f)
+unary_typed Negate o v s h = result_typed o v.ty _ s (λ w e t f. e ∙ h t f)
 unary_typed Keep o v s h = h
 unary_typed Not o v s h = λ t f. some_same Int t f
 unary_typed Complement o v s h = h
 
-common_typed : (to : Scalar → Scalar) (o o' : Option Scalar) (v w : Value) → HasType o v → HasType o' w → (t : Scalar) → option_map to (common_of o o') ≡ Some t → to (common v.of w.of) ≡ t
+common_typed : (to : Scalar → Scalar) (o o' : Option Scalar) (v w : Value) → HasType o v → HasType o' w → (t : Scalar) → option_map to (common_of o o') ≡ Some t → to (common v.ty w.ty) ≡ t
 common_typed to (Some a) (Some b) v w g h t e =
-    let x : v.of ≡ a = g a refl in
-    let y : w.of ≡ b = h b refl in
-    ap (λ i. to (common i w.of)) x ∙ ap (λ i. to (common a i)) y ∙ some_same (to (common a b)) t e
+    let x : v.ty ≡ a = g a refl in
+    let y : w.ty ≡ b = h b refl in
+    ap (λ i. to (common i w.ty)) x ∙ ap (λ i. to (common a i)) y ∙ some_same (to (common a b)) t e
 common_typed to (Some a) None v w g h t e = none_some t e
 common_typed to None o' v w g h t e = none_some t e
 
-operator_typed : (op : BinaryOp) (o o' : Option Scalar) (v w : Value) → HasType o v → HasType o' w → (t : Scalar) → binary_type op o o' ≡ Some t → result_type op (operand_type op v.of w.of) ≡ t
+operator_typed : (op : BinaryOp) (o o' : Option Scalar) (v w : Value) → HasType o v → HasType o' w → (t : Scalar) → binary_type op o o' ≡ Some t → result_type op (operand_type op v.ty w.ty) ≡ t
 operator_typed ShiftLeft o o' v w g h t e = g t e
 operator_typed ShiftRight o o' v w g h t e = g t e
 operator_typed Or o o' v w g h t e = common_typed (result_type Or) o o' v w g h t e
@@ -142,10 +142,10 @@ operator_typed Divide o o' v w g h t e = common_typed (result_type Divide) o o' 
 operator_typed Remainder o o' v w g h t e = common_typed (result_type Remainder) o o' v w g h t e
 
 binary_typed : (op : BinaryOp) (o o' : Option Scalar) (v w : Value) (s : State) → HasType o v → HasType o' w → GivesType (binary_type op o o') (or_trap (binary op v w) s)
-binary_typed op o o' v w s g h = result_typed (binary_type op o o') (result_type op (operand_type op v.of w.of)) _ s (λ x e t f. e ∙ operator_typed op o o' v w g h t f)
+binary_typed op o o' v w s g h = result_typed (binary_type op o o') (result_type op (operand_type op v.ty w.ty)) _ s (λ x e t f. e ∙ operator_typed op o o' v w g h t f)
 
 -- where a name's value stands
-fetched : (o : Option Scalar) (c : ℕ) (t : Scalar) (p : Context) (s : State) → HasType o (record { of = t; word = 0 }) → GivesType o (go_on (load_at p c s) (λ w. pure (record { of = t; word = w })))
+fetched : (o : Option Scalar) (c : ℕ) (t : Scalar) (p : Context) (s : State) → HasType o (record { ty = t; word = 0 }) → GivesType o (go_on (load_at p c s) (λ w. pure (record { ty = t; word = w })))
 fetched o c t (Outside f l) s h = tt
 fetched o c t (Inside mode m) s h = h
 
@@ -154,11 +154,11 @@ in_scope p o x = unwrap_or (option_map (λ l. Number l.1) o) (file_scope p x)
 
 module _ (p : Program) where
   -- a name that is typed as a number or an element is a global of that type
-  global_has : (x : List ℕ) (o : Option Scalar) → ((t : Scalar) → o ≡ Some t → shared_type (file_scope p x) ≡ Some t) → (c : GlobalCells) → global_of p x ≡ Some c → HasType o (record { of = c.global.of; word = 0 })
+  global_has : (x : List ℕ) (o : Option Scalar) → ((t : Scalar) → o ≡ Some t → shared_type (file_scope p x) ≡ Some t) → (c : GlobalCells) → global_of p x ≡ Some c → HasType o (record { ty = c.global.ty; word = 0 })
   global_has x o shared c e t f =
       let here : Found (global_of p x) t = found p x t (shared t f) in
       let same : here.0 ≡ c = some_global here.0 c (sym here.1 ∙ e) in
-      ap (λ d. d.global.of) (sym same) ∙ here.2
+      ap (λ d. d.global.ty) (sym same) ∙ here.2
     where
       some_global : (a b : GlobalCells) → Some a ≡ Some b → a ≡ b
       some_global a b e = ap (λ o. unwrap_or o a) e
@@ -170,8 +170,8 @@ module _ (p : Program) where
       let o = number_type (file_scope p x) in
       known_global_typed o (global_of p x) (global_has x o (λ t f. number_shared (file_scope p x) t f))
     where
-      known_global_typed : (o : Option Scalar) (g : Option GlobalCells) → ((c : GlobalCells) → g ≡ Some c → HasType o (record { of = c.global.of; word = 0 })) → GivesType o (go_on (go_on (or_astray g s) (λ c. pure (InCell c.cell c.global.of))) fetch)
-      known_global_typed o (Some c) h = fetched o c.cell c.global.of s.context s (h c refl)
+      known_global_typed : (o : Option Scalar) (g : Option GlobalCells) → ((c : GlobalCells) → g ≡ Some c → HasType o (record { ty = c.global.ty; word = 0 })) → GivesType o (go_on (go_on (or_astray g s) (λ c. pure (InCell c.cell c.global.ty))) fetch)
+      known_global_typed o (Some c) h = fetched o c.cell c.global.ty s.context s (h c refl)
       known_global_typed o None h = tt
 
   element_typed : (call : Caller) (x : List ℕ) (k : Value) (l : Option (ℕ × Scalar)) (s : State) → GivesType (element_type (in_scope p l x)) (go_on (element p call x k s) fetch)
@@ -184,7 +184,7 @@ module _ (p : Program) where
       let o = element_type (file_scope p x) in
       known_global_typed o (global_of p x) (global_has x o (λ t f. element_shared (file_scope p x) t f))
     where
-      tested : (o : Option Scalar) (b : Bool) (at : ℕ) (t : Scalar) → HasType o (record { of = t; word = 0 }) → GivesType o (go_on ((if b then pure (InCell at t) else trap Index) s) fetch)
+      tested : (o : Option Scalar) (b : Bool) (at : ℕ) (t : Scalar) → HasType o (record { ty = t; word = 0 }) → GivesType o (go_on ((if b then pure (InCell at t) else trap Index) s) fetch)
       tested o true at t h = fetched o at t s.context s h
       tested o false at t h = untrapped o s.ticks
         where
@@ -192,8 +192,8 @@ module _ (p : Program) where
           untrapped o zero = tt
           untrapped o (suc n) = tt
 
-      known_global_typed : (o : Option Scalar) (g : Option GlobalCells) → ((c : GlobalCells) → g ≡ Some c → HasType o (record { of = c.global.of; word = 0 })) → GivesType o (go_on (go_on (or_astray g s) (λ c. if nat_lt k.word (cells c.global) then pure (InCell (c.cell + k.word) c.global.of) else trap Index)) fetch)
-      known_global_typed o (Some c) h = tested o (nat_lt k.word (cells c.global)) (c.cell + k.word) c.global.of (h c refl)
+      known_global_typed : (o : Option Scalar) (g : Option GlobalCells) → ((c : GlobalCells) → g ≡ Some c → HasType o (record { ty = c.global.ty; word = 0 })) → GivesType o (go_on (go_on (or_astray g s) (λ c. if nat_lt k.word (cells c.global) then pure (InCell (c.cell + k.word) c.global.ty) else trap Index)) fetch)
+      known_global_typed o (Some c) h = tested o (nat_lt k.word (cells c.global)) (c.cell + k.word) c.global.ty (h c refl)
       known_global_typed o None h = tt
 
 -- what the file knows after some items: what they make known, else what the others do
@@ -207,13 +207,13 @@ if_or_known : (b : Bool) (k k' last : Known) (whole : Known) → or_known k last
 if_or_known true k k' last whole e f = sym e
 if_or_known false k k' last whole e f = f
 
-global_known : (of : Scalar) (length : Option (ℕ × Span)) (last : Known) → or_known (unwrap_or (option_map (λ n. Array of n.0) length) (Number of)) last ≡ unwrap_or (option_map (λ n. Array of n.0) length) (Number of)
-global_known of None last = refl
-global_known of (Some n) last = refl
+global_known : (ty : Scalar) (length : Option (ℕ × Span)) (last : Known) → or_known (unwrap_or (option_map (λ n. Array ty n.0) length) (Number ty)) last ≡ unwrap_or (option_map (λ n. Array ty n.0) length) (Number ty)
+global_known ty None last = refl
+global_known ty (Some n) last = refl
 
 among_known : (gs : List Global) (rest whole : Scope) (x : List ℕ) (last : Known) → whole x ≡ or_known (rest x) last → known_among gs whole x ≡ or_known (known_among gs rest x) last
 among_known [] rest whole x last e = e
-among_known (g ∷ gs) rest whole x last e = if_or_known (bytes_eq g.name.text x) (known_global g) (known_among gs rest x) last (known_among gs whole x) (global_known g.of g.length last) (among_known gs rest whole x last e)
+among_known (g ∷ gs) rest whole x last e = if_or_known (bytes_eq g.name.text x) (known_global g) (known_among gs rest x) last (known_among gs whole x) (global_known g.ty g.length last) (among_known gs rest whole x last e)
 
 pub scope_append : (earlier items : List Item) (x : List ℕ) → file_scope (earlier ++ items) x ≡ or_known (file_scope earlier x) (file_scope items x)
 scope_append [] items x = refl
@@ -378,7 +378,7 @@ module _ (p : Program) (checked : IsTypedProgram p) where
         let o = type_at s.locals e in
         value_transaction_gives (λ v ls. HasType o v) s.locals (expr p (calls p n) e) (λ t same. subst (λ ls. GivesType (type_at ls e) (expr p (calls p n) e t)) same (expr_typed e t)) mode s refl
 
-given_is : (o : Option Scalar) (t : Scalar) → o ≡ Some t → (r : Answer Value) → GivesType o r → WhereGiven r (λ v now. v.of ≡ t)
+given_is : (o : Option Scalar) (t : Scalar) → o ≡ Some t → (r : Answer Value) → GivesType o r → WhereGiven r (λ v now. v.ty ≡ t)
 given_is o t e (Gives v u) h = h t e
 given_is o t e (Stops why u) h = tt
 

@@ -38,13 +38,13 @@ use Rattle.syntax.proofs.Kept.{AreCells, block_holds, returned_holds, called_hol
 use Rattle.syntax.proofs.Contexts.{Stays, stays_kept}
 
 abbrev IsOwn : Local → Type 0
-IsOwn l = l.word < modulus l.of
+IsOwn l = l.word < modulus l.ty
 
 abbrev AreLocals : List Local → Type 0
 AreLocals ls = AllByRecursion IsOwn ls
 
 abbrev IsValue : Value → Type 0
-IsValue v = v.word < modulus v.of
+IsValue v = v.word < modulus v.ty
 
 abbrev IsAny : {A : Type 0} → A → Type 0
 IsAny a = Unit {0}
@@ -60,7 +60,7 @@ IsTurn (Some end) = IsEnd end
 -- the local at a place has this type, if there is one
 abbrev TypeIs : List Local → ℕ → Scalar → Type 0
 TypeIs [] i t = Unit {0}
-TypeIs (l ∷ ls) zero t = l.of ≡ t
+TypeIs (l ∷ ls) zero t = l.ty ≡ t
 TypeIs (l ∷ ls) (suc i) t = TypeIs ls i t
 
 word_of_local : (ls : List Local) (i : ℕ) (t : Scalar) → TypeIs ls i t → AreLocals ls → word_at ls i < modulus t
@@ -85,15 +85,15 @@ newest_is n before (k ∷ ls) x l size e = by (newest_from (n + 1) ls x) (λ f. 
     shifted : TypeIs ((before ++ k ∷ []) ++ ls) l.0 l.1 → TypeIs (before ++ k ∷ ls) l.0 l.1
     shifted h = subst (λ (ms : List Local). TypeIs ms l.0 l.1) (append_assoc before (k ∷ []) ls) h
 
-    at_last : (before : List Local) → TypeIs (before ++ k ∷ ls) (length before) k.of
+    at_last : (before : List Local) → TypeIs (before ++ k ∷ ls) (length before) k.ty
     at_last [] = refl
     at_last (b ∷ before) = at_last before
 
-    by : (o : Option (ℕ × Scalar)) → (o ≡ Some l → TypeIs (before ++ k ∷ ls) l.0 l.1) → (b : Bool) → option_or o (if b then Some (n, k.of) else None) ≡ Some l → TypeIs (before ++ k ∷ ls) l.0 l.1
+    by : (o : Option (ℕ × Scalar)) → (o ≡ Some l → TypeIs (before ++ k ∷ ls) l.0 l.1) → (b : Bool) → option_or o (if b then Some (n, k.ty) else None) ≡ Some l → TypeIs (before ++ k ∷ ls) l.0 l.1
     by (Some m) later b e = later e
     by None later true e =
-        let same : ◌≡◌ {A = ℕ × Scalar} (n, k.of) l = cc in
-        subst (λ (m : ℕ × Scalar). TypeIs (before ++ k ∷ ls) m.0 m.1) same (subst (λ (m : ℕ). TypeIs (before ++ k ∷ ls) m k.of) size (at_last before))
+        let same : ◌≡◌ {A = ℕ × Scalar} (n, k.ty) l = cc in
+        subst (λ (m : ℕ × Scalar). TypeIs (before ++ k ∷ ls) m.0 m.1) same (subst (λ (m : ℕ). TypeIs (before ++ k ∷ ls) m k.ty) size (at_last before))
     by None later false e = absurd cc
 
 module _ {X : Type 0} (P : X → Type 0) where
@@ -126,10 +126,10 @@ complement_below Unsigned w = omega arith
 complement_below LongLong w = omega arith
 
 unary_word : (op : UnaryOp) (v : Value) → IsValue v → IfOk (unary op v) IsValue
-unary_word Negate v h = typed_word v.of (fit_result v.of (neg_ℤ (number_of v))) (fitted_below v.of (neg_ℤ (number_of v)))
+unary_word Negate v h = typed_word v.ty (fit_result v.ty (neg_ℤ (number_of v))) (fitted_below v.ty (neg_ℤ (number_of v)))
 unary_word Keep v h = h
 unary_word Not v h = truth_below _
-unary_word Complement v h = complement_below v.of v.word
+unary_word Complement v h = complement_below v.ty v.word
 
 shift_left_below : (s : Scalar) (a b : ℕ) → IfOk (operation_result ShiftLeft s a b) (λ w. w < modulus s)
 shift_left_below s a b = shift_below s (λ k. fit_result s (number s a *ℤ pos (2 ^ k))) b (λ k. fitted_below s (number s a *ℤ pos (2 ^ k)))
@@ -157,10 +157,10 @@ any_below op s t a b g h = computed_below op (common s t) a b g (subst (λ (u : 
 -- what an operator gives, of two values
 binary_word : (op : BinaryOp) (v w : Value) → IfOk (binary op v w) IsValue
 binary_word op v w =
-    let t = operand_type op v.of w.of in
+    let t = operand_type op v.ty w.ty in
     let a = value_in_type t v in
-    let b = value_in_type (operand_type op w.of v.of) w in
-    typed_word (result_type op t) (operation_result op t a.word b.word) (any_below op v.of w.of a.word b.word (word_below t (number_of v)) (word_below (operand_type op w.of v.of) (number_of w)))
+    let b = value_in_type (operand_type op w.ty v.ty) w in
+    typed_word (result_type op t) (operation_result op t a.word b.word) (any_below op v.ty w.ty a.word b.word (word_below t (number_of v)) (word_below (operand_type op w.ty v.ty) (number_of w)))
 
 -- a memory's word is below the bound of its cell
 memory_word : (bs : List ℕ) (m : Memory) (c n : ℕ) → IsMemory bs m → slice_index bs c ≡ n → 0 < n → slice_index m c < n
@@ -259,7 +259,7 @@ module _ (q : Program) (checked : IsTypedProgram q) where
   Fits ls (InLocal i t) = TypeIs ls i t
   Fits ls (InCell c t) = slice_index (bounds q) c ≡ modulus t
 
-  cell_fetched : (p : Context) (c : ℕ) (t : Scalar) (s : State) → slice_index (bounds q) c ≡ modulus t → AllByRecursion (IsMemory (bounds q)) (memories_of p) → HasWords q s → WhereGiven (go_on (load_at p c s) (λ w. pure (record { of = t; word = w }))) (λ v now. IsValue v × HasWords q now)
+  cell_fetched : (p : Context) (c : ℕ) (t : Scalar) (s : State) → slice_index (bounds q) c ≡ modulus t → AllByRecursion (IsMemory (bounds q)) (memories_of p) → HasWords q s → WhereGiven (go_on (load_at p c s) (λ w. pure (record { ty = t; word = w }))) (λ v now. IsValue v × HasWords q now)
   cell_fetched (Outside f l) c t s e m w = tt
   cell_fetched (Inside mode memory) c t s e m w = (memory_word (bounds q) memory c (modulus t) m.0 e (some_below t), w)
 
@@ -396,9 +396,9 @@ module _ (q : Program) (checked : IsTypedProgram q) where
   transaction_keeps kind {run} g h = record { keeps = λ s w. enter_keeps kind run g h s.context s.ticks s.locals s.text w.locals w.memories }
 
   -- the parameters hold words
-  bound_words : (d : Parameter) (v : Value) (o : Option Tree.Name) (ls : List Local) → AreLocals ls → AreLocals (unwrap_or (option_map (λ (x : Tree.Name). record { name = x.text; of = d.of; word = (value_in_type d.of v).word } ∷ []) o) [] ++ ls)
+  bound_words : (d : Parameter) (v : Value) (o : Option Tree.Name) (ls : List Local) → AreLocals ls → AreLocals (unwrap_or (option_map (λ (x : Tree.Name). record { name = x.text; ty = d.ty; word = (value_in_type d.ty v).word } ∷ []) o) [] ++ ls)
   bound_words d v None ls h = h
-  bound_words d v (Some x) ls h = (word_below d.of (number_of v), h)
+  bound_words d v (Some x) ls h = (word_below d.ty (number_of v), h)
 
   put_before : (d : Parameter) (v : Value) (o : Option (List Local)) → ((ls : List Local) → o ≡ Some ls → AreLocals ls) → (ls : List Local) → option_map (λ (ms : List Local). parameter_local d v ++ ms) o ≡ Some ls → AreLocals ls
   put_before d v None h ls e = absurd cc
@@ -423,7 +423,7 @@ module _ (q : Program) (checked : IsTypedProgram q) where
     cells_are : AreCells q (IsBounded q)
     cells_are = typed_cells q checked
 
-    global_spot : (x : List ℕ) (o : Option GlobalCells) → global_of q x ≡ o → GivesSpot (or_astray o >>= λ g. pure (InCell g.cell g.global.of))
+    global_spot : (x : List ℕ) (o : Option GlobalCells) → global_of q x ≡ o → GivesSpot (or_astray o >>= λ g. pure (InCell g.cell g.global.ty))
     global_spot x (Some g) e = record { gives = λ s w. (cells_are.first x g e, w) }
     global_spot x None e = record { gives = λ s w. tt }
 
@@ -438,11 +438,11 @@ module _ (q : Program) (checked : IsTypedProgram q) where
     trapped_spot zero s = tt
     trapped_spot (suc n) s = tt
 
-    element_if : (x : List ℕ) (k : Value) (g : GlobalCells) → global_of q x ≡ Some g → (b : Bool) → nat_lt k.word (cells g.global) ≡ b → GivesSpot (if b then pure (InCell (g.cell + k.word) g.global.of) else trap Index)
+    element_if : (x : List ℕ) (k : Value) (g : GlobalCells) → global_of q x ≡ Some g → (b : Bool) → nat_lt k.word (cells g.global) ≡ b → GivesSpot (if b then pure (InCell (g.cell + k.word) g.global.ty) else trap Index)
     element_if x k g e true lt = record { gives = λ s w. (cells_are.each x g k.word e lt, w) }
     element_if x k g e false lt = record { gives = λ s w. trapped_spot s.ticks s }
 
-    element_of : (x : List ℕ) (k : Value) (o : Option GlobalCells) → global_of q x ≡ o → GivesSpot (or_astray o >>= λ g. if nat_lt k.word (cells g.global) then pure (InCell (g.cell + k.word) g.global.of) else trap Index)
+    element_of : (x : List ℕ) (k : Value) (o : Option GlobalCells) → global_of q x ≡ o → GivesSpot (or_astray o >>= λ g. if nat_lt k.word (cells g.global) then pure (InCell (g.cell + k.word) g.global.ty) else trap Index)
     element_of x k (Some g) e = record { gives = λ s w. (element_if x k g e (nat_lt k.word (cells g.global)) refl).gives s w }
     element_of x k None e = record { gives = λ s w. tt }
 
@@ -505,7 +505,7 @@ module _ (q : Program) (checked : IsTypedProgram q) where
     first_value_keeps ls at f None = any_at ls IsAny (pure_keeps IsAny tt tt)
     first_value_keeps ls at f (Some e) = on_at ls IsValue IsAny (leaves_expr e) (any_at ls IsValue (expr_keeps e)) (λ v _. assign_at ls at f v)
 
-    last_is : (mine : List Local) (l : Local) → TypeIs (mine ++ l ∷ []) (length mine) l.of
+    last_is : (mine : List Local) (l : Local) → TypeIs (mine ++ l ∷ []) (length mine) l.ty
     last_is [] l = refl
     last_is (m ∷ mine) l = last_is mine l
 
@@ -520,13 +520,13 @@ module _ (q : Program) (checked : IsTypedProgram q) where
     declare_keeps t [] = pure_keeps IsEnd Next tt
     declare_keeps t (d ∷ ds) =
         on AreLocals IsEnd locals_keeps (λ mine w.
-        let new : Local = record { name = d.name.text; of = t; word = 0 } in
+        let new : Local = record { name = d.name.text; ty = t; word = 0 } in
         put_new IsEnd (mine ++ new ∷ []) (all_joined IsOwn mine (new ∷ []) w (some_below t, tt))
         (then_at IsEnd (mine ++ new ∷ []) IsAny (first_value_keeps (mine ++ new ∷ []) (InLocal (length mine) t) (last_is mine new) d.first) (declare_keeps t ds)))
 
     start_keeps : (s : Start) → Keeps IsEnd (start_with q call s)
     start_keeps Nothing = pure_keeps IsEnd Next tt
-    start_keeps (Declares d) = declare_keeps d.of d.declarators
+    start_keeps (Declares d) = declare_keeps d.ty d.declarators
     start_keeps (Does s) = simple_keeps s
 
     holds_keeps : (o : Option Expr) → Keeps IsAny (holds q call o)
@@ -549,7 +549,7 @@ module _ (q : Program) (checked : IsTypedProgram q) where
     mutual
       stmt_keeps : (s : Stmt) → Keeps IsEnd (stmt q call s)
       stmt_keeps Empty = then_ IsAny IsEnd tick_keeps (pure_keeps IsEnd Next tt)
-      stmt_keeps (Declare d) = then_ IsAny IsEnd tick_keeps (declare_keeps d.of d.declarators)
+      stmt_keeps (Declare d) = then_ IsAny IsEnd tick_keeps (declare_keeps d.ty d.declarators)
       stmt_keeps (Do s) = then_ IsAny IsEnd tick_keeps (simple_keeps s)
       stmt_keeps (Block ss) = then_ IsAny IsEnd tick_keeps (scoped_keeps (stmts_keep ss))
       stmt_keeps (Print at format format_at es) = then_ IsAny IsEnd tick_keeps (then_ IsAny IsEnd may_print_keeps (on IsAny IsEnd (exprs_keep es) (λ vs _. then_ IsAny IsEnd (pieces_keep (pieces format) vs) (pure_keeps IsEnd Next tt))))

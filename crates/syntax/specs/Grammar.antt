@@ -36,11 +36,11 @@ the_name t = name_in t.terminal t.span
 -- a constant: its value, its type, and its place
 pub record IntegerConstant : Type 0 where
   pub value : ℕ
-  pub of : Scalar
+  pub ty : Scalar
   pub at : Span
 
 abbrev pub integer_constant_in : Terminal → Span → Option IntegerConstant
-integer_constant_in (Terminal.constant n of) at = Some (record { value = n; of = of; at = at })
+integer_constant_in (Terminal.constant n ty) at = Some (record { value = n; ty = ty; at = at })
 integer_constant_in _ at = None
 
 abbrev pub the_integer_constant : Tok → Option IntegerConstant
@@ -195,7 +195,7 @@ mode_keyword Relaxed = (Keyword key.Relaxed)
 abbrev mutual
   pub expr : Expr → Phrase
   expr (Variable x) = name_phrase x
-  expr (Constant n t at) = One the_integer_constant (record { value = n; of = t; at = at })
+  expr (Constant n t at) = One the_integer_constant (record { value = n; ty = t; at = at })
   expr (Element x i at) = spanning at (name_phrase x ⨾ Sign punct.OpenBracket ⨾ expr i ⨾ Sign punct.CloseBracket)
   expr (Call f es at) = spanning at (name_phrase f ⨾ Sign punct.OpenParen ⨾ arguments es ⨾ Sign punct.CloseParen)
   expr (Parenthesized e at) = spanning at (Sign punct.OpenParen ⨾ expr e ⨾ Sign punct.CloseParen)
@@ -234,7 +234,7 @@ abbrev pub declarator : Declarator → Phrase
 declarator d = name_phrase d.name ⨾ optional (λ e. Sign punct.Assign ⨾ expr e) d.first
 
 abbrev pub declaration : Declaration → Phrase
-declaration d = scalar d.of ⨾ Listed declarator d.declarators ⨾ Sign punct.Semicolon
+declaration d = scalar d.ty ⨾ Listed declarator d.declarators ⨾ Sign punct.Semicolon
 
 abbrev pub start : Start → Phrase
 start Nothing = Sign punct.Semicolon
@@ -321,7 +321,7 @@ result None = Word key.Void
 result (Some t) = scalar t
 
 abbrev pub parameter : Parameter → Phrase
-parameter q = scalar q.of ⨾ optional name_phrase q.name
+parameter q = scalar q.ty ⨾ optional name_phrase q.name
 
 abbrev pub parameters : List Parameter → Phrase
 parameters [] = Sign punct.OpenParen ⨾ (Nil ∣ Word key.Void) ⨾ Sign punct.CloseParen
@@ -350,14 +350,14 @@ minus false = Nil
 
 -- a constant's value and type
 abbrev pub value_in : Terminal → Option (ℕ × Scalar)
-value_in (Terminal.constant n of) = Some (n, of)
+value_in (Terminal.constant n ty) = Some (n, ty)
 value_in _ = None
 
 abbrev pub the_value : Tok → Option (ℕ × Scalar)
 the_value t = value_in t.terminal
 
 abbrev pub initialiser : Initializer → Phrase
-initialiser i = spanning i.span (minus i.negative ⨾ One the_value (i.value, i.of))
+initialiser i = spanning i.span (minus i.negative ⨾ One the_value (i.value, i.ty))
 
 -- a length: a constant of any type, by its value and place
 abbrev pub length_in : Terminal → Span → Option (ℕ × Span)
@@ -386,7 +386,7 @@ global g = name_phrase g.name ⨾ global_phrase g.length g.first
 
 -- globals of one declaration have one type
 abbrev pub globals : Scalar → List Global → Phrase
-globals t gs = scalar t ⨾ Listed (λ g. phrase_if (g.of ≡ t) (global g)) gs ⨾ Sign punct.Semicolon
+globals t gs = scalar t ⨾ Listed (λ g. phrase_if (g.ty ≡ t) (global g)) gs ⨾ Sign punct.Semicolon
 
 abbrev pub item : Item → Phrase
 item (Defines f) = function f

@@ -19,12 +19,12 @@ use Rattle.syntax.specs.Actions.{may_print, print_piece, memory_in}
 
 -- where a value stands: in a local variable, by its place among the locals, or in a shared cell
 pub data Spot : Type 0 where
-  InLocal : (i : ℕ) (of : Scalar) → Spot
-  InCell : (cell : ℕ) (of : Scalar) → Spot
+  InLocal : (i : ℕ) (ty : Scalar) → Spot
+  InCell : (cell : ℕ) (ty : Scalar) → Spot
 
 abbrev pub fetch : Spot → Action Value
-fetch (InLocal i t) = do mine ← locals; pure (record { of = t; word = word_at mine i })
-fetch (InCell c t) = do w ← load c; pure (record { of = t; word = w })
+fetch (InLocal i t) = do mine ← locals; pure (record { ty = t; word = word_at mine i })
+fetch (InCell c t) = do w ← load c; pure (record { ty = t; word = w })
 
 abbrev pub assign : Spot → Value → Action (Unit {0})
 assign (InLocal i t) v = do mine ← locals; put_locals (with_word mine i (value_in_type t v).word)
@@ -173,7 +173,7 @@ op_of Increment = Add
 op_of Decrement = Subtract
 
 abbrev pub int_one : Value
-int_one = record { of = Int; word = 1 }
+int_one = record { ty = Int; word = 1 }
 
 -- ---- expressions (C11 6.5)
 
@@ -185,7 +185,7 @@ module _ (p : Program) (call : Caller) where
   -- where a name's value stands: in the newest local of that name, else in the global
   abbrev pub spot_from : List ℕ → Option (ℕ × Scalar) → Action Spot
   spot_from x (Some l) = pure (InLocal l.0 l.1)
-  spot_from x None = do g ← or_astray (global_of p x); pure (InCell g.cell g.global.of)
+  spot_from x None = do g ← or_astray (global_of p x); pure (InCell g.cell g.global.ty)
 
   abbrev pub named : List ℕ → Action Spot
   named x = do mine ← locals; spot_from x (newest mine x)
@@ -194,13 +194,13 @@ module _ (p : Program) (call : Caller) where
   abbrev pub element : List ℕ → Value → Action Spot
   element x k = do
     g ← or_astray (global_of p x)
-    if nat_lt k.word (cells g.global) then pure (InCell (g.cell + k.word) g.global.of) else trap Index
+    if nat_lt k.word (cells g.global) then pure (InCell (g.cell + k.word) g.global.ty) else trap Index
 
   abbrev mutual
     -- names and constants, elements and calls (C11 6.5.1, 6.5.2.1, 6.5.2.2)
     pub expr : Expr → Action Value
     expr (Variable x) = do at ← named x.text; fetch at
-    expr (Constant n t at) = pure (record { of = t; word = word_of t (pos n) })
+    expr (Constant n t at) = pure (record { ty = t; word = word_of t (pos n) })
     expr (Element x i at) = do k ← expr i; at ← element x.text k; fetch at
     expr (Call f es at) = do vs ← exprs es; tick; call f.text vs
     expr (Parenthesized e at) = expr e
@@ -255,13 +255,13 @@ module _ (p : Program) (call : Caller) where
   declare t [] = pure Next
   declare t (d ∷ ds) = do
     mine ← locals
-    put_locals (mine ++ record { name = d.name.text; of = t; word = 0 } ∷ [])
+    put_locals (mine ++ record { name = d.name.text; ty = t; word = 0 } ∷ [])
     first_value (InLocal (length mine) t) d.first
     declare t ds
 
   abbrev pub start_with : Start → Action Completion
   start_with Nothing = pure Next
-  start_with (Declares d) = declare d.of d.declarators
+  start_with (Declares d) = declare d.ty d.declarators
   start_with (Does s) = simple s
 
   -- a missing condition is true
@@ -281,7 +281,7 @@ module _ (p : Program) (call : Caller) where
     -- blocks and declarations (C11 6.8.2), printing (7.21.6.3)
     pub stmt : Stmt → Action Completion
     stmt Empty = do tick; pure Next
-    stmt (Declare d) = do tick; declare d.of d.declarators
+    stmt (Declare d) = do tick; declare d.ty d.declarators
     stmt (Do s) = do tick; simple s
     stmt (Block ss) = do tick; in_scope (stmts ss)
     stmt (Print at format format_at es) = do tick; may_print; vs ← exprs es; print_pieces (pieces format) vs; pure Next
@@ -317,7 +317,7 @@ module _ (p : Program) (call : Caller) where
 -- the parameters, with the arguments converted (C11 6.5.2.2); one without a name binds nothing
 abbrev pub parameter_local : Parameter → Value → List Local
 parameter_local q v =
-    unwrap_or (option_map (λ x. record { name = x.text; of = q.of; word = (value_in_type q.of v).word } ∷ []) q.name) []
+    unwrap_or (option_map (λ x. record { name = x.text; ty = q.ty; word = (value_in_type q.ty v).word } ∷ []) q.name) []
 
 abbrev pub call_locals : List Parameter → List Value → Option (List Local)
 call_locals [] [] = Some []

@@ -59,7 +59,7 @@ ScopeFits =
 
 -- the names and types that a statement declares
 abbrev pub declared_by : Stmt → List (List ℕ × Scalar)
-declared_by (Declare d) = map (λ e. (e.name.text, d.of)) d.declarators
+declared_by (Declare d) = map (λ e. (e.name.text, d.ty)) d.declarators
 declared_by st = []
 
 -- after a statement the locals are, by name and type, those before it and those that it declares

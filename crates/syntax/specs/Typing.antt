@@ -67,7 +67,7 @@ same_types ss ts = false
 
 -- a function is declared with the same types as before, if it was (6.7)
 abbrev pub agrees : Function → Known → Bool
-agrees f (Callable result takes) = same_result result f.result && same_types takes (map (λ q. q.of) f.parameters)
+agrees f (Callable result takes) = same_result result f.result && same_types takes (map (λ q. q.ty) f.parameters)
 agrees f other = true
 
 -- a value is returned exactly where the function gives one (6.8.6.4)
@@ -103,7 +103,7 @@ knows t [] known = known
 knows t (d ∷ ds) known = knows t ds (with_number d.name.text t known)
 
 abbrev pub scope_after : Stmt → Scope → Scope
-scope_after (Declare d) known = knows d.of d.declarators known
+scope_after (Declare d) known = knows d.ty d.declarators known
 scope_after s known = known
 
 abbrev pub names_of : Stmt → List (List ℕ)
@@ -111,7 +111,7 @@ names_of (Declare d) = map (λ e. e.name.text) d.declarators
 names_of s = []
 
 abbrev pub scope_of_start : Start → Scope → Scope
-scope_of_start (Declares d) known = knows d.of d.declarators known
+scope_of_start (Declares d) known = knows d.ty d.declarators known
 scope_of_start start known = known
 
 -- the parameters' names, and what is known with them
@@ -122,7 +122,7 @@ parameter_names (q ∷ qs) = unwrap_or (option_map (λ x. x.text ∷ parameter_n
 abbrev pub with_parameters : List Parameter → Scope → Scope
 with_parameters [] known = known
 with_parameters (q ∷ qs) known =
-    with_parameters qs (unwrap_or (option_map (λ x. with_number x.text q.of known) q.name) known)
+    with_parameters qs (unwrap_or (option_map (λ x. with_number x.text q.ty known) q.name) known)
 
 -- the names of the definitions among these items
 abbrev pub defined_names : List Item → List (List ℕ)
@@ -229,7 +229,7 @@ AreTypedDeclarators known declared t (d ∷ ds) =
 
 abbrev pub IsTypedStart : Scope → Start → List Demand
 IsTypedStart known Nothing = []
-IsTypedStart known (Declares d) = AreTypedDeclarators known [] d.of d.declarators
+IsTypedStart known (Declares d) = AreTypedDeclarators known [] d.ty d.declarators
 IsTypedStart known (Does s) = IsTypedSimple known s
 
 -- statements of a function that gives this, in a loop or not; declared are the names of the scope that they stand in
@@ -237,7 +237,7 @@ IsTypedStart known (Does s) = IsTypedSimple known s
 module _ (gives : Option Scalar) where
   abbrev mutual
     pub IsTypedStmt : Stmt → (known : Scope) (declared : List (List ℕ)) (looping : Bool) → List Demand
-    IsTypedStmt (Declare d) known declared looping = AreTypedDeclarators known declared d.of d.declarators
+    IsTypedStmt (Declare d) known declared looping = AreTypedDeclarators known declared d.ty d.declarators
     IsTypedStmt (Do s) known declared looping = IsTypedSimple known s
     IsTypedStmt (Block ss) known declared looping = AreTypedStmts ss known [] looping
     IsTypedStmt (Print at format format_at es) known declared looping = IsTypedPrint known format format_at es

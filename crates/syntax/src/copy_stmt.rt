@@ -32,7 +32,7 @@ impl<A: Allocator + Copy> Copied<A> for Declaration<A> {
     fn copy(&self, alloc: A) -> Result<Declaration<A>, AllocError> {
         let declarators = self.declarators.copy(alloc)?;
         Ok(Declaration {
-            of: self.of,
+            ty: self.ty,
             declarators,
         })
     }

@@ -7,7 +7,7 @@ use std::alloc::{AllocError, Allocator};
 impl<A: Allocator + Copy> Copied<A> for Parameter<A> {
     fn copy(&self, alloc: A) -> Result<Parameter<A>, AllocError> {
         let name = self.name.copy(alloc)?;
-        Ok(Parameter { of: self.of, name })
+        Ok(Parameter { ty: self.ty, name })
     }
 }
 
@@ -44,7 +44,7 @@ impl<A: Allocator + Copy> Copied<A> for Global<A> {
         let name = self.name.copy(alloc)?;
         let first = self.first.copy(alloc)?;
         Ok(Global {
-            of: self.of,
+            ty: self.ty,
             name,
             length: self.length,
             first,

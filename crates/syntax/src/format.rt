@@ -37,7 +37,7 @@ pub fn unit_at(format: &[u8], i: usize) -> FormatUnit
         return FormatUnit::Byte(byte, i + 1);
     }
     match figure_at(format, i + 1) {
-        Some((of, count)) => FormatUnit::Figure(of, i + 1 + count),
+        Some((ty, count)) => FormatUnit::Figure(ty, i + 1 + count),
         None => FormatUnit::Byte(format[i + 1], i + 2),
     }
 }

@@ -15,16 +15,16 @@ impl Initializer {
         ensures { result ≡ (first_value self).word }
     {
         let value = i128::from(self.value);
-        word_of(self.of, if self.negative { -value } else { value })
+        word_of(self.ty, if self.negative { -value } else { value })
     }
 
     /// The word of the number in a global of this type (C11 6.7.9, 6.3.1.3). The `-` belongs to the constant's own
     /// type.
-    pub fn word(self, of: Scalar) -> u64
-        ensures { result ≡ first_word of self }
+    pub fn word(self, ty: Scalar) -> u64
+        ensures { result ≡ first_word ty self }
     {
-        let own = number(self.of, self.own_word());
-        word_of(of, i128::from(own))
+        let own = number(self.ty, self.own_word());
+        word_of(ty, i128::from(own))
     }
 }
 
@@ -43,13 +43,13 @@ impl<A: Allocator> Global<A> {
 /// Adds the words that are given for cells of this type.
 fn push_firsts<A: Allocator>(
     words: &mut Vec<u64, A>,
-    of: Scalar,
+    ty: Scalar,
     firsts: &[Initializer],
 ) -> Result<(), AllocError>
-    ensures { OnOk result (words.new.items ≡ words.old.items ++ map (first_word of) firsts.now) }
+    ensures { OnOk result (words.new.items ≡ words.old.items ++ map (first_word ty) firsts.now) }
 {
     'firsts: for first in firsts {
-        words.push(first.word(of))?;
+        words.push(first.word(ty))?;
     }
     Ok(())
 }
@@ -74,6 +74,6 @@ pub fn push_global<A: Allocator, B: Allocator>(
     let firsts = global.first.as_slice();
     let cells = global.cell_count();
     let given = cells.min(firsts.len());
-    push_firsts(words, global.of, &firsts[..given])?;
+    push_firsts(words, global.ty, &firsts[..given])?;
     push_zeros(words, cells.saturating_sub(firsts.len()))
 }

@@ -7,12 +7,12 @@ use lex::token::Scalar;
 
 /// The number that a word stands for.
 #[inline(always)]
-pub fn number(of: Scalar, word: u64) -> i64
-    ensures value { result ≡ number_in of word }
-    ensures low { (pos (limit of) -ℤ pos (modulus of)) ≤ℤ result }
-    ensures high { result <ℤ pos (limit of) }
+pub fn number(ty: Scalar, word: u64) -> i64
+    ensures value { result ≡ number_in ty word }
+    ensures low { (pos (limit ty) -ℤ pos (modulus ty)) ≤ℤ result }
+    ensures high { result <ℤ pos (limit ty) }
 {
-    match of {
+    match ty {
         Scalar::Int => i64::from(((word % 4294967296) as u32).cast_signed()),
         Scalar::Unsigned => (word % 4294967296) as i64,
         Scalar::LongLong => word.cast_signed(),
@@ -21,10 +21,10 @@ pub fn number(of: Scalar, word: u64) -> i64
 
 /// The word of a number.
 #[inline(always)]
-pub fn word_of(of: Scalar, number: i128) -> u64
-    ensures { result ≡ word_of of number }
+pub fn word_of(ty: Scalar, number: i128) -> u64
+    ensures { result ≡ word_of ty number }
 {
-    match of {
+    match ty {
         Scalar::Int | Scalar::Unsigned => number.rem_euclid(4294967296) as u64,
         Scalar::LongLong => number.rem_euclid(18446744073709551616) as u64,
     }

@@ -67,7 +67,7 @@ impl<A: Allocator> Same for Declarator<A> {
 
 impl<A: Allocator> Same for Declaration<A> {
     fn same(&self, other: &Declaration<A>) -> bool {
-        self.of == other.of && self.declarators.same(&other.declarators)
+        self.ty == other.ty && self.declarators.same(&other.declarators)
     }
 }
 
@@ -119,7 +119,7 @@ impl<A: Allocator> Same for Stmt<A> {
 
 impl<A: Allocator> Same for Parameter<A> {
     fn same(&self, other: &Parameter<A>) -> bool {
-        self.of == other.of && self.name.same(&other.name)
+        self.ty == other.ty && self.name.same(&other.name)
     }
 }
 
@@ -147,7 +147,7 @@ impl<A: Allocator> Same for Function<A> {
 
 impl<A: Allocator> Same for Global<A> {
     fn same(&self, other: &Global<A>) -> bool {
-        self.of == other.of
+        self.ty == other.ty
             && self.name.same(&other.name)
             && self.length == other.length
             && self.first.same(&other.first)

@@ -56,8 +56,8 @@ pub fn operand_type(op: BinaryOp, own: Scalar, other: Scalar) -> Scalar
 }
 
 /// The type of what an operator gives whose operands are of this type.
-pub fn result_type(op: BinaryOp, of: Scalar) -> Scalar
-    ensures { result ≡ result_type op of }
+pub fn result_type(op: BinaryOp, ty: Scalar) -> Scalar
+    ensures { result ≡ result_type op ty }
 {
     match op {
         BinaryOp::Equal
@@ -66,7 +66,7 @@ pub fn result_type(op: BinaryOp, of: Scalar) -> Scalar
         | BinaryOp::Greater
         | BinaryOp::LessEqual
         | BinaryOp::GreaterEqual => Scalar::Int,
-        _ => of,
+        _ => ty,
     }
 }
 
@@ -75,18 +75,18 @@ fn joined_type(op: BinaryOp, both: Option<Scalar>) -> Option<Scalar>
     ensures { result ≡ option_map (result_type op) both }
 {
     match both {
-        Some(of) => Some(result_type(op, of)),
+        Some(ty) => Some(result_type(op, ty)),
         None => None,
     }
 }
 
 /// The type of what an operator before its operand gives (C11 6.5.3.3).
-pub fn unary_type(op: UnaryOp, of: Option<Scalar>) -> Option<Scalar>
-    ensures { result ≡ unary_type op of }
+pub fn unary_type(op: UnaryOp, ty: Option<Scalar>) -> Option<Scalar>
+    ensures { result ≡ unary_type op ty }
 {
     match op {
         UnaryOp::Not => Some(Scalar::Int),
-        UnaryOp::Negate | UnaryOp::Keep | UnaryOp::Complement => of,
+        UnaryOp::Negate | UnaryOp::Keep | UnaryOp::Complement => ty,
     }
 }
 

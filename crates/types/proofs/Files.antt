@@ -37,13 +37,13 @@ if_or_known : (b : Bool) (k k' last : Known) (whole : Known) → or_known k last
 if_or_known true k k' last whole e f = sym e
 if_or_known false k k' last whole e f = f
 
-global_known : (of : Scalar) (length : Option (ℕ × Span)) (last : Known) → or_known (unwrap_or (option_map (λ n. Array of n.0) length) (Number of)) last ≡ unwrap_or (option_map (λ n. Array of n.0) length) (Number of)
-global_known of None last = refl
-global_known of (Some n) last = refl
+global_known : (ty : Scalar) (length : Option (ℕ × Span)) (last : Known) → or_known (unwrap_or (option_map (λ n. Array ty n.0) length) (Number ty)) last ≡ unwrap_or (option_map (λ n. Array ty n.0) length) (Number ty)
+global_known ty None last = refl
+global_known ty (Some n) last = refl
 
 among_known : (gs : List Global) (rest whole : Scope) (x : List ℕ) (last : Known) → whole x ≡ or_known (rest x) last → known_among gs whole x ≡ or_known (known_among gs rest x) last
 among_known [] rest whole x last e = e
-among_known (g ∷ gs) rest whole x last e = if_or_known (bytes_eq g.name.text x) (known_global g) (known_among gs rest x) last (known_among gs whole x) (global_known g.of g.length last) (among_known gs rest whole x last e)
+among_known (g ∷ gs) rest whole x last e = if_or_known (bytes_eq g.name.text x) (known_global g) (known_among gs rest x) last (known_among gs whole x) (global_known g.ty g.length last) (among_known gs rest whole x last e)
 
 among_append : (gs hs : List Global) (rest : Scope) (x : List ℕ) → known_among (gs ++ hs) rest x ≡ known_among gs (known_among hs rest) x
 among_append [] hs rest x = refl

@@ -98,7 +98,7 @@ global_not false length t k h = h
 
 among_not : (gs : List Global) (x : List ℕ) → is_callable (known_among gs (file_scope []) x) ≡ false
 among_not [] x = refl
-among_not (g ∷ gs) x = global_not (bytes_eq g.name.text x) g.length g.of (known_among gs (file_scope []) x) (among_not gs x)
+among_not (g ∷ gs) x = global_not (bytes_eq g.name.text x) g.length g.ty (known_among gs (file_scope []) x) (among_not gs x)
 
 module _ (p : Program) (earlier : List Item) where
   pub all_defined_function : (f : Function) → is_some (definition_of p f.name.text) ≡ true → AllDefined p earlier → AllDefined p (earlier ++ Defines f ∷ [])

@@ -22,7 +22,7 @@ use Rattle.syntax.specs.Typing.{first_unmet, demand, demands_of, IsNumber, IsTyp
 use Rattle.types.proofs.Steps.{first_of_two, first_of_three, or_or}
 
 module _ {A : Type 0} (g : Option Scalar) (known : Scope) (ns : List (List ℕ)) (looping : Bool) (s : S.Stmt A) where
-  pub typed_declare : (d : D.Declaration A) → s ≡ S.Declare d → first_unmet (IsTypedStmt g (stmt_of s) known ns looping) ≡ first_unmet (AreTypedDeclarators known ns d.of (map declarator_of d.declarators))
+  pub typed_declare : (d : D.Declaration A) → s ≡ S.Declare d → first_unmet (IsTypedStmt g (stmt_of s) known ns looping) ≡ first_unmet (AreTypedDeclarators known ns d.ty (map declarator_of d.declarators))
   typed_declare d is = ap (λ x. first_unmet (IsTypedStmt g x known ns looping)) (ap stmt_of is ∙ stmt_of_declare d)
 
   pub typed_do : (d : I.Simple A) → s ≡ S.Do d → first_unmet (IsTypedStmt g (stmt_of s) known ns looping) ≡ first_unmet (IsTypedSimple known (simple_of d))

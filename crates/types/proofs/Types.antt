@@ -19,15 +19,15 @@ differ (s ∷ ss) [] h = refl
 differ (s ∷ ss) (t ∷ ts) h = and_false (same_type s t) (same_types ss ts) (differ ss ts (λ e. h (omega (arith, e))))
 
 -- one parameter more
-pub same_more : {A : Type 0} (ps qs : List (Parameter A)) (i : ℕ) (a b : Parameter A) → i < length ps → i < length qs → same_types (map (λ q. q.of) (drop i ps)) (map (λ q. q.of) (drop i qs)) ≡ (same_type (get_or ps i a).of (get_or qs i b).of && same_types (map (λ q. q.of) (drop (i + 1) ps)) (map (λ q. q.of) (drop (i + 1) qs)))
+pub same_more : {A : Type 0} (ps qs : List (Parameter A)) (i : ℕ) (a b : Parameter A) → i < length ps → i < length qs → same_types (map (λ q. q.ty) (drop i ps)) (map (λ q. q.ty) (drop i qs)) ≡ (same_type (get_or ps i a).ty (get_or qs i b).ty && same_types (map (λ q. q.ty) (drop (i + 1) ps)) (map (λ q. q.ty) (drop (i + 1) qs)))
 same_more ps qs i a b h k =
-    at_drop_more (λ xs. same_types (map (λ q. q.of) xs) (map (λ q. q.of) (drop i qs))) ps i a h
-    ∙ at_drop_more (λ xs. same_types (map (λ q. q.of) (get_or ps i a ∷ drop (i + 1) ps)) (map (λ q. q.of) xs)) qs i b k
+    at_drop_more (λ xs. same_types (map (λ q. q.ty) xs) (map (λ q. q.ty) (drop i qs))) ps i a h
+    ∙ at_drop_more (λ xs. same_types (map (λ q. q.ty) (get_or ps i a ∷ drop (i + 1) ps)) (map (λ q. q.ty) xs)) qs i b k
 
 -- the types that a function takes
-pub takes_are : {A : Type 0} (ps : List (Parameter A)) → map (λ q. q.of) (map parameter_of ps) ≡ map (λ q. q.of) ps
+pub takes_are : {A : Type 0} (ps : List (Parameter A)) → map (λ q. q.ty) (map parameter_of ps) ≡ map (λ q. q.ty) ps
 takes_are [] = refl
-takes_are (p ∷ ps) = ap (λ ts. p.of ∷ ts) (takes_are ps)
+takes_are (p ∷ ps) = ap (λ ts. p.ty ∷ ts) (takes_are ps)
 
 -- a test that there is nothing
 pub none_of : {X : Type 0} (o : Option X) (r : Bool) → is_some o ≡ not r → r ≡ true → true ≡ is_none o

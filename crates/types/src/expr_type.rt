@@ -20,7 +20,7 @@ pub(crate) fn type_of<'a, A: Allocator + Copy>(
 {
     match e {
         Expr::Variable(x) => names.look(x.text.as_str()).number_type(),
-        Expr::Constant(_, of, _) => Some(*of),
+        Expr::Constant(_, ty, _) => Some(*ty),
         Expr::Element(x, _, _) => names.look(x.text.as_str()).element_type(),
         Expr::Call(f, _, _) => names.look(f.text.as_str()).call_type(),
         Expr::Parenthesized(e, _) => type_of(names, e.get()),

@@ -72,11 +72,11 @@ fn count_figures(format: &[u8]) -> usize
 }
 
 /// Whether an argument is of the type that is printed. One that gives no number breaks another rule.
-fn is_fitting(of: Scalar, given: Option<Scalar>) -> bool
-    ensures { result ≡ is_fitting of given }
+fn is_fitting(ty: Scalar, given: Option<Scalar>) -> bool
+    ensures { result ≡ is_fitting ty given }
 {
     match given {
-        Some(given) => same_type(given, of),
+        Some(given) => same_type(given, ty),
         None => true,
     }
 }
@@ -84,15 +84,15 @@ fn is_fitting(of: Scalar, given: Option<Scalar>) -> bool
 /// An argument is of the type that is printed.
 fn check_figure<'a, A: Allocator + Copy>(
     names: &ScopeTable<'a, A>,
-    of: Scalar,
+    ty: Scalar,
     arg: &'a Expr<A>,
 ) -> Result<(), Violation>
     ensures { unmet_in result
         ≡ first_unmet
-        (demand 27 (span_of (expr_of arg.now)) (is_fitting of (type_of (known_in names.now) (expr_of arg.now)))) }
+        (demand 27 (span_of (expr_of arg.now)) (is_fitting ty (type_of (known_in names.now) (expr_of arg.now)))) }
 {
     let given = type_of(names, arg);
-    let fits = is_fitting(of, given);
+    let fits = is_fitting(ty, given);
     demand(fits, Violation::BadFormat(place_of(arg)))
 }
 
@@ -113,11 +113,11 @@ fn check_figures<'a, A: Allocator + Copy>(
                 i = behind;
                 continue;
             }
-            FormatUnit::Figure(of, behind) => {
+            FormatUnit::Figure(ty, behind) => {
                 let Some(arg) = args.get(next) else {
                     return Ok(());
                 };
-                check_figure(names, of, arg)?;
+                check_figure(names, ty, arg)?;
                 next += 1;
                 i = behind;
             }

@@ -50,13 +50,13 @@ fn same_result(a: Option<Scalar>, b: Option<Scalar>) -> bool
 
 /// Whether two functions have parameters of the same types.
 fn same_parameters<A: Allocator>(a: &[Parameter<A>], b: &[Parameter<A>]) -> bool
-    ensures { result ≡ same_types (map (λ q. q.of) a.now) (map (λ q. q.of) b.now) }
+    ensures { result ≡ same_types (map (λ q. q.ty) a.now) (map (λ q. q.ty) b.now) }
 {
     if a.len() != b.len() {
         return false;
     }
     'each: for i in 0..a.len() {
-        if !same_type(a[i].of, b[i].of) {
+        if !same_type(a[i].ty, b[i].ty) {
             return false;
         }
     }
@@ -78,12 +78,12 @@ fn agrees<A: Allocator>(symbol: &ScopeSymbol<'_, Function<A>>, f: &Function<A>) 
 
 /// Whether a parameter takes an `int`, and no other stands beside it.
 fn takes_one_int<A: Allocator>(all: &[Parameter<A>]) -> bool
-    ensures { result ≡ same_types (map (λ q. q.of) all.now) (Int ∷ []) }
+    ensures { result ≡ same_types (map (λ q. q.ty) all.now) (Int ∷ []) }
 {
     if all.len() != 1 {
         return false;
     }
-    same_type(all[0].of, Scalar::Int)
+    same_type(all[0].ty, Scalar::Int)
 }
 
 /// Whether a name stands for a function that gives nothing and takes one `int`.
@@ -151,7 +151,7 @@ fn check_parameter<'a, A: Allocator + Copy>(
     match &one.name {
         Some(x) => {
             check_new(names, start, x)?;
-            add_local(names, start, x, one.of)?;
+            add_local(names, start, x, one.ty)?;
             Ok(())
         }
         None => Ok(()),

@@ -25,8 +25,8 @@ fn symbol_of<'a, A: Allocator>(g: &Global<A>) -> ScopeSymbol<'a, Function<A>>
     ensures { known_of result ≡ known_global (global_of g.now) }
 {
     match g.length {
-        Some((count, _)) => ScopeSymbol::Array(g.of, count),
-        None => ScopeSymbol::Number(g.of),
+        Some((count, _)) => ScopeSymbol::Array(g.ty, count),
+        None => ScopeSymbol::Number(g.ty),
     }
 }
 

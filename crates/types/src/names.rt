@@ -48,7 +48,7 @@ impl<'a, A: Allocator + Copy> ScopeTable<'a, A> {
         ensures { known_of result ≡ known_in self.now name.now }
     {
         match self.locals.newest(name) {
-            Some((_, of)) => ScopeSymbol::Number(of),
+            Some((_, ty)) => ScopeSymbol::Number(ty),
             None => self.look_in_file(name),
         }
     }
@@ -64,11 +64,11 @@ impl<'a, A: Allocator + Copy> ScopeTable<'a, A> {
     }
 
     /// A further local, which hides what has its name. Takes memory for it.
-    pub(crate) fn declare(&mut self, name: &'a str, of: Scalar) -> Result<(), AllocError>
-        ensures locals { OnOk result (locals_of self.new ≡ locals_of self.old ++ (name.now, of) ∷ []) }
+    pub(crate) fn declare(&mut self, name: &'a str, ty: Scalar) -> Result<(), AllocError>
+        ensures locals { OnOk result (locals_of self.new ≡ locals_of self.old ++ (name.now, ty) ∷ []) }
         ensures file { OnOk result (file_of self.new ≡ file_of self.old) }
     {
-        self.locals.declare(name, of)
+        self.locals.declare(name, ty)
     }
 
     /// The locals after so many of them are forgotten.

@@ -48,17 +48,17 @@ pub(crate) fn add_local<'a, A: Allocator + Copy>(
     names: &mut ScopeTable<'a, A>,
     start: usize,
     x: &'a Name<A>,
-    of: Scalar,
+    ty: Scalar,
 ) -> Result<(), AllocError>
     requires { start ≤ count_in names.old }
-    ensures known { OnOk result (known_in names.new ≡ with_number x.now.text of (known_in names.old)) }
+    ensures known { OnOk result (known_in names.new ≡ with_number x.now.text ty (known_in names.old)) }
     ensures declared { OnOk result
         ((declared : List (List ℕ)) → AreDeclared start names.old declared →
         AreDeclared start names.new (x.now.text ∷ declared)) }
     ensures grows { OnOk result (Grows names.old names.new) }
     ensures count { OnOk result (count_in names.old ≤ count_in names.new) }
 {
-    names.declare(x.text.as_str(), of)?;
+    names.declare(x.text.as_str(), ty)?;
     Ok(())
 }
 
@@ -66,7 +66,7 @@ pub(crate) fn add_local<'a, A: Allocator + Copy>(
 fn check_declarator<'a, A: Allocator + Copy>(
     names: &mut ScopeTable<'a, A>,
     start: usize,
-    of: Scalar,
+    ty: Scalar,
     one: &'a Declarator<A>,
 ) -> Result<(), Failure>
     requires { start ≤ count_in names.old }
@@ -74,8 +74,8 @@ fn check_declarator<'a, A: Allocator + Copy>(
         AnswersDemands result
         (demand 21 one.now.name.span (not (has_name declared one.now.name.text))
         ++ demands_of (option_map expr_of one.now.first)
-        (IsNumber (with_number one.now.name.text of (known_in names.old)))) }
-    ensures known { OnOk result (known_in names.new ≡ with_number one.now.name.text of (known_in names.old)) }
+        (IsNumber (with_number one.now.name.text ty (known_in names.old)))) }
+    ensures known { OnOk result (known_in names.new ≡ with_number one.now.name.text ty (known_in names.old)) }
     ensures declared { OnOk result
         ((declared : List (List ℕ)) → AreDeclared start names.old declared →
         AreDeclared start names.new (one.now.name.text ∷ declared)) }
@@ -83,7 +83,7 @@ fn check_declarator<'a, A: Allocator + Copy>(
     ensures count { OnOk result (count_in names.old ≤ count_in names.new) }
 {
     check_new(names, start, &one.name)?;
-    add_local(names, start, &one.name, of)?;
+    add_local(names, start, &one.name, ty)?;
     check_first(names, &one.first)?;
     Ok(())
 }
@@ -92,13 +92,13 @@ fn check_declarator<'a, A: Allocator + Copy>(
 pub(crate) fn check_declarators<'a, A: Allocator + Copy>(
     names: &mut ScopeTable<'a, A>,
     start: usize,
-    of: Scalar,
+    ty: Scalar,
     all: &'a [Declarator<A>],
 ) -> Result<(), Failure>
     requires { start ≤ count_in names.old }
     ensures answer { (declared : List (List ℕ)) → AreDeclared start names.old declared →
-        AnswersDemands result (AreTypedDeclarators (known_in names.old) declared of (map declarator_of all.now)) }
-    ensures known { OnOk result (known_in names.new ≡ knows of (map declarator_of all.now) (known_in names.old)) }
+        AnswersDemands result (AreTypedDeclarators (known_in names.old) declared ty (map declarator_of all.now)) }
+    ensures known { OnOk result (known_in names.new ≡ knows ty (map declarator_of all.now) (known_in names.old)) }
     ensures declared { OnOk result
         ((declared : List (List ℕ)) → AreDeclared start names.old declared →
         AreDeclared start names.new (declared_by (map declarator_of all.now) declared)) }
@@ -106,7 +106,7 @@ pub(crate) fn check_declarators<'a, A: Allocator + Copy>(
     ensures count { OnOk result (count_in names.old ≤ count_in names.new) }
 {
     'each: for one in all {
-        check_declarator(names, start, of, one)?;
+        check_declarator(names, start, ty, one)?;
     }
     Ok(())
 }
@@ -120,11 +120,11 @@ pub(crate) fn check_lone<'a, A: Allocator + Copy>(
     requires { start ≤ count_in names.old }
     ensures answer { (declared : List (List ℕ)) → AreDeclared start names.old declared →
         AnswersDemands result
-        (AreTypedDeclarators (known_in names.old) declared one.now.of (map declarator_of one.now.declarators)) }
+        (AreTypedDeclarators (known_in names.old) declared one.now.ty (map declarator_of one.now.declarators)) }
     ensures same { OnOk result (Agrees names.old names.new) }
 {
     let outer = names.len();
-    check_declarators(names, start, one.of, one.declarators.as_slice())?;
+    check_declarators(names, start, one.ty, one.declarators.as_slice())?;
     names.leave(outer);
     Ok(())
 }
@@ -143,7 +143,7 @@ pub(crate) fn check_start<'a, A: Allocator + Copy>(
         Start::Nothing => Ok(()),
         Start::Declare(one) => {
             let outer = names.len();
-            check_declarators(names, outer, one.of, one.declarators.as_slice())
+            check_declarators(names, outer, one.ty, one.declarators.as_slice())
         }
         Start::Do(s) => {
             check_simple(names, s)?;

@@ -209,7 +209,7 @@ fn check_block_item<'a, A: Allocator + Copy>(
     ensures count { OnOk result (count_in names.old ≤ count_in names.new) }
 {
     match as_declaration(stmt) {
-        Some(one) => check_declarators(names, context.start, one.of, one.declarators.as_slice()),
+        Some(one) => check_declarators(names, context.start, one.ty, one.declarators.as_slice()),
         None => check_stmt(names, stmt, context),
     }
 }

@@ -87,7 +87,7 @@ fn beginning<A: Allocator + Copy>(
         all.push(Initializer {
             negative: false,
             value: u64::from(value),
-            of: Scalar::Int,
+            ty: Scalar::Int,
             span: Span { start: 0, end: 0 },
         })?;
     }
@@ -103,7 +103,7 @@ fn push_variable<A: Allocator + Copy>(
     let first = beginning(alloc, variable.value)?;
     let text = Text::from_str(alloc, variable.name)?;
     to.push(Global {
-        of: variable.of,
+        ty: variable.ty,
         name: Name {
             text,
             span: Span { start: 0, end: 0 },

@@ -21,7 +21,7 @@ pub struct WrittenFunction<'a> {
 /// A variable.
 #[derive(Clone, Copy)]
 pub struct WrittenVariable<'a> {
-    pub of: Scalar,
+    pub ty: Scalar,
     pub name: &'a str,
 
     /// What it is said to begin with; where nothing is said, it begins with 0.
@@ -41,14 +41,14 @@ pub struct WrittenCode<'a> {
 
 /// The variable `x` of type `int`, with nothing said of what it begins with.
 pub const X: WrittenVariable<'static> = WrittenVariable {
-    of: Scalar::Int,
+    ty: Scalar::Int,
     name: "x",
     value: None,
 };
 
 /// The variable `y` of type `long long`, with nothing said of what it begins with.
 pub const Y: WrittenVariable<'static> = WrittenVariable {
-    of: Scalar::LongLong,
+    ty: Scalar::LongLong,
     name: "y",
     value: None,
 };

@@ -131,7 +131,7 @@ pub fn reads_again(word: u32) -> [Instr; 14] {
 pub fn code_of<A: Allocator + Copy>(alloc: A, program: Program) -> Option<Code<A>> {
     let (registers, value, instructions) = program;
     let x = WrittenVariable {
-        of: Scalar::Int,
+        ty: Scalar::Int,
         name: "x",
         value: Some(value),
     };

@@ -146,9 +146,9 @@ fn keeps_head(f: &Function) -> bool {
 fn keeps_parameters(f: &Function) -> bool {
     match f.parameters.as_slice() {
         [first, second] => {
-            first.of == Scalar::Int
+            first.ty == Scalar::Int
                 && first.name.is_some()
-                && second.of == Scalar::Unsigned
+                && second.ty == Scalar::Unsigned
                 && second.name.is_none()
         }
         _ => false,
@@ -171,10 +171,10 @@ const GLOBALS: &str = "unsigned a = 7u, b[3] = {1, -2,}; signed c;";
 fn is_seven(g: &tree::Global) -> bool {
     match g.first.as_slice() {
         [seven] => {
-            g.of == Scalar::Unsigned
+            g.ty == Scalar::Unsigned
                 && g.length.is_none()
                 && seven.value == 7
-                && seven.of == Scalar::Unsigned
+                && seven.ty == Scalar::Unsigned
         }
         _ => false,
     }
@@ -188,7 +188,7 @@ fn is_array(g: &tree::Global) -> bool {
     };
     match g.first.as_slice() {
         [one, two] => {
-            long && g.of == Scalar::Unsigned
+            long && g.ty == Scalar::Unsigned
                 && !one.negative
                 && two.negative
                 && two.span == Span { start: 28, end: 30 }
@@ -200,7 +200,7 @@ fn is_array(g: &tree::Global) -> bool {
 /// Whether these are the two declarations of the text.
 fn keeps_globals(both: &[tree::Global], last: &[tree::Global]) -> bool {
     match (both, last) {
-        ([a, b], [c]) => { is_seven(a) && is_array(b) && c.of == Scalar::Int && c.first.len() == 0 }
+        ([a, b], [c]) => { is_seven(a) && is_array(b) && c.ty == Scalar::Int && c.first.len() == 0 }
         _ => false,
     }
 }
@@ -216,10 +216,10 @@ fn keeps_values(unit: &Unit) -> bool {
 }
 
 /// Whether the tree's one item is a global of this type.
-fn is_one_of(unit: &Unit, of: Scalar) -> bool {
+fn is_one_of(unit: &Unit, ty: Scalar) -> bool {
     match unit.items.as_slice() {
         [Item::Globals(globals)] => match globals.as_slice() {
-            [global] => global.of == of,
+            [global] => global.ty == ty,
             _ => false,
         },
         _ => false,
@@ -243,7 +243,7 @@ fn is_shaped(unit: &Unit, shape: Shape) -> bool {
         Shape::Sum(op, left, right) => grouping_of(body_of(unit)) == Some((op, left, right)),
         Shape::Declared => keeps_function(unit),
         Shape::Globals => keeps_values(unit),
-        Shape::Of(of) => is_one_of(unit, of),
+        Shape::Of(ty) => is_one_of(unit, ty),
     }
 }
 

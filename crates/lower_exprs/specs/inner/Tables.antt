@@ -10,7 +10,7 @@ use Rattle.lower_exprs.specs.declared.names.Callee.{Callee as OwnCallee}
 
 module _ {A : Type 0} where
   abbrev pub callee_in : OwnCallee A → Callee
-  callee_in c = record { number = c.number; of = c.of; parameters = map parameter_of c.parameters.now }
+  callee_in c = record { number = c.number; ty = c.ty; parameters = map parameter_of c.parameters.now }
 
   -- what a table has at a text
   abbrev pub called_at : Table (OwnCallee A) A → List ℕ → Option Callee

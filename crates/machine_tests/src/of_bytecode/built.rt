@@ -49,7 +49,7 @@ pub fn global<A: Allocator + Copy>(
     let nowhere = Span { start: 0, end: 0 };
     let text = Text::from_str(alloc, "x")?;
     Ok(tree::Global {
-        of: Scalar::Int,
+        ty: Scalar::Int,
         name: Name {
             text,
             span: nowhere,

@@ -18,7 +18,7 @@ fn push_first<A: Allocator>(
     to.first.push(Initializer {
         negative,
         value: u64::from(value),
-        of: Scalar::Int,
+        ty: Scalar::Int,
         span: Span { start: 0, end: 0 },
     })
 }
@@ -109,7 +109,7 @@ fn each_cell_has_its_first_word(rt: HostRuntime) {
 /// A worker over a variable and an array of three cells of type `long long`, with the first words -1 and 7.
 fn over_a_long_array<A: Allocator + Copy>(alloc: A) -> Result<Parts<A>, AllocError> {
     let mut array = array(alloc, 3)?;
-    array.of = Scalar::LongLong;
+    array.ty = Scalar::LongLong;
     parts_over(alloc, array)
 }
 

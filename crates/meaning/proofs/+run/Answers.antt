@@ -57,7 +57,7 @@ expr::conditional-returns g t c at done =
 
 pub simple::declare-declarators-preserved : goal.simple::declare-declarators-preserved
 simple::declare-declarators-preserved g t c =
-    declare_next (program_in c.args.source.now) (called c.args.source.now c.args.frames) c.args.t c.args.ds.now c.declarators.d-index c.d-item.result (state_in c.declarators.m) (state_in c.declare_one.new.m) _ (declare (program_in c.args.source.now) (called c.args.source.now c.args.frames) c.args.t (map declarator_of c.args.ds.now) (state_in c.args.m.now)) c.declarators-test.true c.d-item.is c.declarators.invariant (c.in_ok-declare_one.ensures tt)
+    declare_next (program_in c.args.source.now) (called c.args.source.now c.args.frames) c.args.ty c.args.ds.now c.declarators.d-index c.d-item.result (state_in c.declarators.m) (state_in c.declare_one.new.m) _ (declare (program_in c.args.source.now) (called c.args.source.now c.args.frames) c.args.ty (map declarator_of c.args.ds.now) (state_in c.args.m.now)) c.declarators-test.true c.d-item.is c.declarators.invariant (c.in_ok-declare_one.ensures tt)
 
 pub simple::declare-declare_one-requires : goal.simple::declare-declare_one-requires
 simple::declare-declare_one-requires g t c κs within =
@@ -66,23 +66,23 @@ simple::declare-declare_one-requires g t c κs within =
 pub simple::declare-returns-in_err-declare_one : goal.simple::declare-returns-in_err-declare_one
 simple::declare-returns-in_err-declare_one g t c =
     let is : c.from_residual.result ≡ Err c.in_err-declare_one.field-0.0 = err_of c.from_residual.result c.in_err-declare_one.field-0.0 c.from_residual.ensures.1 in
-    stops_as end_of c.from_residual.result c.in_err-declare_one.field-0.0 _ c.declare_one.new.m is (λ d. declare_halt (program_in c.args.source.now) (called c.args.source.now c.args.frames) c.args.t c.args.ds.now c.declarators.d-index c.d-item.result (state_in c.declarators.m) (state_in c.declare_one.new.m) _ (declare (program_in c.args.source.now) (called c.args.source.now c.args.frames) c.args.t (map declarator_of c.args.ds.now) (state_in c.args.m.now)) c.declarators-test.true c.d-item.is c.declarators.invariant (c.in_err-declare_one.ensures d))
+    stops_as end_of c.from_residual.result c.in_err-declare_one.field-0.0 _ c.declare_one.new.m is (λ d. declare_halt (program_in c.args.source.now) (called c.args.source.now c.args.frames) c.args.ty c.args.ds.now c.declarators.d-index c.d-item.result (state_in c.declarators.m) (state_in c.declare_one.new.m) _ (declare (program_in c.args.source.now) (called c.args.source.now c.args.frames) c.args.ty (map declarator_of c.args.ds.now) (state_in c.args.m.now)) c.declarators-test.true c.d-item.is c.declarators.invariant (c.in_err-declare_one.ensures d))
 
 pub calls::enter_function-returns : goal.calls::enter_function-returns
 calls::enter_function-returns g t c done =
     let more : c.args.frames ≡ suc (c.args.frames - 1) = omega (arith, c.if-frames-eq0.false) in
-    call_gives (program_in c.args.source.now) c.args.frames (c.args.frames - 1) c.args.f.now c.args.values.now (state_in c.args.m.now) (state_in c.begin.new.m) (begun_in c.in_ok-of.field-0) (items_in c.replace-outer.new.dest) (items_in c.replace-outer.result) more (c.in_ok-of.ensures.value tt) (ap items_in c.replace-outer.ensures.after) (ap items_in c.replace-outer.ensures.value) (state_in c.stmts.new.m) (end_of c.in_ok-end.end) _ (c.in_ok-end.ensures tt) (c.result_of.ensures done)
+    call_gives (program_in c.args.source.now) c.args.frames (c.args.frames - 1) c.args.f.now c.args.values.now (state_in c.args.m.now) (state_in c.begin.new.m) (begun_in c.in_ok-ty.field-0) (items_in c.replace-outer.new.dest) (items_in c.replace-outer.result) more (c.in_ok-ty.ensures.value tt) (ap items_in c.replace-outer.ensures.after) (ap items_in c.replace-outer.ensures.value) (state_in c.stmts.new.m) (end_of c.in_ok-end.end) _ (c.in_ok-end.ensures tt) (c.result_of.ensures done)
 
 pub calls::enter_function-returns-in_err-end : goal.calls::enter_function-returns-in_err-end
 calls::enter_function-returns-in_err-end g t c =
     let more : c.args.frames ≡ suc (c.args.frames - 1) = omega (arith, c.if-frames-eq0.false) in
     let is : c.from_residual-in_err-end.result ≡ Err c.in_err-end.field-0.0 = err_of c.from_residual-in_err-end.result c.in_err-end.field-0.0 c.from_residual-in_err-end.ensures.1 in
-    stops_as value_of c.from_residual-in_err-end.result c.in_err-end.field-0.0 _ c.stmts.new.m is (λ d. call_stops (program_in c.args.source.now) c.args.frames (c.args.frames - 1) c.args.f.now c.args.values.now (state_in c.args.m.now) (state_in c.begin.new.m) (begun_in c.in_ok-of.field-0) (items_in c.replace-outer.new.dest) (items_in c.replace-outer.result) more (c.in_ok-of.ensures.value tt) (ap items_in c.replace-outer.ensures.after) (ap items_in c.replace-outer.ensures.value) (state_in c.stmts.new.m) _ (c.in_err-end.ensures d))
+    stops_as value_of c.from_residual-in_err-end.result c.in_err-end.field-0.0 _ c.stmts.new.m is (λ d. call_stops (program_in c.args.source.now) c.args.frames (c.args.frames - 1) c.args.f.now c.args.values.now (state_in c.args.m.now) (state_in c.begin.new.m) (begun_in c.in_ok-ty.field-0) (items_in c.replace-outer.new.dest) (items_in c.replace-outer.result) more (c.in_ok-ty.ensures.value tt) (ap items_in c.replace-outer.ensures.after) (ap items_in c.replace-outer.ensures.value) (state_in c.stmts.new.m) _ (c.in_err-end.ensures d))
 
 pub calls::enter_function-stmts-requires : goal.calls::enter_function-stmts-requires
 calls::enter_function-stmts-requires g t c κs within =
     let more : c.args.frames ≡ suc (c.args.frames - 1) = omega (arith, c.if-frames-eq0.false) in
-    (omega (arith, weight_less (program_in c.args.source.now) c.args.frames (c.args.frames - 1) (block_depth (stmts_of c.in_ok-of.field-0.body.now)) more c.in_ok-of.ensures.deep), within)
+    (omega (arith, weight_less (program_in c.args.source.now) c.args.frames (c.args.frames - 1) (block_depth (stmts_of c.in_ok-ty.field-0.body.now)) more c.in_ok-ty.ensures.deep), within)
 
 pub expr::eval-returns-in-Call : goal.expr::eval-returns-in-Call
 expr::eval-returns-in-Call g t c done =
@@ -122,15 +122,15 @@ expr::eval-returns-in_err-at-in-Element g t c =
 
 pub expr::eval-returns-in_ok-v-in-Cast : goal.expr::eval-returns-in_ok-v-in-Cast
 expr::eval-returns-in_ok-v-in-Cast g t c done =
-    ap (λ x. expr (program_in c.args.source.now) (called c.args.source.now c.args.frames) x (state_in c.args.m.now)) (cast_is c.args.e.now c.in-Cast.t c.in-Cast.e c.get-in-Cast.result.now c.in-Cast.field-2 c.in-Cast.is c.get-in-Cast.ensures)
-    ∙ after (expr (program_in c.args.source.now) (called c.args.source.now c.args.frames) (expr_of c.get-in-Cast.result.now) (state_in c.args.m.now)) (λ v. act.pure (value_in_type c.in-Cast.t v)) _ (state_in c.eval-in-Cast.new.m) (c.in_ok-v-in-Cast.ensures tt) ∙ ap (λ w. Gives w (state_in c.eval-in-Cast.new.m)) (sym c.convert_word.ensures)
+    ap (λ x. expr (program_in c.args.source.now) (called c.args.source.now c.args.frames) x (state_in c.args.m.now)) (cast_is c.args.e.now c.in-Cast.ty c.in-Cast.e c.get-in-Cast.result.now c.in-Cast.field-2 c.in-Cast.is c.get-in-Cast.ensures)
+    ∙ after (expr (program_in c.args.source.now) (called c.args.source.now c.args.frames) (expr_of c.get-in-Cast.result.now) (state_in c.args.m.now)) (λ v. act.pure (value_in_type c.in-Cast.ty v)) _ (state_in c.eval-in-Cast.new.m) (c.in_ok-v-in-Cast.ensures tt) ∙ ap (λ w. Gives w (state_in c.eval-in-Cast.new.m)) (sym c.convert_word.ensures)
 
 pub expr::eval-returns-in_err-v-in-Cast : goal.expr::eval-returns-in_err-v-in-Cast
 expr::eval-returns-in_err-v-in-Cast g t c =
     let is : c.from_residual-in_err-v-in-Cast.result ≡ Err c.in_err-v-in-Cast.field-0.0 = err_of c.from_residual-in_err-v-in-Cast.result c.in_err-v-in-Cast.field-0.0 c.from_residual-in_err-v-in-Cast.ensures.1 in
     stops_as value_of c.from_residual-in_err-v-in-Cast.result c.in_err-v-in-Cast.field-0.0 _ c.eval-in-Cast.new.m is
-    (λ d. ap (λ x. expr (program_in c.args.source.now) (called c.args.source.now c.args.frames) x (state_in c.args.m.now)) (cast_is c.args.e.now c.in-Cast.t c.in-Cast.e c.get-in-Cast.result.now c.in-Cast.field-2 c.in-Cast.is c.get-in-Cast.ensures)
-    ∙ halts (expr (program_in c.args.source.now) (called c.args.source.now c.args.frames) (expr_of c.get-in-Cast.result.now) (state_in c.args.m.now)) (λ v. act.pure (value_in_type c.in-Cast.t v)) _ (state_in c.eval-in-Cast.new.m) (c.in_err-v-in-Cast.ensures d))
+    (λ d. ap (λ x. expr (program_in c.args.source.now) (called c.args.source.now c.args.frames) x (state_in c.args.m.now)) (cast_is c.args.e.now c.in-Cast.ty c.in-Cast.e c.get-in-Cast.result.now c.in-Cast.field-2 c.in-Cast.is c.get-in-Cast.ensures)
+    ∙ halts (expr (program_in c.args.source.now) (called c.args.source.now c.args.frames) (expr_of c.get-in-Cast.result.now) (state_in c.args.m.now)) (λ v. act.pure (value_in_type c.in-Cast.ty v)) _ (state_in c.eval-in-Cast.new.m) (c.in_err-v-in-Cast.ensures d))
 
 pub expr::eval-returns-in_ok-v-in-Unary : goal.expr::eval-returns-in_ok-v-in-Unary
 expr::eval-returns-in_ok-v-in-Unary g t c done =
@@ -261,7 +261,7 @@ simple::simple-returns-in-Some g t c done =
 
 pub loops::for_start-returns-in-Declare : goal.loops::for_start-returns-in-Declare
 loops::for_start-returns-in-Declare g t c done =
-    ap (λ x. meaning.start_with (program_in c.args.source.now) (called c.args.source.now c.args.frames) (start_of x) (state_in c.args.m.now)) c.in-Declare.is ∙ ap (λ ds. declare (program_in c.args.source.now) (called c.args.source.now c.args.frames) c.in-Declare.d.of (map declarator_of ds) (state_in c.args.m.now)) (sym c.as_slice.ensures) ∙ c.declare.ensures done
+    ap (λ x. meaning.start_with (program_in c.args.source.now) (called c.args.source.now c.args.frames) (start_of x) (state_in c.args.m.now)) c.in-Declare.is ∙ ap (λ ds. declare (program_in c.args.source.now) (called c.args.source.now c.args.frames) c.in-Declare.d.ty (map declarator_of ds) (state_in c.args.m.now)) (sym c.as_slice.ensures) ∙ c.declare.ensures done
 
 pub stmt::stmt-block-requires : goal.stmt::stmt-block-requires
 stmt::stmt-block-requires g t c κs within =
@@ -290,7 +290,7 @@ stmt::stmt-returns-in-Block g t c done =
 
 pub stmt::stmt-returns-in-Declare : goal.stmt::stmt-returns-in-Declare
 stmt::stmt-returns-in-Declare g t c done =
-    ticks_then (program_in c.args.source.now) (called c.args.source.now c.args.frames) (stmt_of c.args.s.now) (tree.Declare (record { of = c.in-Declare.d.of; declarators = map declarator_of c.as_slice.result.now })) (declare (program_in c.args.source.now) (called c.args.source.now c.args.frames) c.in-Declare.d.of (map declarator_of c.as_slice.result.now)) (state_in c.args.m.now) (state_in c.tick.new.m) _ (declare_is c.args.s.now c.in-Declare.d c.as_slice.result.now c.in-Declare.is c.as_slice.ensures) refl (c.in_ok-tick.ensures tt) (c.declare.ensures done)
+    ticks_then (program_in c.args.source.now) (called c.args.source.now c.args.frames) (stmt_of c.args.s.now) (tree.Declare (record { ty = c.in-Declare.d.ty; declarators = map declarator_of c.as_slice.result.now })) (declare (program_in c.args.source.now) (called c.args.source.now c.args.frames) c.in-Declare.d.ty (map declarator_of c.as_slice.result.now)) (state_in c.args.m.now) (state_in c.tick.new.m) _ (declare_is c.args.s.now c.in-Declare.d c.as_slice.result.now c.in-Declare.is c.as_slice.ensures) refl (c.in_ok-tick.ensures tt) (c.declare.ensures done)
 
 pub stmt::stmt-returns-in-DoWhile : goal.stmt::stmt-returns-in-DoWhile
 stmt::stmt-returns-in-DoWhile g t c done =
@@ -402,7 +402,7 @@ expr::eval-eval-requires g t c κs within =
 
 pub expr::eval-eval-requires-in-Cast : goal.expr::eval-eval-requires-in-Cast
 expr::eval-eval-requires-in-Cast g t c κs within =
-    (omega (arith, ap expr_depth (cast_is c.args.e.now c.in-Cast.t c.in-Cast.e c.get-in-Cast.result.now c.in-Cast.field-2 c.in-Cast.is c.get-in-Cast.ensures), c.decreases), within)
+    (omega (arith, ap expr_depth (cast_is c.args.e.now c.in-Cast.ty c.in-Cast.e c.get-in-Cast.result.now c.in-Cast.field-2 c.in-Cast.is c.get-in-Cast.ensures), c.decreases), within)
 
 pub expr::eval-eval-requires-in-Unary : goal.expr::eval-eval-requires-in-Unary
 expr::eval-eval-requires-in-Unary g t c κs within =

@@ -131,4 +131,4 @@ invariant-loops::repeat-turns g l = turns (l.most - l.counter) (does_turn l.sour
 -- what is left of the declarators does what all of them do
 abbrev pub invariant-simple::declare-declarators : goal.invariant-simple::declare-declarators
 invariant-simple::declare-declarators g l =
-    declare (program_in l.source) (called l.source l.frames) l.t (map declarator_of (drop l.d-index l.ds)) (state_in l.m) ≡ declare (program_in l.source) (called l.source l.frames) l.t (map declarator_of l.ds) (state_in l.initial.m)
+    declare (program_in l.source) (called l.source l.frames) l.ty (map declarator_of (drop l.d-index l.ds)) (state_in l.m) ≡ declare (program_in l.source) (called l.source l.frames) l.ty (map declarator_of l.ds) (state_in l.initial.m)

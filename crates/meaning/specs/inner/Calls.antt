@@ -11,7 +11,7 @@ use Rattle.meaning.specs.inner.Machine.{items_in}
 
 -- the type of its value, its body and its locals
 pub record Begins : Type 0 where
-  pub of : Option Scalar
+  pub ty : Option Scalar
   pub body : Stmts
   pub mine : List Local
 
@@ -19,8 +19,8 @@ abbrev pub begin_call : Program → List ℕ → List Value → Action Begins
 begin_call p x vs = do
   f ← or_astray (definition_of p x)
   mine ← or_astray (call_locals f.0.parameters vs)
-  pure (record { of = f.0.result; body = f.1; mine = mine })
+  pure (record { ty = f.0.result; body = f.1; mine = mine })
 
 module _ {A : Type 0} where
   abbrev pub begun_in : OwnBegun A → Begins
-  begun_in b = record { of = b.of; body = stmts_of b.body.now; mine = items_in b.mine }
+  begun_in b = record { ty = b.ty; body = stmts_of b.body.now; mine = items_in b.mine }

@@ -65,7 +65,7 @@ is_forbidden outer mode = false
 abbrev pub declared_one : Program → Caller → Scalar → Declarator → Action (Unit {0})
 declared_one p call t d = do
   mine ← locals
-  put_locals (mine ++ record { name = d.name.text; of = t; word = 0 } ∷ [])
+  put_locals (mine ++ record { name = d.name.text; ty = t; word = 0 } ∷ [])
   first_value p call (InLocal (length mine) t) d.first
 
 -- values behind earlier ones

@@ -37,7 +37,7 @@ drop_names n end = do all ← locals; put_locals (take n all); pure end
 
 -- a function is left: its caller's names are back, and its value counts no more
 abbrev pub call_left : Option Scalar → List Names.Local → Completion → Action Completion
-call_left of outer end = do put_locals outer; result_of of end; pure Next
+call_left ty outer end = do put_locals outer; result_of ty end; pure Next
 
 -- a step where the end before leads on to what is next, or elsewhere
 abbrev pub when_next : Action Follow → Completion → Action Follow
@@ -128,7 +128,7 @@ abbrev pub frame_at : Program → ℕ → Begins → Action Follow
 frame_at p k b = do
   outer ← locals
   put_locals b.mine
-  pure (Nests (call_left b.of outer) (stmts p (calls p k) b.body))
+  pure (Nests (call_left b.ty outer) (stmts p (calls p k) b.body))
 
 -- a function is entered, where so many frames may come to live
 abbrev pub frame_begun : Program → ℕ → List ℕ → List Value → Action Follow

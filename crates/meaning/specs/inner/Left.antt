@@ -97,7 +97,7 @@ module _ {A : Type 0} (source : ProgramTables A) where
   resumed (left.Next t) = on_next (does_task t)
   resumed (left.Body frames s n) = body_rest frames (stmt_of s.now) n
   resumed (left.Scope n) = drop_names n
-  resumed (left.Call of outer) = call_left of (items_in outer)
+  resumed (left.Call ty outer) = call_left ty (items_in outer)
 
   -- what is left, the innermost piece at the list's end
   abbrev pub left_gone_on : List (Left A) → Completion → Action Completion
@@ -121,4 +121,4 @@ module _ {A : Type 0} (source : ProgramTables A) where
   step_of (left.Next t) = when_next (begun t)
   step_of (left.Body frames s n) = body_step frames (stmt_of s.now) n
   step_of (left.Scope n) = λ end. do then_ ← drop_names n end; pure (Ends then_)
-  step_of (left.Call of outer) = λ end. do then_ ← call_left of (items_in outer) end; pure (Ends then_)
+  step_of (left.Call ty outer) = λ end. do then_ ← call_left ty (items_in outer) end; pure (Ends then_)

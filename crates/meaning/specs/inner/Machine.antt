@@ -37,7 +37,7 @@ spot_of (spot.InLocal i t) = Meaning.InLocal i t
 spot_of (spot.InCell c t) = Meaning.InCell c t
 
 abbrev pub local_in : Local → Names.Local
-local_in l = record { name = l.name.now; of = l.of; word = l.word }
+local_in l = record { name = l.name.now; ty = l.ty; word = l.word }
 
 -- a place with one memory more among those left
 abbrev pub with_left : Memory → Actions.Context → Actions.Context

@@ -7,6 +7,6 @@ use Rattle.meaning.specs.declared.word.Word.{Word}
 -- its word stands below, and above it its type
 unfoldable pub value_of : Word → Value
 value_of w = record {
-  of = if nat_lt w.bits (2 ^ 64) then Int else (if nat_lt w.bits (2 ^ 65) then Unsigned else LongLong);
+  ty = if nat_lt w.bits (2 ^ 64) then Int else (if nat_lt w.bits (2 ^ 65) then Unsigned else LongLong);
   word = w.bits % 2 ^ 64;
 }

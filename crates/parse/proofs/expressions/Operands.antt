@@ -224,10 +224,10 @@ constant_goes e p o = go o.token.terminal refl o.has
     go (fixed k) is h = absurd cc
     go reserved is h = absurd cc
 
-constant_is : (k : Terminal) (at : Span) (n : ℕ) (t : Scalar) (v : Span) → integer_constant_in k at ≡ Some (record { value = n; of = t; at = v }) → constant_in k at ≡ Some (Constant n t v)
+constant_is : (k : Terminal) (at : Span) (n : ℕ) (t : Scalar) (v : Span) → integer_constant_in k at ≡ Some (record { value = n; ty = t; at = v }) → constant_in k at ≡ Some (Constant n t v)
 constant_is (constant i u) at n t v h =
-    let same : ◌≡◌ {A = IntegerConstant} (record { value = i; of = u; at = at }) (record { value = n; of = t; at = v }) = cc in
-    ap (λ (z : IntegerConstant). Some (Constant z.value z.of z.at)) same
+    let same : ◌≡◌ {A = IntegerConstant} (record { value = i; ty = u; at = at }) (record { value = n; ty = t; at = v }) = cc in
+    ap (λ (z : IntegerConstant). Some (Constant z.value z.ty z.at)) same
 constant_is k at n t v h = absurd cc
 
 constant_comes : (e : Expr) (p : List Tok) → ConstantL e p → One the_constant e p

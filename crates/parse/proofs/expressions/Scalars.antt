@@ -60,7 +60,7 @@ mark_ends k x t int long e = (mark_not_fixed k (Keyword key.Int) t int e, mark_n
 
 -- `int` may stand behind a type
 abbrev LongerL : Scalar → Scalar → Phrase
-LongerL of t p = (t ≡ of) × (Nil ∣ Word key.Int) p
+LongerL ty t p = (t ≡ ty) × (Nil ∣ Word key.Int) p
 
 abbrev LongLongL : Scalar → Phrase
 LongLongL t = Seq (Word key.Long) (LongerL LongLong t)
@@ -78,8 +78,8 @@ RestL word.Long = LongLongL
 abbrev WordsL : TypeWord × Scalar → Phrase
 WordsL = Dep (One the_type_word) RestL
 
-longer_begins : (of : Scalar) → Begins (LongerL of) []
-longer_begins of = record { value = of; more = []; spelled = (refl, inl refl) }
+longer_begins : (ty : Scalar) → Begins (LongerL ty) []
+longer_begins ty = record { value = ty; more = []; spelled = (refl, inl refl) }
 
 long_long_begins : Begins LongLongL []
 long_long_begins = head_begins (Keyword key.Long) (LongerL LongLong) (longer_begins LongLong)
@@ -90,17 +90,17 @@ rest_begins word.Signed = record { value = Int; more = []; spelled = inr (refl, 
 rest_begins word.Unsigned = longer_begins Unsigned
 rest_begins word.Long = long_long_begins
 
-longer_exact : (of : Scalar) (d : ℕ) → Exact (λ D. longer of) (LongerL of) (λ D. Shallow D) TypeEnds Always d
-longer_exact of d =
-    value_of (λ x. of) (LongerL of) (λ D. Shallow D) TypeEnds Always
+longer_exact : (ty : Scalar) (d : ℕ) → Exact (λ D. longer ty) (LongerL ty) (λ D. Shallow D) TypeEnds Always d
+longer_exact ty d =
+    value_of (λ x. ty) (LongerL ty) (λ D. Shallow D) TypeEnds Always
     (perhaps_exact (Keyword key.Int) (take_exact (the_fixed (Keyword key.Int)) d) (λ x p q o. is_here (Keyword key.Int) p q o))
     comes goes (λ x w. tt) (λ x h c. tt)
   where
-    comes : (t : Scalar) (p : List Tok) → LongerL of t p → Comes (λ (x : Option (Unit {0})). of) (optional (One (the_fixed (Keyword key.Int)))) (MaybeW (λ D. Shallow D) d) (λ x. Unit {0}) (MaybeS (Keyword key.Int) Always) TypeEnds t p
+    comes : (t : Scalar) (p : List Tok) → LongerL ty t p → Comes (λ (x : Option (Unit {0})). ty) (optional (One (the_fixed (Keyword key.Int)))) (MaybeW (λ D. Shallow D) d) (λ x. Unit {0}) (MaybeS (Keyword key.Int) Always) TypeEnds t p
     comes t p (same, inl nil) = record { value = None; same = same; spelled = nil; within = λ w. tt; stops = λ h s. s.0 }
     comes t p (same, inr o) = record { value = Some tt; same = same; spelled = o; within = λ w. tt; stops = λ h s. tt }
 
-    goes : (x : Option (Unit {0})) (p : List Tok) → optional (One (the_fixed (Keyword key.Int))) x p → LongerL of of p
+    goes : (x : Option (Unit {0})) (p : List Tok) → optional (One (the_fixed (Keyword key.Int))) x p → LongerL ty ty p
     goes None p l = (refl, inl l)
     goes (Some x) p l = (refl, inr l)
 
@@ -133,33 +133,33 @@ with_int : (k : Fixed) (t : Tok) (q : List Tok) → t.terminal ≡ fixed k → (
 with_int k t q is (inl nil) = inl (record { token = t; has = fixed_has k t is; whole = ap (λ (z : List Tok). t ∷ z) nil })
 with_int k t q is (inr o) = inr (record { front = t ∷ []; back = q; first = alone k t is; second = o; whole = refl })
 
-word_goes : (k : Fixed) (t : Tok) (w : TypeWord) (of : Scalar) (q : List Tok) → t.terminal ≡ fixed k → type_of_fixed k ≡ Some w → RestL w of q → Grammar.scalar of (t ∷ q)
-word_goes (Keyword key.Int) t w of q is e l =
+word_goes : (k : Fixed) (t : Tok) (w : TypeWord) (ty : Scalar) (q : List Tok) → t.terminal ≡ fixed k → type_of_fixed k ≡ Some w → RestL w ty q → Grammar.scalar ty (t ∷ q)
+word_goes (Keyword key.Int) t w ty q is e l =
     let same : word.Int ≡ w = cc in
-    subst (λ (w : TypeWord). RestL w of q → Grammar.scalar of (t ∷ q)) same go l
+    subst (λ (w : TypeWord). RestL w ty q → Grammar.scalar ty (t ∷ q)) same go l
   where
-    go : RestL word.Int of q → Grammar.scalar of (t ∷ q)
+    go : RestL word.Int ty q → Grammar.scalar ty (t ∷ q)
     go l = subst (λ (z : Scalar). Grammar.scalar z (t ∷ q)) (sym l.0) (inl (record { token = t; has = fixed_has (Keyword key.Int) t is; whole = ap (λ (z : List Tok). t ∷ z) l.1 }))
-word_goes (Keyword key.Signed) t w of q is e l =
+word_goes (Keyword key.Signed) t w ty q is e l =
     let same : word.Signed ≡ w = cc in
-    subst (λ (w : TypeWord). RestL w of q → Grammar.scalar of (t ∷ q)) same go l
+    subst (λ (w : TypeWord). RestL w ty q → Grammar.scalar ty (t ∷ q)) same go l
   where
-    go : RestL word.Signed of q → Grammar.scalar of (t ∷ q)
+    go : RestL word.Signed ty q → Grammar.scalar ty (t ∷ q)
     go (inl s) =
         subst (λ (z : Scalar). Grammar.scalar z (t ∷ q)) (sym s.second.second.0)
         (record { front = t ∷ []; back = q; first = inr (alone (Keyword key.Signed) t is); second = seq_map s (λ r o. o) (λ r n. seq_map n (λ u o. o) (λ u m. m.1)); whole = refl })
     go (inr l) = subst (λ (z : Scalar). Grammar.scalar z (t ∷ q)) (sym l.0) (inr (with_int (Keyword key.Signed) t q is l.1))
-word_goes (Keyword key.Unsigned) t w of q is e l =
+word_goes (Keyword key.Unsigned) t w ty q is e l =
     let same : word.Unsigned ≡ w = cc in
-    subst (λ (w : TypeWord). RestL w of q → Grammar.scalar of (t ∷ q)) same go l
+    subst (λ (w : TypeWord). RestL w ty q → Grammar.scalar ty (t ∷ q)) same go l
   where
-    go : RestL word.Unsigned of q → Grammar.scalar of (t ∷ q)
+    go : RestL word.Unsigned ty q → Grammar.scalar ty (t ∷ q)
     go l = subst (λ (z : Scalar). Grammar.scalar z (t ∷ q)) (sym l.0) (with_int (Keyword key.Unsigned) t q is l.1)
-word_goes (Keyword key.Long) t w of q is e l =
+word_goes (Keyword key.Long) t w ty q is e l =
     let same : word.Long ≡ w = cc in
-    subst (λ (w : TypeWord). RestL w of q → Grammar.scalar of (t ∷ q)) same go l
+    subst (λ (w : TypeWord). RestL w ty q → Grammar.scalar ty (t ∷ q)) same go l
   where
-    go : RestL word.Long of q → Grammar.scalar of (t ∷ q)
+    go : RestL word.Long ty q → Grammar.scalar ty (t ∷ q)
     go s =
         subst (λ (z : Scalar). Grammar.scalar z (t ∷ q)) (sym s.second.0)
         (record {
@@ -169,11 +169,11 @@ word_goes (Keyword key.Long) t w of q is e l =
           second = record { front = t ∷ []; back = q; first = alone (Keyword key.Long) t is; second = seq_map s (λ r o. o) (λ r m. m.1); whole = refl };
           whole = refl;
         })
-word_goes _ t w of q is e l = absurd cc
+word_goes _ t w ty q is e l = absurd cc
 
-terminal_goes : (k : Terminal) (t : Tok) (w : TypeWord) (of : Scalar) (q : List Tok) → t.terminal ≡ k → by_fixed type_of_fixed k ≡ Some w → RestL w of q → Grammar.scalar of (t ∷ q)
-terminal_goes (fixed k) t w of q is e l = word_goes k t w of q is e l
-terminal_goes k t w of q is e l = absurd cc
+terminal_goes : (k : Terminal) (t : Tok) (w : TypeWord) (ty : Scalar) (q : List Tok) → t.terminal ≡ k → by_fixed type_of_fixed k ≡ Some w → RestL w ty q → Grammar.scalar ty (t ∷ q)
+terminal_goes (fixed k) t w ty q is e l = word_goes k t w ty q is e l
+terminal_goes k t w ty q is e l = absurd cc
 
 words_go : (x : TypeWord × Scalar) (p : List Tok) → WordsL x p → Grammar.scalar x.1 p
 words_go x p s =

@@ -73,14 +73,14 @@ parameter_exact : (d : ℕ) → Exact (λ D. read.parameter) parameter (λ D. Sh
 parameter_exact d =
     value_of parameter_tree parameter (λ D. Shallow D) (λ x. Parted (Punctuator punct.CloseParen) x) Always
     (two (scalar_exact d) (maybe_exact d) follow (record { value = None; more = []; spelled = refl }))
-    (λ y p l. record { value = (y.of, y.name); same = refl; spelled = l; within = λ w. (tt, tt); stops = λ h s. s }) (λ x p l. l) (λ x w. tt) (λ x h c. tt)
+    (λ y p l. record { value = (y.ty, y.name); same = refl; spelled = l; within = λ w. (tt, tt); stops = λ h s. s }) (λ x p l. l) (λ x w. tt) (λ x h c. tt)
   where
     follow : (a : Scalar) (b : Option Name) (p q : List Tok) → optional (One the_name) b p → Parted (Punctuator punct.CloseParen) b (head q) → TypeEnds a (head (p ++ q))
     follow a None p q l h = subst (λ (z : List Tok). TypeEnds a (head (z ++ q))) (sym l) (parted_not (Punctuator punct.CloseParen) (Keyword key.Int) a refl refl (head q) h, parted_not (Punctuator punct.CloseParen) (Keyword key.Long) a refl refl (head q) h)
     follow a (Some x) p q l h = name_ends x p q l
 
 parameter_begins : Begins parameter []
-parameter_begins = let b = scalar_begins in record { value = record { of = b.value; name = None }; more = b.more; spelled = record { front = b.more; back = []; first = b.spelled; second = refl; whole = sym (append-nil b.more) } }
+parameter_begins = let b = scalar_begins in record { value = record { ty = b.value; name = None }; more = b.more; spelled = record { front = b.more; back = []; first = b.spelled; second = refl; whole = sym (append-nil b.more) } }
 
 listed_parameters : (d : ℕ) → Exact (λ D. comma_list read.parameter) (Listed parameter) (λ D. Shallow D) (λ x. Next (Punctuator punct.CloseParen) x) Always d
 listed_parameters d =
@@ -93,7 +93,7 @@ parameter_not j apart [] p q l = absurd l
 parameter_not j apart (x ∷ xs) p q l =
     let outer = front_head p q l in
     let inner = front_head l.front (l.back ++ q) l.first in
-    ap (is_next j) (outer ∙ inner) ∙ scalar_not j apart x.of l.first.front (l.first.back ++ (l.back ++ q)) l.first.first
+    ap (is_next j) (outer ∙ inner) ∙ scalar_not j apart x.ty l.first.front (l.first.back ++ (l.back ++ q)) l.first.first
 
 written_exact : (d : ℕ) → Exact (λ D. either (is_next (Keyword key.Void)) (map_parser (λ x. []) (expect (Keyword key.Void))) (comma_list read.parameter)) WrittenL (λ D. Shallow D) (λ x. Next (Punctuator punct.CloseParen) x) Always d
 written_exact d =

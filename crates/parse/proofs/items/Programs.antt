@@ -86,7 +86,7 @@ item_comes d (Shares (g ∷ gs)) p l =
     let t = l.0 in
     let s = l.1 in
     let all = s.second.first in
-    let same : Shares (g ∷ gs) ≡ globals_tree t g.name ((g.length, g.first), gs) = ap (λ (z : Scalar). Shares (record { of = z; name = g.name; length = g.length; first = g.first } ∷ gs)) all.first.0 in
+    let same : Shares (g ∷ gs) ≡ globals_tree t g.name ((g.length, g.first), gs) = ap (λ (z : Scalar). Shares (record { ty = z; name = g.name; length = g.length; first = g.first } ∷ gs)) all.first.0 in
     let named : Seq (Seq (Seq (One the_name g.name) (SizedL (g.length, g.first))) (Many (NextL t) gs)) (Is (Punctuator punct.Semicolon)) s.back =
     record { front = s.second.front; back = s.second.back; first = record { front = all.front; back = all.back; first = all.first.1; second = all.second; whole = all.whole }; second = s.second.second; whole = s.second.whole } in
     let typed : Seq (scalar t) (Seq (One the_name g.name) (GlobalsL t g.name (Shares (g ∷ gs)))) p =

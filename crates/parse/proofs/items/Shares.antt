@@ -60,16 +60,16 @@ first_goes (Some at, n) p s =
 first_comes : (d : ℕ) (i : Initializer) (p : List Tok) → initialiser i p → Comes first_tree SignedL (λ x. MaybeW (λ D. Shallow D) d x.0 × Unit {0}) (λ x. Unit {0}) (λ x h. Unit {0}) Always i p
 first_comes d i p l = go i.negative refl l.1
   where
-    go : (b : Bool) → i.negative ≡ b → Seq (minus b) (One the_value (i.value, i.of)) p → Comes first_tree SignedL (λ x. MaybeW (λ D. Shallow D) d x.0 × Unit {0}) (λ x. Unit {0}) (λ x h. Unit {0}) Always i p
+    go : (b : Bool) → i.negative ≡ b → Seq (minus b) (One the_value (i.value, i.ty)) p → Comes first_tree SignedL (λ x. MaybeW (λ D. Shallow D) d x.0 × Unit {0}) (λ x. Unit {0}) (λ x h. Unit {0}) Always i p
     go true is s =
         let o = s.second in
         let whole : p ≡ s.first.token ∷ o.token ∷ [] = rw (s.whole, s.first.whole, o.whole) refl in
         let covers : Covers i.span (s.first.token ∷ o.token ∷ []) = subst (Covers i.span) whole l.0 in
-        let same : ◌≡◌ {A = Initializer} (record { negative = i.negative; value = i.value; of = i.of; span = i.span }) (first_tree (Some s.first.token.span, ((i.value, i.of), o.token.span))) = rw (is, covers) refl in
+        let same : ◌≡◌ {A = Initializer} (record { negative = i.negative; value = i.value; ty = i.ty; span = i.span }) (first_tree (Some s.first.token.span, ((i.value, i.ty), o.token.span))) = rw (is, covers) refl in
         record {
-          value = (Some s.first.token.span, ((i.value, i.of), o.token.span));
+          value = (Some s.first.token.span, ((i.value, i.ty), o.token.span));
           same = same;
-          spelled = record { front = s.front; back = s.back; first = record { token = s.first.token; has = fixed_place (Punctuator punct.Minus) s.first.token s.first.has; whole = s.first.whole }; second = record { token = o.token; has = with_place o.token.terminal o.token.span (i.value, i.of) o.has; whole = o.whole }; whole = s.whole };
+          spelled = record { front = s.front; back = s.back; first = record { token = s.first.token; has = fixed_place (Punctuator punct.Minus) s.first.token s.first.has; whole = s.first.whole }; second = record { token = o.token; has = with_place o.token.terminal o.token.span (i.value, i.ty) o.has; whole = o.whole }; whole = s.whole };
           within = λ w. (tt, tt);
           stops = λ h c. tt;
         }
@@ -77,11 +77,11 @@ first_comes d i p l = go i.negative refl l.1
         let o = s.second in
         let whole : p ≡ o.token ∷ [] = s.whole ∙ ap (λ (z : List Tok). z ++ s.back) s.first ∙ o.whole in
         let covers : Covers i.span (o.token ∷ []) = subst (Covers i.span) whole l.0 in
-        let same : ◌≡◌ {A = Initializer} (record { negative = i.negative; value = i.value; of = i.of; span = i.span }) (first_tree (None, ((i.value, i.of), o.token.span))) = rw (is, covers) refl in
+        let same : ◌≡◌ {A = Initializer} (record { negative = i.negative; value = i.value; ty = i.ty; span = i.span }) (first_tree (None, ((i.value, i.ty), o.token.span))) = rw (is, covers) refl in
         record {
-          value = (None, ((i.value, i.of), o.token.span));
+          value = (None, ((i.value, i.ty), o.token.span));
           same = same;
-          spelled = record { front = s.front; back = s.back; first = s.first; second = record { token = o.token; has = with_place o.token.terminal o.token.span (i.value, i.of) o.has; whole = o.whole }; whole = s.whole };
+          spelled = record { front = s.front; back = s.back; first = s.first; second = record { token = o.token; has = with_place o.token.terminal o.token.span (i.value, i.ty) o.has; whole = o.whole }; whole = s.whole };
           within = λ w. (tt, tt);
           stops = λ h c. tt;
         }
@@ -120,11 +120,11 @@ first_inside i p q l = go i.negative l.1
     no_brace (fixed k) x h = absurd cc
     no_brace reserved x h = refl
 
-    go : (b : Bool) → Seq (minus b) (One the_value (i.value, i.of)) p → is_next (Punctuator punct.CloseBrace) (head (p ++ q)) ≡ false
+    go : (b : Bool) → Seq (minus b) (One the_value (i.value, i.ty)) p → is_next (Punctuator punct.CloseBrace) (head (p ++ q)) ≡ false
     go true s = seq_not_here (Punctuator punct.Minus) (Punctuator punct.CloseBrace) _ p q refl s
     go false s =
-        let o : One the_value (i.value, i.of) p = un_seq_left s in
-        ap (is_next (Punctuator punct.CloseBrace)) (one_head o q) ∙ no_brace o.token.terminal (i.value, i.of) o.has
+        let o : One the_value (i.value, i.ty) p = un_seq_left s in
+        ap (is_next (Punctuator punct.CloseBrace)) (one_head o q) ∙ no_brace o.token.terminal (i.value, i.ty) o.has
 
 -- one value behind `=`
 abbrev OneL : List Initializer → Phrase
@@ -281,7 +281,7 @@ sized_exact d = one_of (is_next (Punctuator punct.OpenBracket)) SizedL (array_ex
 
 -- a global of this type
 abbrev pub GlobalL : Scalar → Global → Phrase
-GlobalL t g p = (g.of ≡ t) × global g p
+GlobalL t g p = (g.ty ≡ t) × global g p
 
 -- a further one
 abbrev pub NextL : Scalar → Global → Phrase
@@ -296,7 +296,7 @@ global_exact d t =
     comes : (y : Global) (p : List Tok) → GlobalL t y p → Comes (λ (x : Name × Size). global_tree t x.0 x.1) (Two (One the_name) SizedL) (λ x. Unit {0} × Unit {0}) (λ x. Unit {0}) (λ x h. Parted (Punctuator punct.Semicolon) x.1 h) (λ x. Parted (Punctuator punct.Semicolon) x) y p
     comes y p l = record {
       value = (y.name, (y.length, y.first));
-      same = ap (λ (z : Scalar). record { of = z; name = y.name; length = y.length; first = y.first }) l.0;
+      same = ap (λ (z : Scalar). record { ty = z; name = y.name; length = y.length; first = y.first }) l.0;
       spelled = l.1;
       within = λ w. (tt, tt);
       stops = λ h s. s;

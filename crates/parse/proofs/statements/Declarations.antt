@@ -106,21 +106,21 @@ declared_exact d =
     deepest (x ∷ xs) w = let h : optional_depth x.first ≤ d = w.0 in let g = deepest xs w.1 in omega arith
 
     comes : (y : Declaration) (p : List Tok) → Grammar.declaration y p → Comes declaration_tree (Two Grammar.scalar TailL) (λ x. Unit {0} × ManyFit DeclaratorW d x.1) (DeclarationW d) (λ x h. Unit {0}) Always y p
-    comes y p l = record { value = (y.of, y.declarators); same = refl; spelled = l; within = λ w. (tt, fits y.declarators (let h : deepest_value y.declarators + 1 ≤ suc d = w in omega arith)); stops = λ h s. tt }
+    comes y p l = record { value = (y.ty, y.declarators); same = refl; spelled = l; within = λ w. (tt, fits y.declarators (let h : deepest_value y.declarators + 1 ≤ suc d = w in omega arith)); stops = λ h s. tt }
 
     deepens : (x : Scalar × List Declarator) → Unit {0} × ManyFit DeclaratorW d x.1 → deepest_value x.1 + 1 ≤ suc d
     deepens x w = let h = deepest x.1 w.1 in omega arith
 
 -- The first token of a declaration.
 pub declaration_first : (x : Declaration) (p q : List Tok) → Grammar.declaration x p → starts_type (head (p ++ q)) ≡ true
-declaration_first x p q l = first_of (λ h. starts_type h ≡ true) p q l (scalar_first x.of)
+declaration_first x p q l = first_of (λ h. starts_type h ≡ true) p q l (scalar_first x.ty)
 
 -- a declaration of a type
 declares : (t : Scalar) (p : List Tok) (more : List Tok) → Grammar.scalar t (p ++ more) → Begins Grammar.declaration p
 declares t p more l =
     let b = tail_starts in
     record {
-      value = record { of = t; declarators = b.value };
+      value = record { ty = t; declarators = b.value };
       more = more ++ b.more;
       spelled = record { front = p ++ more; back = b.more; first = l; second = b.spelled; whole = sym (append_assoc p more b.more) };
     }

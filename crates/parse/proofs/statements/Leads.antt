@@ -45,7 +45,7 @@ simple_lead (Some t) e = go t.terminal t.span e
   where
     go : (k : Terminal) (at : Span) → starts_simple (Some (made k at)) ≡ true → LeadsTo (Some (made k at)) (lead_terminal k)
     go (name s) at e = inl refl
-    go (constant n of) at e = inl refl
+    go (constant n ty) at e = inl refl
     go (string_literal s) at e = inl refl
     go (fixed (Punctuator punct.Semicolon)) at e = absurd cc
     go (fixed (Punctuator punct.OpenBrace)) at e = absurd cc
@@ -70,7 +70,7 @@ not_type (Some t) e = go t.terminal t.span e
   where
     go : (k : Terminal) (at : Span) → starts_stmt (Some (made k at)) ≡ true → starts_type (Some (made k at)) ≡ false
     go (name s) at e = refl
-    go (constant n of) at e = refl
+    go (constant n ty) at e = refl
     go (string_literal s) at e = refl
     go (fixed (Keyword key.Int)) at e = absurd cc
     go (fixed (Keyword key.Signed)) at e = absurd cc

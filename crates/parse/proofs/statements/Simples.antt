@@ -324,7 +324,7 @@ simple_not_type (Some t) e = go t.terminal e
 
     go : (k : Terminal) → (if is_some (by_fixed step_of k) then true else is_operand (operand_terminal k)) ≡ true → is_some (by_fixed type_of_fixed k) ≡ false
     go (name s) e = refl
-    go (constant n of) e = refl
+    go (constant n ty) e = refl
     go (string_literal s) e = refl
     go (fixed k) e = no_word k e
     go reserved e = refl

@@ -226,7 +226,7 @@ stmt_begun t h = go t.terminal refl h
     go (fixed (Keyword key.Relaxed)) is h = as_stmt (λ xs. Transaction (Plain Relaxed) (stmts_from xs) t.span) (λ x p l. l) (from_place {M = BlockL} (Keyword key.Relaxed) t is block_begins)
     go (fixed _) is h = plain _ is h
     go (name s) is h = plain (name s) is h
-    go (constant n of) is h = plain (constant n of) is h
+    go (constant n ty) is h = plain (constant n ty) is h
     go (string_literal s) is h = plain (string_literal s) is h
     go reserved is h = plain reserved is h
 

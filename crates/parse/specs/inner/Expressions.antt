@@ -55,7 +55,7 @@ starts_type = says the_type_word
 
 -- a type, behind which `int` may stand
 abbrev pub longer : Scalar → Parser Scalar
-longer of = map_parser (λ x. of) (perhaps (Keyword key.Int) (expect (Keyword key.Int)))
+longer ty = map_parser (λ x. ty) (perhaps (Keyword key.Int) (expect (Keyword key.Int)))
 
 -- behind a first `long`
 abbrev pub long_long : Parser Scalar
@@ -104,7 +104,7 @@ the_prefix t = with_span t.span (the_unary t)
 
 abbrev pub constant_in : Terminal → Span → Option Expr
 constant_in (name s) at = None
-constant_in (constant n of) at = Some (Constant n of at)
+constant_in (constant n ty) at = Some (Constant n ty at)
 constant_in (string_literal s) at = None
 constant_in (fixed k) at = None
 constant_in reserved at = None
@@ -175,7 +175,7 @@ operand_fixed _ None = kind.None
 
 abbrev pub operand_terminal : Terminal → Operand
 operand_terminal (name s) = kind.Name
-operand_terminal (constant n of) = kind.Constant
+operand_terminal (constant n ty) = kind.Constant
 operand_terminal (string_literal s) = kind.None
 operand_terminal (fixed k) = operand_fixed k (unary_of k)
 operand_terminal reserved = kind.None

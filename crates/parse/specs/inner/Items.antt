@@ -54,7 +54,7 @@ result = either (is_next (Keyword key.Void)) (map_parser (λ x. None) (expect (K
     (map_parser Some scalar)
 
 abbrev pub parameter_tree : Scalar × Option Name → Parameter
-parameter_tree x = record { of = x.0; name = x.1 }
+parameter_tree x = record { ty = x.0; name = x.1 }
 
 abbrev pub maybe_name : Parser (Option Name)
 maybe_name = either (says the_name) (map_parser Some (take the_name)) (give None)
@@ -104,7 +104,7 @@ function_at d h = map_parser (function_tree h) (bind (seq parameters attributes)
 
 abbrev pub value_in : Terminal → Span → Option ((ℕ × Scalar) × Span)
 value_in (name s) at = None
-value_in (constant n of) at = Some ((n, of), at)
+value_in (constant n ty) at = Some ((n, ty), at)
 value_in (string_literal s) at = None
 value_in (fixed k) at = None
 value_in reserved at = None
@@ -114,8 +114,8 @@ abbrev pub the_placed_value : Tok → Option ((ℕ × Scalar) × Span)
 the_placed_value t = value_in t.terminal t.span
 
 abbrev pub first_tree : Option Span × ((ℕ × Scalar) × Span) → Initializer
-first_tree (None, x) = record { negative = false; value = x.0.0; of = x.0.1; span = x.1 }
-first_tree (Some at, x) = record { negative = true; value = x.0.0; of = x.0.1; span = across at x.1 }
+first_tree (None, x) = record { negative = false; value = x.0.0; ty = x.0.1; span = x.1 }
+first_tree (Some at, x) = record { negative = true; value = x.0.0; ty = x.0.1; span = across at x.1 }
 
 abbrev pub initialiser : Parser Initializer
 initialiser =
@@ -166,7 +166,7 @@ global_tail =
     (map_parser variable_tree first_value)
 
 abbrev pub global_tree : Scalar → Name → Size → Global
-global_tree t x size = record { of = t; name = x; length = size.0; first = size.1 }
+global_tree t x size = record { ty = t; name = x; length = size.0; first = size.1 }
 
 abbrev pub global : Scalar → Parser Global
 global t = map_parser (λ x. global_tree t x.0 x.1) (seq (take the_name) global_tail)

@@ -66,7 +66,7 @@ abbrev pub declarator_tree : Name × Option Expr → Declarator
 declarator_tree x = record { name = x.0; first = x.1 }
 
 abbrev pub declaration_tree : Scalar × List Declarator → Declaration
-declaration_tree x = record { of = x.0; declarators = x.1 }
+declaration_tree x = record { ty = x.0; declarators = x.1 }
 
 module _ (whole : Parser Expr) where
   abbrev pub declarator : Parser Declarator
@@ -101,7 +101,7 @@ lead_fixed _ = lead.Simple
 
 abbrev pub lead_terminal : Terminal → Lead
 lead_terminal (name s) = lead.Simple
-lead_terminal (constant n of) = lead.Simple
+lead_terminal (constant n ty) = lead.Simple
 lead_terminal (string_literal s) = lead.Simple
 lead_terminal (fixed k) = lead_fixed k
 lead_terminal reserved = lead.Simple

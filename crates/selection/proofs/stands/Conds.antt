@@ -41,8 +41,8 @@ module _ (code : Code) (arguments : List ℕ) (layout : Layout) where
   value_decides A B from free l e h = record {
     to_is = let x = h.to_is in let y : length (map draft.Whole e.code) ≡ length e.code = length-map e.code draft.Whole in omega (arith, x, y);
     grows = h.grows;
-    holds = λ f there on st at leads. inr (inl (record { mid = e.location.to; r = e.location.register; t = e.location.of; computes = h.stands f (subst (Stand code arguments from) (whole_are there on e.code) st); jumps = at; leads = leads }));
-    fails = λ f there on st at leads. inl (record { mid = e.location.to; r = e.location.register; t = e.location.of; computes = h.stands f (subst (Stand code arguments from) (whole_are on there e.code) st); jumps = at; leads = leads });
+    holds = λ f there on st at leads. inr (inl (record { mid = e.location.to; r = e.location.register; t = e.location.ty; computes = h.stands f (subst (Stand code arguments from) (whole_are there on e.code) st); jumps = at; leads = leads }));
+    fails = λ f there on st at leads. inl (record { mid = e.location.to; r = e.location.register; t = e.location.ty; computes = h.stands f (subst (Stand code arguments from) (whole_are on there e.code) st); jumps = at; leads = leads });
   }
 
   -- the same in other words, and the other way round

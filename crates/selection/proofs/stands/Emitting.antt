@@ -57,7 +57,7 @@ module _ (code : Code) (arguments : List ℕ) (layout : Layout) where
   pub record Emits (A : Coded) (from free : ℕ) (l : Lists) (e : Emitted) : Type 0 where
     pub to_is : e.location.to ≡ from + length e.code
     pub grows : Grows l e.lists
-    pub stands : Fits code arguments layout e.lists → Stand code arguments from e.code → A from e.location.to free e.location.register e.location.of
+    pub stands : Fits code arguments layout e.lists → Stand code arguments from e.code → A from e.location.to free e.location.register e.location.ty
 
   pub one_emits : (home : Option ℕ) (f : ℕ → Plain) (i : Instr) (u : Scalar) (from free into : ℕ) (l : Lists) → f into ≡ instr_of arguments i → MayTake home free into →
       Emits (λ from to free r t. GivenBy code layout home (f r) u from to free r t) from free l (one i from into u l)
@@ -77,7 +77,7 @@ module _ (code : Code) (arguments : List ℕ) (layout : Layout) where
 
   -- one more instruction behind a value
   pub then_emits : (A B : Coded) (home : Option ℕ) (i : Instr) (t : Scalar) (from free into : ℕ) (l : Lists) (e : Emitted) → Emits A from free l e → MayTake home free into →
-      (A from e.location.to free e.location.register e.location.of → GivenBy code layout home (instr_of arguments i) t e.location.to (e.location.to + 1) free into t → B from (e.location.to + 1) free into t) →
+      (A from e.location.to free e.location.register e.location.ty → GivenBy code layout home (instr_of arguments i) t e.location.to (e.location.to + 1) free into t → B from (e.location.to + 1) free into t) →
       Emits B from free l (then_one e i into t)
   then_emits A B home i t from free into l e h m make = record {
     to_is = let a = h.to_is in let b : length (e.code ++ i ∷ []) ≡ length e.code + 1 = length-append e.code (i ∷ []) in omega (arith, a, b);
@@ -89,13 +89,13 @@ module _ (code : Code) (arguments : List ℕ) (layout : Layout) where
   }
 
   pub element_emits : (home : Option ℕ) (g : GlobalCells) (A : Coded) (from free into : ℕ) (l : Lists) (e : Emitted) → Emits A from free l e → MayTake home free into →
-      Emits (ElementCode code layout home g A) from free l (then_one e (own.ReadAt into e.location.register g.cell (cells g.global)) into g.global.of)
+      Emits (ElementCode code layout home g A) from free l (then_one e (own.ReadAt into e.location.register g.cell (cells g.global)) into g.global.ty)
   element_emits home g A from free into l e h m =
-      then_emits A (ElementCode code layout home g A) home (own.ReadAt into e.location.register g.cell (cells g.global)) g.global.of from free into l e h m
-      (λ a b. record { mid = e.location.to; ri = e.location.register; ti = e.location.of; computes = a; reads = b })
+      then_emits A (ElementCode code layout home g A) home (own.ReadAt into e.location.register g.cell (cells g.global)) g.global.ty from free into l e h m
+      (λ a b. record { mid = e.location.to; ri = e.location.register; ti = e.location.ty; computes = a; reads = b })
 
   -- a value that is the same in the type that is due
-  remains : (home : Option ℕ) (A : Coded) (s u : Scalar) (from free : ℕ) (l : Lists) (e : Emitted) → Emits A from free l e → e.location.of ≡ s → Converts code layout home s u e.location.register e.location.to e.location.to free e.location.register →
+  remains : (home : Option ℕ) (A : Coded) (s u : Scalar) (from free : ℕ) (l : Lists) (e : Emitted) → Emits A from free l e → e.location.ty ≡ s → Converts code layout home s u e.location.register e.location.to e.location.to free e.location.register →
       Emits (λ from to free r x. ConvertedCode code layout home A u from to free r s) from free l (converted_by None u e 0)
   remains home A s u from free l e h q c = record {
     to_is = h.to_is;
@@ -104,7 +104,7 @@ module _ (code : Code) (arguments : List ℕ) (layout : Layout) where
   }
 
   -- a value by a conversion
-  pub converted_emits : (home : Option ℕ) (A : Coded) (s u : Scalar) (from free into : ℕ) (l : Lists) (e : Emitted) → Emits A from free l e → e.location.of ≡ s → MayTake home free into →
+  pub converted_emits : (home : Option ℕ) (A : Coded) (s u : Scalar) (from free into : ℕ) (l : Lists) (e : Emitted) → Emits A from free l e → e.location.ty ≡ s → MayTake home free into →
       Emits (λ from to free r x. ConvertedCode code layout home A u from to free r s) from free l (converted_by (converting s u) u e into)
   converted_emits home A Int LongLong from free into l e h q m =
       then_emits A (λ from to free r x. ConvertedCode code layout home A LongLong from to free r Int) home (own.Extend into e.location.register) LongLong from free into l e h m
@@ -118,7 +118,7 @@ module _ (code : Code) (arguments : List ℕ) (layout : Layout) where
   converted_emits home A s u from free into l e h q m = remains home A s u from free l e h q (refl, refl)
 
   -- a value that did not come into the register that was asked for lies in a local's own
-  converted_elsewhere : (A : Coded) (s u : Scalar) (from free into : ℕ) (l : Lists) (e : Emitted) → (Emits A from free l e ⊎ (e.location.register ≡ into)) → e.location.of ≡ s →
+  converted_elsewhere : (A : Coded) (s u : Scalar) (from free into : ℕ) (l : Lists) (e : Emitted) → (Emits A from free l e ⊎ (e.location.register ≡ into)) → e.location.ty ≡ s →
       Emits (λ from to free r x. ConvertedCode code layout None A u from to free r s) from free l (converted_by (converting s u) u e into) ⊎ ((converted_by (converting s u) u e into).location.register ≡ into)
   converted_elsewhere A Int LongLong from free into l e h q = inr refl
   converted_elsewhere A LongLong Int from free into l e h q = inr refl
@@ -131,14 +131,14 @@ module _ (code : Code) (arguments : List ℕ) (layout : Layout) where
   OwnIs e s = Unit {0}
 
   -- an expression's value in the type that is due
-  pub in_type_emits : (home : Option ℕ) (e' : Expr) (A : Coded) (s u : Scalar) (from free into : ℕ) (l : Lists) (e : Emitted) → Emits A from free l e → e.location.of ≡ s → OwnIs e' s → MayTake home free into →
+  pub in_type_emits : (home : Option ℕ) (e' : Expr) (A : Coded) (s u : Scalar) (from free into : ℕ) (l : Lists) (e : Emitted) → Emits A from free l e → e.location.ty ≡ s → OwnIs e' s → MayTake home free into →
       Emits (λ from to free r x. DueCode code layout home e' A u from to free r s) from free l (in_type s u e' e from into l)
   in_type_emits home (Constant n t at) A s u from free into l e h q o m =
       let g = one_emits home (λ r. Plain.Constant r (constant_in u t n)) (own.Constant into (constant_in u t n)) u from free into l refl m in
       record { to_is = g.to_is; grows = g.grows; stands = λ f st. (o, g.stands f st) }
   in_type_emits home e' A s u from free into l e h q o m = converted_emits home A s u from free into l e h q m
 
-  pub in_type_elsewhere : (e' : Expr) (A : Coded) (s u : Scalar) (from free into : ℕ) (l : Lists) (e : Emitted) → (Emits A from free l e ⊎ (e.location.register ≡ into)) → e.location.of ≡ s →
+  pub in_type_elsewhere : (e' : Expr) (A : Coded) (s u : Scalar) (from free into : ℕ) (l : Lists) (e : Emitted) → (Emits A from free l e ⊎ (e.location.register ≡ into)) → e.location.ty ≡ s →
       Emits (λ from to free r x. DueCode code layout None e' A u from to free r s) from free l (in_type s u e' e from into l) ⊎ ((in_type s u e' e from into l).location.register ≡ into)
   in_type_elsewhere (Constant n t at) A s u from free into l e h q = inr refl
   in_type_elsewhere e' A s u from free into l e h q = converted_elsewhere A s u from free into l e h q
@@ -148,14 +148,14 @@ module _ (code : Code) (arguments : List ℕ) (layout : Layout) where
       Emits (λ from to free r x. TypedCode code layout home e' A u from to free r) from free l e
   typed_emits home e' A s u from free l e h = record { to_is = h.to_is; grows = h.grows; stands = λ f st. (s, h.stands f st) }
 
-  pub cast_emits : (home : Option ℕ) (e' : Expr) (A : Coded) (s u : Scalar) (from free : ℕ) (l : Lists) (e : Emitted) → e.location.of ≡ u → Emits (λ from to free r x. DueCode code layout home e' A u from to free r s) from free l e →
+  pub cast_emits : (home : Option ℕ) (e' : Expr) (A : Coded) (s u : Scalar) (from free : ℕ) (l : Lists) (e : Emitted) → e.location.ty ≡ u → Emits (λ from to free r x. DueCode code layout home e' A u from to free r s) from free l e →
       Emits (CastCode code layout home e' A u) from free l e
   cast_emits home e' A s u from free l e k h = record { to_is = h.to_is; grows = h.grows; stands = λ f st. (k, (s, h.stands f st)) }
 
   -- the first of several values
-  pub in_first_emits : (ts : List Scalar) (e' : Expr) (A : Coded) (s : Scalar) (from free : ℕ) (l : Lists) (e : Emitted) → Emits A from free l e → e.location.of ≡ s → OwnIs e' s →
+  pub in_first_emits : (ts : List Scalar) (e' : Expr) (A : Coded) (s : Scalar) (from free : ℕ) (l : Lists) (e : Emitted) → Emits A from free l e → e.location.ty ≡ s → OwnIs e' s →
       Emits (λ from to free r x. HandedCode code layout ts e' A from to free r) from free l (in_first_type s ts e' e from free l)
-  in_first_emits [] e' A s from free l e h q o = record { to_is = h.to_is; grows = h.grows; stands = λ f st. (e.location.of, h.stands f st) }
+  in_first_emits [] e' A s from free l e h q o = record { to_is = h.to_is; grows = h.grows; stands = λ f st. (e.location.ty, h.stands f st) }
   in_first_emits (u ∷ us) e' A s from free l e h q o =
       typed_emits None e' A s u from free l (in_type s u e' e from free l) (in_type_emits None e' A s u from free free l e h q o (omega arith))
 
@@ -173,7 +173,7 @@ module _ (code : Code) (arguments : List ℕ) (layout : Layout) where
             record {
               last = e.location.to;
               begins = st.0;
-              computes = subst (λ q. A q e.location.to free e.location.register e.location.of) next (h.stands f (subst (λ q. Stand code arguments q e.code) (sym next) inner));
+              computes = subst (λ q. A q e.location.to free e.location.register e.location.ty) next (h.stands f (subst (λ q. Stand code arguments q e.code) (sym next) inner));
               commits = (behind code arguments (suc from) e.location.to e.code (own.Commit ∷ []) mid_is st.1).0;
               to_is = omega arith;
             };
@@ -182,25 +182,25 @@ module _ (code : Code) (arguments : List ℕ) (layout : Layout) where
   pub negated_emits : (home : Option ℕ) (A : Coded) (from free into : ℕ) (l : Lists) (e : Emitted) → Emits A from free l e → MayTake home free into →
       Emits (λ from to free r t. UnaryCode code layout home (λ ta ra. Plain.Negate ta r ra) A from to free r t) from free l (negation e into)
   negated_emits home A from free into l e h m =
-      then_emits A (λ from to free r t. UnaryCode code layout home (λ ta ra. Plain.Negate ta r ra) A from to free r t) home (negating e.location.of into e.location.register) e.location.of from free into l e h m
+      then_emits A (λ from to free r t. UnaryCode code layout home (λ ta ra. Plain.Negate ta r ra) A from to free r t) home (negating e.location.ty into e.location.register) e.location.ty from free into l e h m
       (λ a b. record {
         mid = e.location.to;
         ra = e.location.register;
-        ta = e.location.of;
+        ta = e.location.ty;
         computes = a;
-        operates = subst (λ i. GivenBy code layout home i e.location.of e.location.to (e.location.to + 1) free into e.location.of) (negating_is arguments e.location.of into e.location.register) b;
+        operates = subst (λ i. GivenBy code layout home i e.location.ty e.location.to (e.location.to + 1) free into e.location.ty) (negating_is arguments e.location.ty into e.location.register) b;
       })
 
   pub complemented_emits : (home : Option ℕ) (A : Coded) (from free into : ℕ) (l : Lists) (e : Emitted) → Emits A from free l e → MayTake home free into →
       Emits (λ from to free r t. UnaryCode code layout home (λ ta ra. Lowered.complementing ta r ra) A from to free r t) from free l (complement e into)
   complemented_emits home A from free into l e h m =
-      then_emits A (λ from to free r t. UnaryCode code layout home (λ ta ra. Lowered.complementing ta r ra) A from to free r t) home (complementing e.location.of into e.location.register) e.location.of from free into l e h m
+      then_emits A (λ from to free r t. UnaryCode code layout home (λ ta ra. Lowered.complementing ta r ra) A from to free r t) home (complementing e.location.ty into e.location.register) e.location.ty from free into l e h m
       (λ a b. record {
         mid = e.location.to;
         ra = e.location.register;
-        ta = e.location.of;
+        ta = e.location.ty;
         computes = a;
-        operates = subst (λ i. GivenBy code layout home i e.location.of e.location.to (e.location.to + 1) free into e.location.of) (complementing_is arguments e.location.of into e.location.register) b;
+        operates = subst (λ i. GivenBy code layout home i e.location.ty e.location.to (e.location.to + 1) free into e.location.ty) (complementing_is arguments e.location.ty into e.location.register) b;
       })
 
   pub compared_emits : (home : Option ℕ) (A : Coded) (from free into : ℕ) (l : Lists) (e : Emitted) → Emits A from free l e → MayTake home free into →
@@ -219,7 +219,7 @@ module _ (code : Code) (arguments : List ℕ) (layout : Layout) where
             record {
               mid = e.location.to;
               ra = e.location.register;
-              ta = e.location.of;
+              ta = e.location.ty;
               rz = rz;
               computes = h.stands (fits_before code arguments layout e.lists lists (grows_used e.lists e.lists rz (grows_same e.lists)) inner) (front code arguments from e.code (zero ∷ equal ∷ []) st);
               apart = above_it free e.location.register;
@@ -234,7 +234,7 @@ module _ (code : Code) (arguments : List ℕ) (layout : Layout) where
   word_emits w u from free l = by (ready_from l.layout.writable l.layout.constants w) refl
     where
       by : (o : Option ℕ) → ready_from l.layout.writable l.layout.constants w ≡ o →
-          Emits (λ from to free r x. WordCode code layout w u from to free r) from free l (ready_or (option_map (λ r. record { register = r; of = u; to = from }) o) l (constant w u from free l))
+          Emits (λ from to free r x. WordCode code layout w u from to free r) from free l (ready_or (option_map (λ r. record { register = r; ty = u; to = from }) o) l (constant w u from free l))
       by None n =
           let g = one_emits None (λ r. Plain.Constant r w) (own.Constant free w) u from free free l refl (omega arith) in
           record { to_is = g.to_is; grows = g.grows; stands = λ f st. inl (g.stands f st) }
@@ -245,14 +245,14 @@ module _ (code : Code) (arguments : List ℕ) (layout : Layout) where
       }
 
   -- the right side of an operator, and its left side
-  pub operand_emits : (b : Expr) (A : Coded) (s u : Scalar) (from free : ℕ) (l : Lists) (e : Emitted) → Emits A from free l e → e.location.of ≡ s → OwnIs b s →
+  pub operand_emits : (b : Expr) (A : Coded) (s u : Scalar) (from free : ℕ) (l : Lists) (e : Emitted) → Emits A from free l e → e.location.ty ≡ s → OwnIs b s →
       Emits (λ from to free r x. OperandCode code layout b A u from to free r s) from free l (ready_or (constant_ready l.layout u b from) l (in_type s u b e from free l))
   operand_emits (Constant n t at) A s u from free l e h q o =
       let g = word_emits (constant_in u t n) u from free l in
       record { to_is = g.to_is; grows = g.grows; stands = λ f st. (o, g.stands f st) }
   operand_emits b A s u from free l e h q o = converted_emits None A s u from free free l e h q (omega arith)
 
-  pub left_emits : (a : Expr) (A : Coded) (s u : Scalar) (from free : ℕ) (l : Lists) (e : Emitted) → Emits A from free l e → e.location.of ≡ s → OwnIs a s →
+  pub left_emits : (a : Expr) (A : Coded) (s u : Scalar) (from free : ℕ) (l : Lists) (e : Emitted) → Emits A from free l e → e.location.ty ≡ s → OwnIs a s →
       Emits (λ from to free r x. OperandCode code layout a A u from to free r s) from free l (in_type s u a e from free l)
   left_emits (Constant n t at) A s u from free l e h q o =
       let g = one_emits None (λ r. Plain.Constant r (constant_in u t n)) (own.Constant free (constant_in u t n)) u from free free l refl (omega arith) in
@@ -304,11 +304,11 @@ module _ (code : Code) (arguments : List ℕ) (layout : Layout) where
         stands = λ f st. inl (subst (λ r. TypedCode code layout home e' (A home) t from e.location.to free r) same (h.stands f st));
       }
 
-      moved : Emits (λ from to free r x. TypedCode code layout None e' (A None) t from to free r) from free l e → Emits (λ from to free r x. BranchCode code layout home e' A from to free into t) from free l (then_one e (own.Move into e.location.register) into e.location.of)
+      moved : Emits (λ from to free r x. TypedCode code layout None e' (A None) t from to free r) from free l e → Emits (λ from to free r x. BranchCode code layout home e' A from to free into t) from free l (then_one e (own.Move into e.location.register) into e.location.ty)
       moved g =
-          then_emits (λ from to free r x. TypedCode code layout None e' (A None) t from to free r) (λ from to free r x. BranchCode code layout home e' A from to free into t) home (own.Move into e.location.register) e.location.of from free into l e g m
+          then_emits (λ from to free r x. TypedCode code layout None e' (A None) t from to free r) (λ from to free r x. BranchCode code layout home e' A from to free into t) home (own.Move into e.location.register) e.location.ty from free into l e g m
           (λ a b. inr (record { mid = e.location.to; rc = e.location.register; computes = a; moves = record { to_is = b.to_is; takes = b.takes; register = b.register; type_is = refl; instr = b.instr } }))
 
-      by : (b : Bool) → (e.location.register == into) ≡ b → Emits (λ from to free r x. BranchCode code layout home e' A from to free into t) from free l (if b then e else then_one e (own.Move into e.location.register) into e.location.of)
+      by : (b : Bool) → (e.location.register == into) ≡ b → Emits (λ from to free r x. BranchCode code layout home e' A from to free into t) from free l (if b then e else then_one e (own.Move into e.location.register) into e.location.ty)
       by true n = there (eqb-true e.location.register into n)
       by false n = ⊎_elim moved (λ same. absurd (eqb-false e.location.register into n same)) o

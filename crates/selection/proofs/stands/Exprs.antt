@@ -61,15 +61,15 @@ variable_of locals None None t h = absurd h
 
 element_of : (g : Option GlobalCells) (t : Scalar) → Found g t → element_type g ≡ t
 element_of None t f = absurd (cc f.1)
-element_of (Some g) t f = let same : g ≡ f.0 = ap (λ o. unwrap_or o g) f.1 in ap (λ (k : GlobalCells). k.global.of) same ∙ f.2
+element_of (Some g) t f = let same : g ≡ f.0 = ap (λ o. unwrap_or o g) f.1 in ap (λ (k : GlobalCells). k.global.ty) same ∙ f.2
 
-called_of : (o : Option Callee) (c : Callee) → o ≡ Some c → called_type o ≡ c.of
+called_of : (o : Option Callee) (c : Callee) → o ≡ Some c → called_type o ≡ c.ty
 called_of None c e = absurd (cc)
-called_of (Some d) c e = let same : d ≡ c = ap (λ o. unwrap_or o d) e in ap (λ (x : Callee). x.of) same
+called_of (Some d) c e = let same : d ≡ c = ap (λ o. unwrap_or o d) e in ap (λ (x : Callee). x.ty) same
 
-taken_of : (o : Option Callee) (n : ℕ) (f : Function) → o ≡ Some (callee_at n f) → taken_types o ≡ map (λ q. q.of) f.parameters
+taken_of : (o : Option Callee) (n : ℕ) (f : Function) → o ≡ Some (callee_at n f) → taken_types o ≡ map (λ q. q.ty) f.parameters
 taken_of None n f e = absurd (cc)
-taken_of (Some d) n f e = let same : d ≡ callee_at n f = ap (λ o. unwrap_or o d) e in ap (λ (x : Callee). map (λ q. q.of) x.parameters) same
+taken_of (Some d) n f e = let same : d ≡ callee_at n f = ap (λ o. unwrap_or o d) e in ap (λ (x : Callee). map (λ q. q.ty) x.parameters) same
 
 called_into : (o : Option Callee) (args : AllEmitted) (from into : ℕ) (l : Lists) → (call_code o args from into l).location.register ≡ into
 called_into None args from into l = refl
@@ -97,7 +97,7 @@ module _ (p : Program) (code : Code) (arguments : List ℕ) (layout : Layout) (t
     variable_emits : (home : Option ℕ) (o : Option (ℕ × Scalar)) (g : Option GlobalCells) (t : Scalar) → VariableFound (length scope) o g t → (from into free : ℕ) (l : Lists) → MayTake home free into →
         Emits code arguments layout (VariableCode code layout home (length scope) o g) from free l (variable o g from into l)
     variable_emits home (Some x) g t h from into free l m = in_local_emits code arguments layout (length scope) x.0 x.1 from free l h.0
-    variable_emits home None (Some g) t h from into free l m = one_emits code arguments layout home (λ r. Plain.Read r g.cell) (own.Read into g.cell) g.global.of from free into l refl m
+    variable_emits home None (Some g) t h from into free l m = one_emits code arguments layout home (λ r. Plain.Read r g.cell) (own.Read into g.cell) g.global.ty from free into l refl m
     variable_emits home None None t h from into free l m = absurd h
 
     element_at_emits : (home : Option ℕ) (A : Coded) (g : Option GlobalCells) (t : Scalar) → Found g t → (from into free : ℕ) (l : Lists) (e : Emitted) → Emits code arguments layout A from free l e → MayTake home free into →
@@ -166,7 +166,7 @@ module _ (p : Program) (code : Code) (arguments : List ℕ) (layout : Layout) (t
     own_is (Constant n t at) = refl
     own_is e = tt
 
-    call_emits : (home : Option ℕ) (x : List ℕ) (A : List Scalar → (from to free : ℕ) → List ℕ → Type 0) (c : Calls x) (o : Option Callee) → o ≡ Some (callee_at c.number c.definition.0) → (from into free : ℕ) (l : Lists) (args : AllEmitted) → AllEmits (A (map (λ q. q.of) c.definition.0.parameters)) from free l args → MayTake home free into →
+    call_emits : (home : Option ℕ) (x : List ℕ) (A : List Scalar → (from to free : ℕ) → List ℕ → Type 0) (c : Calls x) (o : Option Callee) → o ≡ Some (callee_at c.number c.definition.0) → (from into free : ℕ) (l : Lists) (args : AllEmitted) → AllEmits (A (map (λ q. q.ty) c.definition.0.parameters)) from free l args → MayTake home free into →
         Emits code arguments layout (CallCode code layout home p x A) from free l (call_code o args from into l)
     call_emits home x A c None e from into free l args h m = absurd (cc)
     call_emits home x A c (Some d) e from into free l args h m = subst (λ k. Emits code arguments layout (CallCode code layout home p x A) from free l (call_code (Some k) args from into l)) (sym (ap (λ o. unwrap_or o d) e)) whole

@@ -104,9 +104,9 @@ pub parameters_are : (qs : List Parameter) → map shape (parameter_locals qs) �
 parameters_are [] = refl
 parameters_are (q ∷ qs) = by q.name (parameters_are qs)
   where
-    by : (n : Option Name) → map shape (parameter_locals qs) ≡ shapes_of qs → map shape (unwrap_or (option_map (λ (x : Name). record { name = x.text; of = q.of; word = 0 } ∷ []) n) [] ++ parameter_locals qs) ≡ unwrap_or (option_map (λ (x : Name). (x.text, q.of) ∷ []) n) [] ++ shapes_of qs
+    by : (n : Option Name) → map shape (parameter_locals qs) ≡ shapes_of qs → map shape (unwrap_or (option_map (λ (x : Name). record { name = x.text; ty = q.ty; word = 0 } ∷ []) n) [] ++ parameter_locals qs) ≡ unwrap_or (option_map (λ (x : Name). (x.text, q.ty) ∷ []) n) [] ++ shapes_of qs
     by None h = h
-    by (Some x) h = ap (λ ls. (x.text, q.of) ∷ ls) h
+    by (Some x) h = ap (λ ls. (x.text, q.ty) ∷ ls) h
 
 -- arguments and texts go on; each function has its own number of registers
 pub record GoesOn (l m : Lists) : Type 0 where
@@ -162,8 +162,8 @@ module _ (p : Program) (typed : IsTypedProgram p) (cancels : CancelsAreFit p) wh
       let scope : LocalScope = parameter_locals f.parameters in
       let t = bodies_are_typed p typed f.name.text (f, body) e in
       let known : Scope = body_scope t.earlier f in
-      let vs : List Value = replicate n (record { of = Int; word = 0 }) in
-      let enters = all_enter f.parameters vs (length-replicate n (record { of = Int; word = 0 })) in
+      let vs : List Value = replicate n (record { ty = Int; word = 0 }) in
+      let enters = all_enter f.parameters vs (length-replicate n (record { ty = Int; word = 0 })) in
       let agrees : IsSubscope known (running_scope p scope) = agrees_by_shape p known scope (subst (λ m. IsSubscope known (scope_in p m)) (entered_shapes f.parameters vs enters.0 enters.1 ∙ sym (parameters_are f.parameters)) (shape_agrees p known enters.0 (t.fits vs enters.0 enters.1))) in
       let first : Lists = record l { registers = n; layout = found } in
       let made = all_written p body (no_exits f.result) scope from first in

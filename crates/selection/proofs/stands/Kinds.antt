@@ -10,28 +10,28 @@ use Rattle.selection.specs.Lists.{Lists}
 use Rattle.selection.specs.Names.{Callee, callee_of}
 use Rattle.selection.specs.Expressions.{Emitted, AllEmitted, converting, converted_by, in_type, variable, element, call_code, variable_type, element_type, called_type, taken_types, emitted_type, emitted, all_emitted}
 
-pub converted_of : (o : Option (ℕ → ℕ → Instr)) (u : Scalar) (e : Emitted) (into : ℕ) → (converted_by o u e into).location.of ≡ u
+pub converted_of : (o : Option (ℕ → ℕ → Instr)) (u : Scalar) (e : Emitted) (into : ℕ) → (converted_by o u e into).location.ty ≡ u
 converted_of None u e into = refl
 converted_of (Some i) u e into = refl
 
-pub in_type_of : (s u : Scalar) (e' : Expr) (e : Emitted) (from into : ℕ) (l : Lists) → (in_type s u e' e from into l).location.of ≡ u
+pub in_type_of : (s u : Scalar) (e' : Expr) (e : Emitted) (from into : ℕ) (l : Lists) → (in_type s u e' e from into l).location.ty ≡ u
 in_type_of s u (Constant n t at) e from into l = refl
 in_type_of s u e' e from into l = converted_of (converting s u) u e into
 
-variable_is : (o : Option (ℕ × Scalar)) (g : Option GlobalCells) (from into : ℕ) (l : Lists) → (variable o g from into l).location.of ≡ variable_type o g
+variable_is : (o : Option (ℕ × Scalar)) (g : Option GlobalCells) (from into : ℕ) (l : Lists) → (variable o g from into l).location.ty ≡ variable_type o g
 variable_is (Some x) g from into l = refl
 variable_is None (Some g) from into l = refl
 variable_is None None from into l = refl
 
-element_is : (g : Option GlobalCells) (e : Emitted) (from into : ℕ) (l : Lists) → (element g e from into l).location.of ≡ element_type g
+element_is : (g : Option GlobalCells) (e : Emitted) (from into : ℕ) (l : Lists) → (element g e from into l).location.ty ≡ element_type g
 element_is None e from into l = refl
 element_is (Some g) e from into l = refl
 
-called_is : (o : Option Callee) (args : AllEmitted) (from into : ℕ) (l : Lists) → (call_code o args from into l).location.of ≡ called_type o
+called_is : (o : Option Callee) (args : AllEmitted) (from into : ℕ) (l : Lists) → (call_code o args from into l).location.ty ≡ called_type o
 called_is None args from into l = refl
 called_is (Some f) args from into l = refl
 
-pub emitted_is : (p : Program) (scope : LocalScope) (e : Expr) (from into free : ℕ) (l : Lists) → (emitted p scope e from into free l).location.of ≡ emitted_type p scope e
+pub emitted_is : (p : Program) (scope : LocalScope) (e : Expr) (from into free : ℕ) (l : Lists) → (emitted p scope e from into free l).location.ty ≡ emitted_type p scope e
 emitted_is p scope (Variable x) from into free l = variable_is (newest scope x.text) (global_of p x.text) from into l
 emitted_is p scope (Constant n t at) from into free l = refl
 emitted_is p scope (Element x i at) from into free l = element_is (global_of p x.text) (emitted p scope i from free free l) from into l

@@ -18,18 +18,18 @@ newest_below : (i : ℕ) (ls : List Local) (x : List ℕ) (n : ℕ) (t : Scalar)
 newest_below i [] x n t e = absurd (cc)
 newest_below i (l ∷ ls) x n t e = by (newest_from (i + 1) ls x) (bytes_eq l.name x) (λ f. let h = newest_below (i + 1) ls x n t f in omega (arith, h)) e
   where
-    here : (b : Bool) → (own_or_none b i l.of) ≡ Some (n, t) → n < i + length (l ∷ ls)
+    here : (b : Bool) → (own_or_none b i l.ty) ≡ Some (n, t) → n < i + length (l ∷ ls)
     here true f = let g : i ≡ n = ap (λ (o : Option (ℕ × Scalar)). (unwrap_or o (0, t)).0) f in omega (arith, g)
     here false f = absurd (cc)
 
-    by : (o : Option (ℕ × Scalar)) (b : Bool) → (o ≡ Some (n, t) → n < i + length (l ∷ ls)) → option_or o (own_or_none b i l.of) ≡ Some (n, t) → n < i + length (l ∷ ls)
+    by : (o : Option (ℕ × Scalar)) (b : Bool) → (o ≡ Some (n, t) → n < i + length (l ∷ ls)) → option_or o (own_or_none b i l.ty) ≡ Some (n, t) → n < i + length (l ∷ ls)
     by None b h f = here b f
     by (Some m) b h f = h f
 
 -- a variable: one of the locals, or a global
 abbrev pub VariableFound : (locals : ℕ) → Option (ℕ × Scalar) → Option GlobalCells → Scalar → Type 0
 VariableFound locals (Some l) g t = (l.0 < locals) × (l.1 ≡ t)
-VariableFound locals None (Some g) t = g.global.of ≡ t
+VariableFound locals None (Some g) t = g.global.ty ≡ t
 VariableFound locals None None t = ⊥
 
 module _ (p : Program) (scope : List Local) where
@@ -44,7 +44,7 @@ module _ (p : Program) (scope : List Local) where
     where
       by_global : (g : Option GlobalCells) → Found g t → VariableFound (length scope) None g t
       by_global None h = absurd (cc h.1)
-      by_global (Some g) h = let f : g ≡ h.0 = ap (λ o. unwrap_or o g) h.1 in ap (λ k. k.global.of) f ∙ h.2
+      by_global (Some g) h = let f : g ≡ h.0 = ap (λ o. unwrap_or o g) h.1 in ap (λ k. k.global.ty) f ∙ h.2
 
       by : (o : Option (ℕ × Scalar)) → newest scope x ≡ o → (g : Option GlobalCells) → global_of p x ≡ g → over o x ≡ Number t → VariableFound (length scope) o g t
       by (Some l) n g m f = (let h = newest_below 0 scope x l.0 l.1 n in omega (arith, h), number_is l.1 t f)

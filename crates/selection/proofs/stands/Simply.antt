@@ -40,7 +40,7 @@ module _ (p : Program) where
   pub one_more_agrees : (known : Scope) (scope : LocalScope) (x : List ℕ) (t : Scalar) → IsSubscope known (running_scope p scope) → IsSubscope (with_number x t known) (running_scope p (with_local scope x t))
   one_more_agrees known scope x t h =
       agrees_by_shape p (with_number x t known) (with_local scope x t)
-      (subst (λ m. IsSubscope (with_number x t known) (scope_in p m)) (sym (map-append shape scope (record { name = x; of = t; word = 0 } ∷ [])))
+      (subst (λ m. IsSubscope (with_number x t known) (scope_in p m)) (sym (map-append shape scope (record { name = x; ty = t; word = 0 } ∷ [])))
       (one_more_fits p known (map shape scope) x t (shape_agrees p known scope h)))
 
   pub declared_agrees : (t : Scalar) (ds : List Declarator) (known : Scope) (scope : LocalScope) → IsSubscope known (running_scope p scope) → IsSubscope (knows t ds known) (running_scope p (with_declared t ds scope))
@@ -49,7 +49,7 @@ module _ (p : Program) where
 
   pub start_agrees : (s : Start) (known : Scope) (scope : LocalScope) → IsSubscope known (running_scope p scope) → IsSubscope (scope_of_start s known) (running_scope p (locals_of_start s scope))
   start_agrees Nothing known scope h = h
-  start_agrees (Declares d) known scope h = declared_agrees d.of d.declarators known scope h
+  start_agrees (Declares d) known scope h = declared_agrees d.ty d.declarators known scope h
   start_agrees (Does s) known scope h = h
 
 module _ (p : Program) (code : Code) (arguments : List ℕ) (layout : Layout) (typed : IsTypedProgram p) (stand : CalleesStand p code) (defined : DefinedAreCallees p) where
@@ -100,7 +100,7 @@ module _ (p : Program) (code : Code) (arguments : List ℕ) (layout : Layout) (t
           stands = λ k st. subst (λ q. CheckedAt code layout p q (ExprCode code layout p None scope i) from (e.location.to + 1) (length scope) (ElementOf g e.location.register)) (sym f) (record {
             mid = e.location.to;
             ri = e.location.register;
-            ti = e.location.of;
+            ti = e.location.ty;
             computes = h.stands k (front code arguments from e.code (test ∷ []) st);
             checks = (behind code arguments from e.location.to e.code (test ∷ []) h.to_is st).0;
             to_is = omega arith;
@@ -114,8 +114,8 @@ module _ (p : Program) (code : Code) (arguments : List ℕ) (layout : Layout) (t
       grows = h.grows;
       stands = λ k st. inr (subst (λ q. UncheckedAt code layout p q (ExprCode code layout p None scope i) from (e.location.to + 0) (length scope) (ElementOf g e.location.register)) (sym f) (record {
         ri = e.location.register;
-        ti = e.location.of;
-        computes = subst (λ q. ExprCode code layout p None scope i from q (length scope) e.location.register e.location.of) (omega arith) (h.stands k (front code arguments from e.code [] st));
+        ti = e.location.ty;
+        computes = subst (λ q. ExprCode code layout p None scope i from q (length scope) e.location.register e.location.ty) (omega arith) (h.stands k (front code arguments from e.code [] st));
         target_is = refl;
       }));
     }
@@ -179,7 +179,7 @@ module _ (p : Program) (code : Code) (arguments : List ℕ) (layout : Layout) (t
     abbrev RightEmits : Option Expr → Due → Type 0
     RightEmits by B = (u : Scalar) (from free : ℕ) (l : Lists) → Emits code arguments layout (λ from to free r x. B u from to free r (type_or_int p scope by)) from free l (value_or_one p scope u by from free l)
 
-    fetched_of : (t : Target) (from free : ℕ) (l : Lists) → (target_value (own_of t) from free l).location.of ≡ type_at (own_of t)
+    fetched_of : (t : Target) (from free : ℕ) (l : Lists) → (target_value (own_of t) from free l).location.ty ≡ type_at (own_of t)
     fetched_of (LocalAt x) from free l = refl
     fetched_of (CellAt g) from free l = refl
     fetched_of (ElementOf g ri) from free l = refl
@@ -250,14 +250,14 @@ module _ (p : Program) (code : Code) (arguments : List ℕ) (layout : Layout) (t
         record {
           to_is = g.to_is;
           grows = g.grows;
-          stands = λ f st. (v.location.register, record { free = length scope; room = omega arith; t = v.location.of; computes = g.stands f st });
+          stands = λ f st. (v.location.register, record { free = length scope; room = omega arith; t = v.location.ty; computes = g.stands f st });
         }
     simple_writes (Assign lhs None e) h from l = assigned_writes lhs e h.0 h.1 h.2 from l
     simple_writes (Assign lhs (Some op) e) h from l = adjusted_writes op lhs (Some e) (Operating code layout p scope e) (value_is_emitted e h.1) h.0 h.2 from l
     simple_writes (Adjust lhs by) h from l = adjusted_writes (op_of by) lhs None (OneCode code layout p) one_is_emitted h.0 h.1 from l
 
   one_longer : (scope : LocalScope) (x : List ℕ) (t : Scalar) → length (with_local scope x t) ≡ suc (length scope)
-  one_longer scope x t = let h : length (with_local scope x t) ≡ length scope + 1 = length-append scope (record { name = x; of = t; word = 0 } ∷ []) in omega (arith, h)
+  one_longer scope x t = let h : length (with_local scope x t) ≡ length scope + 1 = length-append scope (record { name = x; ty = t; word = 0 } ∷ []) in omega (arith, h)
 
   first_writes : (known : Scope) (scope : LocalScope) → IsSubscope known (running_scope p scope) → (i : ℕ) (t : Scalar) (first : Option Expr) → length scope ≡ suc i → IfSome first (TypedExpr known) → (from : ℕ) (l : Lists) →
       Writes p code arguments layout (FirstValueCode code layout p scope (i, t) first) from l (first_written p scope i t first from l)
@@ -306,5 +306,5 @@ module _ (p : Program) (code : Code) (arguments : List ℕ) (layout : Layout) (t
   pub start_writes : (s : Start) (known : Scope) (scope : LocalScope) → IsSubscope known (running_scope p scope) → TypedStart known s → (from : ℕ) (l : Lists) →
       Writes p code arguments layout (StartCode code layout p scope s) from l (start_written p s scope from l)
   start_writes Nothing known scope agrees h from l = nothing_writes p code arguments layout from l
-  start_writes (Declares d) known scope agrees h from l = declared_writes d.of d.declarators known scope agrees h from l
+  start_writes (Declares d) known scope agrees h from l = declared_writes d.ty d.declarators known scope agrees h from l
   start_writes (Does s) known scope agrees h from l = simple_writes known scope agrees s h from l

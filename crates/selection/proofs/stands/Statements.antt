@@ -119,7 +119,7 @@ module _ (p : Program) where
   -- a statement keeps what is known and its locals alike
   pub after_agrees : (s : Stmt) (known : Scope) (scope : LocalScope) → IsSubscope known (running_scope p scope) → IsSubscope (Typing.scope_after s known) (running_scope p (locals_after s scope))
   after_agrees Empty known scope h = h
-  after_agrees (Declare d) known scope h = declared_agrees p d.of d.declarators known scope h
+  after_agrees (Declare d) known scope h = declared_agrees p d.ty d.declarators known scope h
   after_agrees (Do s) known scope h = h
   after_agrees (Block ss) known scope h = h
   after_agrees (Print at format format_at es) known scope h = h
@@ -396,7 +396,7 @@ module _ (p : Program) (code : Code) (arguments : List ℕ) (layout : Layout) (t
       let x = due p scope v e from (length scope) (length scope) l in
       let i : Instr = own.ReturnValue x.location.register in
       let A : Coded = λ from to free r t. TypedCode code layout None e (ExprCode code layout p None scope e) v from to free r in
-      then_writes p code arguments layout (λ from to. A from to (length scope) x.location.register x.location.of) (λ from to. Leaves code layout p from n (Plain.Return (Some x.location.register)))
+      then_writes p code arguments layout (λ from to. A from to (length scope) x.location.register x.location.ty) (λ from to. Leaves code layout p from n (Plain.Return (Some x.location.register)))
       (λ from to. (mid : ℕ) × (r : ℕ) × ResultCode code layout p scope u e from mid r × Leaves code layout p mid m (Plain.Return (Some r))) from l (code_of_value x) (left_by n i x.location.to x.lists)
       (evaluated_writes p code arguments layout A from (length scope) l x (due_emits p code arguments layout typed stand defined known scope agrees None v e h from (length scope) (length scope) l (omega arith)))
       (left_writes p code arguments layout n i x.location.to x.lists)
@@ -465,7 +465,7 @@ module _ (p : Program) (code : Code) (arguments : List ℕ) (layout : Layout) (t
     pub stmt_writes : (s : Stmt) (known : Scope) (looping : Bool) (scope : LocalScope) (x : OwnExits) (y : Exits) → IsSubscope known (running_scope p scope) → SameExits x y → TypedStmt s known looping → CancelsFit s (enclosing y) → (from : ℕ) (l : Lists) →
         Writes p code arguments layout (StmtCode code layout p y scope s) from l (written p s x scope from l)
     stmt_writes Empty known looping scope x y agrees same h c from l = nothing_writes p code arguments layout from l
-    stmt_writes (Declare d) known looping scope x y agrees same h c from l = declared_writes p code arguments layout typed stand defined d.of d.declarators known scope agrees h from l
+    stmt_writes (Declare d) known looping scope x y agrees same h c from l = declared_writes p code arguments layout typed stand defined d.ty d.declarators known scope agrees h from l
     stmt_writes (Do s) known looping scope x y agrees same h c from l = simple_writes p code arguments layout typed stand defined known scope agrees s h from l
     stmt_writes (Block ss) known looping scope x y agrees same h c from l = stmts_write ss known looping scope x y agrees same h c from l
     stmt_writes (Print at format format_at es) known looping scope x y agrees same h c from l = print_writes known scope agrees format es h.0 h.1 from l

@@ -23,8 +23,8 @@ use Rattle.selection.proofs.stands.Emitting.{above_free, above_it, Emits, one_em
 -- a target as the generator keeps it
 abbrev pub own_of : Target → OwnTarget
 own_of (LocalAt l) = target.Local l.0 l.1
-own_of (CellAt g) = target.Cell g.cell g.global.of
-own_of (ElementOf g ri) = target.Element ri g.cell (cells g.global) g.global.of
+own_of (CellAt g) = target.Cell g.cell g.global.ty
+own_of (ElementOf g ri) = target.Element ri g.cell (cells g.global) g.global.ty
 
 pub spares : (t : Target) (free : ℕ) → Spares t (above_target (own_of t) free)
 spares (LocalAt l) free = tt
@@ -68,16 +68,16 @@ module _ (p : Program) (code : Code) (arguments : List ℕ) (layout : Layout) wh
   }
 
   pub evaluated_writes : (A : Coded) (from free : ℕ) (l : Lists) (e : Emitted) → Emits code arguments layout A from free l e →
-      Writes (λ from to. A from to free e.location.register e.location.of) from l (code_of_value e)
+      Writes (λ from to. A from to free e.location.register e.location.ty) from l (code_of_value e)
   evaluated_writes A from free l e h = record { to_is = h.to_is; grows = h.grows; stands = h.stands }
 
   pub fetched_emits : (t : Target) (from free : ℕ) (l : Lists) → Emits code arguments layout (FetchCode code layout p t) from free l (target_value (own_of t) from free l)
   fetched_emits (LocalAt x) from free l =
       let h = in_local_emits code arguments layout (suc x.0) x.0 x.1 from free l (omega arith) in
       record { to_is = h.to_is; grows = h.grows; stands = λ f st. (refl, refl, refl) }
-  fetched_emits (CellAt g) from free l = one_emits code arguments layout None (λ r. Plain.Read r g.cell) (own.Read free g.cell) g.global.of from free free l refl (omega arith)
+  fetched_emits (CellAt g) from free l = one_emits code arguments layout None (λ r. Plain.Read r g.cell) (own.Read free g.cell) g.global.ty from free free l refl (omega arith)
   fetched_emits (ElementOf g ri) from free l =
-      one_emits code arguments layout None (λ r. Plain.ReadAt r g.cell (cells g.global) ri) (own.ReadAt free ri g.cell (cells g.global)) g.global.of from free free l refl (omega arith)
+      one_emits code arguments layout None (λ r. Plain.ReadAt r g.cell (cells g.global) ri) (own.ReadAt free ri g.cell (cells g.global)) g.global.ty from free free l refl (omega arith)
 
   pub stored_writes : (t : Target) (r from : ℕ) (l : Lists) → Writes (λ from to. StoreCode code layout p t r from to) from l (target_store (own_of t) r from l)
   stored_writes (LocalAt x) r from l = by (r == x.0) refl
@@ -93,15 +93,15 @@ module _ (p : Program) (code : Code) (arguments : List ℕ) (layout : Layout) wh
   pub record ValueStored (A : Coded) (free : ℕ) (t : Target) (from to : ℕ) : Type 0 where
     pub mid : ℕ
     pub r : ℕ
-    pub of : Scalar
-    pub value : A from mid free r of
+    pub ty : Scalar
+    pub value : A from mid free r ty
     pub stores : StoreCode code layout p t r mid to
 
   pub then_stored_writes : (A : Coded) (t : Target) (from free : ℕ) (l : Lists) (e : Emitted) → Emits code arguments layout A from free l e → Writes (ValueStored A free t) from l (then_stored (own_of t) e)
   then_stored_writes A t from free l e h =
-      then_writes (λ from to. A from to free e.location.register e.location.of) (λ from to. StoreCode code layout p t e.location.register from to) (ValueStored A free t) from l (code_of_value e) (target_store (own_of t) e.location.register e.location.to e.lists)
+      then_writes (λ from to. A from to free e.location.register e.location.ty) (λ from to. StoreCode code layout p t e.location.register from to) (ValueStored A free t) from l (code_of_value e) (target_store (own_of t) e.location.register e.location.to e.lists)
       (evaluated_writes A from free l e h) (stored_writes t e.location.register e.location.to e.lists)
-      (λ v s. record { mid = e.location.to; r = e.location.register; of = e.location.of; value = v; stores = s })
+      (λ v s. record { mid = e.location.to; r = e.location.register; ty = e.location.ty; value = v; stores = s })
 
   -- a value in the type of its target
   pub record Fitted (A : Coded) (t : Target) (s : Scalar) (from to free r : ℕ) : Type 0 where
@@ -116,7 +116,7 @@ module _ (p : Program) (code : Code) (arguments : List ℕ) (layout : Layout) wh
     value : A from mid free ra s
     converts : ConvertedBy code layout (lowered_widening s u) None u ra mid to free r
 
-  widened_emits : (A : Coded) (s u : Scalar) (from free into : ℕ) (l : Lists) (e : Emitted) → Emits code arguments layout A from free l e → e.location.of ≡ s → free ≤ into →
+  widened_emits : (A : Coded) (s u : Scalar) (from free into : ℕ) (l : Lists) (e : Emitted) → Emits code arguments layout A from free l e → e.location.ty ≡ s → free ≤ into →
       Emits code arguments layout (λ from to free r x. Widened A s u from to free r) from free l (converted_by (widening s u) u e into)
   widened_emits A Int LongLong from free into l e h q m =
       then_emits code arguments layout A (λ from to free r x. Widened A Int LongLong from to free r) None (own.Extend into e.location.register) LongLong from free into l e h m
@@ -127,16 +127,16 @@ module _ (p : Program) (code : Code) (arguments : List ℕ) (layout : Layout) wh
     stands = λ f st. record { mid = e.location.to; ra = e.location.register; value = subst (λ x. A from e.location.to free e.location.register x) q (h.stands f st); converts = (refl, refl) };
   }
 
-  pub fitting_emits : (t : Target) (A : Coded) (s : Scalar) (from free : ℕ) (l : Lists) (e : Emitted) → Emits code arguments layout A from free l e → e.location.of ≡ s →
+  pub fitting_emits : (t : Target) (A : Coded) (s : Scalar) (from free : ℕ) (l : Lists) (e : Emitted) → Emits code arguments layout A from free l e → e.location.ty ≡ s →
       Emits code arguments layout (λ from to free r x. Fitted A t s from to free r) from free l (fitting (own_of t) s e (home_or (own_of t) free))
   fitting_emits (LocalAt y) A s from free l e h q =
       let g = converted_emits code arguments layout (Some y.0) A s y.1 from free y.0 l e h q (inr refl) in
       record { to_is = g.to_is; grows = g.grows; stands = λ f st. (let c = g.stands f st in record { mid = c.mid; ra = c.ra; value = c.computes; converts = c.converts }) }
   fitting_emits (CellAt y) A s from free l e h q =
-      let g = widened_emits A s y.global.of from free free l e h q (omega arith) in
+      let g = widened_emits A s y.global.ty from free free l e h q (omega arith) in
       record { to_is = g.to_is; grows = g.grows; stands = λ f st. (let c = g.stands f st in record { mid = c.mid; ra = c.ra; value = c.value; converts = c.converts }) }
   fitting_emits (ElementOf y ri) A s from free l e h q =
-      let g = widened_emits A s y.global.of from free free l e h q (omega arith) in
+      let g = widened_emits A s y.global.ty from free free l e h q (omega arith) in
       record { to_is = g.to_is; grows = g.grows; stands = λ f st. (let c = g.stands f st in record { mid = c.mid; ra = c.ra; value = c.value; converts = c.converts }) }
 
   -- a constant that is set in the type of its target, and goes there
@@ -154,11 +154,11 @@ module _ (p : Program) (code : Code) (arguments : List ℕ) (layout : Layout) wh
       })
 
   -- an expression's value goes to its target
-  pub expr_stored : (scope : LocalScope) (e : Expr) (t : Target) (s : Scalar) (from free : ℕ) (l : Lists) (x : Emitted) → Emits code arguments layout (ExprCode code layout p (home_of t) scope e) from free l x → x.location.of ≡ s →
+  pub expr_stored : (scope : LocalScope) (e : Expr) (t : Target) (s : Scalar) (from free : ℕ) (l : Lists) (x : Emitted) → Emits code arguments layout (ExprCode code layout p (home_of t) scope e) from free l x → x.location.ty ≡ s →
       Writes (λ from to. ExprStored code layout p scope t e from to free) from l (then_stored (own_of t) (expr_fitting (own_of t) s e x from (home_or (own_of t) free) l))
   expr_stored scope (Constant n k at) (LocalAt y) s from free l x h q = word_stored (LocalAt y) (constant_in y.1 k n) y.1 refl from free l
-  expr_stored scope (Constant n k at) (CellAt y) s from free l x h q = word_stored (CellAt y) (constant_in y.global.of k n) y.global.of refl from free l
-  expr_stored scope (Constant n k at) (ElementOf y ri) s from free l x h q = word_stored (ElementOf y ri) (constant_in y.global.of k n) y.global.of refl from free l
+  expr_stored scope (Constant n k at) (CellAt y) s from free l x h q = word_stored (CellAt y) (constant_in y.global.ty k n) y.global.ty refl from free l
+  expr_stored scope (Constant n k at) (ElementOf y ri) s from free l x h q = word_stored (ElementOf y ri) (constant_in y.global.ty k n) y.global.ty refl from free l
   expr_stored scope e t s from free l x h q =
       let A : Coded = ExprCode code layout p (home_of t) scope e in
       let made = fitting (own_of t) s x (home_or (own_of t) free) in

@@ -52,13 +52,13 @@ module _ (p : Program) (code : Code) (arguments : List ℕ) (f : FunctionCode) (
 
     variable_sound : (o : Option (ℕ × Scalar)) (g : Option GlobalCells) → (o ≡ None → (c : GlobalCells) → g ≡ Some c → c.cell + 1 ≤ cells_of code) → (from into : ℕ) (l : Lists) → Sound code arguments f end from l (variable o g from into l)
     variable_sound (Some x) g h from into l = in_local_sound code arguments f end x.0 x.1 from l
-    variable_sound None (Some c) h from into l = one_sound code arguments f end (own.Read into c.cell) from into c.global.of l (λ q bs. (refl, tt)) (λ r s. (r, h refl c refl))
+    variable_sound None (Some c) h from into l = one_sound code arguments f end (own.Read into c.cell) from into c.global.ty l (λ q bs. (refl, tt)) (λ r s. (r, h refl c refl))
     variable_sound None None h from into l = one_sound code arguments f end (own.Constant into 0) from into Int l (λ q bs. (refl, tt)) (λ r s. (r, omega arith))
 
     element_sound : (g : Option GlobalCells) → ((c : GlobalCells) → g ≡ Some c → c.cell + cells c.global ≤ cells_of code) → (from into : ℕ) (l : Lists) (e : Emitted) → Sound code arguments f end from l e → Sound code arguments f end from l (element g e from into l)
     element_sound None h from into l e s = one_sound code arguments f end (own.Constant into 0) from into Int l (λ q bs. (refl, tt)) (λ r s. (r, omega arith))
     element_sound (Some c) h from into l e s =
-        then_sound code arguments f end (own.ReadAt into e.location.register c.cell (cells c.global)) into c.global.of from l e s (λ q bs. (refl, tt)) (λ r i. (r, i, h c refl))
+        then_sound code arguments f end (own.ReadAt into e.location.register c.cell (cells c.global)) into c.global.ty from l e s (λ q bs. (refl, tt)) (λ r i. (r, i, h c refl))
 
     call_counts : (x : Name) (n : ℕ) → Knows known x → IsTrue (may_be_function (known x.text)) → IsTrue (takes_so_many (known x.text) n) → (c : Callee) → callee_of p x.text ≡ Some c → n ≡ length c.parameters
     call_counts x n h m many c e =
@@ -66,8 +66,8 @@ module _ (p : Program) (code : Code) (arguments : List ℕ) (f : FunctionCode) (
         let d = function_found p scope typed x.text k.0 k.1 (agrees x.text h ∙ k.2) in
         let at = defined x.text d.0.0 d.0.1 d.1 in
         let number : n ≡ length k.1 = eqb-true n (length k.1) (subst (λ y. IsTrue (takes_so_many y n)) k.2 many) in
-        let as_many : length (map (λ q. q.of) d.0.0.parameters) ≡ length k.1 = ap number_taken d.2 in
-        let mapped : length (map (λ q. q.of) d.0.0.parameters) ≡ length d.0.0.parameters = length-map d.0.0.parameters (λ q. q.of) in
+        let as_many : length (map (λ q. q.ty) d.0.0.parameters) ≡ length k.1 = ap number_taken d.2 in
+        let mapped : length (map (λ q. q.ty) d.0.0.parameters) ≡ length d.0.0.parameters = length-map d.0.0.parameters (λ q. q.ty) in
         let same : callee_at at.0 d.0.0 ≡ c = ap (λ o. unwrap_or o (callee_at at.0 d.0.0)) (sym at.1 ∙ e) in
         number ∙ sym as_many ∙ mapped ∙ ap (λ (y : Callee). length y.parameters) same
 

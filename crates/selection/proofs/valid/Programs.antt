@@ -78,8 +78,8 @@ number_taken k = 0
 -- the number of parameters is that of the types that a function takes
 parameters_of : (f : Function) (result : Option Scalar) (takes : List Scalar) → known_function f ≡ Callable result takes → length f.parameters ≡ length takes
 parameters_of f result takes e =
-    let a : length (map (λ q. q.of) f.parameters) ≡ length takes = ap number_taken e in
-    let b : length (map (λ q. q.of) f.parameters) ≡ length f.parameters = length-map f.parameters (λ q. q.of) in
+    let a : length (map (λ q. q.ty) f.parameters) ≡ length takes = ap number_taken e in
+    let b : length (map (λ q. q.ty) f.parameters) ≡ length f.parameters = length-map f.parameters (λ q. q.ty) in
     sym b ∙ a
 
 -- a definition's name is not that of an earlier one
@@ -135,8 +135,8 @@ module _ (p : Program) (typed : IsTypedProgram p) (cancels : CancelsAreFit p) (c
       let scope : LocalScope = parameter_locals f.parameters in
       let t = bodies_are_typed p typed f.name.text (f, body) e in
       let known : Scope = body_scope t.earlier f in
-      let vs : List Value = replicate n (record { of = Int; word = 0 }) in
-      let enters = all_enter f.parameters vs (length-replicate n (record { of = Int; word = 0 })) in
+      let vs : List Value = replicate n (record { ty = Int; word = 0 }) in
+      let enters = all_enter f.parameters vs (length-replicate n (record { ty = Int; word = 0 })) in
       let agrees : IsSubscope known (running_scope p scope) = agrees_by_shape p known scope (subst (λ m. IsSubscope known (scope_in p m)) (entered_shapes f.parameters vs enters.0 enters.1 ∙ sym (parameters_are f.parameters)) (shape_agrees p known enters.0 (t.fits vs enters.0 enters.1))) in
       let first : Lists = record l { registers = n; layout = layout } in
       let made = all_written p body (no_exits f.result) scope from first in

@@ -21,10 +21,10 @@ use Rattle.syntax.proofs.Demands.{AreMet, met_before, met_behind, is_met}
 -- a global has as many words as cells
 words_are : (g : Global) → length (first_words g) ≡ cells g
 words_are g =
-    let given : List ℕ = map (first_word g.of) g.first in
+    let given : List ℕ = map (first_word g.ty) g.first in
     let zeroes : List ℕ = replicate (cells g - length g.first) 0 in
     let a : length (first_words g) ≡ length (take (cells g) given) + length zeroes = length-append (take (cells g) given) zeroes in
-    let b : length given ≡ length g.first = length-map g.first (first_word g.of) in
+    let b : length given ≡ length g.first = length-map g.first (first_word g.ty) in
     let c : length zeroes ≡ cells g - length g.first = length-replicate (cells g - length g.first) 0 in
     let d : length (take (cells g) given) ≡ min (cells g) (length given) = length-take (cells g) given in
     omega (arith, a, b, c, d)
@@ -46,9 +46,9 @@ cells_lie n (g ∷ gs) x c e = by (bytes_eq g.name.text x) (λ h. cells_lie (n +
     by false h f = let r = h f in let w = words_are g in omega (arith, r, w, whole)
 
 -- what the file knows as a variable has one cell
-one_cell : (of t : Scalar) (l : Option (ℕ × Span)) → unwrap_or (option_map (λ n. Array of n.0) l) (Number of) ≡ Number t → unwrap_or (option_map (λ n. n.0) l) 1 ≡ 1
-one_cell of t None e = refl
-one_cell of t (Some n) e = absurd (cc)
+one_cell : (ty t : Scalar) (l : Option (ℕ × Span)) → unwrap_or (option_map (λ n. Array ty n.0) l) (Number ty) ≡ Number t → unwrap_or (option_map (λ n. n.0) l) 1 ≡ 1
+one_cell ty t None e = refl
+one_cell ty t (Some n) e = absurd (cc)
 
 among_has : (gs more : List Global) (rest : Scope) (n : ℕ) (x : List ℕ) (t : Scalar) (c : GlobalCells) → ((m : ℕ) → rest x ≡ Number t → global_from m more x ≡ Some c → cells c.global ≡ 1) → known_among gs rest x ≡ Number t → global_from n (gs ++ more) x ≡ Some c → cells c.global ≡ 1
 among_has [] more rest n x t c h k e = h n k e
@@ -58,7 +58,7 @@ among_has (g ∷ gs) more rest n x t c h k e = by (bytes_eq g.name.text x) (λ a
     by true others a b =
         let here : GlobalCells = record { global = g; cell = n } in
         let same : here ≡ c = ap (λ o. unwrap_or o here) b in
-        sym (ap (λ (d : GlobalCells). cells d.global) same) ∙ one_cell g.of t g.length a
+        sym (ap (λ (d : GlobalCells). cells d.global) same) ∙ one_cell g.ty t g.length a
     by false others a b = others a b
 
 pub variable_has_one : (items : Program) (n : ℕ) (x : List ℕ) (t : Scalar) (c : GlobalCells) → file_scope items x ≡ Number t → global_from n (globals items) x ≡ Some c → cells c.global ≡ 1

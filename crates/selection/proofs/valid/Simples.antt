@@ -264,5 +264,5 @@ module _ (code : Code) (arguments : List ℕ) (f : FunctionCode) (end : ℕ) whe
 
     pub start_flat : (s : Start) (known : Scope) (scope : LocalScope) → IsSubscope known (running_scope p scope) → TypedStart known s → (from : ℕ) (l : Lists) → Flat from l (start_written p s scope from l)
     start_flat Nothing known scope agrees h from l = nothing_flat from l
-    start_flat (Declares d) known scope agrees h from l = declared_flat d.of d.declarators known scope agrees h from l
+    start_flat (Declares d) known scope agrees h from l = declared_flat d.ty d.declarators known scope agrees h from l
     start_flat (Does s) known scope agrees h from l = simple_flat known scope agrees s h from l

@@ -89,7 +89,7 @@ word_fits LongLong z = word_below LongLong z
 pub settled_into : (r : ℕ) (e : Emitted) → (value_into r e).location.register ≡ r
 settled_into r e = by (e.location.register == r) refl
   where
-    by : (b : Bool) → (e.location.register == r) ≡ b → (if b then e else then_one e (own.Move r e.location.register) r e.location.of).location.register ≡ r
+    by : (b : Bool) → (e.location.register == r) ≡ b → (if b then e else then_one e (own.Move r e.location.register) r e.location.ty).location.register ≡ r
     by true n = eqb-true e.location.register r n
     by false n = refl
 
@@ -214,20 +214,20 @@ module _ (code : Code) (arguments : List ℕ) (f : FunctionCode) (end : ℕ) whe
       }
 
   pub negated_sound : (into from : ℕ) (l : Lists) (e : Emitted) → Sound from l e → Sound from l (negation e into)
-  negated_sound into from l e h = by e.location.of
+  negated_sound into from l e h = by e.location.ty
     where
-      by : (t : Scalar) → Sound from l (then_one e (negating t into e.location.register) into e.location.of)
-      by Int = then_sound (own.NegateSigned into e.location.register) into e.location.of from l e h (λ q bs. (refl, tt)) (λ x y. (x, y))
-      by Unsigned = then_sound (own.NegateUnsigned into e.location.register) into e.location.of from l e h (λ q bs. (refl, tt)) (λ x y. (x, y))
-      by LongLong = then_sound (own.NegateLong into e.location.register) into e.location.of from l e h (λ q bs. (refl, tt)) (λ x y. (x, y))
+      by : (t : Scalar) → Sound from l (then_one e (negating t into e.location.register) into e.location.ty)
+      by Int = then_sound (own.NegateSigned into e.location.register) into e.location.ty from l e h (λ q bs. (refl, tt)) (λ x y. (x, y))
+      by Unsigned = then_sound (own.NegateUnsigned into e.location.register) into e.location.ty from l e h (λ q bs. (refl, tt)) (λ x y. (x, y))
+      by LongLong = then_sound (own.NegateLong into e.location.register) into e.location.ty from l e h (λ q bs. (refl, tt)) (λ x y. (x, y))
 
   pub complemented_sound : (into from : ℕ) (l : Lists) (e : Emitted) → Sound from l e → Sound from l (complement e into)
-  complemented_sound into from l e h = by e.location.of
+  complemented_sound into from l e h = by e.location.ty
     where
-      by : (t : Scalar) → Sound from l (then_one e (complementing t into e.location.register) into e.location.of)
-      by Int = then_sound (own.Complement into e.location.register) into e.location.of from l e h (λ q bs. (refl, tt)) (λ x y. (x, y))
-      by Unsigned = then_sound (own.Complement into e.location.register) into e.location.of from l e h (λ q bs. (refl, tt)) (λ x y. (x, y))
-      by LongLong = then_sound (own.ComplementLong into e.location.register) into e.location.of from l e h (λ q bs. (refl, tt)) (λ x y. (x, y))
+      by : (t : Scalar) → Sound from l (then_one e (complementing t into e.location.register) into e.location.ty)
+      by Int = then_sound (own.Complement into e.location.register) into e.location.ty from l e h (λ q bs. (refl, tt)) (λ x y. (x, y))
+      by Unsigned = then_sound (own.Complement into e.location.register) into e.location.ty from l e h (λ q bs. (refl, tt)) (λ x y. (x, y))
+      by LongLong = then_sound (own.ComplementLong into e.location.register) into e.location.ty from l e h (λ q bs. (refl, tt)) (λ x y. (x, y))
 
   pub compared_sound : (into free from : ℕ) (l : Lists) (e : Emitted) → Sound from l e → Sound from l (logical_negation e into free)
   compared_sound into free from l e h =
@@ -270,7 +270,7 @@ module _ (code : Code) (arguments : List ℕ) (f : FunctionCode) (end : ℕ) whe
   pub ready_or_sound : (w : ℕ) (t : Scalar) (from : ℕ) (l : Lists) (e : Emitted) → Sound from l e → OperandSound from l (ready_or (ready l.layout w t from) l e)
   ready_or_sound w t from l e h = by (ready_from l.layout.writable l.layout.constants w) refl
     where
-      by : (o : Option ℕ) → ready_from l.layout.writable l.layout.constants w ≡ o → OperandSound from l (ready_or (option_map (λ r. record { register = r; of = t; to = from }) o) l e)
+      by : (o : Option ℕ) → ready_from l.layout.writable l.layout.constants w ≡ o → OperandSound from l (ready_or (option_map (λ r. record { register = r; ty = t; to = from }) o) l e)
       by None n = computed_sound from l e h
       by (Some r) n = record { to_is = omega arith; grows = grows_same l; location = λ k. k.ready w r n; balanced = λ q bs. refl; goods = λ o bs k run. tt }
 
@@ -459,9 +459,9 @@ module _ (code : Code) (arguments : List ℕ) (f : FunctionCode) (end : ℕ) whe
   pub settled_sound : (r from : ℕ) (l : Lists) (e : Emitted) → Sound from l e → Sound from l (value_into r e)
   settled_sound r from l e h = by (e.location.register == r)
     where
-      by : (b : Bool) → Sound from l (if b then e else then_one e (own.Move r e.location.register) r e.location.of)
+      by : (b : Bool) → Sound from l (if b then e else then_one e (own.Move r e.location.register) r e.location.ty)
       by true = h
-      by false = then_sound (own.Move r e.location.register) r e.location.of from l e h (λ q bs. (refl, tt)) (λ x y. (x, y))
+      by false = then_sound (own.Move r e.location.register) r e.location.ty from l e h (λ q bs. (refl, tt)) (λ x y. (x, y))
 
   pub chosen_sound : (t : Scalar) (into from : ℕ) (l : Lists) (c : Condition) (a b : Emitted) → TestSound from l c → Sound (c.to + 1) c.lists a → Sound (a.location.to + 1) a.lists b → b.location.register ≡ into → Sound from l (conditional_value t c a b into)
   chosen_sound t into from l c a b h g w same =

@@ -308,7 +308,7 @@ module _ (code : Code) (arguments : List ℕ) (f : FunctionCode) (end : ℕ) whe
           Part code arguments f end (Exiting code arguments f end bs x loops m) bs from l (written p s x scope from l)
       stmt_part Empty known loops scope x m agrees h c bs from l = flat_part code arguments f end (Exiting code arguments f end bs x loops m) bs from l (nothing_written from l) (nothing_flat code arguments f end from l)
       stmt_part (Declare d) known loops scope x m agrees h c bs from l =
-          flat_part code arguments f end (Exiting code arguments f end bs x loops m) bs from l (written p (Declare d) x scope from l) (declared_flat code arguments f end p typed takes defined shares d.of d.declarators known scope agrees h from l)
+          flat_part code arguments f end (Exiting code arguments f end bs x loops m) bs from l (written p (Declare d) x scope from l) (declared_flat code arguments f end p typed takes defined shares d.ty d.declarators known scope agrees h from l)
       stmt_part (Do s) known loops scope x m agrees h c bs from l =
           flat_part code arguments f end (Exiting code arguments f end bs x loops m) bs from l (written p (Do s) x scope from l) (simple_flat code arguments f end p typed takes defined shares known scope agrees s h from l)
       stmt_part (Block ss) known loops scope x m agrees h c bs from l = stmts_part ss known loops scope x m agrees h c bs from l

@@ -19,7 +19,7 @@ returns-then-cells-words g c =
     let long = length-drop c.each.from c.args.words.now in (
       λ t. absurd (cc t),
       λ is.
-          let enough = (all_behind item.of (cells item) (cell_types (map global_of (drop (c.each.global-index + 1) c.args.globals.now))) words (subst (λ bs. IsMemory bs words) bounds (c.each.invariant.1.0 is))).0 in
+          let enough = (all_behind item.ty (cells item) (cell_types (map global_of (drop (c.each.global-index + 1) c.args.globals.now))) words (subst (λ bs. IsMemory bs words) bounds (c.each.invariant.1.0 is))).0 in
           absurd (omega (arith, enough, long, many, same)),
     )
 
@@ -32,8 +32,8 @@ returns-then-not-are_words g c =
     let count : c.each.from + c.cell_count-cells.result - c.each.from ≡ cells item = omega (arith, same) in (
       λ t. absurd (cc t),
       λ is.
-          let each = each_before item.of (cells item) (cell_types (map global_of (drop (c.each.global-index + 1) c.args.globals.now))) words (subst (λ bs. IsMemory bs words) bounds (c.each.invariant.1.0 is)) in
-          let yes = c.are_words.ensures.1 (subst (λ n. EachIndex (take n words) (λ i. slice_index (take n words) i < modulus item.of)) (sym count) each) in
+          let each = each_before item.ty (cells item) (cell_types (map global_of (drop (c.each.global-index + 1) c.args.globals.now))) words (subst (λ bs. IsMemory bs words) bounds (c.each.invariant.1.0 is)) in
+          let yes = c.are_words.ensures.1 (subst (λ n. EachIndex (take n words) (λ i. slice_index (take n words) i < modulus item.ty)) (sym count) each) in
           let no = c.if-not-are_words.true in
           absurd (cc (yes, no)),
     )
@@ -50,11 +50,11 @@ each-preserved g c =
     let long = length-drop c.each.from c.args.words.now in
     let count : c.each.from + c.cell_count-cells.result - c.each.from ≡ cells item = omega (arith, same) in
     let on = drop-drop (cells item) c.each.from c.args.words.now ∙ ap (λ n. drop (c.each.from + n) c.args.words.now) (sym same) in
-    let each = subst (λ n. EachIndex (take n words) (λ i. slice_index (take n words) i < modulus item.of)) count (c.are_words.ensures.0 c.if-not-are_words.false) in (
+    let each = subst (λ n. EachIndex (take n words) (λ i. slice_index (take n words) i < modulus item.ty)) count (c.are_words.ensures.0 c.if-not-are_words.false) in (
       omega (arith, few, in_time),
       (
-        λ is. subst (IsMemory (bounds_of left)) on (all_behind item.of (cells item) (cell_types left) words (subst (λ bs. IsMemory bs words) bounds (c.each.invariant.1.0 is))).1,
-        λ is. c.each.invariant.1.1 (subst (λ bs. IsMemory bs words) (sym bounds) (cells_before item.of (cells item) (cell_types left) words (omega (arith, few, same, long)) each (subst (IsMemory (bounds_of left)) (sym on) is))),
+        λ is. subst (IsMemory (bounds_of left)) on (all_behind item.ty (cells item) (cell_types left) words (subst (λ bs. IsMemory bs words) bounds (c.each.invariant.1.0 is))).1,
+        λ is. c.each.invariant.1.1 (subst (λ bs. IsMemory bs words) (sym bounds) (cells_before item.ty (cells item) (cell_types left) words (omega (arith, few, same, long)) each (subst (IsMemory (bounds_of left)) (sym on) is))),
       ),
     )
 

@@ -44,7 +44,7 @@ returns-in_err-to-in-Figure g c =
 pub returns-then-k-registers : goal.returns-then-k-registers
 returns-then-k-registers g c =
     let u = c.units in
-    let last = no_register c.args.format.now c.args.registers.now u.bytes.items u.i u.k u.to (lists_of u.lists) c.in-Figure.of c.in-Figure.next c.in-Figure.ensures.is c.if-k-registers.true in
+    let last = no_register c.args.format.now c.args.registers.now u.bytes.items u.i u.k u.to (lists_of u.lists) c.in-Figure.ty c.in-Figure.next c.in-Figure.ensures.is c.if-k-registers.true in
     goes_on (ap (written_behind u.code.items) (sym last) ∙ u.invariant.code) c.put_text.ensures
 
 pub returns : goal.returns

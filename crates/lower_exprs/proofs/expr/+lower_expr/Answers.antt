@@ -151,7 +151,7 @@ lower_conditional-returns-in_err-t g t c =
 pub lower_settled-returns-clause-code : goal.lower_settled-returns-clause-code
 lower_settled-returns-clause-code g t c =
     let k = c.in_ok-held.ensures in
-    same (settled_behind c.args.into (due (program_in c.args.names.now) (scope_in c.args.scope.now) c.args.of (expr_of c.args.e.now) c.args.from c.args.into c.args.free (lists_of c.args.lists.now)))
+    same (settled_behind c.args.into (due (program_in c.args.names.now) (scope_in c.args.scope.now) c.args.ty (expr_of c.args.e.now) c.args.from c.args.into c.args.free (lists_of c.args.lists.now)))
     (in_turn k (λ j. of_value (value_into c.args.into (in_place (k.end j) (k.lists j)))) c.settle.ensures.code)
 
 pub lower_in_transaction-returns : goal.lower_in_transaction-returns
@@ -395,47 +395,47 @@ pub lower_expr-returns-in_ok-b-in-Binary : goal.lower_expr-returns-in_ok-b-in-Bi
 lower_expr-returns-in_ok-b-in-Binary g t c =
     let eo = c.value_type-own.ensures ∙ ap (λ x. emitted_type (program_in c.args.names.now) (scope_in c.args.scope.now) (expr_of x)) (c.get-in-Binary.ensures ∙ sym c.get-in-Binary-3.ensures) in
     let et = c.value_type-other.ensures ∙ ap (λ x. emitted_type (program_in c.args.names.now) (scope_in c.args.scope.now) (expr_of x)) (c.get-in-Binary-2.ensures ∙ sym c.get-in-Binary-4.ensures) in
-    let a = left_there (program_in c.args.names.now) (scope_in c.args.scope.now) c.in-Binary.op (expr_of c.get-in-Binary-3.result.now) (expr_of c.get-in-Binary-4.result.now) c.in-Binary.field-3 c.args.from c.args.into c.args.free (lists_of c.args.lists.now) eo et c.operand_type-of.ensures c.operand_type-due.ensures c.in_ok-a-in-Binary.ensures in
-    let b = right_there (program_in c.args.names.now) (scope_in c.args.scope.now) c.in-Binary.op (expr_of c.get-in-Binary-3.result.now) (expr_of c.get-in-Binary-4.result.now) c.in-Binary.field-3 c.args.from c.args.into c.args.free (lists_of c.args.lists.now) eo et c.operand_type-of.ensures c.operand_type-due.ensures a c.above-later.ensures c.in_ok-b-in-Binary.ensures in
+    let a = left_there (program_in c.args.names.now) (scope_in c.args.scope.now) c.in-Binary.op (expr_of c.get-in-Binary-3.result.now) (expr_of c.get-in-Binary-4.result.now) c.in-Binary.field-3 c.args.from c.args.into c.args.free (lists_of c.args.lists.now) eo et c.operand_type-ty.ensures c.operand_type-due.ensures c.in_ok-a-in-Binary.ensures in
+    let b = right_there (program_in c.args.names.now) (scope_in c.args.scope.now) c.in-Binary.op (expr_of c.get-in-Binary-3.result.now) (expr_of c.get-in-Binary-4.result.now) c.in-Binary.field-3 c.args.from c.args.into c.args.free (lists_of c.args.lists.now) eo et c.operand_type-ty.ensures c.operand_type-due.ensures a c.above-later.ensures c.in_ok-b-in-Binary.ensures in
     value_there (program_in c.args.names.now) (scope_in c.args.scope.now) c.args.from c.args.into c.args.free (lists_of c.args.lists.now) (binary_is c.in-Binary.is c.get-in-Binary-3.ensures c.get-in-Binary-4.ensures)
-    (whole_there (program_in c.args.names.now) (scope_in c.args.scope.now) c.in-Binary.op (expr_of c.get-in-Binary-3.result.now) (expr_of c.get-in-Binary-4.result.now) c.in-Binary.field-3 c.args.from c.args.into c.args.free (lists_of c.args.lists.now) eo et c.operand_type-of.ensures c.operand_type-due.ensures a c.above-later.ensures b c.put_both.ensures)
+    (whole_there (program_in c.args.names.now) (scope_in c.args.scope.now) c.in-Binary.op (expr_of c.get-in-Binary-3.result.now) (expr_of c.get-in-Binary-4.result.now) c.in-Binary.field-3 c.args.from c.args.into c.args.free (lists_of c.args.lists.now) eo et c.operand_type-ty.ensures c.operand_type-due.ensures a c.above-later.ensures b c.put_both.ensures)
 
 pub lower_expr-returns-in_err-b-in-Binary : goal.lower_expr-returns-in_err-b-in-Binary
 lower_expr-returns-in_err-b-in-Binary g t c =
     let eo = c.value_type-own.ensures ∙ ap (λ x. emitted_type (program_in c.args.names.now) (scope_in c.args.scope.now) (expr_of x)) (c.get-in-Binary.ensures ∙ sym c.get-in-Binary-3.ensures) in
     let et = c.value_type-other.ensures ∙ ap (λ x. emitted_type (program_in c.args.names.now) (scope_in c.args.scope.now) (expr_of x)) (c.get-in-Binary-2.ensures ∙ sym c.get-in-Binary-4.ensures) in
-    let a = left_there (program_in c.args.names.now) (scope_in c.args.scope.now) c.in-Binary.op (expr_of c.get-in-Binary-3.result.now) (expr_of c.get-in-Binary-4.result.now) c.in-Binary.field-3 c.args.from c.args.into c.args.free (lists_of c.args.lists.now) eo et c.operand_type-of.ensures c.operand_type-due.ensures c.in_ok-a-in-Binary.ensures in
+    let a = left_there (program_in c.args.names.now) (scope_in c.args.scope.now) c.in-Binary.op (expr_of c.get-in-Binary-3.result.now) (expr_of c.get-in-Binary-4.result.now) c.in-Binary.field-3 c.args.from c.args.into c.args.free (lists_of c.args.lists.now) eo et c.operand_type-ty.ensures c.operand_type-due.ensures c.in_ok-a-in-Binary.ensures in
     value_there (program_in c.args.names.now) (scope_in c.args.scope.now) c.args.from c.args.into c.args.free (lists_of c.args.lists.now) (binary_is c.in-Binary.is c.get-in-Binary-3.ensures c.get-in-Binary-4.ensures)
-    (stops (right_there (program_in c.args.names.now) (scope_in c.args.scope.now) c.in-Binary.op (expr_of c.get-in-Binary-3.result.now) (expr_of c.get-in-Binary-4.result.now) c.in-Binary.field-3 c.args.from c.args.into c.args.free (lists_of c.args.lists.now) eo et c.operand_type-of.ensures c.operand_type-due.ensures a c.above-later.ensures c.lower_operand.ensures) c.in_err-b-in-Binary.was c.from_residual-in_err-b-in-Binary.ensures (right_within (program_in c.args.names.now) (scope_in c.args.scope.now) c.in-Binary.op (expr_of c.get-in-Binary-3.result.now) (expr_of c.get-in-Binary-4.result.now) c.in-Binary.field-3 c.args.from c.args.into c.args.free (lists_of c.args.lists.now)))
+    (stops (right_there (program_in c.args.names.now) (scope_in c.args.scope.now) c.in-Binary.op (expr_of c.get-in-Binary-3.result.now) (expr_of c.get-in-Binary-4.result.now) c.in-Binary.field-3 c.args.from c.args.into c.args.free (lists_of c.args.lists.now) eo et c.operand_type-ty.ensures c.operand_type-due.ensures a c.above-later.ensures c.lower_operand.ensures) c.in_err-b-in-Binary.was c.from_residual-in_err-b-in-Binary.ensures (right_within (program_in c.args.names.now) (scope_in c.args.scope.now) c.in-Binary.op (expr_of c.get-in-Binary-3.result.now) (expr_of c.get-in-Binary-4.result.now) c.in-Binary.field-3 c.args.from c.args.into c.args.free (lists_of c.args.lists.now)))
 
 pub lower_expr-returns-in_err-a-in-Binary : goal.lower_expr-returns-in_err-a-in-Binary
 lower_expr-returns-in_err-a-in-Binary g t c =
     let eo = c.value_type-own.ensures ∙ ap (λ x. emitted_type (program_in c.args.names.now) (scope_in c.args.scope.now) (expr_of x)) (c.get-in-Binary.ensures ∙ sym c.get-in-Binary-3.ensures) in
     let et = c.value_type-other.ensures in
     value_there (program_in c.args.names.now) (scope_in c.args.scope.now) c.args.from c.args.into c.args.free (lists_of c.args.lists.now) (binary_is c.in-Binary.is c.get-in-Binary-3.ensures c.get-in-Binary-2.ensures)
-    (stops (left_there (program_in c.args.names.now) (scope_in c.args.scope.now) c.in-Binary.op (expr_of c.get-in-Binary-3.result.now) (expr_of c.get-in-Binary-2.result.now) c.in-Binary.field-3 c.args.from c.args.into c.args.free (lists_of c.args.lists.now) eo et c.operand_type-of.ensures c.operand_type-due.ensures c.lower_due-in-Binary.ensures) c.in_err-a-in-Binary.was c.from_residual-in_err-a-in-Binary.ensures (left_within (program_in c.args.names.now) (scope_in c.args.scope.now) c.in-Binary.op (expr_of c.get-in-Binary-3.result.now) (expr_of c.get-in-Binary-2.result.now) c.in-Binary.field-3 c.args.from c.args.into c.args.free (lists_of c.args.lists.now)))
+    (stops (left_there (program_in c.args.names.now) (scope_in c.args.scope.now) c.in-Binary.op (expr_of c.get-in-Binary-3.result.now) (expr_of c.get-in-Binary-2.result.now) c.in-Binary.field-3 c.args.from c.args.into c.args.free (lists_of c.args.lists.now) eo et c.operand_type-ty.ensures c.operand_type-due.ensures c.lower_due-in-Binary.ensures) c.in_err-a-in-Binary.was c.from_residual-in_err-a-in-Binary.ensures (left_within (program_in c.args.names.now) (scope_in c.args.scope.now) c.in-Binary.op (expr_of c.get-in-Binary-3.result.now) (expr_of c.get-in-Binary-2.result.now) c.in-Binary.field-3 c.args.from c.args.into c.args.free (lists_of c.args.lists.now)))
 
 pub lower_conditional-returns : goal.lower_conditional-returns
 lower_conditional-returns g t c =
-    let of = c.common_type-of.ensures ∙ (λ j. common (c.value_type-own.ensures j) (c.value_type-another.ensures j)) in
-    let one = ap of_value (one_is (program_in c.args.names.now) (scope_in c.args.scope.now) (expr_of c.args.c.now) (expr_of c.args.left.now) (expr_of c.args.right.now) c.args.from c.args.into c.args.free (lists_of c.args.lists.now) c.in_ok-t.ensures c.in_ok-next.ensures of) in
+    let ty = c.common_type-ty.ensures ∙ (λ j. common (c.value_type-own.ensures j) (c.value_type-another.ensures j)) in
+    let one = ap of_value (one_is (program_in c.args.names.now) (scope_in c.args.scope.now) (expr_of c.args.c.now) (expr_of c.args.left.now) (expr_of c.args.right.now) c.args.from c.args.into c.args.free (lists_of c.args.lists.now) c.in_ok-t.ensures c.in_ok-next.ensures ty) in
     let a = same one c.in_ok-a.ensures.code in
-    let two = ap of_value (two_is (program_in c.args.names.now) (scope_in c.args.scope.now) (expr_of c.args.c.now) (expr_of c.args.left.now) (expr_of c.args.right.now) c.args.from c.args.into c.args.free (lists_of c.args.lists.now) c.in_ok-t.ensures c.in_ok-next.ensures of a c.in_ok-other.ensures) in
-    let chosen = chosen_there (program_in c.args.names.now) (scope_in c.args.scope.now) (expr_of c.args.c.now) (expr_of c.args.left.now) (expr_of c.args.right.now) c.args.from c.args.into c.args.free (lists_of c.args.lists.now) c.in_ok-t.ensures c.in_ok-next.ensures of a c.in_ok-other.ensures (same two c.in_ok-b.ensures.code) c.requires.test c.requires.first c.requires.second c.as_slice.ensures.value c.in_ok-b.ensures.register in
+    let two = ap of_value (two_is (program_in c.args.names.now) (scope_in c.args.scope.now) (expr_of c.args.c.now) (expr_of c.args.left.now) (expr_of c.args.right.now) c.args.from c.args.into c.args.free (lists_of c.args.lists.now) c.in_ok-t.ensures c.in_ok-next.ensures ty a c.in_ok-other.ensures) in
+    let chosen = chosen_there (program_in c.args.names.now) (scope_in c.args.scope.now) (expr_of c.args.c.now) (expr_of c.args.left.now) (expr_of c.args.right.now) c.args.from c.args.into c.args.free (lists_of c.args.lists.now) c.in_ok-t.ensures c.in_ok-next.ensures ty a c.in_ok-other.ensures (same two c.in_ok-b.ensures.code) c.requires.test c.requires.first c.requires.second c.as_slice.ensures.value c.in_ok-b.ensures.register in
     same (ap of_value chosen) (c.put_chosen.ensures (lists_of c.lower_settled-2.new.lists))
 
 pub lower_conditional-returns-in_err-a : goal.lower_conditional-returns-in_err-a
 lower_conditional-returns-in_err-a g t c =
-    let of = c.common_type-of.ensures ∙ (λ j. common (c.value_type-own.ensures j) (c.value_type-another.ensures j)) in
-    let one = ap of_value (one_is (program_in c.args.names.now) (scope_in c.args.scope.now) (expr_of c.args.c.now) (expr_of c.args.left.now) (expr_of c.args.right.now) c.args.from c.args.into c.args.free (lists_of c.args.lists.now) c.in_ok-t.ensures c.in_ok-next.ensures of) in
+    let ty = c.common_type-ty.ensures ∙ (λ j. common (c.value_type-own.ensures j) (c.value_type-another.ensures j)) in
+    let one = ap of_value (one_is (program_in c.args.names.now) (scope_in c.args.scope.now) (expr_of c.args.c.now) (expr_of c.args.left.now) (expr_of c.args.right.now) c.args.from c.args.into c.args.free (lists_of c.args.lists.now) c.in_ok-t.ensures c.in_ok-next.ensures ty) in
     stops (same one c.lower_settled.ensures.code) c.in_err-a.was c.from_residual-in_err-a.ensures (second_within (program_in c.args.names.now) (scope_in c.args.scope.now) (expr_of c.args.c.now) (expr_of c.args.left.now) (expr_of c.args.right.now) c.args.from c.args.into c.args.free (lists_of c.args.lists.now))
 
 pub lower_conditional-returns-in_err-b : goal.lower_conditional-returns-in_err-b
 lower_conditional-returns-in_err-b g t c =
-    let of = c.common_type-of.ensures ∙ (λ j. common (c.value_type-own.ensures j) (c.value_type-another.ensures j)) in
-    let one = ap of_value (one_is (program_in c.args.names.now) (scope_in c.args.scope.now) (expr_of c.args.c.now) (expr_of c.args.left.now) (expr_of c.args.right.now) c.args.from c.args.into c.args.free (lists_of c.args.lists.now) c.in_ok-t.ensures c.in_ok-next.ensures of) in
+    let ty = c.common_type-ty.ensures ∙ (λ j. common (c.value_type-own.ensures j) (c.value_type-another.ensures j)) in
+    let one = ap of_value (one_is (program_in c.args.names.now) (scope_in c.args.scope.now) (expr_of c.args.c.now) (expr_of c.args.left.now) (expr_of c.args.right.now) c.args.from c.args.into c.args.free (lists_of c.args.lists.now) c.in_ok-t.ensures c.in_ok-next.ensures ty) in
     let a = same one c.in_ok-a.ensures.code in
-    let two = ap of_value (two_is (program_in c.args.names.now) (scope_in c.args.scope.now) (expr_of c.args.c.now) (expr_of c.args.left.now) (expr_of c.args.right.now) c.args.from c.args.into c.args.free (lists_of c.args.lists.now) c.in_ok-t.ensures c.in_ok-next.ensures of a c.in_ok-other.ensures) in
+    let two = ap of_value (two_is (program_in c.args.names.now) (scope_in c.args.scope.now) (expr_of c.args.c.now) (expr_of c.args.left.now) (expr_of c.args.right.now) c.args.from c.args.into c.args.free (lists_of c.args.lists.now) c.in_ok-t.ensures c.in_ok-next.ensures ty a c.in_ok-other.ensures) in
     stops (same two c.lower_settled-2.ensures.code) c.in_err-b.was c.from_residual-in_err-b.ensures (no_less _)
 
 pub lower_expr-lower_due-requires : goal.lower_expr-lower_due-requires
@@ -458,26 +458,26 @@ lower_expr-lower_operand-requires g t c κs within =
 
 pub lower_due-returns-in-Some : goal.lower_due-returns-in-Some
 lower_due-returns-in-Some g t c =
-    same (ap of_value (sym (due_constant (program_in c.args.names.now) (scope_in c.args.scope.now) c.args.of (expr_of c.args.e.now) c.in-Some.value c.in-Some.own c.args.from c.args.into c.args.free (lists_of c.args.lists.now) (sym c.in-Some.ensures))))
-    (same (ap (λ w. of_value (constant w c.args.of c.args.from c.args.into (lists_of c.args.lists.now))) c.constant_in.ensures) c.put_constant.ensures)
+    same (ap of_value (sym (due_constant (program_in c.args.names.now) (scope_in c.args.scope.now) c.args.ty (expr_of c.args.e.now) c.in-Some.value c.in-Some.own c.args.from c.args.into c.args.free (lists_of c.args.lists.now) (sym c.in-Some.ensures))))
+    (same (ap (λ w. of_value (constant w c.args.ty c.args.from c.args.into (lists_of c.args.lists.now))) c.constant_in.ensures) c.put_constant.ensures)
 
 pub lower_due-returns-in_ok-a-in-None : goal.lower_due-returns-in_ok-a-in-None
-lower_due-returns-in_ok-a-in-None g t c = due_there (program_in c.args.names.now) (scope_in c.args.scope.now) c.args.of (expr_of c.args.e.now) c.args.from c.args.into c.args.free (lists_of c.args.lists.now) (sym c.constant_of.ensures ∙ c.in-None.is) c.in_ok-a-in-None.ensures c.put_converted.ensures
+lower_due-returns-in_ok-a-in-None g t c = due_there (program_in c.args.names.now) (scope_in c.args.scope.now) c.args.ty (expr_of c.args.e.now) c.args.from c.args.into c.args.free (lists_of c.args.lists.now) (sym c.constant_of.ensures ∙ c.in-None.is) c.in_ok-a-in-None.ensures c.put_converted.ensures
 
 pub lower_due-returns-in_err-a-in-None : goal.lower_due-returns-in_err-a-in-None
 lower_due-returns-in_err-a-in-None g t c =
-    stops c.lower_expr.ensures c.in_err-a-in-None.was c.from_residual.ensures (due_within (program_in c.args.names.now) (scope_in c.args.scope.now) c.args.of (expr_of c.args.e.now) c.args.from c.args.into c.args.free (lists_of c.args.lists.now) (sym c.constant_of.ensures ∙ c.in-None.is))
+    stops c.lower_expr.ensures c.in_err-a-in-None.was c.from_residual.ensures (due_within (program_in c.args.names.now) (scope_in c.args.scope.now) c.args.ty (expr_of c.args.e.now) c.args.from c.args.into c.args.free (lists_of c.args.lists.now) (sym c.constant_of.ensures ∙ c.in-None.is))
 
 pub lower_condition-returns-then-converts : goal.lower_condition-returns-then-converts
 lower_condition-returns-then-converts g t c =
     let own = c.value_type-own.ensures ∙ ap (λ x. emitted_type (program_in c.args.names.now) (scope_in c.args.scope.now) (expr_of x)) c.get-in-Cast.ensures in
-    let some = ap (λ s. is_some (converting s c.in-Cast.of)) (sym own) ∙ sym c.converts.ensures ∙ c.if-converts.true in
-    value_test_there (program_in c.args.names.now) (scope_in c.args.scope.now) c.args.from c.args.free (lists_of c.args.lists.now) (cast_is c.in-Cast.is refl) (cast_by_value (program_in c.args.names.now) (scope_in c.args.scope.now) (expr_of c.in-Cast.a) c.in-Cast.of c.in-Cast.field-2 c.args.from c.args.free (lists_of c.args.lists.now) some) c.lower_value.ensures
+    let some = ap (λ s. is_some (converting s c.in-Cast.ty)) (sym own) ∙ sym c.converts.ensures ∙ c.if-converts.true in
+    value_test_there (program_in c.args.names.now) (scope_in c.args.scope.now) c.args.from c.args.free (lists_of c.args.lists.now) (cast_is c.in-Cast.is refl) (cast_by_value (program_in c.args.names.now) (scope_in c.args.scope.now) (expr_of c.in-Cast.a) c.in-Cast.ty c.in-Cast.field-2 c.args.from c.args.free (lists_of c.args.lists.now) some) c.lower_value.ensures
 
 pub lower_condition-returns-else-converts : goal.lower_condition-returns-else-converts
 lower_condition-returns-else-converts g t c =
     let own = c.value_type-own.ensures ∙ ap (λ x. emitted_type (program_in c.args.names.now) (scope_in c.args.scope.now) (expr_of x)) (c.get-in-Cast.ensures ∙ sym c.get-else-converts.ensures) in
-    let none = ap (λ s. is_some (converting s c.in-Cast.of)) (sym own) ∙ sym c.converts.ensures ∙ c.if-converts.false in
+    let none = ap (λ s. is_some (converting s c.in-Cast.ty)) (sym own) ∙ sym c.converts.ensures ∙ c.if-converts.false in
     cast_test_there (program_in c.args.names.now) (scope_in c.args.scope.now) c.args.from c.args.free (lists_of c.args.lists.now) (cast_is c.in-Cast.is c.get-else-converts.ensures) none c.lower_condition-else-converts.ensures
 
 pub lower_all-each-preserved : goal.lower_all-each-preserved
@@ -501,7 +501,7 @@ lower_all-returns-clause-registers g t c = ap (λ (w : AllEmitted). w.registers)
 pub lower_handed-returns-then-number-parameters : goal.lower_handed-returns-then-number-parameters
 lower_handed-returns-then-number-parameters g t c =
     let there = type_there c.args.parameters.now c.args.number c.index-parameters-number.result c.if-number-parameters.true c.index-parameters-number.is in
-    let own = ap (λ x. x.of) c.index-parameters-number.is in
+    let own = ap (λ x. x.ty) c.index-parameters-number.is in
     same (ap (λ u. of_value (due (program_in c.args.names.now) (scope_in c.args.scope.now) u (expr_of c.args.e.now) c.args.from c.args.free c.args.free (lists_of c.args.lists.now))) (sym own) ∙ ap (λ us. of_value (handed (program_in c.args.names.now) (scope_in c.args.scope.now) us (expr_of c.args.e.now) c.args.from c.args.free (lists_of c.args.lists.now))) (sym there)) c.lower_due.ensures
 
 pub lower_handed-returns-else-number-parameters : goal.lower_handed-returns-else-number-parameters

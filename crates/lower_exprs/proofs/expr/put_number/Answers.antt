@@ -7,4 +7,4 @@ use Rattle.lower_exprs.proofs.expr.put_number.Goals as goal
 
 pub returns : goal.returns
 returns g c =
-    same (ap (λ n. of_value (constant n c.args.of c.args.from c.args.into (lists_of c.args.lists.now))) c.constant_word.ensures) c.put_constant.ensures
+    same (ap (λ n. of_value (constant n c.args.ty c.args.from c.args.into (lists_of c.args.lists.now))) c.constant_word.ensures) c.put_constant.ensures

@@ -13,7 +13,7 @@ invariant-each g l =
     let rest = map declarator_of (drop l.one-index l.all) in
     let all = map declarator_of l.all in
     record {
-      scope : with_declared l.of rest (scope_in l.scope) ≡ with_declared l.of all (scope_in l.fn.scope);
-      code : written_behind l.code.items (declared_written (program_in l.names) l.of rest (scope_in l.scope) l.to (lists_of l.lists))
-          ≡ written_behind l.fn.code.items (declared_written (program_in l.names) l.of all (scope_in l.fn.scope) l.from (lists_of l.fn.lists));
+      scope : with_declared l.ty rest (scope_in l.scope) ≡ with_declared l.ty all (scope_in l.fn.scope);
+      code : written_behind l.code.items (declared_written (program_in l.names) l.ty rest (scope_in l.scope) l.to (lists_of l.lists))
+          ≡ written_behind l.fn.code.items (declared_written (program_in l.names) l.ty all (scope_in l.fn.scope) l.from (lists_of l.fn.lists));
     }

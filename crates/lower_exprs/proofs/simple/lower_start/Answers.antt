@@ -12,11 +12,11 @@ pub returns-in-Declare-clause-scope : goal.returns-in-Declare-clause-scope
 returns-in-Declare-clause-scope g c =
     let scope = (scope_in c.args.scope.now) in
     subst (λ s. OnOk c.lower_declarators.result (scope_in c.lower_declarators.new.scope ≡ locals_of_start s scope)) (sym (ap start_of c.in-Declare.is))
-    (subst (λ ds. OnOk c.lower_declarators.result (scope_in c.lower_declarators.new.scope ≡ with_declared c.in-Declare.d.of (map declarator_of ds) scope)) c.as_slice.ensures c.lower_declarators.ensures.scope)
+    (subst (λ ds. OnOk c.lower_declarators.result (scope_in c.lower_declarators.new.scope ≡ with_declared c.in-Declare.d.ty (map declarator_of ds) scope)) c.as_slice.ensures c.lower_declarators.ensures.scope)
 
 pub returns-in-Declare-clause-code : goal.returns-in-Declare-clause-code
 returns-in-Declare-clause-code g c =
-    let declares = ap (λ ds. of_written (declared_written (program_in c.args.names.now) c.in-Declare.d.of (map declarator_of ds) (scope_in c.args.scope.now) c.args.from (lists_of c.args.lists.now))) c.as_slice.ensures in
+    let declares = ap (λ ds. of_written (declared_written (program_in c.args.names.now) c.in-Declare.d.ty (map declarator_of ds) (scope_in c.args.scope.now) c.args.from (lists_of c.args.lists.now))) c.as_slice.ensures in
     same (declares ∙ ap (λ s. of_written (start_written (program_in c.args.names.now) s (scope_in c.args.scope.now) c.args.from (lists_of c.args.lists.now))) (sym (ap start_of c.in-Declare.is))) c.lower_declarators.ensures.code
 
 pub returns-in-Do-clause-code : goal.returns-in-Do-clause-code

@@ -12,4 +12,4 @@ returns-then-frames-eq0 g c done =
 pub returns : goal.returns
 returns g c done =
     let more : c.args.frames ≡ suc (c.args.frames - 1) = omega (arith, c.if-frames-eq0.false) in
-    enters (program_in c.args.source.now) c.args.frames (c.args.frames - 1) c.args.f.now c.args.values.now (state_in c.args.m.now) (state_in c.begin.new.m) (begun_in c.in_ok-of.field-0) (items_in c.replace-outer.new.dest) (items_in c.replace-outer.result) more (c.in_ok-of.ensures.value tt) (ap items_in c.replace-outer.ensures.after) (ap items_in c.replace-outer.ensures.value)
+    enters (program_in c.args.source.now) c.args.frames (c.args.frames - 1) c.args.f.now c.args.values.now (state_in c.args.m.now) (state_in c.begin.new.m) (begun_in c.in_ok-ty.field-0) (items_in c.replace-outer.new.dest) (items_in c.replace-outer.result) more (c.in_ok-ty.ensures.value tt) (ap items_in c.replace-outer.ensures.after) (ap items_in c.replace-outer.ensures.value)

@@ -23,5 +23,5 @@ pub bytes-preserved : goal.bytes-preserved
 bytes-preserved g c = record {
   within = c.in-Figure.ensures.within;
   taken = omega (arith, c.bytes.invariant.taken, c.in-Figure.ensures.after);
-  value = figure_goes c.args.format.now c.args.values.now c.bytes.begun c.bytes.i c.bytes.k (state_in c.bytes.m) (print_pieces (pieces c.args.format.now) c.args.values.now (state_in c.args.m.now)) c.in-Figure.t c.in-Figure.next (state_in c.put_figure.new.m) c.bytes.invariant.value c.in-Figure.ensures.is (c.in_ok-put_figure-in-Figure.ensures tt);
+  value = figure_goes c.args.format.now c.args.values.now c.bytes.begun c.bytes.i c.bytes.k (state_in c.bytes.m) (print_pieces (pieces c.args.format.now) c.args.values.now (state_in c.args.m.now)) c.in-Figure.ty c.in-Figure.next (state_in c.put_figure.new.m) c.bytes.invariant.value c.in-Figure.ensures.is (c.in_ok-put_figure-in-Figure.ensures tt);
 }

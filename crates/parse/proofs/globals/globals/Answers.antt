@@ -13,10 +13,10 @@ use Rattle.parse.proofs.globals.globals.Goals as goal
 pub returns-in_err-all : goal.returns-in_err-all
 returns-in_err-all g c =
     let p = err_from_is_err_and c.from_residual.result c.from_residual.ensures.1 in
-    let failed = closes (λ gs. map global_of gs) (Punctuator punct.Semicolon) (several c.args.of (name_of c.args.name)) (toks c.args.tokens.now) c.several.result _ c.several.ensures c.in_err-all.ensures in
-    rw (p.1, p.2) (fails_along c.in_err-all.field-0.0 _ _ (λ f e. globals_are c.args.of (name_of c.args.name) (toks c.args.tokens.now) ∙ rw e refl) failed)
+    let failed = closes (λ gs. map global_of gs) (Punctuator punct.Semicolon) (several c.args.ty (name_of c.args.name)) (toks c.args.tokens.now) c.several.result _ c.several.ensures c.in_err-all.ensures in
+    rw (p.1, p.2) (fails_along c.in_err-all.field-0.0 _ _ (λ f e. globals_are c.args.ty (name_of c.args.name) (toks c.args.tokens.now) ∙ rw e refl) failed)
 
 pub returns : goal.returns
 returns g c =
-    let read = closes (λ gs. map global_of gs) (Punctuator punct.Semicolon) (several c.args.of (name_of c.args.name)) (toks c.args.tokens.now) c.several.result _ c.several.ensures c.in_ok-all.ensures in
-    globals_are c.args.of (name_of c.args.name) (toks c.args.tokens.now) ∙ rw read refl
+    let read = closes (λ gs. map global_of gs) (Punctuator punct.Semicolon) (several c.args.ty (name_of c.args.name)) (toks c.args.tokens.now) c.several.result _ c.several.ensures c.in_ok-all.ensures in
+    globals_are c.args.ty (name_of c.args.name) (toks c.args.tokens.now) ∙ rw read refl

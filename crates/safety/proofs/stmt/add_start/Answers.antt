@@ -13,6 +13,6 @@ returns-in_ok-add_declarators-in-Declare-clause-sites g c =
 
 pub returns-in_ok-add_declarators-in-Declare-clause-names : goal.returns-in_ok-add_declarators-in-Declare-clause-names
 returns-in_ok-add_declarators-in-Declare-clause-names g c =
-    let slice = ap (λ ds. names_of_start (Declares (record { of = c.in-Declare.one.of; declarators = map declarator_of ds }))) c.as_slice.ensures in
+    let slice = ap (λ ds. names_of_start (Declares (record { ty = c.in-Declare.one.ty; declarators = map declarator_of ds }))) c.as_slice.ensures in
     let is = ap (λ s. names_of_start (start_of s)) c.in-Declare.is in
     c.in_ok-add_declarators-in-Declare.ensures.names ∙ ap (λ xs. names_in c.args.locals.now ++ xs) (slice ∙ sym is)

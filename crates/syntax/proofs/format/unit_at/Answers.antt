@@ -6,4 +6,4 @@ use Rattle.syntax.proofs.format.unit_at.Goals as goal
 pub returns-in-Some : goal.returns-in-Some
 returns-in-Some c =
     let percent : (slice_index c.args.format.now c.args.i == 37) ≡ true = ap (λ b. b == 37) c.if-byte-ne37.false in
-    figure_is c.args.format.now c.args.i (c.in-Some.of, c.in-Some.count) c.requires percent (sym c.figure_at.ensures.is ∙ c.in-Some.is) c.in-Some.ensures.fits
+    figure_is c.args.format.now c.args.i (c.in-Some.ty, c.in-Some.count) c.requires percent (sym c.figure_at.ensures.is ∙ c.in-Some.is) c.in-Some.ensures.fits

@@ -12,7 +12,7 @@ with_zeros f xs ys n m k e h s = (λ i. sym (take-map f n xs) i ++ replicate (s 
 
 pub returns : goal.returns
 returns g c =
-    let f = first_word c.args.global.now.of in
+    let f = first_word c.args.global.now.ty in
     let xs = c.as_slice-firsts.result.now in
     let n = c.cell_count-cells.result in
     let k = c.saturating_sub.result in

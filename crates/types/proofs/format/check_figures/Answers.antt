@@ -22,7 +22,7 @@ returns-in_err-check_figure-in-Figure g c =
     let args = c.args.args.now in
     let rest = figures (pieces (drop c.in-Figure.behind c.args.format.now)) in
     let got = c.in-Some.ensures.lookup in
-    stop c.check_figure.result _ c.in_err-check_figure-in-Figure.field-0.0 _ _ _ (sym c.units.invariant.0 ∙ ap (λ ps. first_unmet (HaveTypes k (figures ps) (exprs_of (drop c.units.next args)))) c.in-Figure.ensures.is ∙ figure_more k args c.units.next c.in-Some.arg.now c.in-Figure.of rest got.1 got.3.0) c.check_figure.ensures c.in_err-check_figure-in-Figure.was c.from_residual.ensures
+    stop c.check_figure.result _ c.in_err-check_figure-in-Figure.field-0.0 _ _ _ (sym c.units.invariant.0 ∙ ap (λ ps. first_unmet (HaveTypes k (figures ps) (exprs_of (drop c.units.next args)))) c.in-Figure.ensures.is ∙ figure_more k args c.units.next c.in-Some.arg.now c.in-Figure.ty rest got.1 got.3.0) c.check_figure.ensures c.in_err-check_figure-in-Figure.was c.from_residual.ensures
 
 pub units-preserved : goal.units-preserved
 units-preserved g c =
@@ -30,7 +30,7 @@ units-preserved g c =
     let args = c.args.args.now in
     let rest = figures (pieces (drop c.in-Figure.behind c.args.format.now)) in
     let got = c.in-Some.ensures.lookup in (
-      sym (skip c.check_figure.result _ _ _ _ (ap (λ ps. first_unmet (HaveTypes k (figures ps) (exprs_of (drop c.units.next args)))) c.in-Figure.ensures.is ∙ figure_more k args c.units.next c.in-Some.arg.now c.in-Figure.of rest got.1 got.3.0) c.check_figure.ensures c.in_ok-check_figure-in-Figure.was) ∙ c.units.invariant.0,
+      sym (skip c.check_figure.result _ _ _ _ (ap (λ ps. first_unmet (HaveTypes k (figures ps) (exprs_of (drop c.units.next args)))) c.in-Figure.ensures.is ∙ figure_more k args c.units.next c.in-Some.arg.now c.in-Figure.ty rest got.1 got.3.0) c.check_figure.ensures c.in_ok-check_figure-in-Figure.was) ∙ c.units.invariant.0,
       (let less = got.3.0 in omega (arith, less)),
       c.in-Figure.ensures.within,
     )

@@ -7,9 +7,9 @@ use Rattle.types.specs.inner.Known.{known_in}
 use Rattle.types.proofs.Files.{shares_more}
 use Rattle.types.proofs.global.add_global.Goals as goal
 
-is_known : (of : Scalar) (length : Option (ℕ × Span)) → is_unknown (unwrap_or (option_map (λ n. Array of n.0) length) (Number of)) ≡ false
-is_known of None = refl
-is_known of (Some n) = refl
+is_known : (ty : Scalar) (length : Option (ℕ × Span)) → is_unknown (unwrap_or (option_map (λ n. Array ty n.0) length) (Number ty)) ≡ false
+is_known ty None = refl
+is_known ty (Some n) = refl
 
 on_ok : {X Y P Q : Type 0} (r : Result X Y) → (P → Q) → OnOk r P → OnOk r Q
 on_ok (Ok x) f h = f h
@@ -19,7 +19,7 @@ pub define-requires-clause-new : goal.define-requires-clause-new
 define-requires-clause-new g c = ap (λ x. is_unknown (known_in c.args.names.now x)) c.as_str.ensures ∙ c.requires.new
 
 pub define-requires-clause-symbol : goal.define-requires-clause-symbol
-define-requires-clause-symbol g c = let x = global_of c.args.g.now in ap is_unknown c.symbol_of.ensures ∙ is_known x.of x.length
+define-requires-clause-symbol g c = let x = global_of c.args.g.now in ap is_unknown c.symbol_of.ensures ∙ is_known x.ty x.length
 
 pub returns-clause-known : goal.returns-clause-known
 returns-clause-known g c =

@@ -17,7 +17,7 @@ each-init g c = (omega arith, grows_none c.args.names.now, refl, λ declared h. 
 pub each-preserved : goal.each-preserved
 each-preserved g c =
     let ds = c.args.all.now in
-    let t = c.args.of in
+    let t = c.args.ty in
     let i = c.each.one-index in
     let d = c.one-item.result in
     let now = c.each.names in
@@ -41,15 +41,15 @@ each-preserved g c =
 pub returns-in_err-check_declarator-clause-answer : goal.returns-in_err-check_declarator-clause-answer
 returns-in_err-check_declarator-clause-answer g c = λ declared h.
     let p = c.each.invariant.3 declared h in
-    tell_stop c.check_declarator.result _ c.in_err-check_declarator.field-0.0 _ _ _ (sym p.3 ∙ declarators_more c.args.of c.args.all.now c.each.one-index c.one-item.result c.one-item.is c.each-test.true (known_in c.each.names) p.0) (c.check_declarator.ensures.answer p.0 p.1) c.in_err-check_declarator.was c.from_residual.ensures
+    tell_stop c.check_declarator.result _ c.in_err-check_declarator.field-0.0 _ _ _ (sym p.3 ∙ declarators_more c.args.ty c.args.all.now c.each.one-index c.one-item.result c.one-item.is c.each-test.true (known_in c.each.names) p.0) (c.check_declarator.ensures.answer p.0 p.1) c.in_err-check_declarator.was c.from_residual.ensures
 
 pub returns-clause-answer : goal.returns-clause-answer
 returns-clause-answer g c = λ declared h.
     let p = c.each.invariant.3 declared h in
-    sym (at_drop_all (λ xs. first_unmet (AreTypedDeclarators (known_in c.each.names) p.0 c.args.of (map declarator_of xs))) c.args.all.now c.each.one-index c.each-test.false) ∙ p.3
+    sym (at_drop_all (λ xs. first_unmet (AreTypedDeclarators (known_in c.each.names) p.0 c.args.ty (map declarator_of xs))) c.args.all.now c.each.one-index c.each-test.false) ∙ p.3
 
 pub returns-clause-known : goal.returns-clause-known
-returns-clause-known g c = sym (at_drop_all (λ xs. knows c.args.of (map declarator_of xs) (known_in c.each.names)) c.args.all.now c.each.one-index c.each-test.false) ∙ c.each.invariant.2
+returns-clause-known g c = sym (at_drop_all (λ xs. knows c.args.ty (map declarator_of xs) (known_in c.each.names)) c.args.all.now c.each.one-index c.each-test.false) ∙ c.each.invariant.2
 
 pub returns-clause-declared : goal.returns-clause-declared
 returns-clause-declared g c = λ declared h.

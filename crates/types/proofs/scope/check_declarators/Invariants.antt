@@ -9,5 +9,5 @@ abbrev pub invariant-each : goal.invariant-each
 invariant-each g l =
     (count_in l.initial.names ≤ count_in l.names)
     × Grows l.initial.names l.names
-    × (knows l.of (map declarator_of (drop l.one-index l.all)) (known_in l.names) ≡ knows l.of (map declarator_of l.all) (known_in l.initial.names))
-    × ((declared : List (List ℕ)) → AreDeclared l.start l.initial.names declared → (here : List (List ℕ)) × AreDeclared l.start l.names here × (declared_by (map declarator_of (drop l.one-index l.all)) here ≡ declared_by (map declarator_of l.all) declared) × (first_unmet (AreTypedDeclarators (known_in l.names) here l.of (map declarator_of (drop l.one-index l.all))) ≡ first_unmet (AreTypedDeclarators (known_in l.initial.names) declared l.of (map declarator_of l.all))))
+    × (knows l.ty (map declarator_of (drop l.one-index l.all)) (known_in l.names) ≡ knows l.ty (map declarator_of l.all) (known_in l.initial.names))
+    × ((declared : List (List ℕ)) → AreDeclared l.start l.initial.names declared → (here : List (List ℕ)) × AreDeclared l.start l.names here × (declared_by (map declarator_of (drop l.one-index l.all)) here ≡ declared_by (map declarator_of l.all) declared) × (first_unmet (AreTypedDeclarators (known_in l.names) here l.ty (map declarator_of (drop l.one-index l.all))) ≡ first_unmet (AreTypedDeclarators (known_in l.initial.names) declared l.ty (map declarator_of l.all))))

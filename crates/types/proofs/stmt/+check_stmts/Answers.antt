@@ -279,14 +279,14 @@ check_block_item-returns-in-Some-clause-answer g t c = λ declared h.
     let x = c.args.context in
     let one = c.in-Some.one.now in
     let is = declaration_is (stmt_of c.args.stmt.now) (declaration_of one) (sym c.in-Some.ensures) in
-    tell_rest c.check_declarators.result _ _ (ap (λ s. first_unmet (IsTypedStmt x.gives s k declared x.looping)) is ∙ ap (λ ds. first_unmet (AreTypedDeclarators k declared one.of (map declarator_of ds))) (sym c.as_slice.ensures)) (c.check_declarators.ensures.answer declared h)
+    tell_rest c.check_declarators.result _ _ (ap (λ s. first_unmet (IsTypedStmt x.gives s k declared x.looping)) is ∙ ap (λ ds. first_unmet (AreTypedDeclarators k declared one.ty (map declarator_of ds))) (sym c.as_slice.ensures)) (c.check_declarators.ensures.answer declared h)
 
 pub check_block_item-returns-in-Some-clause-known : goal.check_block_item-returns-in-Some-clause-known
 check_block_item-returns-in-Some-clause-known g t c =
     let k = known_in c.args.names.now in
     let one = c.in-Some.one.now in
     let is = declaration_is (stmt_of c.args.stmt.now) (declaration_of one) (sym c.in-Some.ensures) in
-    on_ok c.check_declarators.result (known_in c.check_declarators.new.names ≡ knows one.of (map declarator_of c.as_slice.result.now) k) (known_in c.check_declarators.new.names ≡ scope_after (stmt_of c.args.stmt.now) k) c.check_declarators.ensures.known (λ e. e ∙ ap (λ ds. knows one.of (map declarator_of ds) k) c.as_slice.ensures ∙ sym (ap (λ s. scope_after s k) is))
+    on_ok c.check_declarators.result (known_in c.check_declarators.new.names ≡ knows one.ty (map declarator_of c.as_slice.result.now) k) (known_in c.check_declarators.new.names ≡ scope_after (stmt_of c.args.stmt.now) k) c.check_declarators.ensures.known (λ e. e ∙ ap (λ ds. knows one.ty (map declarator_of ds) k) c.as_slice.ensures ∙ sym (ap (λ s. scope_after s k) is))
 
 pub check_block_item-returns-in-Some-clause-declared : goal.check_block_item-returns-in-Some-clause-declared
 check_block_item-returns-in-Some-clause-declared g t c =
