@@ -1,7 +1,7 @@
 #!/bin/sh
 # Prints what the write log takes in a built program, beside a plain list that is searched from its front and copied at
 # each mark, both in one run, by the fastest of some rounds: for a write and for a read of small transactions and of one
-# with 4,096 addresses, and for an inner transaction over 4,096 pairs. The program is made in a folder of its own and
+# with 4,096 cells, and for an inner transaction over 4,096 pairs. The program is made in a folder of its own and
 # removed.
 set -e
 top=$(cd "$(dirname "$0")/.." && pwd)
@@ -19,29 +19,29 @@ use std::time::Instant;
 use write_log::WriteLog;
 
 trait Log {
-    fn write(&mut self, address: u32, word: u64) -> Result<(), AllocError>;
-    fn read(&self, address: u32) -> Option<u64>;
+    fn write(&mut self, cell: u32, word: u64) -> Result<(), AllocError>;
+    fn read(&self, cell: u32) -> Option<u64>;
     // An inner transaction that writes once, and is kept or cancelled.
-    fn inner(&mut self, address: u32, word: u64, is_kept: bool) -> Result<(), AllocError>;
+    fn inner(&mut self, cell: u32, word: u64, is_kept: bool) -> Result<(), AllocError>;
     fn forget(&mut self);
 }
 
 impl Log for WriteLog {
-    fn write(&mut self, address: u32, word: u64) -> Result<(), AllocError> {
+    fn write(&mut self, cell: u32, word: u64) -> Result<(), AllocError> {
         self.reserve_one()?;
-        self.put(address, word);
+        self.put(cell, word);
         Ok(())
     }
 
-    fn read(&self, address: u32) -> Option<u64> {
-        self.get(address)
+    fn read(&self, cell: u32) -> Option<u64> {
+        self.get(cell)
     }
 
-    fn inner(&mut self, address: u32, word: u64, is_kept: bool) -> Result<(), AllocError> {
+    fn inner(&mut self, cell: u32, word: u64, is_kept: bool) -> Result<(), AllocError> {
         self.reserve_one()?;
         self.mark(0);
         self.reserve_one()?;
-        self.put(address, word);
+        self.put(cell, word);
         if !is_kept {
             self.back_to(0);
         }
@@ -69,24 +69,24 @@ fn copy(from: &[(u32, u64)], to: &mut Vec<(u32, u64)>) -> Result<(), AllocError>
 }
 
 impl Log for Plain {
-    fn write(&mut self, address: u32, word: u64) -> Result<(), AllocError> {
-        match self.pairs.iter().position(|pair| pair.0 == address) {
-            Some(place) => self.pairs[place] = (address, word),
-            None => self.pairs.push((address, word))?,
+    fn write(&mut self, cell: u32, word: u64) -> Result<(), AllocError> {
+        match self.pairs.iter().position(|pair| pair.0 == cell) {
+            Some(place) => self.pairs[place] = (cell, word),
+            None => self.pairs.push((cell, word))?,
         }
         Ok(())
     }
 
-    fn read(&self, address: u32) -> Option<u64> {
-        match self.pairs.iter().position(|pair| pair.0 == address) {
+    fn read(&self, cell: u32) -> Option<u64> {
+        match self.pairs.iter().position(|pair| pair.0 == cell) {
             Some(place) => Some(self.pairs[place].1),
             None => None,
         }
     }
 
-    fn inner(&mut self, address: u32, word: u64, is_kept: bool) -> Result<(), AllocError> {
+    fn inner(&mut self, cell: u32, word: u64, is_kept: bool) -> Result<(), AllocError> {
         copy(self.pairs.as_slice(), &mut self.mark)?;
-        self.write(address, word)?;
+        self.write(cell, word)?;
         if !is_kept {
             copy(self.mark.as_slice(), &mut self.pairs)?;
         }
@@ -98,8 +98,8 @@ impl Log for Plain {
     }
 }
 
-// The address number n of so many (a power of two), in rising order or in one of its own.
-fn address(n: u32, count: u32, is_rising: bool) -> u32 {
+// The cell number n of so many (a power of two), in rising order or in one of its own.
+fn cell(n: u32, count: u32, is_rising: bool) -> u32 {
     if is_rising {
         n
     } else {
@@ -107,23 +107,23 @@ fn address(n: u32, count: u32, is_rising: bool) -> u32 {
     }
 }
 
-// Writes so many addresses, so many times.
+// Writes so many cells, so many times.
 fn writes<T: Log>(log: &mut T, times: u32, count: u32, is_rising: bool) -> Result<(), AllocError> {
     'times: for _ in 0..times {
         log.forget();
         'count: for n in 0..count {
-            log.write(address(n, count, is_rising), 7)?;
+            log.write(cell(n, count, is_rising), 7)?;
         }
     }
     Ok(())
 }
 
-// Reads addresses from `first` on, so many times.
+// Reads cells from `first` on, so many times.
 fn reads<T: Log>(log: &T, times: u32, first: u32, count: u32) -> u64 {
     let mut sum = 0u64;
     'times: for _ in 0..times {
         'count: for n in 0..count {
-            if let Some(word) = log.read(first.wrapping_add(address(n, count, false))) {
+            if let Some(word) = log.read(first.wrapping_add(cell(n, count, false))) {
                 sum = sum.wrapping_add(word);
             }
         }
@@ -200,7 +200,7 @@ fn main(rt: HostRuntime) -> io::Result<()> {
         let (write, hit, miss, sum) = measure(&rt, &mut log, times, count, is_rising)?;
         let (plain_write, plain_hit, plain_miss, plain_sum) = measure(&rt, &mut plain, times, count, is_rising)?;
         let order = if is_rising { "rising" } else { "mixed" };
-        println!(rt; "{count} addresses, {order}: {write} {hit} {miss} ({plain_write} {plain_hit} {plain_miss})")?;
+        println!(rt; "{count} cells, {order}: {write} {hit} {miss} ({plain_write} {plain_hit} {plain_miss})")?;
         if sum != plain_sum {
             println!(rt; "the two logs differ")?;
         }

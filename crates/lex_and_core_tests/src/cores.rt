@@ -62,7 +62,7 @@ fn read_again() -> &'static [Row] {
     &ROWS
 }
 
-/// A cancelled inner transaction, with a committed one in it, has written to addresses written before it and to others.
+/// A cancelled inner transaction, with a committed one in it, has written to cells written before it and to others.
 fn nested_rows() -> &'static [Row] {
     static ROWS: [Row; 16] = [
         (Op::Begin, 2, Access::LoadLock, Outcome::Done),
@@ -85,7 +85,7 @@ fn nested_rows() -> &'static [Row] {
     &ROWS
 }
 
-/// Validation finds another word at an address that was read, and the attempt is dropped.
+/// Validation finds another word in a cell that was read, and the attempt is dropped.
 fn changed_word_rows() -> &'static [Row] {
     static ROWS: [Row; 7] = [
         (Op::Begin, 2, Access::LoadLock, Outcome::Done),
@@ -291,9 +291,9 @@ fn makes<A: Allocator + Copy>(core: &mut Core<A>, op: Op, found: u64) -> bool {
 
 /// Whether each of 1000 words is read and written.
 fn writes_many<A: Allocator + Copy>(core: &mut Core<A>) -> bool {
-    for address in 0..1000u32 {
-        let read = makes(core, Op::Read(address), 5) && makes(core, Op::Read(address), 2);
-        if !read || !makes(core, Op::Write(address, 6), 0) {
+    for cell in 0..1000u32 {
+        let read = makes(core, Op::Read(cell), 5) && makes(core, Op::Read(cell), 2);
+        if !read || !makes(core, Op::Write(cell, 6), 0) {
             return false;
         }
     }
@@ -302,8 +302,8 @@ fn writes_many<A: Allocator + Copy>(core: &mut Core<A>) -> bool {
 
 /// Whether each of them is stored.
 fn stores_many<A: Allocator + Copy>(core: &mut Core<A>) -> bool {
-    for address in 0..1000u32 {
-        let wanted = (Access::StoreWord(address, 6), Outcome::Going);
+    for cell in 0..1000u32 {
+        let wanted = (Access::StoreWord(cell, 6), Outcome::Going);
         if step(core, Op::Commit, 0) != Ok(wanted) {
             return false;
         }

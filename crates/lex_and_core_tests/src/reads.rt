@@ -6,22 +6,22 @@ use refusing::{Refusing, growths};
 use std::alloc::{AllocError, Global};
 
 /// Pushes a pair, with room that is asked for a second time where it is refused, and says whether it was; none
-/// where the log has not as many pairs before as the address says, or room is refused again.
-fn insist(log: &mut ReadLog<&Refusing<Global>>, address: u32) -> Option<bool> {
+/// where the log has not as many pairs before as the cell says, or room is refused again.
+fn insist(log: &mut ReadLog<&Refusing<Global>>, cell: u32) -> Option<bool> {
     let refused = log.reserve_one().is_err();
-    let kept = log.len() == address as usize;
+    let kept = log.len() == cell as usize;
     if log.reserve_one().is_err() {
         return None;
     }
-    log.push(address, 9);
+    log.push(cell, 9);
     kept.then_some(refused)
 }
 
-/// Pushes the pairs of 20 addresses, and says whether room was refused.
+/// Pushes the pairs of 20 cells, and says whether room was refused.
 fn insist_on_each(log: &mut ReadLog<&Refusing<Global>>) -> Option<bool> {
     let mut refused = false;
-    for address in 0..20u32 {
-        refused |= insist(log, address)?;
+    for cell in 0..20u32 {
+        refused |= insist(log, cell)?;
     }
     Some(refused)
 }
@@ -43,13 +43,13 @@ fn each_growth_is_refused_in_turn(rt: HostRuntime) {
 }
 
 /// Pushes a pair, with room for it.
-fn push(log: &mut ReadLog, address: u32, word: u64) -> Result<(), AllocError> {
+fn push(log: &mut ReadLog, cell: u32, word: u64) -> Result<(), AllocError> {
     log.reserve_one()?;
-    log.push(address, word);
+    log.push(cell, word);
     Ok(())
 }
 
-/// Whether an empty log keeps two pairs of one address in their order, and none when it is cleared.
+/// Whether an empty log keeps two pairs of one cell in their order, and none when it is cleared.
 fn keeps_order(log: &mut ReadLog) -> Result<bool, AllocError> {
     push(log, 5, 7)?;
     push(log, 5, 8)?;

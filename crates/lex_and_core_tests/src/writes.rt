@@ -26,13 +26,13 @@ fn make_room<A: Allocator + Copy>(log: &mut WriteLog<A>) -> Result<bool, AllocEr
 /// Writes a word, and says whether the room for it was refused once.
 fn write<A: Allocator + Copy>(
     log: &mut WriteLog<A>,
-    address: u32,
+    cell: u32,
     word: u64,
 ) -> Result<bool, AllocError>
     ensures { log.new.marks ≡ log.old.marks }
 {
     let refused = make_room(log)?;
-    log.put(address, word);
+    log.put(cell, word);
     Ok(refused)
 }
 
@@ -101,7 +101,7 @@ fn goes_back_to_a_mark_words_included(rt: HostRuntime) {
     assert_all(&rt, &[("back", back), ("on", on)]);
 }
 
-/// Makes a mark, and writes a word at address 1 in it.
+/// Makes a mark, and writes a word to cell 1 in it.
 fn write_in_mark(log: &mut WriteLog, depth: usize, word: u64) -> Result<(), AllocError>
     requires { depth ≤ length log.old.marks }
     ensures { OnOk result (length log.new.marks ≡ depth + 1) }
@@ -141,20 +141,20 @@ struct Plain {
 }
 
 impl Plain {
-    fn put(&mut self, address: u32, word: u64) -> Result<(), AllocError> {
+    fn put(&mut self, cell: u32, word: u64) -> Result<(), AllocError> {
         for pair in self.pairs.iter_mut() {
-            if pair.0 == address {
+            if pair.0 == cell {
                 pair.1 = word;
                 return Ok(());
             }
         }
-        self.pairs.push((address, word))?;
+        self.pairs.push((cell, word))?;
         Ok(())
     }
 
-    fn get(&self, address: u32) -> Option<u64> {
+    fn get(&self, cell: u32) -> Option<u64> {
         for pair in &self.pairs {
-            if pair.0 == address {
+            if pair.0 == cell {
                 return Some(pair.1);
             }
         }
@@ -175,23 +175,23 @@ impl Plain {
     }
 }
 
-/// Whether the log has the list's pairs, and the list's word for an address.
-fn agrees(log: &WriteLog, plain: &Plain, address: u32) -> bool {
-    has_pairs(log, plain.pairs.as_slice()) && log.get(address) == plain.get(address)
+/// Whether the log has the list's pairs, and the list's word for a cell.
+fn agrees(log: &WriteLog, plain: &Plain, cell: u32) -> bool {
+    has_pairs(log, plain.pairs.as_slice()) && log.get(cell) == plain.get(cell)
 }
 
 /// Writes a word in both, and says whether they agree.
 fn write_both(
     log: &mut WriteLog,
     plain: &mut Plain,
-    address: u32,
+    cell: u32,
     word: u64,
 ) -> Result<bool, AllocError>
     ensures { log.new.marks ≡ log.old.marks }
 {
-    write(log, address, word)?;
-    plain.put(address, word)?;
-    Ok(agrees(log, plain, address))
+    write(log, cell, word)?;
+    plain.put(cell, word)?;
+    Ok(agrees(log, plain, cell))
 }
 
 /// Makes a mark in both.
@@ -204,16 +204,16 @@ fn mark_both(log: &mut WriteLog, plain: &mut Plain, depth: usize) -> Result<(), 
 }
 
 /// Goes back in both, and says whether they agree.
-fn back_to_both(log: &mut WriteLog, plain: &mut Plain, depth: usize, address: u32) -> bool
+fn back_to_both(log: &mut WriteLog, plain: &mut Plain, depth: usize, cell: u32) -> bool
     requires { depth < length log.old.marks }
     ensures { length log.new.marks ≡ depth }
 {
     log.back_to(depth);
     plain.back_to(depth);
-    agrees(log, plain, address)
+    agrees(log, plain, cell)
 }
 
-/// Writes 256 words in both under a mark of this depth, and every fourth at a second address too. Says whether they
+/// Writes 256 words in both under a mark of this depth, and every fourth to a second cell too. Says whether they
 /// agreed after each.
 fn fill_mark(log: &mut WriteLog, plain: &mut Plain, depth: u32) -> Result<bool, AllocError>
     requires { depth < 16 }
@@ -221,10 +221,10 @@ fn fill_mark(log: &mut WriteLog, plain: &mut Plain, depth: u32) -> Result<bool, 
 {
     let mut agreed = true;
     'writes: for n in 0..256u32 {
-        let address = (depth * 256 + n) * 1365 % 4096;
-        agreed &= write_both(log, plain, address, n as u64)?;
+        let cell = (depth * 256 + n) * 1365 % 4096;
+        agreed &= write_both(log, plain, cell, n as u64)?;
         if n % 4 == 0 {
-            agreed &= write_both(log, plain, address / 2, depth as u64)?;
+            agreed &= write_both(log, plain, cell / 2, depth as u64)?;
         }
     }
     Ok(agreed)
@@ -236,19 +236,19 @@ fn leave_mark(
     log: &mut WriteLog,
     plain: &mut Plain,
     depth: usize,
-    address: u32,
+    cell: u32,
 ) -> Result<bool, AllocError>
     requires { depth < length log.old.marks }
     ensures { OnOk result (length log.new.marks ≡ depth) }
 {
-    let back = back_to_both(log, plain, depth, address);
-    let written = write_both(log, plain, address, 7)?;
+    let back = back_to_both(log, plain, depth, cell);
+    let written = write_both(log, plain, cell, 7)?;
     mark_both(log, plain, depth)?;
-    let marked = write_both(log, plain, address, 8)?;
-    Ok(back_to_both(log, plain, depth, address) && back && written && marked)
+    let marked = write_both(log, plain, cell, 8)?;
+    Ok(back_to_both(log, plain, depth, cell) && back && written && marked)
 }
 
-/// Whether each address is found at the place of its pair, and no other is found.
+/// Whether each cell is found at the place of its pair, and no other is found.
 fn finds_all<L: Ledger>(log: &WriteLog, plain: &Plain, blank: Blank) -> bool
     requires name { blank.name ≡ L.name }
     requires parts { blank.parts ≡ L.parts }
@@ -263,7 +263,7 @@ fn finds_all<L: Ledger>(log: &WriteLog, plain: &Plain, blank: Blank) -> bool
     log.find(5000, &mut looks).is_none()
 }
 
-/// Whether each address is found at the place of its pair, and no other is found, where nobody counts the looks.
+/// Whether each cell is found at the place of its pair, and no other is found, where nobody counts the looks.
 fn finds_each(log: &WriteLog, plain: &Plain) -> bool {
     finds_all::<Brand>(log, plain, Blank::new(1))
 }
@@ -292,7 +292,7 @@ fn leave_marks(log: &mut WriteLog, plain: &mut Plain) -> Result<bool, AllocError
     Ok(agreed)
 }
 
-/// Whether both agree while marks are filled and left, and each address is found in between and at the end.
+/// Whether both agree while marks are filled and left, and each cell is found in between and at the end.
 fn agree(log: &mut WriteLog, plain: &mut Plain) -> Result<bool, AllocError>
     requires { length log.old.marks ≡ 0 }
 {
@@ -301,7 +301,7 @@ fn agree(log: &mut WriteLog, plain: &mut Plain) -> Result<bool, AllocError>
     Ok(leave_marks(log, plain)? && filled && found && finds_each(log, plain))
 }
 
-/// 4,096 addresses in an order of their own, 256 of them under each of 16 marks, and back again.
+/// 4,096 cells in an order of their own, 256 of them under each of 16 marks, and back again.
 #[test]
 fn answers_as_a_plain_list(rt: HostRuntime) {
     let mut log = WriteLog::new(rt.alloc());
@@ -321,13 +321,13 @@ fn grow<A: Allocator + Copy>(log: &mut WriteLog<A>) -> Result<bool, AllocError> 
     Ok(write(log, 5, 2)? || refused)
 }
 
-/// Writes a word at each address below this one, and says whether a growth was refused.
+/// Writes a word to each cell below this one, and says whether a growth was refused.
 fn write_to_each<A: Allocator + Copy>(log: &mut WriteLog<A>, end: u32) -> Result<bool, AllocError>
     ensures { log.new.marks ≡ log.old.marks }
 {
     let mut refused = false;
-    'addresses: for address in 0..end {
-        refused |= write(log, address, 9)?;
+    'cells: for cell in 0..end {
+        refused |= write(log, cell, 9)?;
     }
     Ok(refused)
 }

@@ -14,7 +14,7 @@ pub mod single
 pub mod alone
 -- undisturbed transactions, beside their meaning
 pub mod tallies
--- what threads were answered, the addresses that they use, where attempts begin
+-- what threads were answered, the cells that they use, where attempts begin
 pub mod answers
 -- a thread as code keeps it makes the machine's steps
 pub mod keeping

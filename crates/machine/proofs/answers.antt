@@ -1,5 +1,5 @@
--- the addresses in an attempt's logs are cells, so a thread loads and stores cells alone
-pub mod Addresses
+-- an attempt's logs name cells of the memory alone, so a thread loads and stores cells alone
+pub mod NamedCells
 -- a step whose access gives no value sets no snapshot, so a local step depends on the thread's part alone
 pub mod Quiet
 -- the steps of a world in which each thread's answers are recorded, one thread at a time

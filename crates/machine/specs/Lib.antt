@@ -24,8 +24,8 @@ pub mod Tallies
 pub mod Holders
 -- what an event says of its step
 pub mod Events
--- the addresses that threads use
-pub mod Addresses
+-- the cells that threads use
+pub mod NamedCells
 -- what threads were answered
 pub mod Answered
 -- answers by traces

@@ -18,7 +18,7 @@ abbrev pub begins_of : {S : Type 0} → Option (Attempt S) → List S
 begins_of None = []
 begins_of {S} (Some a) = map (λ (k : Checkpoint S). k.saved) a.inner ++ a.saved ∷ []
 
--- what each of these pairs has for its address fits a register
+-- what each of these pairs has for its cell fits a register
 abbrev pub HaveWords : List (ℕ × ℕ) → Type 0
 HaveWords pairs = AllByRecursion (λ (p : ℕ × ℕ). p.1 < 2 ^ 64) pairs
 

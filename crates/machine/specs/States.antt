@@ -102,7 +102,7 @@ told_twice code th word lock = step_with (effect code) (step_with (effect code) 
 
 -- a loaded cell's word is a word of the cell's type
 abbrev pub IsWordOf : Code → Access → Answer → Type 0
-IsWordOf code (LoadWord address) (Value word) = word < slice_index (bounds_of code) address
+IsWordOf code (LoadWord cell) (Value word) = word < slice_index (bounds_of code) cell
 IsWordOf code _ _ = Unit {0}
 
 -- thread t of a code at its beginning
@@ -125,14 +125,14 @@ thread_has_lock th = attempt_has_lock th.attempt
 
 -- operations under which an attempt is validated: a read, a commit, and one that takes the lock to keep it
 abbrev pub IsValidated : Op → Type 0
-IsValidated (op.Read address) = Unit {0}
+IsValidated (op.Read cell) = Unit {0}
 IsValidated op.Commit = Unit {0}
 IsValidated op.Irrevocable = Unit {0}
 IsValidated _ = ⊥
 
 -- what is to be done is such an operation
 abbrev pub MayValidate : Doing → Type 0
-MayValidate (doing.Read d address) = Unit {0}
+MayValidate (doing.Read d cell) = Unit {0}
 MayValidate doing.Commit = Unit {0}
 MayValidate doing.Irrevocable = Unit {0}
 MayValidate _ = ⊥

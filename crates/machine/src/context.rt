@@ -51,8 +51,8 @@ fn op_of(doing: Doing, keeps: bool, trapping: bool) -> Option<Op>
 {
     match doing {
         Doing::Begin(_) => Some(Op::Begin),
-        Doing::Read(_, address) => Some(Op::Read(address)),
-        Doing::Write(address, word) => Some(Op::Write(address, word)),
+        Doing::Read(_, cell) => Some(Op::Read(cell)),
+        Doing::Write(cell, word) => Some(Op::Write(cell, word)),
         Doing::Commit => Some(Op::Commit),
         Doing::Cancel => Some(Op::Cancel),
         Doing::CancelOuter(levels) => Some(Op::CancelOuter(levels)),

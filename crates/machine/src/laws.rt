@@ -23,7 +23,7 @@ ghost use Rattle.machine.specs.OneOrder.{IsInOneOrder};
 ghost use Rattle.machine.specs.Drops.{DropsAreBounded, DropsComeAfterTakings};
 ghost use Rattle.machine.specs.Tallies.{CountsByMeaning};
 ghost use Rattle.machine.specs.Holders.{HoldersNeverAbort};
-ghost use Rattle.machine.specs.Addresses.{NamesCells};
+ghost use Rattle.machine.specs.NamedCells.{NamesCells};
 ghost use Rattle.machine.specs.Events.{EventsTell};
 ghost use Rattle.machine.specs.Answered.{Answered, AnswersOk, Heard, StepsHearing};
 ghost use Rattle.machine.specs.Traces.{IsTraced, RunsOn, heard_run};
@@ -171,8 +171,8 @@ pub fn instructions_are_local_steps()
         StepsHearing (effect code) th n [] (record th { configuration = d }) }
 {}
 
-/// The addresses in an attempt's logs are cells, and so is the one that a thread's next access names.
-pub fn addresses_are_cells<C>()
+/// An attempt's logs name cells of the memory alone, and so does a thread's next access.
+pub fn threads_name_cells<C>()
     ensures { (code : C → Effect C) (init : ℕ → C) (bounds : List ℕ) (m0 : Memory) (threads : ℕ) (steps : List ℕ) →
         FitsCells code bounds →
         NamesCells code (length bounds) (world_after code init m0 threads steps) }

@@ -298,26 +298,26 @@ impl<A: Allocator + Copy> Attempt<A> {
         self.turned = turned;
     }
 
-    /// Logs what was found at an address, which counts shared cells.
-    pub fn log_read(&mut self, address: u32, word: u64)
+    /// Logs what was found in a shared cell, named by its number.
+    pub fn log_read(&mut self, cell: u32, word: u64)
         requires { 0 < self.old.read_room }
         ensures begins { self.new.begins ≡ self.old.begins }
-        ensures reads { self.new.reads ≡ self.old.reads ++ (address, word) ∷ [] }
+        ensures reads { self.new.reads ≡ self.old.reads ++ (cell, word) ∷ [] }
         ensures writes { self.new.writes ≡ self.old.writes }
         ensures kept { self.new.kept ≡ self.old.kept }
     {
-        self.reads.push(address, word);
+        self.reads.push(cell, word);
     }
 
-    /// Writes a word at an address.
-    pub fn write(&mut self, address: u32, word: u64)
+    /// Writes a word to a cell.
+    pub fn write(&mut self, cell: u32, word: u64)
         requires { 0 < self.old.write_room }
         ensures begins { self.new.begins ≡ self.old.begins }
         ensures reads { self.new.reads ≡ self.old.reads }
-        ensures writes { self.new.writes ≡ with_write address word self.old.writes }
+        ensures writes { self.new.writes ≡ with_write cell word self.old.writes }
         ensures kept { self.new.kept ≡ self.old.kept }
     {
-        self.writes.put(address, word);
+        self.writes.put(cell, word);
     }
 
     /// Keeps the lock.
@@ -351,12 +351,12 @@ impl<A: Allocator + Copy> Attempt<A> {
         if self.turned { &self.one } else { &self.other }
     }
 
-    /// The word last written at an address, if any.
+    /// The word last written to a cell, if any.
     #[inline(always)]
-    pub fn written_word(&self, address: u32) -> Option<u64>
-        ensures { result ≡ overlay_word address self.now.writes }
+    pub fn written_word(&self, cell: u32) -> Option<u64>
+        ensures { result ≡ overlay_word cell self.now.writes }
     {
-        self.writes.get(address)
+        self.writes.get(cell)
     }
 
     /// The pair of the read log at a place, from 0; none past the end.

@@ -21,7 +21,7 @@ pub data Kind {S : Type 0} (a : Attempt S) (o : Op) (y : Answer) : Attempt S →
   -- an operation without a word of shared memory
   works : (b : Attempt S) → b.first ≡ a.first → b.snapshot ≡ a.snapshot → b.reads ≡ a.reads → b.phase ≡ AtOperation → Kind a o y b
   loads : (v : ℕ) → Kind a o y (record a { phase = ReadsLock v })
-  logs : (address v : ℕ) → a.phase ≡ ReadsLock v → o ≡ op.Read address → y ≡ Value a.snapshot → Kind a o y (record a { reads = a.reads ++ (address, v) ∷ []; phase = AtOperation })
+  logs : (cell v : ℕ) → a.phase ≡ ReadsLock v → o ≡ op.Read cell → y ≡ Value a.snapshot → Kind a o y (record a { reads = a.reads ++ (cell, v) ∷ []; phase = AtOperation })
   validates : Kind a o y (record a { phase = ValidatesTime })
   times : (time : ℕ) → a.phase ≡ ValidatesTime → y ≡ Value time → time % 2 ≡ 0 → Kind a o y (record a { phase = ValidatesEntry time 0 })
   compares : (time i : ℕ) (p : ℕ × ℕ) → a.phase ≡ ValidatesEntry time i → slice_get a.reads i ≡ Some p → y ≡ Value p.1 → Kind a o y (record a { phase = ValidatesEntry time (suc i) })

@@ -30,7 +30,7 @@ module _ {S : Type 0} {a : Attempt S} {o : Op} {y : Answer} where
   snapshot_of b (swaps e f) = (refl, inl refl)
   snapshot_of b (stores p e f) = (refl, inl refl)
 
-  reads_of : (b : Attempt S) → Kind a o y b → (b.reads ≡ a.reads) ⊎ ((address v : ℕ) × (a.phase ≡ ReadsLock v) × (o ≡ op.Read address) × (y ≡ Value a.snapshot) × (b.reads ≡ a.reads ++ (address, v) ∷ []))
+  reads_of : (b : Attempt S) → Kind a o y b → (b.reads ≡ a.reads) ⊎ ((cell v : ℕ) × (a.phase ≡ ReadsLock v) × (o ≡ op.Read cell) × (y ≡ Value a.snapshot) × (b.reads ≡ a.reads ++ (cell, v) ∷ []))
   reads_of b stays = inl refl
   reads_of b (works c first snapshot reads e) = inl reads
   reads_of b (loads v) = inl refl
@@ -96,9 +96,9 @@ module _ {S : Type 0} (a : Attempt S) where
   no_swap value true g = cc
   no_swap value false g = cc
 
-  no_read : (value address : ℕ) (r : Option ℕ) → read_access address r ≡ StoreLock value → ⊥
-  no_read value address None g = cc
-  no_read value address (Some v) g = cc
+  no_read : (value cell : ℕ) (r : Option ℕ) → read_access cell r ≡ StoreLock value → ⊥
+  no_read value cell None g = cc
+  no_read value cell (Some v) g = cc
 
   no_entry : (value : ℕ) (r : Option (ℕ × ℕ)) → entry_access r ≡ StoreLock value → ⊥
   no_entry value None g = cc

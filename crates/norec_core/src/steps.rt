@@ -324,9 +324,9 @@ impl<A: Allocator + Copy> CoreSteps<A> {
         ensures { result ≡ operation_access self.now.attempt op }
     {
         match op {
-            Op::Read(address) => match self.logs.written_word(address) {
+            Op::Read(cell) => match self.logs.written_word(cell) {
                 Some(_) => Access::Local,
-                None => Access::LoadWord(address),
+                None => Access::LoadWord(cell),
             },
             Op::Commit => self.commit_access(),
             Op::Irrevocable if !self.logs.is_kept() => Access::Swap(self.snapshot),
@@ -419,7 +419,7 @@ impl<A: Allocator + Copy> CoreSteps<A> {
     {
         match (self.phase, op) {
             (Phase::AtOperation, _) => self.told_operation(op, answer),
-            (Phase::ReadsLock(word), Op::Read(address)) => self.told_check(address, word, answer),
+            (Phase::ReadsLock(word), Op::Read(cell)) => self.told_check(cell, word, answer),
             (Phase::ValidatesTime, _) => self.told_time(answer),
             (Phase::ValidatesEntry(time, place), _) => self.told_compare(time, place, answer),
             (Phase::Stores(place), Op::Commit) => self.told_store(place),
@@ -438,8 +438,8 @@ impl<A: Allocator + Copy> CoreSteps<A> {
     {
         match op {
             Op::Begin => self.logs.begin_inner(),
-            Op::Read(address) => return self.told_read(address, answer),
-            Op::Write(address, word) => self.logs.write(address, word),
+            Op::Read(cell) => return self.told_read(cell, answer),
+            Op::Write(cell, word) => self.logs.write(cell, word),
             Op::Commit => return self.told_commit(answer),
             Op::Cancel => return self.told_cancel(),
             Op::CancelOuter(levels) => return self.told_cancel_outer(levels),
@@ -450,13 +450,13 @@ impl<A: Allocator + Copy> CoreSteps<A> {
     }
 
     #[inline(always)]
-    fn told_read(&mut self, address: u32, answer: Answer) -> Outcome
+    fn told_read(&mut self, cell: u32, answer: Answer) -> Outcome
         requires begun { self.old.begun ≡ true }
         requires phase { self.old.attempt.phase ≡ Phase.AtOperation }
-        ensures { IsStep (core_read self.old.attempt (overlay_word address self.old.attempt.writes) answer) result
+        ensures { IsStep (core_read self.old.attempt (overlay_word cell self.old.attempt.writes) answer) result
             self.new }
     {
-        if let Some(word) = self.logs.written_word(address) {
+        if let Some(word) = self.logs.written_word(cell) {
             return Outcome::Read(word);
         }
         if let Answer::Value(word) = answer {
@@ -599,15 +599,15 @@ impl<A: Allocator + Copy> CoreSteps<A> {
 
     /// A read that has its word is logged where the lock is still the snapshot.
     #[inline(always)]
-    fn told_check(&mut self, address: u32, word: u64, answer: Answer) -> Outcome
+    fn told_check(&mut self, cell: u32, word: u64, answer: Answer) -> Outcome
         requires begun { self.old.begun ≡ true }
         requires phase { self.old.attempt.phase ≡ Phase.ReadsLock word }
         requires room { 0 < self.old.read_room }
-        ensures { IsStep (core_check self.old.attempt (Op.Read address) word answer) result self.new }
+        ensures { IsStep (core_check self.old.attempt (Op.Read cell) word answer) result self.new }
     {
         if let Answer::Value(lock) = answer {
             if lock == self.snapshot {
-                self.logs.log_read(address, word);
+                self.logs.log_read(cell, word);
                 self.plain = true;
                 self.phase = Phase::AtOperation;
                 return Outcome::Read(word);

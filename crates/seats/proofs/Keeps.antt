@@ -12,7 +12,7 @@ use Rattle.norec_core.specs.declared.step.Access.TheVariants.{LoadLock, LoadWord
 use Rattle.norec_core.specs.declared.step.Answer.{Answer}
 use Rattle.machine.specs.Answered.{Heard, LocksFrom, is_local, after_local_steps}
 use Rattle.bytecode.specs.Code.{Configuration}
-use Rattle.machine.specs.Addresses.{AccessFits}
+use Rattle.machine.specs.NamedCells.{AccessFits}
 use Rattle.machine.specs.States.{IsWordOf}
 use Rattle.machine.specs.Threads.{Thread, access, step_with}
 use Rattle.norec_core.specs.Accesses.{stops}

@@ -68,8 +68,8 @@ module _ {C : Type 0} (code : C → Effect C) where
     after_done (Pure c) other = refl
     after_done (Print piece c) other = refl
     after_done (Begin c d) other = refl
-    after_done (Read address k) other = refl
-    after_done (Write address v c) other = refl
+    after_done (Read cell k) other = refl
+    after_done (Write cell v c) other = refl
     after_done (Commit c) other = refl
     after_done Cancel other = refl
     after_done (CancelOuter levels) other = refl
@@ -101,8 +101,8 @@ module _ {C : Type 0} (code : C → Effect C) where
         printed true = is
         printed false = is
     own a (Begin c d) is b e = is
-    own a (Read address k) is b e = is
-    own a (Write address v c) is b e = is
+    own a (Read cell k) is b e = is
+    own a (Write cell v c) is b e = is
     own a (Commit c) is b e = is
     own a Cancel is b e = is
     own a (CancelOuter levels) is b e = is
@@ -117,8 +117,8 @@ module _ {C : Type 0} (code : C → Effect C) where
     inside a (Pure c) is = own a (Pure c) is
     inside a (Print piece c) is = own a (Print piece c) is
     inside a (Begin c d) is = resumes (Begin c d) (done_by a op.Begin) is (λ cause e. absurd (cc))
-    inside a (Read address k) is = resumes (Read address k) (done_by a (op.Read address)) is (λ cause e. absurd (cc))
-    inside a (Write address v c) is = resumes (Write address v c) (done_by a (op.Write address v)) is (λ cause e. absurd (cc))
+    inside a (Read cell k) is = resumes (Read cell k) (done_by a (op.Read cell)) is (λ cause e. absurd (cc))
+    inside a (Write cell v c) is = resumes (Write cell v c) (done_by a (op.Write cell v)) is (λ cause e. absurd (cc))
     inside a (Commit c) is = resumes (Commit c) (done_by a op.Commit) is (λ cause e. absurd (cc))
     inside a Cancel is = resumes Cancel (done_by a op.Cancel) is (λ cause e. absurd (cc))
     inside a (CancelOuter levels) is = resumes (CancelOuter levels) (done_by a (op.CancelOuter levels)) is (λ cause e. absurd (cc))
@@ -137,8 +137,8 @@ module _ {C : Type 0} (code : C → Effect C) where
     outside (Begin c d) none Running is a e = resumes (Begin c d) (core_step th.configuration None op.Begin ans) is (λ cause f. absurd (cc)) a e
     outside (Pure c) none Running is a e = is
     outside (Print piece c) none Running is a e = is
-    outside (Read address k) none Running is a e = is
-    outside (Write address v c) none Running is a e = is
+    outside (Read cell k) none Running is a e = is
+    outside (Write cell v c) none Running is a e = is
     outside (Commit c) none Running is a e = is
     outside Cancel none Running is a e = is
     outside (CancelOuter levels) none Running is a e = is

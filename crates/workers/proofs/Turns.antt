@@ -10,7 +10,7 @@ use Rattle.bytecode.specs.Code.{Configuration}
 use Rattle.machine.specs.Threads.{Thread, access, step_with}
 use Rattle.norec_core.specs.Accesses.{IsAnswerTo, cost, stops}
 use Rattle.machine.specs.Worlds.{Part, part_after}
-use Rattle.machine.specs.Addresses.{AccessFits}
+use Rattle.machine.specs.NamedCells.{AccessFits}
 use Rattle.machine.proofs.answers.Answering.{added_grows, local_grows, local_is, paused_more, pauses}
 use Rattle.machine.proofs.answers.Holding.{swaps_even, within}
 use Rattle.machine.proofs.steps.Worlds.{get-set_same}

@@ -11,7 +11,7 @@ use Rattle.norec_core.specs.declared.step.Access.{Access}
 use Rattle.norec_core.specs.declared.step.Access.TheVariants.{LoadWord, Swap}
 use Rattle.norec_core.specs.declared.step.Answer.TheVariants.{Lost, Won}
 use Rattle.norec_core.specs.Accesses.{IsAnswerTo}
-use Rattle.machine.specs.Addresses.{AccessFits}
+use Rattle.machine.specs.NamedCells.{AccessFits}
 use Rattle.machine.specs.Worlds.{answer}
 use Rattle.machine.specs.States.{IsWordOf}
 

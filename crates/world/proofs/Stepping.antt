@@ -18,7 +18,7 @@ use Rattle.norec_core.specs.declared.step.Stop.{Stop}
 use Rattle.norec_core.specs.declared.step.Stop.TheVariants.{SequenceUsedUp}
 use Rattle.machine.specs.declared.event.Event.{Event}
 use Rattle.machine.specs.declared.event.StepShown.{StepShown}
-use Rattle.machine.specs.Addresses.{AccessFits}
+use Rattle.machine.specs.NamedCells.{AccessFits}
 use Rattle.machine.specs.Answered.{Answered, Heard}
 use Rattle.machine.specs.Explained.{HasLock, IsExplainedBy, IsFree, IsHeld, has_lock}
 use Rattle.machine.specs.Merges.{Entry, IsMerge}

@@ -1,4 +1,4 @@
--- An order of pairs by address: what it tells of them, and what each change leaves.
+-- An order of pairs by cell: what it tells of them, and what each change leaves.
 use Rattle.std.proofs.Common.{◌≡◌, ◌≢◌, ◌<◌, ◌≤◌, ◌+◌, ◌-◌, ◌/◌, ◌^◌, ◌==◌, ℕ, zero, suc, List, [], ◌∷◌, ◌++◌, Option, None, Some, Ok, Err, ◌⊎◌, inl, inr, refl, sym, ◌∙◌, ap, length, get_or, set, min, max, arith, eq-eqb}
 use Rattle.std.specs.List.{position, insert, remove}
 use Rattle.std.proofs.lemmas.Bool.{le-ltb, lt-ltb, ne_eqb, cases_eq, cases_lt, cases_order}
@@ -47,7 +47,7 @@ gap_first order (suc j) up lt =
     let s = up j (suc j) (omega arith) lt in
     omega (arith, r, s)
 
--- before so many, all are below an address, and from so many on above it
+-- before so many, all are below a cell, and from so many on above it
 pub below_few : (order : List (ℕ × ℕ)) (least greatest a j : ℕ) → IsRising order → AreWithin least greatest order → j < length order - ((greatest - a) + 1) → (get_or order j (0, 0)).0 < a
 below_few order least greatest a j up b lt =
     let k = length order - 1 - j in
@@ -91,7 +91,7 @@ one_entry order k m up lk lm e = at (cases_order k m)
     at (inr (inl l)) = let r = up k m l lm in absurd (omega arith)
     at (inr (inr l)) = let r = up m k l lk in absurd (omega arith)
 
--- no two places have one address
+-- no two places have one cell
 one_place : (ps order : List (ℕ × ℕ)) (i j : ℕ) → IsOrderOf ps order → i < length ps → j < length ps → (get_or ps i (0, 0)).0 ≡ (get_or ps j (0, 0)).0 → i ≡ j
 one_place ps order i j o li lj e =
     let s = o.there i li in
@@ -114,11 +114,11 @@ order-within least greatest ps order o b k l =
     let w = b (get_or order k (0, 0)).1 h.0 in
     (omega (arith, w.0, h.1), omega (arith, w.1, h.1))
 
--- an address that was found
+-- a cell that was found
 pub found_place : (a : ℕ) (ps order : List (ℕ × ℕ)) (k : ℕ) → IsOrderOf ps order → IsSearched a order (Ok k) → IsPlace a ps (get_or order k (0, 0)).1
 found_place a ps order k o h = let p = o.here k h.0 in (p.0, p.1 ∙ h.1)
 
--- an address that was not found
+-- a cell that was not found
 pub missing : (a : ℕ) (ps order : List (ℕ × ℕ)) (k : ℕ) → IsOrderOf ps order → IsSearched a order (Err k) → Lacks a ps
 missing a ps order k o h = lacks_all a ps (λ i l e.
     let s = o.there i l in
@@ -129,7 +129,7 @@ missing a ps order k o h = lacks_all a ps (λ i l e.
     at j l p (inl b) = let r = h.1 j b in omega arith
     at j l p (inr b) = let r = h.2 j b l in omega arith
 
--- an address outside the bounds
+-- a cell outside the bounds
 pub outside : (a least greatest : ℕ) (ps : List (ℕ × ℕ)) → AreBetween least greatest ps → (a < least) ⊎ (greatest < a) → Lacks a ps
 outside a least greatest ps b out = lacks_all a ps (λ i l e. at i (b i l) e out)
   where
@@ -142,7 +142,7 @@ pub above_all : (a : ℕ) (ps order : List (ℕ × ℕ)) → IsOrderOf ps order 
 above_all a ps order o over =
     (omega arith, (λ j l. let p = o.here j l in let q = over (get_or order j (0, 0)).1 p.0 in omega (arith, p.1)), (λ j le l. absurd (omega arith)))
 
--- the place that was found is the first, since no other has the address
+-- the place that was found is the first, since no other has the cell
 before_place : (a : ℕ) (ps : List (ℕ × ℕ)) (i k : ℕ) → IsDistinct ps → IsPlace a ps i → k < i → (get_or ps k (0, 0)).0 ≢ a
 before_place a [] i k d h lt = absurd (omega (arith, h.0))
 before_place a (p ∷ ps) zero k d h lt = absurd (omega arith)
@@ -290,7 +290,7 @@ between-removed p least greatest ps b i l =
     let e = ap (λ y. y.0) (get_or_append_left ps (p ∷ []) (0, 0) i l) in
     (omega arith, omega arith)
 
--- the last address is found, since it is there
+-- the last cell is found, since it is there
 pub last_found : (p : ℕ × ℕ) (ps order : List (ℕ × ℕ)) (k : ℕ) → IsOrderOf (ps ++ p ∷ []) order → IsSearched p.0 order (Err k) → ⊥
 last_found p ps order k o h =
     lacks_at p.0 (ps ++ p ∷ []) (length ps) (missing p.0 (ps ++ p ∷ []) order k o h) (omega (arith, length_push ps p)) (ap (λ y. y.0) (get_or_push ps p (0, 0) (length ps) refl))

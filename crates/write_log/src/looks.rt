@@ -1,4 +1,4 @@
-//! Looks at addresses, counted.
+//! Looks at cells, counted.
 
 ghost use Rattle.std.specs.Prelude.{◌≡◌, ◌+◌, ◌<◌, ℕ};
 ghost use Rattle.std.specs.Ordering.{MatchOrdering};
@@ -7,8 +7,8 @@ use std::cmp::Ordering;
 use std::marker::Model;
 use std::sync::ledger::{Blank, Book, Ledger, Share};
 
-/// How many addresses of a log were looked at. It takes no bytes, and nothing changes it but a look, which tells
-/// whether an address is less than, equal to or greater than the one that is sought.
+/// How many cells of a log were looked at. It takes no bytes, and nothing changes it but a look, which tells
+/// whether a cell is less than, equal to or greater than the one that is sought.
 #[derive(Drop)]
 pub struct Looks<L: Ledger> {
     book: Book<L>,
@@ -36,7 +36,7 @@ impl<L: Ledger> Looks<L> {
         Looks { book, share }
     }
 
-    /// Looks at an address that a log has.
+    /// Looks at a cell that a log has.
     pub(crate) fn compare(&mut self, found: u32, sought: u32) -> Ordering
         ensures order { MatchOrdering result (found < sought) (found ≡ sought) (sought < found) }
         ensures count { self.new ≡ self.old + 1 }

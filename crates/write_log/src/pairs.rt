@@ -1,4 +1,4 @@
-//! The pairs of a write log in order of first write, with their order by address.
+//! The pairs of a write log in order of first write, with their order by cell.
 
 ghost use Rattle.std.specs.Prelude.{◌≡◌, true, false, ◌+◌, ◌<◌, ◌≤◌, ◌^◌, [], OnOk, OnErr, length, vec_len};
 ghost use Rattle.std.specs.Prelude.{vec_capacity};
@@ -20,7 +20,7 @@ pub enum Change {
     Replaced(usize, u64),
 }
 
-/// Each address with its word, in order of first write, and beside them (address, place) by address. All addresses lie
+/// Each cell with its word, in order of first write, and beside them (cell, place) by cell. All cells lie
 /// between `least` and `greatest`, which stay where pairs are taken back.
 #[derive(Drop)]
 pub struct Pairs<A: Allocator> {
@@ -44,29 +44,29 @@ impl<A: Allocator> Model for Pairs<A> {
     ghost invariant = { λ a. IsOrderOf a.list.items a.order.items × AreBetween a.least a.greatest a.list.items };
 }
 
-/// Where the order has an address, or where it would be inserted. All its addresses lie between these bounds.
+/// Where the order has a cell, or where it would be inserted. All its cells lie between these bounds.
 #[inline(never)]
 fn search<L: Ledger>(
     order: &[(u32, usize)],
     least: u32,
     greatest: u32,
-    address: u32,
+    cell: u32,
     looks: &mut Looks<L>,
 ) -> Result<usize, usize>
     requires rising { IsRising order.now }
     requires between { AreWithin least greatest order.now }
-    ensures found { IsSearched address order.now result }
+    ensures found { IsSearched cell order.now result }
     ensures looks { IsWithinDigits (length order.now) looks.old looks.new }
 {
-    // The addresses rise, so at most `address - least` of them lie below this one, and at most `greatest - address`
+    // The cells rise, so at most `cell - least` of them lie below this one, and at most `greatest - cell`
     // above it. Where they lie close together, little is left to be halved: nothing where none is left out.
-    let below = address.saturating_sub(least) as usize;
-    let above = greatest.saturating_sub(address) as usize;
+    let below = cell.saturating_sub(least) as usize;
+    let above = greatest.saturating_sub(cell) as usize;
     let mut from = order.len().saturating_sub(above + 1);
     let mut to = order.len().min(below + 1);
     while from < to {
         let middle = from + (to - from) / 2;
-        match looks.compare(order[middle].0, address) {
+        match looks.compare(order[middle].0, cell) {
             Ordering::Less => from = middle + 1,
             Ordering::Equal => return Ok(middle),
             Ordering::Greater => to = middle,
@@ -80,7 +80,7 @@ fn search_uncounted<L: Ledger>(
     order: &[(u32, usize)],
     least: u32,
     greatest: u32,
-    address: u32,
+    cell: u32,
     blank: Blank,
 ) -> Result<usize, usize>
     requires name { blank.name ≡ L.name }
@@ -88,18 +88,18 @@ fn search_uncounted<L: Ledger>(
     requires some { 0 < blank.parts }
     requires rising { IsRising order.now }
     requires between { AreWithin least greatest order.now }
-    ensures { IsSearched address order.now result }
+    ensures { IsSearched cell order.now result }
 {
-    search(order, least, greatest, address, &mut Looks::<L>::new(blank))
+    search(order, least, greatest, cell, &mut Looks::<L>::new(blank))
 }
 
 /// Searches as `search` does, where nobody counts the looks.
-fn slot_of(order: &[(u32, usize)], least: u32, greatest: u32, address: u32) -> Result<usize, usize>
+fn slot_of(order: &[(u32, usize)], least: u32, greatest: u32, cell: u32) -> Result<usize, usize>
     requires rising { IsRising order.now }
     requires between { AreWithin least greatest order.now }
-    ensures { IsSearched address order.now result }
+    ensures { IsSearched cell order.now result }
 {
-    search_uncounted::<Brand>(order, least, greatest, address, Blank::new(1))
+    search_uncounted::<Brand>(order, least, greatest, cell, Blank::new(1))
 }
 
 /// Inserts an entry where there is room.
@@ -166,21 +166,21 @@ impl<A: Allocator + Copy> Pairs<A> {
         self.list.len() < self.list.capacity() && self.order.len() < self.order.capacity()
     }
 
-    /// The place of an address, if any. Outside of all addresses it is a test, and no call.
+    /// The place of a cell, if any. Outside of all cells it is a test, and no call.
     #[inline(always)]
-    pub fn find<L: Ledger>(&self, address: u32, looks: &mut Looks<L>) -> Option<usize>
-        ensures found { IsFound address self.now.pairs result }
+    pub fn find<L: Ledger>(&self, cell: u32, looks: &mut Looks<L>) -> Option<usize>
+        ensures found { IsFound cell self.now.pairs result }
         ensures looks { IsWithinDigits (length self.now.pairs) looks.old looks.new }
         ensures distinct { IsDistinct self.now.pairs }
     {
-        if address < self.least || self.greatest < address {
+        if cell < self.least || self.greatest < cell {
             return None;
         }
         match search(
             self.order.as_slice(),
             self.least,
             self.greatest,
-            address,
+            cell,
             looks,
         ) {
             Ok(at) => Some(self.order[at].1),
@@ -188,54 +188,54 @@ impl<A: Allocator + Copy> Pairs<A> {
         }
     }
 
-    /// Whether an address is above all others, as is known without a search.
+    /// Whether a cell is above all others, as is known without a search.
     #[inline(always)]
-    fn is_above(&self, address: u32) -> bool
-        ensures { result ≡ true → IsAbove address self.now.pairs }
+    fn is_above(&self, cell: u32) -> bool
+        ensures { result ≡ true → IsAbove cell self.now.pairs }
     {
-        self.list.is_empty() || self.greatest < address
+        self.list.is_empty() || self.greatest < cell
     }
 
-    /// Writes a word at an address, and answers what that changed. An address above all others needs no search.
+    /// Writes a word to a cell, and answers what that changed. A cell above all others needs no search.
     #[inline(always)]
-    pub fn put(&mut self, address: u32, word: u64) -> Change
+    pub fn put(&mut self, cell: u32, word: u64) -> Change
         requires { 0 < self.old.room }
-        ensures pairs { self.new.pairs ≡ with_write address word self.old.pairs }
+        ensures pairs { self.new.pairs ≡ with_write cell word self.old.pairs }
         ensures undone { undone result self.new.pairs ≡ self.old.pairs }
         ensures can_undo { CanUndo result self.new.pairs }
         ensures room { self.old.room ≤ self.new.room + 1 }
     {
-        if self.is_above(address) {
-            self.order.push_reserved((address, self.list.len()));
-            self.list.push_reserved((address, word));
-            self.least = self.least.min(address);
-            self.greatest = address;
+        if self.is_above(cell) {
+            self.order.push_reserved((cell, self.list.len()));
+            self.list.push_reserved((cell, word));
+            self.least = self.least.min(cell);
+            self.greatest = cell;
             return Change::Added;
         }
-        self.put_among(address, word)
+        self.put_among(cell, word)
     }
 
-    /// Writes a word at an address that may be anywhere among the others.
+    /// Writes a word to a cell that may be anywhere among the others.
     #[inline(never)]
-    fn put_among(&mut self, address: u32, word: u64) -> Change
+    fn put_among(&mut self, cell: u32, word: u64) -> Change
         requires { 0 < self.old.room }
-        ensures pairs { self.new.pairs ≡ with_write address word self.old.pairs }
+        ensures pairs { self.new.pairs ≡ with_write cell word self.old.pairs }
         ensures undone { undone result self.new.pairs ≡ self.old.pairs }
         ensures can_undo { CanUndo result self.new.pairs }
         ensures room { self.old.room ≤ self.new.room + 1 }
     {
-        match slot_of(self.order.as_slice(), self.least, self.greatest, address) {
+        match slot_of(self.order.as_slice(), self.least, self.greatest, cell) {
             Ok(at) => {
                 let place = self.order[at].1;
                 let before = self.list[place].1;
-                self.list[place] = (address, word);
+                self.list[place] = (cell, word);
                 Change::Replaced(place, before)
             }
             Err(at) => {
-                insert_reserved(&mut self.order, at, (address, self.list.len()));
-                self.list.push_reserved((address, word));
-                self.least = self.least.min(address);
-                self.greatest = self.greatest.max(address);
+                insert_reserved(&mut self.order, at, (cell, self.list.len()));
+                self.list.push_reserved((cell, word));
+                self.least = self.least.min(cell);
+                self.greatest = self.greatest.max(cell);
                 Change::Added
             }
         }
@@ -249,8 +249,8 @@ impl<A: Allocator + Copy> Pairs<A> {
     {
         match change {
             Change::Added => {
-                let (address, _) = self.list.take_last();
-                if let Ok(at) = slot_of(self.order.as_slice(), self.least, self.greatest, address) {
+                let (cell, _) = self.list.take_last();
+                if let Ok(at) = slot_of(self.order.as_slice(), self.least, self.greatest, cell) {
                     self.order.remove(at);
                 }
             }

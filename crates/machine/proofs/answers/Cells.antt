@@ -3,11 +3,11 @@ use Rattle.std.proofs.Common.{◌≡◌, ◌≢◌, ◌==◌, ◌⊎◌, inl, in
 use Rattle.std.proofs.lemmas.Bool.Decides.{eqb_tells}
 use Rattle.machine.proofs.steps.Worlds.{get-set_other, get-set_same}
 use Rattle.bytecode.specs.Effects.{Effect, FitsCells}
-use Rattle.machine.specs.Addresses.{LogsFitIf, NamesCells}
+use Rattle.machine.specs.NamedCells.{LogsFitIf, NamesCells}
 use Rattle.machine.specs.Serializable.{world_after}
 use Rattle.machine.specs.Threads.{access, step_with}
 use Rattle.machine.specs.Worlds.{Part, World, answer, new_world, part_after, run, step, step_of}
-use Rattle.machine.proofs.answers.Addresses.{access_fits, told_fits}
+use Rattle.machine.proofs.answers.NamedCells.{access_fits, told_fits}
 use Rattle.machine.proofs.answers.Hearing.{no_attempt}
 
 module _ {C : Type 0} (code : C → Effect C) (bounds : List ℕ) (fits : FitsCells code bounds) where

@@ -22,8 +22,8 @@ use Rattle.machine.specs.Explained.{has_lock, stored_of}
 use Rattle.machine.specs.inner.Invariant.{History, InHand, Invariant, IsHistory, StepOk, LockBy, LockIs, Now, PartOk}
 use Rattle.machine.specs.Threads.{Thread, access, access_of, step_with, told_of}
 use Rattle.machine.specs.Worlds.{Part, World, answer, lock_after, new_parts, new_world, part_after, step_of, words_after}
-use Rattle.machine.specs.Addresses.{LogsFitIf}
-use Rattle.machine.proofs.answers.Addresses.{told_fits}
+use Rattle.machine.specs.NamedCells.{LogsFitIf}
+use Rattle.machine.proofs.answers.NamedCells.{told_fits}
 use Rattle.machine.proofs.answers.Answering.{after_step, at_set}
 use Rattle.machine.proofs.runs.Serializable.{new_invariant, start_of}
 use Rattle.machine.proofs.steps.PartSteps.{part_step}
@@ -92,7 +92,7 @@ lacks_get b [] i q l e = absurd (cc)
 lacks_get b (w ∷ ws) zero q l e = let r : w ≡ q = cc in subst (λ (x : ℕ × ℕ). x.0 ≢ b) r l.0
 lacks_get b (w ∷ ws) (suc i) q l e = lacks_get b ws i q l.1 e
 
--- the next pair is at none of the addresses before it
+-- the next pair is at none of the cells before it
 distinct_next : (ws : List (ℕ × ℕ)) (i : ℕ) (q : ℕ × ℕ) (a v : ℕ) → IsDistinct ws → IsAmong (a, v) (take i ws) → slice_get ws i ≡ Some q → q.0 ≢ a
 distinct_next [] i q a v d am e = absurd (cc)
 distinct_next (w ∷ ws) zero q a v d am e = absurd am

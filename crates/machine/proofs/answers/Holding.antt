@@ -15,8 +15,8 @@ use Rattle.machine.specs.inner.Invariant.{LeftIs, LockIs, Now, RecordOk}
 use Rattle.machine.specs.Merges.{Entry, IsMerge}
 use Rattle.machine.specs.Threads.{access, access_of, op_of}
 use Rattle.machine.specs.Worlds.{Part, Record, World, lock_after}
-use Rattle.machine.specs.Addresses.{AccessFits}
-use Rattle.machine.proofs.answers.Addresses.{access_fits}
+use Rattle.machine.specs.NamedCells.{AccessFits}
+use Rattle.machine.proofs.answers.NamedCells.{access_fits}
 use Rattle.machine.proofs.answers.Answering.{reached}
 use Rattle.machine.proofs.runs.Explained.{each_ok, holder_has, lock_of, part_at, whole}
 use Rattle.machine.proofs.merges.Follow.{Cut, all_left, counted, cut, last_is}

@@ -30,11 +30,11 @@ no_begin : (o : Op) → IsValidated o → {X : Type 0} → o ≡ op.Begin → X
 no_begin o v e = absurd (subst IsValidated e v)
 
 writes : (o : Op) → IsValidated o → WritesWord o
-writes (op.Read address) v = tt
+writes (op.Read cell) v = tt
 writes op.Commit v = tt
 writes op.Irrevocable v = tt
 writes op.Begin v = tt
-writes (op.Write address w) v = absurd v
+writes (op.Write cell w) v = absurd v
 writes op.Cancel v = tt
 writes (op.CancelOuter levels) v = tt
 writes op.Release v = tt

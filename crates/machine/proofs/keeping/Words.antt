@@ -12,7 +12,7 @@ use Rattle.machine.specs.States.{IsWordOf}
 
 -- a loaded cell's word fits a register
 abbrev pub FitsRegister : Access → Answer → Type 0
-FitsRegister (LoadWord address) (Value word) = word < 2 ^ 64
+FitsRegister (LoadWord cell) (Value word) = word < 2 ^ 64
 FitsRegister _ _ = Unit {0}
 
 type_fits : (t : Scalar) → modulus t ≤ 2 ^ 64

@@ -17,7 +17,7 @@ abbrev is_word : Option ℕ → Bool
 is_word None = false
 is_word (Some b) = b == 2 ^ 32
 
--- the addresses of the instruction, and of the code, are such cells
+-- the cells of the instruction, and of the code, are such cells
 abbrev names_cell : List ℕ → Instruction → Bool
 names_cell bounds (Read d c) = is_word (slice_get bounds c)
 names_cell bounds (Write c a) = is_word (slice_get bounds c)

@@ -109,7 +109,7 @@ abbrev pub LockBy : {C : Type 0} → History → ℕ → Attempt C → Bool → 
 LockBy h t a true = (h.holder ≡ Some t) × (a.snapshot ≡ h.top) × (h.stored ≡ stored_of a.writes a.phase)
 LockBy h t a false = h.holder ≢ Some t
 
--- a write log: one pair for each address, with a word below its bound
+-- a write log: one pair for each cell, with a word below its bound
 abbrev pub IsLog : List ℕ → List (ℕ × ℕ) → Type 0
 IsLog bounds writes = IsDistinct writes × AreWords bounds writes
 
@@ -132,7 +132,7 @@ pub record Moves (t : ℕ) (h k : History) : Type 0 where
 
 -- the operations that validation is made for
 abbrev pub Validates : {C : Type 0} → Effect C → Type 0
-Validates (Read address k) = Unit {0}
+Validates (Read cell k) = Unit {0}
 Validates (Commit c) = Unit {0}
 Validates (Irrevocable c) = Unit {0}
 Validates _ = ⊥
@@ -208,7 +208,7 @@ module _ {C : Type 0} (code : C → Effect C) where
     pub based : base ≡ found
     -- the moment's memory has all that was read
     pub agrees : Agrees found reads
-    -- what a commit stores: one pair for each address, below its bound
+    -- what a commit stores: one pair for each cell, below its bound
     pub log : IsLog bounds writes
     -- and what a cancel goes back to
     pub marks : AllByRecursion (λ (k : Checkpoint C). IsLog bounds k.writes) inner

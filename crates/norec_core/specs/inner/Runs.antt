@@ -61,8 +61,8 @@ pub record GainsRoom (old new : Run) : Type 0 where
 -- there is room for what a step of this operation may add
 abbrev pub HasRoom : Op → Run → Type 0
 HasRoom op.Begin r = 0 < r.begin_room
-HasRoom (op.Read address) r = 0 < r.read_room
-HasRoom (op.Write address word) r = 0 < r.write_room
+HasRoom (op.Read cell) r = 0 < r.read_room
+HasRoom (op.Write cell word) r = 0 < r.write_room
 HasRoom _ r = Unit {0}
 
 -- what was prepared, where its step is still to be told

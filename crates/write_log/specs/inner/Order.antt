@@ -1,4 +1,4 @@
--- Where a list of writes has its pairs, by address.
+-- Where a list of writes has its pairs, by cell.
 use Rattle.std.specs.Prelude.{◌≡◌, ◌<◌, ◌≤◌, ◌^◌, ◌+◌, ℕ, List, length, Option, None, Some, Result, Ok, Err}
 use Rattle.std.specs.Prelude.{slice_index_or}
 use Rattle.write_log.specs.Overlay.{Lacks}
@@ -8,21 +8,21 @@ pub record Listed : Type 0 where
   pub pairs : List (ℕ × ℕ)
   pub room : ℕ
 
--- the list has a pair of this address at this place
+-- the list has a pair of this cell at this place
 abbrev pub IsPlace : ℕ → List (ℕ × ℕ) → ℕ → Type 0
 IsPlace a ps i = (i < length ps) × ((slice_index_or ps i (0, 0)).0 ≡ a)
 
--- the place of an address, or none if no pair has it
+-- the place of a cell, or none if no pair has it
 abbrev pub IsFound : ℕ → List (ℕ × ℕ) → Option ℕ → Type 0
 IsFound a ps None = Lacks a ps
 IsFound a ps (Some i) = IsPlace a ps i
 
--- the addresses rise
+-- the cells rise
 abbrev pub IsRising : List (ℕ × ℕ) → Type 0
 IsRising order = (i j : ℕ) → i < j → j < length order →
     (slice_index_or order i (0, 0)).0 < (slice_index_or order j (0, 0)).0
 
--- the order has (address, place) of each pair, by address
+-- the order has (cell, place) of each pair, by cell
 pub record IsOrderOf (pairs order : List (ℕ × ℕ)) : Type 0 where
   pub rising : IsRising order
   pub length_is : length order ≡ length pairs
@@ -30,21 +30,21 @@ pub record IsOrderOf (pairs order : List (ℕ × ℕ)) : Type 0 where
       IsPlace (slice_index_or order k (0, 0)).0 pairs (slice_index_or order k (0, 0)).1
   pub there : (i : ℕ) → i < length pairs → (k : ℕ) × (k < length order) × ((slice_index_or order k (0, 0)).1 ≡ i)
 
--- no address lies outside these bounds
+-- no cell lies outside these bounds
 abbrev pub AreBetween : ℕ → ℕ → List (ℕ × ℕ) → Type 0
 AreBetween least greatest ps = (i : ℕ) → i < length ps →
     (least ≤ (slice_index_or ps i (0, 0)).0) × ((slice_index_or ps i (0, 0)).0 ≤ greatest)
 
--- no address of an order lies outside these bounds
+-- no cell of an order lies outside these bounds
 abbrev pub AreWithin : ℕ → ℕ → List (ℕ × ℕ) → Type 0
 AreWithin least greatest order = (k : ℕ) → k < length order →
     (least ≤ (slice_index_or order k (0, 0)).0) × ((slice_index_or order k (0, 0)).0 ≤ greatest)
 
--- an address is above those of all pairs
+-- a cell is above those of all pairs
 abbrev pub IsAbove : ℕ → List (ℕ × ℕ) → Type 0
 IsAbove a ps = (i : ℕ) → i < length ps → (slice_index_or ps i (0, 0)).0 < a
 
--- where an order has an address, or where it would be inserted
+-- where an order has a cell, or where it would be inserted
 abbrev pub IsSearched : ℕ → List (ℕ × ℕ) → Result ℕ ℕ → Type 0
 IsSearched a order (Ok k) = (k < length order) × ((slice_index_or order k (0, 0)).0 ≡ a)
 IsSearched a order (Err k) = (k ≤ length order)

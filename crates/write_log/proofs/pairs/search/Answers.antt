@@ -10,7 +10,7 @@ loop-from-preserved-in-Less g c =
     record {
       rises = omega arith;
       within = c.loop-from.invariant.within;
-      below = below_at c.args.order.now middle c.args.address c.requires.rising (omega arith) c.in-Less.ensures.order;
+      below = below_at c.args.order.now middle c.args.cell c.requires.rising (omega arith) c.in-Less.ensures.order;
       above = c.loop-from.invariant.above;
       looks = λ digits lt.
           let was = c.loop-from.invariant.looks digits lt in
@@ -27,7 +27,7 @@ loop-from-preserved g c =
       rises = omega arith;
       within = omega arith;
       below = c.loop-from.invariant.below;
-      above = above_at c.args.order.now middle c.args.address c.requires.rising (omega arith) c.in-Greater.ensures.order;
+      above = above_at c.args.order.now middle c.args.cell c.requires.rising (omega arith) c.in-Greater.ensures.order;
       looks = λ digits lt.
           let was = c.loop-from.invariant.looks digits lt in
           let now = halve (to - from) (middle - from) was.0 (omega arith) (omega arith) was.1 in
@@ -39,7 +39,7 @@ loop-from-init g c =
     let order = c.args.order.now in
     let least = c.args.least in
     let greatest = c.args.greatest in
-    let a = c.args.address in
+    let a = c.args.cell in
     record {
       rises = (let s = starts order least greatest a c.requires.rising c.requires.between in omega (arith, s));
       within = omega arith;

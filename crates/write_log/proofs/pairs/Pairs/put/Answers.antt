@@ -9,7 +9,7 @@ pub invariant_of-self : goal.invariant_of-self
 invariant_of-self g c =
     let ps = c.self.inside.list.items in
     let order = c.self.inside.order.items in
-    let a = c.args.address in
+    let a = c.args.cell in
     let least = c.self.inside.least in
     let greatest = c.self.inside.greatest in
     let over : IsAbove a ps = subst (λ (v : Listed). IsAbove a v.pairs) (sym c.self.view_is) (c.is_above.ensures c.if-is_above.true) in
@@ -23,7 +23,7 @@ pub returns-then-is_above-clause-pairs : goal.returns-then-is_above-clause-pairs
 returns-then-is_above-clause-pairs g c =
     let ps = c.self.inside.list.items in
     let order = c.self.inside.order.items in
-    let a = c.args.address in
+    let a = c.args.cell in
     let over : IsAbove a ps = subst (λ (v : Listed). IsAbove a v.pairs) (sym c.self.view_is) (c.is_above.ensures c.if-is_above.true) in
     let searched = above_all a ps order c.self.invariant.0 over in
     let stored : c.push_reserved-then-is_above.new.self.items ≡ ps ++ (a, c.args.word) ∷ [] = c.push_reserved-then-is_above.ensures.items in

@@ -9,7 +9,7 @@ pub invariant_of-self-in-Err : goal.invariant_of-self-in-Err
 invariant_of-self-in-Err g c =
     let ps = c.self.inside.list.items in
     let order = c.self.inside.order.items in
-    let a = c.args.address in
+    let a = c.args.cell in
     let searched = subst (λ xs. IsSearched a xs (Err c.in-Err.at)) c.as_slice.ensures.value c.in-Err.ensures in
     let place : c.len.result ≡ length ps = omega (arith, c.self.inside.list.ok.0) in
     rw (c.push_reserved.ensures.items, c.insert_reserved.ensures.items, place, c.min-self-inside.ensures, c.max-self-inside.ensures)
@@ -19,7 +19,7 @@ pub returns-in-Ok-clause-pairs : goal.returns-in-Ok-clause-pairs
 returns-in-Ok-clause-pairs g c =
     let ps = c.self.inside.list.items in
     let order = c.self.inside.order.items in
-    let a = c.args.address in
+    let a = c.args.cell in
     let searched = subst (λ xs. IsSearched a xs (Ok c.in-Ok.at)) c.as_slice.ensures.value c.in-Ok.ensures in
     let entry = get_or_read order c.in-Ok.at c.index.result.now searched.0 c.index.ensures (0, 0) in
     let there = subst (λ x. IsPlace a ps x.1) (sym entry) (found_place a ps order c.in-Ok.at c.self.invariant.0 searched) in
@@ -29,7 +29,7 @@ pub returns-in-Ok-clause-undone : goal.returns-in-Ok-clause-undone
 returns-in-Ok-clause-undone g c =
     let ps = c.self.inside.list.items in
     let order = c.self.inside.order.items in
-    let a = c.args.address in
+    let a = c.args.cell in
     let searched = subst (λ xs. IsSearched a xs (Ok c.in-Ok.at)) c.as_slice.ensures.value c.in-Ok.ensures in
     let entry = get_or_read order c.in-Ok.at c.index.result.now searched.0 c.index.ensures (0, 0) in
     let there = subst (λ x. IsPlace a ps x.1) (sym entry) (found_place a ps order c.in-Ok.at c.self.invariant.0 searched) in
@@ -39,7 +39,7 @@ returns-in-Ok-clause-undone g c =
 pub returns-in-Err-clause-pairs : goal.returns-in-Err-clause-pairs
 returns-in-Err-clause-pairs g c =
     let ps = c.self.inside.list.items in
-    let a = c.args.address in
+    let a = c.args.cell in
     let searched = subst (λ xs. IsSearched a xs (Err c.in-Err.at)) c.as_slice.ensures.value c.in-Err.ensures in
     let stored : c.push_reserved.new.self.items ≡ ps ++ (a, c.args.word) ∷ [] = c.push_reserved.ensures.items in
     rw (← c.self.view_is) (stored ∙ sym (put_new a c.args.word ps (missing a ps c.self.inside.order.items c.in-Err.at c.self.invariant.0 searched)))

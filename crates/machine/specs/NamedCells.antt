@@ -1,4 +1,4 @@
--- The addresses that a thread uses are cells.
+-- A thread names cells of the memory alone.
 use Rattle.std.specs.Prelude.{◌≡◌, ◌<◌, ℕ, List, Option, None, Some}
 use Rattle.std.specs.List.{slice_get, AllByRecursion}
 use Rattle.bytecode.specs.Effects.{Effect}
@@ -8,7 +8,7 @@ use Rattle.norec_core.specs.Attempts.{Attempt, Checkpoint}
 use Rattle.machine.specs.Threads.{access}
 use Rattle.machine.specs.Worlds.{Part, World}
 
--- the addresses of these pairs are cells
+-- these pairs are of cells of the memory
 abbrev pub AreCells : ℕ → List (ℕ × ℕ) → Type 0
 AreCells cells ps = AllByRecursion (λ (q : ℕ × ℕ). q.0 < cells) ps
 

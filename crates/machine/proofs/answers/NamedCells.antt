@@ -1,4 +1,4 @@
--- The addresses in an attempt's logs are cells, so a thread loads and stores cells alone.
+-- An attempt's logs name cells of the memory alone, so a thread loads and stores cells alone.
 use Rattle.std.proofs.Common.{◌≡◌, ◌-◌, ◌<◌, ◌==◌, ◌%◌, ℕ, zero, suc, Bool, true, false, cond, List, [], ◌∷◌, Option, None, Some, refl, subst, length, slice_get, drop}
 use Rattle.std.specs.List.{AllByRecursion}
 use Rattle.syntax.specs.declared.numbers.Status.{Status}
@@ -18,7 +18,7 @@ use Rattle.norec_core.specs.declared.step.Outcome.{Outcome}
 use Rattle.norec_core.specs.declared.step.Outcome.TheVariants as outcome
 use Rattle.norec_core.specs.declared.step.Phase.{Phase}
 use Rattle.norec_core.specs.declared.step.Phase.TheVariants.{AtOperation, ReadsLock, Stores, ValidatesEntry, ValidatesTime}
-use Rattle.machine.specs.Addresses.{AccessFits, AreCells, LogsFit, LogsFitIf}
+use Rattle.machine.specs.NamedCells.{AccessFits, AreCells, LogsFit, LogsFitIf}
 use Rattle.machine.specs.Threads.{Thread, access, access_of, inside_access, op_of, outside_access, own_step, print_inside, step_with, told_inside, told_of, told_outside, told_running}
 use Rattle.machine.proofs.Levels.{all_left}
 use Rattle.machine.proofs.parts.Part.{each_append}
