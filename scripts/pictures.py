@@ -8,7 +8,7 @@ TXC is the program, crates/txc/out/txc if it is not given, which `cd crates/txc 
 scripts/quick_build.py will do. Of each picture it is shown that
 
   - it is XML;
-  - its marks are titled by the lines of the timeline that have one: accesses, what happens, begins, ends and prints, up to access 400;
+  - its glyphs are titled by the lines of the timeline that have one: accesses, what happens, begins, ends and prints, up to access 400;
   - it has an arrow for each abort, titled by the accesses of the last store to the word that had changed and of the load that found it;
   - where all threads are over and nothing is cut off, the order at its foot, given to `txc source --order`, leaves what the replay left.
 """
@@ -44,7 +44,7 @@ def out_of(txc, *words):
 
 
 def marked(timeline):
-    """The lines of a timeline that have a mark, up to the last access that is drawn."""
+    """The lines of a timeline that have a glyph, up to the last access that is drawn."""
     for line in timeline.splitlines()[1:]:
         accesses, _, said = LINE.fullmatch(line).groups()
         if int(accesses) <= MOST and MARKED.search(said):
@@ -89,7 +89,7 @@ def differs(txc, file, words):
     titles = [it.find(f"{SVG}title").text for it in titled if it.find(f"{SVG}polyline[@class='why']") is None]
     lines = list(marked(timeline))
     if titles != lines:
-        return "has other marks than the timeline"
+        return "has other glyphs than the timeline"
     if arrows != list(arrows_of(timeline)):
         return "has not an arrow for each abort, from the last store to its word"
     cut = int(timeline.splitlines()[-1].split()[0]) > MOST

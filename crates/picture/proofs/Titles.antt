@@ -1,4 +1,4 @@
--- Titles of marks: one step of the loop that makes them, and a picture's text.
+-- Titles of glyphs: one step of the loop that makes them, and a picture's text.
 use Rattle.std.proofs.Common.{◌≡◌, ◌∙◌, ℕ, suc, ◌+◌, ◌<◌, List, [], ◌∷◌, ◌++◌, map, length, take, drop, get_or, ap, sym, refl, append_assoc, add-one, drop-cons}
 use Rattle.std.proofs.Math.Seq.{take-suc}
 use Rattle.std.specs.List.{fold}
@@ -6,7 +6,7 @@ use Rattle.std.specs.Prelude.{flat_map}
 use Rattle.std.proofs.lemmas.List.{map-append}
 use Rattle.std.proofs.lemmas.List.Folds.{flat_map-map}
 use Rattle.picture.specs.Arrows.{Moment, arrow_title, arrows_behind}
-use Rattle.picture.specs.Marks.{AreTitled, IsPicture, mark_text}
+use Rattle.picture.specs.Glyphs.{AreTitled, IsPicture, glyph_text}
 
 -- from an element on: the element, and what follows it
 drop_here : {X : Type 0} (xs : List X) (i : ℕ) (x : X) → x ≡ get_or xs i x → i < length xs → drop i xs ≡ x ∷ drop (i + 1) xs
@@ -24,26 +24,26 @@ titled : {M : Type 0} (title drawn : M → List ℕ) (ms : List M) → map (λ (
 titled title drawn [] = refl
 titled title drawn (m ∷ ms) = ap (λ rest. title m ∷ rest) (titled title drawn ms)
 
--- texts of marks have their titles
-pub are_titled : {M : Type 0} (title drawn : M → List ℕ) (ms : List M) → AreTitled (map title ms) (flat_map (λ m. mark_text (title m) (drawn m)) ms)
+-- texts of glyphs have their titles
+pub are_titled : {M : Type 0} (title drawn : M → List ℕ) (ms : List M) → AreTitled (map title ms) (flat_map (λ m. glyph_text (title m) (drawn m)) ms)
 are_titled title drawn ms = record {
-  marks = map (λ m. (title m, drawn m)) ms;
+  glyphs = map (λ m. (title m, drawn m)) ms;
   titled = titled title drawn ms;
-  spelled = rw (flat_map-map (λ (m : List ℕ × List ℕ). mark_text m.0 m.1) (λ m. (title m, drawn m)) ms) refl;
+  spelled = rw (flat_map-map (λ (m : List ℕ × List ℕ). glyph_text m.0 m.1) (λ m. (title m, drawn m)) ms) refl;
 }
 
 -- a picture's text by what is added to it in turn
-pub is_picture : {M : Type 0} (title drawn : M → List ℕ) (arrows marks : List M) (front pointed mixed marked between back svg : List ℕ) → pointed ≡ front ++ flat_map (λ m. mark_text (title m) (drawn m)) arrows → mixed ≡ pointed ++ between → marked ≡ mixed ++ flat_map (λ m. mark_text (title m) (drawn m)) marks → svg ≡ marked ++ back → IsPicture (map title arrows) (map title marks) svg
-is_picture title drawn arrows marks front pointed mixed marked between back svg to_pointed to_mixed to_marked to_svg =
-    let texts = flat_map (λ m. mark_text (title m) (drawn m)) in record {
+pub is_picture : {M : Type 0} (title drawn : M → List ℕ) (arrows glyphs : List M) (front pointed mixed marked between back svg : List ℕ) → pointed ≡ front ++ flat_map (λ m. glyph_text (title m) (drawn m)) arrows → mixed ≡ pointed ++ between → marked ≡ mixed ++ flat_map (λ m. glyph_text (title m) (drawn m)) glyphs → svg ≡ marked ++ back → IsPicture (map title arrows) (map title glyphs) svg
+is_picture title drawn arrows glyphs front pointed mixed marked between back svg to_pointed to_mixed to_marked to_svg =
+    let texts = flat_map (λ m. glyph_text (title m) (drawn m)) in record {
       front = front;
       drawn_arrows = texts arrows;
       between = between;
-      drawn_marks = texts marks;
+      drawn_glyphs = texts glyphs;
       back = back;
       arrows_titled = are_titled title drawn arrows;
-      marks_titled = are_titled title drawn marks;
-      text = to_svg ∙ ap (λ t. t ++ back) (to_marked ∙ ap (λ t. t ++ texts marks) (to_mixed ∙ ap (λ t. t ++ between) to_pointed));
+      glyphs_titled = are_titled title drawn glyphs;
+      text = to_svg ∙ ap (λ t. t ++ back) (to_marked ∙ ap (λ t. t ++ texts glyphs) (to_mixed ∙ ap (λ t. t ++ between) to_pointed));
     }
 
 -- what one more step leads to

@@ -1,4 +1,4 @@
--- The titles of the marks of a replay.
+-- The titles of the glyphs of a replay.
 use Rattle.std.specs.Prelude.{ℕ, List, Option, Some, flat_map, map}
 use Rattle.std.specs.List.{slice_get}
 use Rattle.syntax.specs.declared.numbers.Status.{Status}
@@ -9,9 +9,9 @@ use Rattle.report.specs.Timeline.{step_words}
 use Rattle.picture.specs.declared.step.Deed.{Deed}
 use Rattle.picture.specs.declared.step.Deed.TheVariants as deed
 use Rattle.picture.specs.Arrows.{arrow_titles}
-use Rattle.picture.specs.Marks.{IsPicture, is_drawn, title_of}
+use Rattle.picture.specs.Glyphs.{IsPicture, is_drawn, title_of}
 
--- what an instruction does, where a local step of it has a mark
+-- what an instruction does, where a local step of it has a glyph
 abbrev pub deed_of : Option Instr → Deed
 deed_of (Some (Instr.Begin to)) = deed.Begin
 deed_of (Some Instr.Commit) = deed.Commit
@@ -24,12 +24,12 @@ abbrev pub deed_at : Code → Status → ℕ → Deed
 deed_at code Running place = deed_of (slice_get code.instructions place)
 deed_at code _ place = deed.Other
 
--- the title of a step's mark, if it is drawn: its line in the timeline
+-- the title of a step's glyph, if it is drawn: its line in the timeline
 abbrev pub step_title : Code → ℕ × ℕ × StepShown → List (List ℕ)
 step_title code s =
     title_of (is_drawn s.0 s.2.access s.2.event (deed_at code s.2.status s.2.place)) (step_words code s)
 
--- the titles of the marks of these steps, in their order
+-- the titles of the glyphs of these steps, in their order
 abbrev pub titles : Code → List (ℕ × ℕ × StepShown) → List (List ℕ)
 titles code steps = flat_map (step_title code) steps
 
@@ -37,6 +37,6 @@ titles code steps = flat_map (step_title code) steps
 abbrev pub arrows : List (ℕ × ℕ × StepShown) → List (List ℕ)
 arrows steps = arrow_titles (map (λ s. (s.0, s.2.access, s.2.event)) steps)
 
--- a text is a picture of these steps: their arrows, and their marks
+-- a text is a picture of these steps: their arrows, and their glyphs
 abbrev pub IsDrawn : Code → List (ℕ × ℕ × StepShown) → List ℕ → Type 0
 IsDrawn code steps svg = IsPicture (arrows steps) (titles code steps) svg

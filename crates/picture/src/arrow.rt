@@ -4,7 +4,7 @@ ghost use Rattle.std.specs.Prelude.{◌≡◌, ◌++◌, IfOk, OnOk, None, Some,
 ghost use Rattle.picture.specs.Arrows.{arrow_title, dropped_for, is_store_to, last_store};
 
 use crate::layout::{BOX, lane, middle};
-use crate::mark::Mark;
+use crate::glyph::Glyph;
 use crate::pieces::{Piece, push_pieces, put_line, put_number};
 use crate::sheet::{Sheet, Store};
 use crate::step::{MOST_ACCESSES, Step};
@@ -125,7 +125,7 @@ fn arrow<A: Allocator + Copy>(
     sheet: &mut Sheet<'_, A>,
     from: u64,
     step: &Step<A>,
-) -> Result<Mark<A>, AllocError>
+) -> Result<Glyph<A>, AllocError>
     ensures { IfOk result (λ m. m.title.items ≡ codes "access " ++ decimal from ++ codes ", then access "
         ++ decimal step.now.accesses) }
 {
@@ -134,13 +134,13 @@ fn arrow<A: Allocator + Copy>(
     if let Some(store) = store_at(sheet.stores.as_slice(), from) {
         sheet.draw_arrow(&mut drawn, store, step.thread)?;
     }
-    Ok(Mark { title, drawn })
+    Ok(Glyph { title, drawn })
 }
 
-/// Adds the arrow to a step behind others, if it has one. The marks of all of them are drawn.
+/// Adds the arrow to a step behind others, if it has one. The glyphs of all of them are drawn.
 pub(crate) fn add_arrow<A: Allocator + Copy>(
     alloc: A,
-    arrows: &mut Vec<Mark<A>, A>,
+    arrows: &mut Vec<Glyph<A>, A>,
     sheet: &mut Sheet<'_, A>,
     before: &[Step<A>],
     step: &Step<A>,

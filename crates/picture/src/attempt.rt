@@ -49,7 +49,7 @@ pub(crate) struct Lane<A: Allocator = Global> {
     pub drops: u64,
     /// The last row in which the thread is drawn.
     pub latest: u64,
-    /// How much of it stands in the last row of the picture, if anything does: marks, of prints characters.
+    /// How much of it stands in the last row of the picture, if anything does: glyphs, of prints characters.
     pub standing: Option<usize>,
 }
 

@@ -2,7 +2,7 @@
 
 use crate::attempt::Attempt;
 use crate::layout::{BOX, ROW, inset, lane, top};
-use crate::mark::Look;
+use crate::glyph::Look;
 use crate::pieces::{put_line, put_rectangle};
 use crate::sheet::Sheet;
 use std::alloc::{AllocError, Allocator};
@@ -101,7 +101,7 @@ impl<'p, A: Allocator + Copy> Sheet<'p, A> {
         words: &[u8],
     ) -> Result<(), AllocError> {
         self.close_all_inner(alloc, thread, self.last(), Fate::Over(class))?;
-        self.mark(to, thread, Look::new(symbol, words, b"b", None))?;
+        self.draw_glyph(to, thread, Look::new(symbol, words, b"b", None))?;
         let row = self.last();
         let Some(lane) = self.lane(thread) else {
             return Ok(());

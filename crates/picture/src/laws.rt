@@ -2,9 +2,9 @@
 
 ghost use Rattle.std.specs.Prelude.{◌≡◌, ◌==◌, ℕ, List, false};
 ghost use Rattle.std.specs.List.{list_any};
-ghost use Rattle.picture.specs.Marks.{xml};
+ghost use Rattle.picture.specs.Glyphs.{xml};
 
-/// No title holds a `<`: no line of a timeline can end its title, or begin another mark.
+/// No title holds a `<`: no line of a timeline can end its title, or begin another glyph.
 pub fn no_title_holds_a_bracket()
     ensures { (line : List ℕ) → list_any (λ b. b == 60) (xml line) ≡ false }
 {}

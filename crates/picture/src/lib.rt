@@ -13,7 +13,7 @@ mod layout;
 mod legend;
 mod lock;
 mod make;
-mod mark;
+mod glyph;
 mod pieces;
 mod replayed;
 mod sheet;

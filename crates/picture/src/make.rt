@@ -2,7 +2,7 @@
 
 use crate::attempt::{Attempt, Load, Phase};
 use crate::layout::{BOX, lane, middle};
-use crate::mark::Look;
+use crate::glyph::Look;
 use crate::pieces::{Piece, push_pieces, put_line};
 use crate::sheet::{Effect, Fold, Sheet, Store};
 use crate::step::Step;
@@ -68,7 +68,7 @@ impl<'p, A: Allocator + Copy> Sheet<'p, A> {
         if tries > 1 {
             push_pieces(&mut said, &[Piece::Plain(b", try "), Piece::Number(tries)])?;
         }
-        self.mark(
+        self.draw_glyph(
             to,
             step.thread,
             Look::new(b"lock", said.as_slice(), b"b", Some(step.accesses)),
@@ -90,7 +90,7 @@ impl<'p, A: Allocator + Copy> Sheet<'p, A> {
     /// A thread waits.
     fn wait(&mut self, to: &mut Vec<u8, A>, step: &Step<A>) -> Result<(), AllocError> {
         let look = Look::new(b"wait", b"waits", b"g", Some(step.accesses));
-        self.mark(to, step.thread, look.fold(Fold::Waits))
+        self.draw_glyph(to, step.thread, look.fold(Fold::Waits))
     }
 
     /// A load of the lock that is told by these words.
@@ -104,7 +104,7 @@ impl<'p, A: Allocator + Copy> Sheet<'p, A> {
     ) -> Result<(), AllocError> {
         self.set_phase(step.thread, phase);
         let said = words(alloc, what)?;
-        self.mark(
+        self.draw_glyph(
             to,
             step.thread,
             Look::new(b"lock", said.as_slice(), b"", Some(step.accesses)),
@@ -130,7 +130,7 @@ impl<'p, A: Allocator + Copy> Sheet<'p, A> {
         let value = self.snapshot(step.thread);
         let said = words(alloc, &[Piece::Plain(b"lock = "), Piece::Number(value)])?;
         let look = Look::new(b"lock", said.as_slice(), b"g", Some(step.accesses));
-        self.mark(to, step.thread, look.fold(Fold::Read(step.thread)))
+        self.draw_glyph(to, step.thread, look.fold(Fold::Read(step.thread)))
     }
 
     /// The words that were read are of the moment of another lock.
@@ -202,7 +202,7 @@ impl<'p, A: Allocator + Copy> Sheet<'p, A> {
         let (thread, depth) = (step.thread, self.depth(step.thread));
         if step.event == Event::Abort {
             let said = words_of(alloc, self.cells, b"again", cell, word, depth)?;
-            self.mark(
+            self.draw_glyph(
                 to,
                 thread,
                 Look::new(b"load", said.as_slice(), b"b", Some(step.accesses)),
@@ -211,12 +211,12 @@ impl<'p, A: Allocator + Copy> Sheet<'p, A> {
         }
         if let Some((Phase::Compare(_), _)) = self.phase(thread) {
             let look = Look::new(b"load", b"same", b"g", Some(step.accesses));
-            return self.mark(to, thread, look.fold(Fold::Same(thread)));
+            return self.draw_glyph(to, thread, look.fold(Fold::Same(thread)));
         }
         let said = words_of(alloc, self.cells, b"load", cell, word, depth)?;
         let look = Look::new(b"load", said.as_slice(), b"", Some(step.accesses));
         self.fold = Fold::Never;
-        self.mark(to, thread, look.fold(Fold::Read(thread)))?;
+        self.draw_glyph(to, thread, look.fold(Fold::Read(thread)))?;
         let row = self.last();
         let Some(lane) = self.lane(thread) else {
             return Ok(());
@@ -335,14 +335,14 @@ impl<'p, A: Allocator + Copy> Sheet<'p, A> {
                     Piece::Number(value),
                 ],
             )?;
-            return self.mark(
+            return self.draw_glyph(
                 to,
                 step.thread,
                 Look::new(b"miss", said.as_slice(), b"", Some(step.accesses)),
             );
         }
         let said = words(alloc, &[swap, Piece::Number(from), Piece::Plain(b": won")])?;
-        self.mark(
+        self.draw_glyph(
             to,
             step.thread,
             Look::new(b"take", said.as_slice(), b"b", Some(step.accesses)),
@@ -372,7 +372,7 @@ impl<'p, A: Allocator + Copy> Sheet<'p, A> {
             word,
             self.depth(step.thread),
         )?;
-        self.mark(
+        self.draw_glyph(
             to,
             step.thread,
             Look::new(b"store", said.as_slice(), b"b", Some(step.accesses)),
@@ -399,7 +399,7 @@ impl<'p, A: Allocator + Copy> Sheet<'p, A> {
             alloc,
             &[Piece::Plain(b"store lock = "), Piece::Number(value)],
         )?;
-        self.mark(
+        self.draw_glyph(
             to,
             step.thread,
             Look::new(b"give", said.as_slice(), b"", Some(step.accesses)),
@@ -432,7 +432,7 @@ impl<'p, A: Allocator + Copy> Sheet<'p, A> {
         }
     }
 
-    /// Draws the mark of an access.
+    /// Draws the glyph of an access.
     pub(crate) fn make(
         &mut self,
         alloc: A,

@@ -1,7 +1,7 @@
 //! Pieces of an SVG's text, each added at the end of a list.
 
 ghost use Rattle.std.specs.Prelude.{◌≡◌, ◌++◌, OnOk, decimal};
-ghost use Rattle.picture.specs.Marks.{xml_escape, xml};
+ghost use Rattle.picture.specs.Glyphs.{xml_escape, xml};
 
 use itoa::Buffer;
 use std::alloc::{AllocError, Allocator};

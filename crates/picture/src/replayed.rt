@@ -3,7 +3,7 @@
 ghost use Rattle.std.specs.Prelude.{◌≡◌, ◌∷◌, ◌++◌, [], IfOk, IfSome, OnSome, flat_map, map, slice_get};
 ghost use Rattle.replay.specs.Replays.{simulation_after, timeline_of};
 ghost use Rattle.picture.specs.Arrows.{Moment, arrow_titles};
-ghost use Rattle.picture.specs.Marks.{IsPicture, is_drawn, title_of};
+ghost use Rattle.picture.specs.Glyphs.{IsPicture, is_drawn, title_of};
 ghost use Rattle.picture.specs.Replayed.{IsDrawn, deed_at, deed_of, step_title, titles};
 
 use crate::cells::cells_of;
@@ -18,7 +18,7 @@ use syntax::numbers::Status;
 use syntax::tree::Unit;
 use world::World;
 
-/// What an instruction does, where a local step of it has a mark.
+/// What an instruction does, where a local step of it has a glyph.
 fn deed_of<A: Allocator>(code: &Code<A>, place: u32) -> Deed
     ensures { result ≡ deed_of (slice_get code.now.instructions place) }
 {

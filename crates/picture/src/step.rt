@@ -1,11 +1,11 @@
 //! What is drawn of a step.
 
 ghost use Rattle.std.specs.Prelude.{◌≡◌};
-ghost use Rattle.picture.specs.Marks.{is_noted};
+ghost use Rattle.picture.specs.Glyphs.{is_noted};
 
 use crate::boxes::Fate;
 use crate::layout::CHARACTERS;
-use crate::mark::Look;
+use crate::glyph::Look;
 use crate::pieces::Piece;
 use crate::sheet::{Effect, Fold, Sheet};
 use crate::words::words;
@@ -17,7 +17,7 @@ use syntax::numbers::Trap;
 /// The accesses that are drawn.
 pub(crate) const MOST_ACCESSES: u64 = 400;
 
-/// What the instruction of a local step does, where that has a mark.
+/// What the instruction of a local step does, where that has a glyph.
 #[derive(Clone, Copy, PartialEq, Eq)]
 pub enum Deed {
     /// It begins a transaction.
@@ -25,7 +25,7 @@ pub enum Deed {
     /// It ends one.
     Commit,
     Print,
-    /// It has no mark.
+    /// It has no glyph.
     Other,
 }
 
@@ -48,7 +48,7 @@ pub struct Step<A: Allocator = Global> {
 }
 
 impl<A: Allocator> Step<A> {
-    /// Whether the step has a mark: it is an access, something happens in it, or it begins, ends or prints.
+    /// Whether the step has a glyph: it is an access, something happens in it, or it begins, ends or prints.
     pub fn is_noted(&self) -> bool
         ensures { result ≡ is_noted self.now.access self.now.event self.now.deed }
     {
@@ -99,7 +99,7 @@ impl<'p, A: Allocator + Copy> Sheet<'p, A> {
 
     /// The inner begin of a thread.
     fn begin_inner(&mut self, to: &mut Vec<u8, A>, thread: u32) -> Result<(), AllocError> {
-        self.mark(to, thread, Look::new(b"in", b"begin inner", b"", None))?;
+        self.draw_glyph(to, thread, Look::new(b"in", b"begin inner", b"", None))?;
         let row = self.last();
         let Some(lane) = self.lane(thread) else {
             return Ok(());
@@ -147,7 +147,7 @@ impl<'p, A: Allocator + Copy> Sheet<'p, A> {
             spelled.extend_from_slice(b"..".get(..room.min(2)).unwrap_or(b""))?;
         }
         let look = Look::new(b"print", spelled.as_slice(), b"i", None);
-        self.mark(to, step.thread, look.fold(fold))
+        self.draw_glyph(to, step.thread, look.fold(fold))
     }
 
     /// A cancel of a thread.
@@ -162,7 +162,7 @@ impl<'p, A: Allocator + Copy> Sheet<'p, A> {
                 &[Piece::Plain(b"cancel")],
             );
         }
-        self.mark(
+        self.draw_glyph(
             to,
             step.thread,
             Look::new(b"not", b"cancel inner", b"b", None),
@@ -185,7 +185,7 @@ impl<'p, A: Allocator + Copy> Sheet<'p, A> {
                 &[Piece::Plain(b"commit")],
             );
         }
-        self.mark(to, step.thread, Look::new(b"done", b"end inner", b"", None))?;
+        self.draw_glyph(to, step.thread, Look::new(b"done", b"end inner", b"", None))?;
         self.close_inner(alloc, step.thread, self.last(), Fate::Over(b"inner"))
     }
 
@@ -202,14 +202,14 @@ impl<'p, A: Allocator + Copy> Sheet<'p, A> {
             return self.leave_after(alloc, to, step, b"trapped", b"trap", &what);
         }
         let said = words(alloc, &what)?;
-        self.mark(
+        self.draw_glyph(
             to,
             step.thread,
             Look::new(b"trap", said.as_slice(), b"b", None),
         )
     }
 
-    /// Draws the mark of a step that has one.
+    /// Draws the glyph of a step that has one.
     pub(crate) fn draw(
         &mut self,
         alloc: A,

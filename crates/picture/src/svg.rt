@@ -2,13 +2,13 @@
 
 ghost use Rattle.std.specs.Prelude.{◌≡◌, ◌++◌, OnOk, IfOk, flat_map, map};
 ghost use Rattle.picture.specs.Arrows.{arrow_titles};
-ghost use Rattle.picture.specs.Marks.{IsPicture, is_drawn, mark_text, title_of, xml};
+ghost use Rattle.picture.specs.Glyphs.{IsPicture, is_drawn, glyph_text, title_of, xml};
 
 use crate::arrow::add_arrow;
 use crate::boxes::Fate;
 use crate::layout::{FIRST, HEADED, PITCH, ROW, TOP, foot, heads, lane};
 use crate::legend::{LEGEND, STYLE};
-use crate::mark::Mark;
+use crate::glyph::Glyph;
 use crate::pieces::{Piece, push_pieces, put_line, put_rectangle, put_text, put_words};
 use crate::sheet::{Cell, Effect, Sheet};
 use crate::step::{MOST_ACCESSES, Step};
@@ -16,64 +16,64 @@ use crate::words::words;
 use std::alloc::{AllocError, Allocator};
 use syntax::numbers::Status;
 
-/// Whether a step is drawn: it has a mark, and is made up to the last access that is drawn.
+/// Whether a step is drawn: it has a glyph, and is made up to the last access that is drawn.
 fn is_drawn<A: Allocator>(step: &Step<A>) -> bool
     ensures { result ≡ is_drawn step.now.accesses step.now.access step.now.event step.now.deed }
 {
     step.accesses <= MOST_ACCESSES && step.is_noted()
 }
 
-/// Draws the mark of a step.
-fn mark_of<A: Allocator + Copy>(
+/// Draws the glyph of a step.
+fn glyph_of<A: Allocator + Copy>(
     alloc: A,
     sheet: &mut Sheet<'_, A>,
     step: &Step<A>,
-) -> Result<Mark<A>, AllocError>
+) -> Result<Glyph<A>, AllocError>
     ensures { IfOk result (λ m. m.title.items ≡ xml step.now.line.items) }
 {
     let mut title = Vec::new(alloc);
     put_words(&mut title, step.line.as_slice())?;
     let mut drawn = Vec::new(alloc);
     sheet.draw(alloc, &mut drawn, step)?;
-    Ok(Mark { title, drawn })
+    Ok(Glyph { title, drawn })
 }
 
-/// Adds the mark of a step, if it is drawn.
-fn add_mark<A: Allocator + Copy>(
+/// Adds the glyph of a step, if it is drawn.
+fn add_glyph<A: Allocator + Copy>(
     alloc: A,
-    marks: &mut Vec<Mark<A>, A>,
+    glyphs: &mut Vec<Glyph<A>, A>,
     sheet: &mut Sheet<'_, A>,
     step: &Step<A>,
 ) -> Result<(), AllocError>
-    ensures { OnOk result (map (λ m. m.title.items) marks.new.items ≡ map (λ m. m.title.items) marks.old.items
+    ensures { OnOk result (map (λ m. m.title.items) glyphs.new.items ≡ map (λ m. m.title.items) glyphs.old.items
         ++ title_of (is_drawn step.now.accesses step.now.access step.now.event step.now.deed) step.now.line.items) }
 {
     if is_drawn(step) {
-        marks.push(mark_of(alloc, sheet, step)?)?;
+        glyphs.push(glyph_of(alloc, sheet, step)?)?;
     }
     Ok(())
 }
 
-/// The marks of the steps that are drawn, in order. Arrows that lead to them are added to a list.
-fn marks<A: Allocator + Copy>(
+/// The glyphs of the steps that are drawn, in order. Arrows that lead to them are added to a list.
+fn glyphs<A: Allocator + Copy>(
     alloc: A,
     steps: &[Step<A>],
     sheet: &mut Sheet<'_, A>,
-    arrows: &mut Vec<Mark<A>, A>,
-) -> Result<Vec<Mark<A>, A>, AllocError>
-    ensures marks { IfOk result (λ ms. map (λ m. m.title.items) ms.items
+    arrows: &mut Vec<Glyph<A>, A>,
+) -> Result<Vec<Glyph<A>, A>, AllocError>
+    ensures glyphs { IfOk result (λ ms. map (λ m. m.title.items) ms.items
         ≡ flat_map (λ s. title_of (is_drawn s.accesses s.access s.event s.deed) s.line.items) steps.now) }
     ensures arrows { OnOk result (map (λ m. m.title.items) arrows.new.items
         ≡ map (λ m. m.title.items) arrows.old.items ++ arrow_titles
         (map (λ s. (s.accesses, s.access, s.event)) steps.now)) }
 {
-    let mut marks = Vec::new(alloc);
+    let mut glyphs = Vec::new(alloc);
     'steps: for at in 0..steps.len() {
         let step = &steps[at];
-        add_mark(alloc, &mut marks, sheet, step)?;
+        add_glyph(alloc, &mut glyphs, sheet, step)?;
         add_arrow(alloc, arrows, sheet, &steps[..at], step)?;
     }
-    Ok(marks)
+    Ok(glyphs)
 }
 
 /// Draws what is open at the end.
@@ -230,42 +230,42 @@ fn put_heads<A: Allocator + Copy>(
     Ok(())
 }
 
-/// Adds the text of a mark.
-fn put_mark<A: Allocator>(to: &mut Vec<u8, A>, mark: &Mark<A>) -> Result<(), AllocError>
-    ensures { OnOk result (to.new.items ≡ to.old.items ++ mark_text mark.now.title.items mark.now.drawn.items) }
+/// Adds the text of a glyph.
+fn put_glyph<A: Allocator>(to: &mut Vec<u8, A>, glyph: &Glyph<A>) -> Result<(), AllocError>
+    ensures { OnOk result (to.new.items ≡ to.old.items ++ glyph_text glyph.now.title.items glyph.now.drawn.items) }
 {
     to.extend_from_slice(b"<g><title>")?;
-    to.extend_from_slice(mark.title.as_slice())?;
+    to.extend_from_slice(glyph.title.as_slice())?;
     to.extend_from_slice(b"</title>")?;
-    to.extend_from_slice(mark.drawn.as_slice())?;
+    to.extend_from_slice(glyph.drawn.as_slice())?;
     to.extend_from_slice(b"</g>\n")
 }
 
-/// Adds the text of the marks.
-fn put_marks<A: Allocator>(to: &mut Vec<u8, A>, marks: &[Mark<A>]) -> Result<(), AllocError>
+/// Adds the text of the glyphs.
+fn put_glyphs<A: Allocator>(to: &mut Vec<u8, A>, glyphs: &[Glyph<A>]) -> Result<(), AllocError>
     ensures { OnOk result
-        (to.new.items ≡ to.old.items ++ flat_map (λ m. mark_text m.title.items m.drawn.items) marks.now) }
+        (to.new.items ≡ to.old.items ++ flat_map (λ m. glyph_text m.title.items m.drawn.items) glyphs.now) }
 {
-    'marks: for mark in marks {
-        put_mark(to, mark)?;
+    'glyphs: for glyph in glyphs {
+        put_glyph(to, glyph)?;
     }
     Ok(())
 }
 
-/// What is drawn below the arrows, with the arrows, what is drawn between, and the marks.
-fn with_marks<A: Allocator>(
+/// What is drawn below the arrows, with the arrows, what is drawn between, and the glyphs.
+fn with_glyphs<A: Allocator>(
     below: Vec<u8, A>,
-    arrows: &[Mark<A>],
+    arrows: &[Glyph<A>],
     between: &[u8],
-    marks: &[Mark<A>],
+    glyphs: &[Glyph<A>],
 ) -> Result<Vec<u8, A>, AllocError>
     ensures { IfOk result (λ v. IsPicture (map (λ m. m.title.items) arrows.now)
-        (map (λ m. m.title.items) marks.now) v.items) }
+        (map (λ m. m.title.items) glyphs.now) v.items) }
 {
     let mut svg = below;
-    put_marks(&mut svg, arrows)?;
+    put_glyphs(&mut svg, arrows)?;
     svg.extend_from_slice(between)?;
-    put_marks(&mut svg, marks)?;
+    put_glyphs(&mut svg, glyphs)?;
     svg.extend_from_slice(b"</svg>\n")?;
     Ok(svg)
 }
@@ -385,7 +385,7 @@ fn put_boxes<A: Allocator>(to: &mut Vec<u8, A>, boxes: &[Vec<u8, A>]) -> Result<
     Ok(())
 }
 
-/// Adds all that is drawn below the arrows, and what is drawn between these and the marks. So many accesses were made.
+/// Adds all that is drawn below the arrows, and what is drawn between these and the glyphs. So many accesses were made.
 fn put_below<A: Allocator + Copy>(
     alloc: A,
     to: &mut Vec<u8, A>,
@@ -433,14 +433,14 @@ pub fn picture<A: Allocator + Copy>(
     ends: &[Status],
     file: &[u8],
 ) -> Result<Vec<u8, A>, AllocError>
-    ensures marks { IfOk result
+    ensures glyphs { IfOk result
         (λ v. IsPicture (arrow_titles (map (λ s. (s.accesses, s.access, s.event)) steps.now))
         (flat_map (λ s. title_of (is_drawn s.accesses s.access s.event s.deed) s.line.items) steps.now) v.items) }
 {
     let threads = ends.len().min(64) as u32;
     let mut sheet = Sheet::new(alloc, cells, threads)?;
     let mut arrows = Vec::new(alloc);
-    let marks = marks(alloc, steps, &mut sheet, &mut arrows)?;
+    let glyphs = glyphs(alloc, steps, &mut sheet, &mut arrows)?;
     close(alloc, &mut sheet, threads)?;
     let mut below = Vec::new(alloc);
     let mut between = Vec::new(alloc);
@@ -453,10 +453,10 @@ pub fn picture<A: Allocator + Copy>(
         accesses_of(steps),
         file,
     )?;
-    with_marks(
+    with_glyphs(
         below,
         arrows.as_slice(),
         between.as_slice(),
-        marks.as_slice(),
+        glyphs.as_slice(),
     )
 }

@@ -1,4 +1,4 @@
-//! The words of a mark.
+//! The words of a glyph.
 
 use crate::layout::CHARACTERS;
 use crate::pieces::{Piece, push_pieces};

@@ -9,7 +9,7 @@ use Rattle.command.specs.declared.request.Steps.{Steps}
 use Rattle.serving.specs.Replays.{IsReplayOfText}
 use Rattle.serving.specs.Reports.{exit_status}
 
--- this is a picture of all steps, a mark for each that has one, in their order, titled by its line of the timeline;
+-- this is a picture of all steps, a glyph for each that has one, in their order, titled by its line of the timeline;
 -- and this is what a report of them would show
 pub record ReplaysDrawn (threads : ℕ) (steps : Steps) (schedule : Option (List ℕ)) (text svg : List ℕ)
     (shown : Printed) : Type 0 where

@@ -1,7 +1,7 @@
 use Rattle.std.proofs.Common.{◌≡◌, ◌++◌, drop}
 use Rattle.std.specs.Prelude.{flat_map, map}
 use Rattle.picture.specs.Arrows.{Moment}
-use Rattle.picture.specs.Marks.{is_drawn, title_of}
+use Rattle.picture.specs.Glyphs.{is_drawn, title_of}
 use Rattle.picture.specs.Replayed.{step_title, titles}
 use Rattle.picture.proofs.replayed.drawn_steps.Given as goal
 

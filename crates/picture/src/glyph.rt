@@ -1,18 +1,18 @@
-//! Marks: what is drawn of one step, in a row of its own or behind others.
+//! Glyphs: what is drawn of one step, in a row of its own or behind others.
 
 use crate::layout::{BOX, baseline, inset, lane, middle};
 use crate::pieces::{Piece, push_pieces, put_text};
 use crate::sheet::{Fold, Sheet};
 use std::alloc::{AllocError, Allocator, Global};
 
-/// The mark of a step: its line of the timeline, as XML wants it, and what is drawn.
+/// The glyph of a step: its line of the timeline, as XML wants it, and what is drawn.
 #[derive(Drop)]
-pub(crate) struct Mark<A: Allocator = Global> {
+pub(crate) struct Glyph<A: Allocator = Global> {
     pub title: Vec<u8, A>,
     pub drawn: Vec<u8, A>,
 }
 
-/// How a mark looks.
+/// How a glyph looks.
 #[derive(Clone, Copy)]
 pub(crate) struct Look<'a> {
     pub symbol: &'a [u8],
@@ -25,7 +25,7 @@ pub(crate) struct Look<'a> {
 }
 
 impl<'a> Look<'a> {
-    /// A mark in a row of its own.
+    /// A glyph in a row of its own.
     pub(crate) fn new(
         symbol: &'a [u8],
         words: &'a [u8],
@@ -41,13 +41,13 @@ impl<'a> Look<'a> {
         }
     }
 
-    /// The mark, where it may stand in the last row.
+    /// The glyph, where it may stand in the last row.
     pub(crate) fn fold(self, fold: Fold) -> Look<'a> {
         Look { fold, ..self }
     }
 }
 
-/// How far to the right of its thread's first mark in a row a mark stands, where so many stand there.
+/// How far to the right of its thread's first glyph in a row a glyph stands, where so many stand there.
 fn behind(fold: Fold, standing: usize) -> u64 {
     match fold {
         Fold::Waits => 44u64.wrapping_add((standing as u64).saturating_mul(4).min(96)),
@@ -92,7 +92,7 @@ impl<'p, A: Allocator + Copy> Sheet<'p, A> {
         Ok(())
     }
 
-    /// Says that a thread has one more mark in the last row. Gives how much of it stood there before.
+    /// Says that a thread has one more glyph in the last row. Gives how much of it stood there before.
     fn stand(&mut self, thread: u32, look: &Look<'_>) -> Option<usize> {
         let row = self.last();
         let lane = self.lane(thread)?;
@@ -106,8 +106,8 @@ impl<'p, A: Allocator + Copy> Sheet<'p, A> {
         before
     }
 
-    /// Draws a mark of a thread: in a new row, or behind what stands in the last row, where that may go on so.
-    pub(crate) fn mark(
+    /// Draws a glyph of a thread: in a new row, or behind what stands in the last row, where that may go on so.
+    pub(crate) fn draw_glyph(
         &mut self,
         to: &mut Vec<u8, A>,
         thread: u32,

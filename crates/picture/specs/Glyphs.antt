@@ -1,4 +1,4 @@
--- The marks of a picture: which steps have one, and what they are titled by.
+-- The glyphs of a picture: which steps have one, and what they are titled by.
 use Rattle.std.specs.Prelude.{ℕ, ◌≡◌, ◌==◌, List, [], ◌∷◌, ◌++◌, Bool, true, false, ◌||◌, ◌&&◌, nat_le, codes, flat_map}
 use Rattle.std.specs.Prelude.{map, if◌then◌else◌}
 use Rattle.norec_core.specs.declared.step.Access.{Access}
@@ -34,42 +34,42 @@ is_told Abort = true
 is_told Cancel = true
 is_told (Trap _) = true
 
-abbrev pub has_mark_alone : Deed → Bool
-has_mark_alone Begin = true
-has_mark_alone Commit = true
-has_mark_alone Print = true
-has_mark_alone Other = false
+abbrev pub has_glyph_alone : Deed → Bool
+has_glyph_alone Begin = true
+has_glyph_alone Commit = true
+has_glyph_alone Print = true
+has_glyph_alone Other = false
 
--- a step has a mark where it is an access, where something happens in it, and where it begins, ends or prints
+-- a step has a glyph where it is an access, where something happens in it, and where it begins, ends or prints
 abbrev pub is_noted : Access → Event → Deed → Bool
-is_noted access happening deed = is_access access || is_told happening || has_mark_alone deed
+is_noted access happening deed = is_access access || is_told happening || has_glyph_alone deed
 
--- a step is drawn where it has a mark and is made up to the 400th access
+-- a step is drawn where it has a glyph and is made up to the 400th access
 abbrev pub is_drawn : ℕ → Access → Event → Deed → Bool
 is_drawn accesses access happening deed = nat_le accesses 400 && is_noted access happening deed
 
--- the title of a step's mark, if it is drawn: its line
+-- the title of a step's glyph, if it is drawn: its line
 abbrev pub title_of : Bool → List ℕ → List (List ℕ)
 title_of drawn line = if drawn then xml line ∷ [] else []
 
--- the text of a mark or an arrow: its title, and what is drawn
-abbrev pub mark_text : List ℕ → List ℕ → List ℕ
-mark_text title drawn = codes "<g><title>" ++ title ++ codes "</title>" ++ drawn ++ codes "</g>\n"
+-- the text of a glyph or an arrow: its title, and what is drawn
+abbrev pub glyph_text : List ℕ → List ℕ → List ℕ
+glyph_text title drawn = codes "<g><title>" ++ title ++ codes "</title>" ++ drawn ++ codes "</g>\n"
 
--- texts of marks or arrows with these titles, one for each and in their order
+-- texts of glyphs or arrows with these titles, one for each and in their order
 pub record AreTitled (titles : List (List ℕ)) (text : List ℕ) : Type 0 where
-  pub marks : List (List ℕ × List ℕ)
-  pub titled : map (λ m. m.0) marks ≡ titles
-  pub spelled : text ≡ flat_map (λ m. mark_text m.0 m.1) marks
+  pub glyphs : List (List ℕ × List ℕ)
+  pub titled : map (λ m. m.0) glyphs ≡ titles
+  pub spelled : text ≡ flat_map (λ m. glyph_text m.0 m.1) glyphs
 
--- a picture's text: arrows with these titles and then marks with these, with something in front of them, between and
+-- a picture's text: arrows with these titles and then glyphs with these, with something in front of them, between and
 -- behind
 pub record IsPicture (arrows titles : List (List ℕ)) (svg : List ℕ) : Type 0 where
   pub front : List ℕ
   pub drawn_arrows : List ℕ
   pub between : List ℕ
-  pub drawn_marks : List ℕ
+  pub drawn_glyphs : List ℕ
   pub back : List ℕ
   pub arrows_titled : AreTitled arrows drawn_arrows
-  pub marks_titled : AreTitled titles drawn_marks
-  pub text : svg ≡ front ++ drawn_arrows ++ between ++ drawn_marks ++ back
+  pub glyphs_titled : AreTitled titles drawn_glyphs
+  pub text : svg ≡ front ++ drawn_arrows ++ between ++ drawn_glyphs ++ back

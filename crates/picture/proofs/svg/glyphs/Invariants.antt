@@ -1,13 +1,13 @@
 use Rattle.std.proofs.Common.{◌≡◌, ◌++◌, take, drop}
 use Rattle.std.specs.Prelude.{flat_map, map}
 use Rattle.picture.specs.Arrows.{arrow_titles, arrows_behind}
-use Rattle.picture.specs.Marks.{is_drawn, title_of}
-use Rattle.picture.proofs.svg.marks.Given as goal
+use Rattle.picture.specs.Glyphs.{is_drawn, title_of}
+use Rattle.picture.proofs.svg.glyphs.Given as goal
 
--- the titles of what is made, and those of the steps to come, make up the whole, of marks and of arrows
+-- the titles of what is made, and those of the steps to come, make up the whole, of glyphs and of arrows
 abbrev pub invariant-steps : goal.invariant-steps
 invariant-steps g l =
-    (map (λ m. m.title.items) l.marks.items
+    (map (λ m. m.title.items) l.glyphs.items
     ++ flat_map (λ s. title_of (is_drawn s.accesses s.access s.event s.deed) s.line.items) (drop l.at l.steps)
     ≡ flat_map (λ s. title_of (is_drawn s.accesses s.access s.event s.deed) s.line.items) l.steps)
     × (map (λ m. m.title.items) l.arrows.items
