@@ -60,7 +60,7 @@ impl<A: Allocator + Copy> Copied<A> for ForHead<A> {
 }
 
 impl<A: Allocator + Copy> Stmt<A> {
-    /// The same statement with all its places, in memory of its own; an `Err` only where `alloc` refuses it.
+    /// A copy of the statement with all its places, in memory of its own; an `Err` only where `alloc` refuses it.
     #[cycle(copy_stmt)]
     pub fn copy(&self, alloc: A) -> Result<Stmt<A>, AllocError>
         ensures { IfOk result (λ s. s ≡ self.now) }
@@ -103,7 +103,7 @@ impl<A: Allocator + Copy> Stmt<A> {
     }
 }
 
-/// The same statement, in a box of its own.
+/// Copies a statement into a box of its own.
 #[cycle(copy_stmt)]
 fn copy_boxed<A: Allocator + Copy>(
     alloc: A,
@@ -128,7 +128,7 @@ fn copy_else<A: Allocator + Copy>(
     }
 }
 
-/// The same statements in the same order.
+/// Copies statements in their order.
 #[cycle(copy_stmt)]
 fn copy_stmts<A: Allocator + Copy>(
     alloc: A,
