@@ -50,8 +50,8 @@ fn has_pairs<A: Allocator + Copy>(log: &WriteLog<A>, wanted: &[(u32, u64)]) -> b
     if log.len() != wanted.len() {
         return false;
     }
-    for (place, pair) in wanted.iter().enumerate() {
-        if log.pair_at(place) != *pair {
+    for (index, pair) in wanted.iter().enumerate() {
+        if log.pair_at(index) != *pair {
             return false;
         }
     }
@@ -248,22 +248,22 @@ fn leave_mark(
     Ok(back_to_both(log, plain, depth, cell) && back && written && marked)
 }
 
-/// Whether each cell is found at the place of its pair, and no other is found.
+/// Whether each cell is found at the index of its pair, and no other is found.
 fn finds_all<L: Ledger>(log: &WriteLog, plain: &Plain, blank: Blank) -> bool
     requires name { blank.name ≡ L.name }
     requires parts { blank.parts ≡ L.parts }
     requires some { 0 < blank.parts }
 {
     let mut looks = Looks::<L>::new(blank);
-    for (place, pair) in plain.pairs.iter().enumerate() {
-        if log.find(pair.0, &mut looks) != Some(place) {
+    for (index, pair) in plain.pairs.iter().enumerate() {
+        if log.find(pair.0, &mut looks) != Some(index) {
             return false;
         }
     }
     log.find(5000, &mut looks).is_none()
 }
 
-/// Whether each cell is found at the place of its pair, and no other is found, where nobody counts the looks.
+/// Whether each cell is found at the index of its pair, and no other is found, where nobody counts the looks.
 fn finds_each(log: &WriteLog, plain: &Plain) -> bool {
     finds_all::<Brand>(log, plain, Blank::new(1))
 }

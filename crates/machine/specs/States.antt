@@ -85,10 +85,10 @@ pub record BeginsNext (code : Code) (s : ThreadState) : Type 0 where
   pub attempt : s.thread.attempt ≡ None
   pub saved : s.ready.saved ≡ saved_in s.thread.configuration
 
--- the thread runs, and its commit stores the pair at this place of the write log next, or past the last pair the lock
-pub record StoresNext (s : ThreadState) (place : ℕ) : Type 0 where
+-- the thread runs, and its commit stores the pair at this index of the write log next, or past the last pair the lock
+pub record StoresNext (s : ThreadState) (index : ℕ) : Type 0 where
   pub running : s.thread.status ≡ Running
-  pub stores : IsSomeAnd s.thread.attempt (λ a. IsStoring place a)
+  pub stores : IsSomeAnd s.thread.attempt (λ a. IsStoring index a)
 
 -- the thread runs, and its next access is a swap from this value of the lock, which can be followed
 pub record SwapsNext (code : Code) (s : ThreadState) (from : ℕ) : Type 0 where
@@ -143,16 +143,16 @@ pub record WaitsNext (code : Code) (s : ThreadState) : Type 0 where
   pub operation : IsSomeAnd (asks (effect code) s.thread) IsValidated
   pub waits : IsSomeAnd s.thread.attempt (λ a. IsWaiting a)
 
--- The thread runs, stands at such an operation, and its validation at this lock value compares the entry at this place
+-- The thread runs, stands at such an operation, and its validation at this lock value compares the entry at this index
 -- of the read log next, or past the last entry the lock.
-pub record ComparesNext (code : Code) (s : ThreadState) (time place : ℕ) : Type 0 where
+pub record ComparesNext (code : Code) (s : ThreadState) (time index : ℕ) : Type 0 where
   pub running : s.thread.status ≡ Running
   pub operation : IsSomeAnd (asks (effect code) s.thread) IsValidated
-  pub compares : IsSomeAnd s.thread.attempt (λ a. IsComparing time place a)
+  pub compares : IsSomeAnd s.thread.attempt (λ a. IsComparing time index a)
 
 -- which entry that is, if it is one
-abbrev pub ComparesEntry : ThreadState → (time place : ℕ) → Option (ℕ × ℕ) → Type 0
-ComparesEntry s time place entry = IsSomeAnd s.thread.attempt (λ a. ComparesWith time place entry a)
+abbrev pub ComparesEntry : ThreadState → (time index : ℕ) → Option (ℕ × ℕ) → Type 0
+ComparesEntry s time index entry = IsSomeAnd s.thread.attempt (λ a. ComparesWith time index entry a)
 
 -- what stood at the thread's place to be done stands there still
 abbrev pub StandsStill : Code → ThreadState → ThreadState → Type 0

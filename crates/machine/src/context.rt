@@ -663,18 +663,18 @@ impl<A: Allocator + Copy> ThreadContext<A> {
 
     /// A step of a commit that stores, whose access was made: what happened, and whether the commit goes on.
     #[inline(always)]
-    pub(crate) fn take_store<B: Allocator>(&mut self, code: &Code<B>, place: usize) -> (Event, bool)
+    pub(crate) fn take_store<B: Allocator>(&mut self, code: &Code<B>, index: usize) -> (Event, bool)
         requires valid { IsValid code.now }
         requires running { self.old.status ≡ Running }
         requires runs { RunsInContext code.now (context_of self.old) }
         requires tells { Tells code.now self.old.frames.configuration Doing.Commit }
-        requires stores { IsSomeAnd self.old.core.attempt (λ a. IsStoring place a) }
+        requires stores { IsSomeAnd self.old.core.attempt (λ a. IsStoring index a) }
         ensures makes { (answer : Reply)
             → Makes code.now (told_spec (effect code.now) (machine_thread (context_of self.old)) answer)
             (context_of self.new) result.0 }
         ensures again { result.1 ≡ true → self.new.frames.configuration ≡ self.old.frames.configuration }
     {
-        let outcome = self.core.take_store(place);
+        let outcome = self.core.take_store(index);
         self.trapping = false;
         let event = resume(
             &mut self.frames,

@@ -322,11 +322,11 @@ impl<A: Allocator + Copy> Thread<A> {
         let _event = self.held.take_swap(code, from, answer);
     }
 
-    /// The place in the write log that its commit stores next, where it stores; past the last pair it stores the lock.
+    /// The index in the write log that its commit stores next, where it stores; past the last pair it stores the lock.
     #[inline(always)]
     pub fn storing(&self) -> Option<usize>
-        ensures some { IfSome result (λ place. StoresNext self.now place) }
-        ensures none { IfNone result ((place : ℕ) → StoresNext self.now place → ⊥) }
+        ensures some { IfSome result (λ index. StoresNext self.now index) }
+        ensures none { IfNone result ((index : ℕ) → StoresNext self.now index → ⊥) }
     {
         match self.held.status {
             Status::Running => self.held.core.storing(),
@@ -337,23 +337,23 @@ impl<A: Allocator + Copy> Thread<A> {
 
     /// The access of such a step of the commit that stands at its place.
     #[inline(always)]
-    pub fn store_access<B: Allocator>(&self, code: &Code<B>, place: usize) -> Access
+    pub fn store_access<B: Allocator>(&self, code: &Code<B>, index: usize) -> Access
         requires of { IsThreadOf code.now self.now.thread }
         requires stands { StandsAt code.now self.now Doing.Commit }
-        requires stores { StoresNext self.now place }
+        requires stores { StoresNext self.now index }
         ensures access { result ≡ access (effect code.now) self.now.thread }
         ensures goes_on { stops result ≡ false }
         ensures cost { cost result ≡ 1 }
     {
-        self.held.core.store_access(place)
+        self.held.core.store_access(index)
     }
 
     /// Makes such a step, whose access was made: whether the commit stands there still. It takes no memory.
     #[inline(always)]
-    pub fn take_store<B: Allocator>(&mut self, code: &Code<B>, place: usize) -> bool
+    pub fn take_store<B: Allocator>(&mut self, code: &Code<B>, index: usize) -> bool
         requires of { IsThreadOf code.now self.old.thread }
         requires stands { StandsAt code.now self.old Doing.Commit }
-        requires stores { StoresNext self.old place }
+        requires stores { StoresNext self.old index }
         requires count { self.old.accesses + 1 < 2 ^ 64 }
         ensures thread { (answer : Reply)
             → self.new.thread ≡ (told_spec (effect code.now) self.old.thread answer).thread }
@@ -362,7 +362,7 @@ impl<A: Allocator + Copy> Thread<A> {
         ensures accesses { self.new.accesses ≡ self.old.accesses + 1 }
     {
         self.accesses += 1;
-        let (_event, again) = self.held.take_store(code, place);
+        let (_event, again) = self.held.take_store(code, index);
         again
     }
 
@@ -434,13 +434,13 @@ impl<A: Allocator + Copy> Thread<A> {
     }
 
     /// Where the operation that stands at its place is under validation, and compares an entry next, or past the last
-    /// one the lock: at which lock value, and the entry's place in the read log.
+    /// one the lock: at which lock value, and the entry's index in the read log.
     #[inline(always)]
     pub fn comparing<B: Allocator>(&self, code: &Code<B>, doing: Doing) -> Option<(u64, usize)>
         requires of { IsThreadOf code.now self.now.thread }
         requires stands { StandsAt code.now self.now doing }
         ensures some { IfSome result (λ at. ComparesNext code.now self.now at.0 at.1) }
-        ensures none { IfNone result ((time place : ℕ) → ComparesNext code.now self.now time place → ⊥) }
+        ensures none { IfNone result ((time index : ℕ) → ComparesNext code.now self.now time index → ⊥) }
     {
         match self.held.status {
             Status::Running => {
@@ -458,14 +458,14 @@ impl<A: Allocator + Copy> Thread<A> {
     /// The entry that is compared next, the cell whose word is loaded and the word that it must have; none past the
     /// last entry, where the lock is loaded.
     #[inline(always)]
-    pub fn entry<B: Allocator>(&self, code: &Code<B>, time: u64, place: usize) -> Option<(u32, u64)>
+    pub fn entry<B: Allocator>(&self, code: &Code<B>, time: u64, index: usize) -> Option<(u32, u64)>
         requires of { IsThreadOf code.now self.now.thread }
-        requires compares { ComparesNext code.now self.now time place }
-        ensures entry { ComparesEntry self.now time place result }
-        ensures next { OnSome result (place + 1 < 2 ^ 64) }
+        requires compares { ComparesNext code.now self.now time index }
+        ensures entry { ComparesEntry self.now time index result }
+        ensures next { OnSome result (index + 1 < 2 ^ 64) }
         ensures access { access (effect code.now) self.now.thread ≡ entry_access result }
     {
-        self.held.core.entry(time, place)
+        self.held.core.entry(time, index)
     }
 
     /// Makes the step that compares this entry, where its word was loaded again: the entry behind it is compared next.
@@ -475,23 +475,23 @@ impl<A: Allocator + Copy> Thread<A> {
         &mut self,
         code: &Code<B>,
         time: u64,
-        place: usize,
+        index: usize,
         entry: (u32, u64),
     )
         requires of { IsThreadOf code.now self.old.thread }
-        requires compares { ComparesNext code.now self.old time place }
-        requires entry { ComparesEntry self.old time place (Some entry) }
-        requires next { place + 1 < 2 ^ 64 }
+        requires compares { ComparesNext code.now self.old time index }
+        requires entry { ComparesEntry self.old time index (Some entry) }
+        requires next { index + 1 < 2 ^ 64 }
         requires word { IsWordOf code.now (Access.LoadWord entry.0) (Value entry.1) }
         requires count { self.old.accesses + 1 < 2 ^ 64 }
         ensures thread { self.new.thread ≡ (told_spec (effect code.now) self.old.thread (Value entry.1)).thread }
-        ensures next { ComparesNext code.now self.new time (place + 1) }
+        ensures next { ComparesNext code.now self.new time (index + 1) }
         ensures of { IsThreadOf code.now self.new.thread }
         ensures still { StandsStill code.now self.old self.new }
         ensures accesses { self.new.accesses ≡ self.old.accesses + 1 }
     {
         self.accesses += 1;
-        self.held.take_equal(code, time, place, entry);
+        self.held.take_equal(code, time, index, entry);
     }
 
     /// Makes the step that compares this entry, where another word was loaded: the attempt is dropped. It takes no
@@ -501,13 +501,13 @@ impl<A: Allocator + Copy> Thread<A> {
         &mut self,
         code: &Code<B>,
         time: u64,
-        place: usize,
+        index: usize,
         entry: (u32, u64),
         word: u64,
     )
         requires of { IsThreadOf code.now self.old.thread }
-        requires compares { ComparesNext code.now self.old time place }
-        requires entry { ComparesEntry self.old time place (Some entry) }
+        requires compares { ComparesNext code.now self.old time index }
+        requires entry { ComparesEntry self.old time index (Some entry) }
         requires differs { word ≢ entry.1 }
         requires word { IsWordOf code.now (Access.LoadWord entry.0) (Value word) }
         requires count { self.old.accesses + 1 < 2 ^ 64 }
@@ -516,7 +516,7 @@ impl<A: Allocator + Copy> Thread<A> {
         ensures accesses { self.new.accesses ≡ self.old.accesses + 1 }
     {
         self.accesses += 1;
-        self.held.take_unequal(code, time, place, entry, word);
+        self.held.take_unequal(code, time, index, entry, word);
     }
 
     /// Makes the step past the last entry, with the lock's value that was loaded: where it is the one at which
@@ -526,12 +526,12 @@ impl<A: Allocator + Copy> Thread<A> {
         &mut self,
         code: &Code<B>,
         time: u64,
-        place: usize,
+        index: usize,
         lock: u64,
     )
         requires of { IsThreadOf code.now self.old.thread }
-        requires compares { ComparesNext code.now self.old time place }
-        requires entry { ComparesEntry self.old time place None }
+        requires compares { ComparesNext code.now self.old time index }
+        requires entry { ComparesEntry self.old time index None }
         requires count { self.old.accesses + 1 < 2 ^ 64 }
         ensures thread { self.new.thread ≡ (told_spec (effect code.now) self.old.thread (Value lock)).thread }
         ensures of { IsThreadOf code.now self.new.thread }
@@ -539,6 +539,6 @@ impl<A: Allocator + Copy> Thread<A> {
         ensures accesses { self.new.accesses ≡ self.old.accesses + 1 }
     {
         self.accesses += 1;
-        self.held.take_validation(code, time, place, lock);
+        self.held.take_validation(code, time, index, lock);
     }
 }

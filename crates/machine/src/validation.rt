@@ -54,27 +54,27 @@ impl<A: Allocator + Copy> ThreadContext<A> {
         &mut self,
         code: &Code<B>,
         time: u64,
-        place: usize,
+        index: usize,
         entry: (u32, u64),
     )
         requires valid { IsValid code.now }
         requires running { self.old.status ≡ Running }
         requires runs { RunsInContext code.now (context_of self.old) }
         requires operation { IsSomeAnd (asks (effect code.now) (machine_thread (context_of self.old))) IsValidated }
-        requires entry { IsSomeAnd self.old.core.attempt (λ a. ComparesWith time place (Some entry) a) }
-        requires next { place + 1 < 2 ^ 64 }
+        requires entry { IsSomeAnd self.old.core.attempt (λ a. ComparesWith time index (Some entry) a) }
+        requires next { index + 1 < 2 ^ 64 }
         requires word { entry.1 < 2 ^ 64 }
         ensures makes { Makes code.now
             (told_spec (effect code.now) (machine_thread (context_of self.old)) (Value entry.1))
             (context_of self.new) Event.Quiet }
         ensures operation { IsSomeAnd (asks (effect code.now) (machine_thread (context_of self.new))) IsValidated }
-        ensures next { IsSomeAnd self.new.core.attempt (λ a. IsComparing time (place + 1) a) }
+        ensures next { IsSomeAnd self.new.core.attempt (λ a. IsComparing time (index + 1) a) }
         ensures running { self.new.status ≡ Running }
         ensures still { self.new.frames.configuration ≡ self.old.frames.configuration }
     {
         // The prover names by it the code.
         let _code = code;
-        self.core.take_equal(time, place, entry);
+        self.core.take_equal(time, index, entry);
         self.trapping = false;
     }
 
@@ -84,7 +84,7 @@ impl<A: Allocator + Copy> ThreadContext<A> {
         &mut self,
         code: &Code<B>,
         time: u64,
-        place: usize,
+        index: usize,
         entry: (u32, u64),
         word: u64,
     )
@@ -92,7 +92,7 @@ impl<A: Allocator + Copy> ThreadContext<A> {
         requires running { self.old.status ≡ Running }
         requires runs { RunsInContext code.now (context_of self.old) }
         requires operation { IsSomeAnd (asks (effect code.now) (machine_thread (context_of self.old))) IsValidated }
-        requires entry { IsSomeAnd self.old.core.attempt (λ a. ComparesWith time place (Some entry) a) }
+        requires entry { IsSomeAnd self.old.core.attempt (λ a. ComparesWith time index (Some entry) a) }
         requires differs { word ≢ entry.1 }
         requires word { word < 2 ^ 64 }
         ensures { Makes code.now (told_spec (effect code.now) (machine_thread (context_of self.old)) (Value word))
@@ -100,7 +100,7 @@ impl<A: Allocator + Copy> ThreadContext<A> {
     {
         // The prover names by it the code.
         let _code = code;
-        self.core.take_unequal(time, place, entry, word);
+        self.core.take_unequal(time, index, entry, word);
         self.trapping = false;
         go_back(&mut self.frames, &self.core);
     }
@@ -111,21 +111,21 @@ impl<A: Allocator + Copy> ThreadContext<A> {
         &mut self,
         code: &Code<B>,
         time: u64,
-        place: usize,
+        index: usize,
         lock: u64,
     )
         requires valid { IsValid code.now }
         requires running { self.old.status ≡ Running }
         requires runs { RunsInContext code.now (context_of self.old) }
         requires operation { IsSomeAnd (asks (effect code.now) (machine_thread (context_of self.old))) IsValidated }
-        requires entry { IsSomeAnd self.old.core.attempt (λ a. ComparesWith time place None a) }
+        requires entry { IsSomeAnd self.old.core.attempt (λ a. ComparesWith time index None a) }
         ensures makes { Makes code.now (told_spec (effect code.now) (machine_thread (context_of self.old)) (Value lock))
             (context_of self.new) Event.Quiet }
         ensures still { self.new.frames.configuration ≡ self.old.frames.configuration }
     {
         // The prover names by it the code.
         let _code = code;
-        self.core.take_validation(time, place, lock);
+        self.core.take_validation(time, index, lock);
         self.trapping = false;
     }
 }

@@ -359,21 +359,21 @@ impl<A: Allocator + Copy> Attempt<A> {
         self.writes.get(cell)
     }
 
-    /// The pair of the read log at a place, from 0; none past the end.
-    pub fn read_at(&self, place: usize) -> Option<(u32, u64)>
-        ensures value { result ≡ slice_get self.now.reads place }
-        ensures next { OnSome result (place + 1 < 2 ^ 64) }
+    /// The pair of the read log at an index, from 0; none past the end.
+    pub fn read_at(&self, index: usize) -> Option<(u32, u64)>
+        ensures value { result ≡ slice_get self.now.reads index }
+        ensures next { OnSome result (index + 1 < 2 ^ 64) }
     {
-        self.reads.get(place)
+        self.reads.get(index)
     }
 
-    /// The pair of the write log at a place, from 0, in order of first write; none past the end.
-    pub fn write_at(&self, place: usize) -> Option<(u32, u64)>
-        ensures value { result ≡ slice_get self.now.writes place }
-        ensures next { OnSome result (place + 1 < 2 ^ 64) }
+    /// The pair of the write log at an index, from 0, in order of first write; none past the end.
+    pub fn write_at(&self, index: usize) -> Option<(u32, u64)>
+        ensures value { result ≡ slice_get self.now.writes index }
+        ensures next { OnSome result (index + 1 < 2 ^ 64) }
     {
-        if place < self.writes.len() {
-            Some(self.writes.pair_at(place))
+        if index < self.writes.len() {
+            Some(self.writes.pair_at(index))
         } else {
             None
         }

@@ -12,11 +12,11 @@ use Rattle.norec_core.specs.Cores.{IsStoring}
 use Rattle.norec_core.specs.Phases.{CoreStep, commit_access, core_access, core_begin, core_commit, core_phase, core_step, core_store, core_swap, entry_access, phase_access, store_access}
 
 module _ {S : Type 0} (now : S) (a : Attempt S) where
-  module _ (place : ℕ) (stores : IsStoring place a) where
-    pub store_access_is : core_access (Some a) op.Commit ≡ store_access a.snapshot (slice_get a.writes place)
+  module _ (index : ℕ) (stores : IsStoring index a) where
+    pub store_access_is : core_access (Some a) op.Commit ≡ store_access a.snapshot (slice_get a.writes index)
     store_access_is = ap (λ (q : Phase). phase_access a q op.Commit) stores
 
-    pub store_is : (y : Answer) → core_step now (Some a) op.Commit y ≡ core_store a place (slice_get a.writes place)
+    pub store_is : (y : Answer) → core_step now (Some a) op.Commit y ≡ core_store a index (slice_get a.writes index)
     store_is y = ap (λ (q : Phase). core_phase now a q op.Commit y) stores
 
   -- a store goes back to nothing, does not stop, and is one access

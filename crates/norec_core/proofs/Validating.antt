@@ -11,5 +11,5 @@ module _ {S : Type 0} (a : Attempt S) (o : Op) where
   pub waiting_access : IsWaiting a → core_access (Some a) o ≡ LoadLock
   waiting_access w = ap (λ (q : Phase). phase_access a q o) w
 
-  pub comparing_access : (time place : ℕ) (entry : Option (ℕ × ℕ)) → ComparesWith time place entry a → core_access (Some a) o ≡ entry_access entry
-  comparing_access time place entry c = ap (λ (q : Phase). phase_access a q o) c.0 ∙ ap entry_access c.1
+  pub comparing_access : (time index : ℕ) (entry : Option (ℕ × ℕ)) → ComparesWith time index entry a → core_access (Some a) o ≡ entry_access entry
+  comparing_access time index entry c = ap (λ (q : Phase). phase_access a q o) c.0 ∙ ap entry_access c.1

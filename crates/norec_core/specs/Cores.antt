@@ -47,9 +47,9 @@ abbrev pub CommitsAtOnce : {S : Type 0} → Attempt S → Type 0
 CommitsAtOnce a =
     (a.phase ≡ AtOperation) × (a.kept ≡ false) × (commit_access a a.inner a.kept a.writes ≡ Local)
 
--- a commit stores the pair at this place of the write log next, or past the last pair the lock
+-- a commit stores the pair at this index of the write log next, or past the last pair the lock
 abbrev pub IsStoring : {S : Type 0} → ℕ → Attempt S → Type 0
-IsStoring place a = a.phase ≡ Stores place
+IsStoring index a = a.phase ≡ Stores index
 
 -- two steps of an operation, with the answers to their accesses
 abbrev pub stepped_twice : CoreState → Op → (first second : Answer) → CoreStep Saved
@@ -81,13 +81,13 @@ has_lock (Some a) = holds a.kept a.phase
 abbrev pub IsWaiting : {S : Type 0} → Attempt S → Type 0
 IsWaiting a = a.phase ≡ ValidatesTime
 
--- validation at this lock value compares the entry at this place of the read log next, or past the last entry the lock
-abbrev pub IsComparing : {S : Type 0} → (time place : ℕ) → Attempt S → Type 0
-IsComparing time place a = a.phase ≡ ValidatesEntry time place
+-- validation at this lock value compares the entry at this index of the read log next, or past the last entry the lock
+abbrev pub IsComparing : {S : Type 0} → (time index : ℕ) → Attempt S → Type 0
+IsComparing time index a = a.phase ≡ ValidatesEntry time index
 
 -- which entry that is, if it is one
-abbrev pub ComparesWith : {S : Type 0} → (time place : ℕ) → Option (ℕ × ℕ) → Attempt S → Type 0
-ComparesWith time place entry a = IsComparing time place a × (slice_get a.reads place ≡ entry)
+abbrev pub ComparesWith : {S : Type 0} → (time index : ℕ) → Option (ℕ × ℕ) → Attempt S → Type 0
+ComparesWith time index entry a = IsComparing time index a × (slice_get a.reads index ≡ entry)
 
 -- the step with this answer, whichever operation is asked for: the operation goes on, and nothing is gone back to
 pub record IsAskedAgain (c : CoreState) (answer : Answer) (op : Op) (d : CoreState) : Type 0 where

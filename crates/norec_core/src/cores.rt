@@ -267,28 +267,28 @@ impl<A: Allocator + Copy> Core<A> {
         self.steps.take_swap(from, answer)
     }
 
-    /// The place in the write log that a commit stores next, where one stores; past the last pair it stores the lock.
+    /// The index in the write log that a commit stores next, where one stores; past the last pair it stores the lock.
     #[inline(always)]
     pub fn storing(&self) -> Option<usize>
-        ensures some { IfSome result (λ place. IsSomeAnd self.now.attempt (λ a. IsStoring place a)) }
-        ensures none { IfNone result ((place : ℕ) → IsSomeAnd self.now.attempt (λ a. IsStoring place a) → ⊥) }
+        ensures some { IfSome result (λ index. IsSomeAnd self.now.attempt (λ a. IsStoring index a)) }
+        ensures none { IfNone result ((index : ℕ) → IsSomeAnd self.now.attempt (λ a. IsStoring index a) → ⊥) }
     {
         self.steps.storing()
     }
 
     /// The access of such a step.
     #[inline(always)]
-    pub fn store_access(&self, place: usize) -> Access
-        requires { IsSomeAnd self.now.attempt (λ a. IsStoring place a) }
+    pub fn store_access(&self, index: usize) -> Access
+        requires { IsSomeAnd self.now.attempt (λ a. IsStoring index a) }
         ensures { result ≡ core_access self.now.attempt Op.Commit }
     {
-        self.steps.next_store(place)
+        self.steps.next_store(index)
     }
 
     /// Makes such a step, whose access was made. It takes no memory.
     #[inline(always)]
-    pub fn take_store(&mut self, place: usize) -> Outcome
-        requires { IsSomeAnd self.old.attempt (λ a. IsStoring place a) }
+    pub fn take_store(&mut self, index: usize) -> Outcome
+        requires { IsSomeAnd self.old.attempt (λ a. IsStoring index a) }
         ensures attempt { (answer : Reply)
             → self.new.attempt ≡ (core_step self.old.saved self.old.attempt Op.Commit answer).attempt }
         ensures outcome { (answer : Reply)
@@ -296,7 +296,7 @@ impl<A: Allocator + Copy> Core<A> {
         ensures asked { self.new.asked ≡ None }
     {
         self.is_asked = false;
-        self.steps.take_store(place)
+        self.steps.take_store(index)
     }
 
     /// What to go back to, after a step that cancelled or aborted: the thread's state at that begin.
@@ -348,11 +348,11 @@ impl<A: Allocator + Copy> Core<A> {
     }
 
     /// Where validation compares an entry next, or past the last one the lock: at which lock value, and the entry's
-    /// place in the read log.
+    /// index in the read log.
     #[inline(always)]
     pub fn comparing(&self) -> Option<(u64, usize)>
         ensures some { IfSome result (λ at. IsSomeAnd self.now.attempt (λ a. IsComparing at.0 at.1 a)) }
-        ensures none { IfNone result ((time place : ℕ) → IsSomeAnd self.now.attempt (λ a. IsComparing time place a)
+        ensures none { IfNone result ((time index : ℕ) → IsSomeAnd self.now.attempt (λ a. IsComparing time index a)
             → ⊥) }
     {
         self.steps.comparing()
@@ -361,43 +361,43 @@ impl<A: Allocator + Copy> Core<A> {
     /// The entry that is compared next, the cell whose word is loaded and the word that it must have; none past the
     /// last entry, where the lock is loaded.
     #[inline(always)]
-    pub fn entry(&self, time: u64, place: usize) -> Option<(u32, u64)>
-        requires { IsSomeAnd self.now.attempt (λ a. IsComparing time place a) }
-        ensures entry { IsSomeAnd self.now.attempt (λ a. ComparesWith time place result a) }
-        ensures next { OnSome result (place + 1 < 2 ^ 64) }
+    pub fn entry(&self, time: u64, index: usize) -> Option<(u32, u64)>
+        requires { IsSomeAnd self.now.attempt (λ a. IsComparing time index a) }
+        ensures entry { IsSomeAnd self.now.attempt (λ a. ComparesWith time index result a) }
+        ensures next { OnSome result (index + 1 < 2 ^ 64) }
     {
         // The prover names by it the lock value.
         let _time = time;
-        self.steps.entry(place)
+        self.steps.entry(index)
     }
 
     /// Makes the step that compares this entry, where its word was loaded again: validation compares the one behind it
     /// next. It takes no memory.
     #[inline(always)]
-    pub fn take_equal(&mut self, time: u64, place: usize, entry: (u32, u64))
-        requires entry { IsSomeAnd self.old.attempt (λ a. ComparesWith time place (Some entry) a) }
-        requires next { place + 1 < 2 ^ 64 }
+    pub fn take_equal(&mut self, time: u64, index: usize, entry: (u32, u64))
+        requires entry { IsSomeAnd self.old.attempt (λ a. ComparesWith time index (Some entry) a) }
+        requires next { index + 1 < 2 ^ 64 }
         ensures step { (op : Operation) → IsAskedAgain self.old (Value entry.1) op self.new }
-        ensures next { IsSomeAnd self.new.attempt (λ a. IsComparing time (place + 1) a) }
+        ensures next { IsSomeAnd self.new.attempt (λ a. IsComparing time (index + 1) a) }
         ensures asked { self.new.asked ≡ None }
     {
         // The prover names by it the word.
         let _entry = entry;
         self.is_asked = false;
-        self.steps.take_equal(time, place);
+        self.steps.take_equal(time, index);
     }
 
     /// Makes the step that compares this entry, where another word was loaded: the attempt is dropped. It takes no
     /// memory.
     #[inline(always)]
-    pub fn take_unequal(&mut self, time: u64, place: usize, entry: (u32, u64), word: u64)
-        requires entry { IsSomeAnd self.old.attempt (λ a. ComparesWith time place (Some entry) a) }
+    pub fn take_unequal(&mut self, time: u64, index: usize, entry: (u32, u64), word: u64)
+        requires entry { IsSomeAnd self.old.attempt (λ a. ComparesWith time index (Some entry) a) }
         requires differs { word ≢ entry.1 }
         ensures step { (op : Operation) → IsDropped self.old (Value word) op self.new }
         ensures asked { self.new.asked ≡ None }
     {
         // The prover names by them the entry and the word.
-        let _compared = (time, place, entry, word);
+        let _compared = (time, index, entry, word);
         self.is_asked = false;
         self.steps.take_unequal();
     }
@@ -405,12 +405,12 @@ impl<A: Allocator + Copy> Core<A> {
     /// Makes the step past the last entry, with the lock's value that was loaded: where it is the one at which
     /// validation began it is the new snapshot, else validation begins again. It takes no memory.
     #[inline(always)]
-    pub fn take_validation(&mut self, time: u64, place: usize, lock: u64)
-        requires { IsSomeAnd self.old.attempt (λ a. ComparesWith time place None a) }
+    pub fn take_validation(&mut self, time: u64, index: usize, lock: u64)
+        requires { IsSomeAnd self.old.attempt (λ a. ComparesWith time index None a) }
         ensures step { (op : Operation) → IsAskedAgain self.old (Value lock) op self.new }
         ensures asked { self.new.asked ≡ None }
     {
         self.is_asked = false;
-        self.steps.take_validation(time, place, lock);
+        self.steps.take_validation(time, index, lock);
     }
 }

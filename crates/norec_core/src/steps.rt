@@ -261,41 +261,41 @@ impl<A: Allocator + Copy> CoreSteps<A> {
         self.after_swap(answer)
     }
 
-    /// The place in the write log that a commit stores next, where one stores.
+    /// The index in the write log that a commit stores next, where one stores.
     #[inline(always)]
     pub(crate) fn storing(&self) -> Option<usize>
-        ensures some { IfSome result (λ place. (self.now.begun ≡ true)
-            × (self.now.attempt.phase ≡ Phase.Stores place)) }
-        ensures none { IfNone result ((place : ℕ) → self.now.begun ≡ true → self.now.attempt.phase ≡ Phase.Stores place
+        ensures some { IfSome result (λ index. (self.now.begun ≡ true)
+            × (self.now.attempt.phase ≡ Phase.Stores index)) }
+        ensures none { IfNone result ((index : ℕ) → self.now.begun ≡ true → self.now.attempt.phase ≡ Phase.Stores index
             → ⊥) }
     {
         match self.phase {
-            Phase::Stores(place) => { if self.begun { Some(place) } else { None } }
+            Phase::Stores(index) => { if self.begun { Some(index) } else { None } }
             _ => None,
         }
     }
 
     /// The access of a commit that stores this pair next, or past the last one the lock.
     #[inline(always)]
-    pub(crate) fn next_store(&self, place: usize) -> Access
-        requires { self.now.attempt.phase ≡ Phase.Stores place }
-        ensures { result ≡ store_access self.now.attempt.snapshot (slice_get self.now.attempt.writes place) }
+    pub(crate) fn next_store(&self, index: usize) -> Access
+        requires { self.now.attempt.phase ≡ Phase.Stores index }
+        ensures { result ≡ store_access self.now.attempt.snapshot (slice_get self.now.attempt.writes index) }
     {
         // The prover learns here that the lock can be released.
         let _phase = self.phase;
-        self.store_access(place)
+        self.store_access(index)
     }
 
     /// A commit goes on whose store of this pair, or past the last one of the lock, was made.
     #[inline(always)]
-    pub(crate) fn take_store(&mut self, place: usize) -> Outcome
+    pub(crate) fn take_store(&mut self, index: usize) -> Outcome
         requires begun { self.old.begun ≡ true }
-        requires phase { self.old.attempt.phase ≡ Phase.Stores place }
-        ensures { IsStep (core_store self.old.attempt place (slice_get self.old.attempt.writes place)) result self.new }
+        requires phase { self.old.attempt.phase ≡ Phase.Stores index }
+        ensures { IsStep (core_store self.old.attempt index (slice_get self.old.attempt.writes index)) result self.new }
     {
         // The prover learns here that the lock can be released.
         let _phase = self.phase;
-        self.told_store(place)
+        self.told_store(index)
     }
 
     /// The access of the next step.
@@ -313,8 +313,8 @@ impl<A: Allocator + Copy> CoreSteps<A> {
             Phase::AtOperation => self.operation_access(op),
             Phase::ReadsLock(_) => Access::LoadLock,
             Phase::ValidatesTime => Access::LoadLock,
-            Phase::ValidatesEntry(_, place) => self.entry_access(place),
-            Phase::Stores(place) => self.store_access(place),
+            Phase::ValidatesEntry(_, index) => self.entry_access(index),
+            Phase::Stores(index) => self.store_access(index),
         }
     }
 
@@ -354,21 +354,21 @@ impl<A: Allocator + Copy> CoreSteps<A> {
     }
 
     #[inline(never)]
-    fn entry_access(&self, place: usize) -> Access
-        ensures { result ≡ entry_access (slice_get self.now.attempt.reads place) }
+    fn entry_access(&self, index: usize) -> Access
+        ensures { result ≡ entry_access (slice_get self.now.attempt.reads index) }
     {
-        match self.logs.read_at(place) {
+        match self.logs.read_at(index) {
             Some(entry) => Access::LoadWord(entry.0),
             None => Access::LoadLock,
         }
     }
 
     #[inline(always)]
-    fn store_access(&self, place: usize) -> Access
+    fn store_access(&self, index: usize) -> Access
         requires { CanRelease self.now.attempt.snapshot }
-        ensures { result ≡ store_access self.now.attempt.snapshot (slice_get self.now.attempt.writes place) }
+        ensures { result ≡ store_access self.now.attempt.snapshot (slice_get self.now.attempt.writes index) }
     {
-        match self.logs.write_at(place) {
+        match self.logs.write_at(index) {
             Some(pair) => Access::StoreWord(pair.0, pair.1),
             None => Access::StoreLock(self.snapshot + 2),
         }
@@ -421,8 +421,8 @@ impl<A: Allocator + Copy> CoreSteps<A> {
             (Phase::AtOperation, _) => self.told_operation(op, answer),
             (Phase::ReadsLock(word), Op::Read(cell)) => self.told_check(cell, word, answer),
             (Phase::ValidatesTime, _) => self.told_time(answer),
-            (Phase::ValidatesEntry(time, place), _) => self.told_compare(time, place, answer),
-            (Phase::Stores(place), Op::Commit) => self.told_store(place),
+            (Phase::ValidatesEntry(time, index), _) => self.told_compare(time, index, answer),
+            (Phase::Stores(index), Op::Commit) => self.told_store(index),
             _ => Outcome::Going,
         }
     }
@@ -581,16 +581,17 @@ impl<A: Allocator + Copy> CoreSteps<A> {
         }
     }
 
-    /// The word at a place of the write log, or past the last one the lock, was stored. What has the lock is not plain.
+    /// The word at an index of the write log, or past the last one the lock, was stored. What has the lock is not
+    /// plain.
     #[inline(always)]
-    fn told_store(&mut self, place: usize) -> Outcome
+    fn told_store(&mut self, index: usize) -> Outcome
         requires begun { self.old.begun ≡ true }
         requires lock { CanRelease self.old.attempt.snapshot }
         requires has { holds self.old.attempt.kept self.old.attempt.phase ≡ true }
-        ensures { IsStep (core_store self.old.attempt place (slice_get self.old.attempt.writes place)) result self.new }
+        ensures { IsStep (core_store self.old.attempt index (slice_get self.old.attempt.writes index)) result self.new }
     {
-        if self.logs.write_at(place).is_some() {
-            self.phase = Phase::Stores(place + 1);
+        if self.logs.write_at(index).is_some() {
+            self.phase = Phase::Stores(index + 1);
             return Outcome::Going;
         }
         self.begun = false;
@@ -634,16 +635,16 @@ impl<A: Allocator + Copy> CoreSteps<A> {
     /// An entry with another word drops the attempt. Past the last entry the lock, unchanged since the time, is the new
     /// snapshot.
     #[inline(never)]
-    fn told_compare(&mut self, time: u64, place: usize, answer: Answer) -> Outcome
+    fn told_compare(&mut self, time: u64, index: usize, answer: Answer) -> Outcome
         requires begun { self.old.begun ≡ true }
-        requires phase { self.old.attempt.phase ≡ Phase.ValidatesEntry time place }
-        ensures { IsStep (core_compare self.old.attempt time place (slice_get self.old.attempt.reads place) answer)
+        requires phase { self.old.attempt.phase ≡ Phase.ValidatesEntry time index }
+        ensures { IsStep (core_compare self.old.attempt time index (slice_get self.old.attempt.reads index) answer)
             result self.new }
     {
         if let Answer::Value(found) = answer {
-            match self.logs.read_at(place) {
+            match self.logs.read_at(index) {
                 Some(entry) if found == entry.1 => {
-                    self.phase = Phase::ValidatesEntry(time, place + 1);
+                    self.phase = Phase::ValidatesEntry(time, index + 1);
                 }
                 Some(_) => {
                     self.logs.abort();
@@ -686,18 +687,18 @@ impl<A: Allocator + Copy> CoreSteps<A> {
         self.phase = Phase::ValidatesEntry(lock, 0);
     }
 
-    /// The lock value at which validation compares an entry next, and the entry's place in the read log.
+    /// The lock value at which validation compares an entry next, and the entry's index in the read log.
     #[inline(always)]
     pub(crate) fn comparing(&self) -> Option<(u64, usize)>
         ensures some { IfSome result (λ at. (self.now.begun ≡ true)
             × (self.now.attempt.phase ≡ Phase.ValidatesEntry at.0 at.1)) }
-        ensures none { IfNone result ((time place : ℕ) → self.now.begun ≡ true
-            → self.now.attempt.phase ≡ Phase.ValidatesEntry time place → ⊥) }
+        ensures none { IfNone result ((time index : ℕ) → self.now.begun ≡ true
+            → self.now.attempt.phase ≡ Phase.ValidatesEntry time index → ⊥) }
     {
         match self.phase {
-            Phase::ValidatesEntry(time, place) => {
+            Phase::ValidatesEntry(time, index) => {
                 if self.begun {
-                    Some((time, place))
+                    Some((time, index))
                 } else {
                     None
                 }
@@ -706,24 +707,24 @@ impl<A: Allocator + Copy> CoreSteps<A> {
         }
     }
 
-    /// The entry at a place.
+    /// The entry at an index.
     #[inline(always)]
-    pub(crate) fn entry(&self, place: usize) -> Option<(u32, u64)>
-        ensures value { result ≡ slice_get self.now.attempt.reads place }
-        ensures next { OnSome result (place + 1 < 2 ^ 64) }
+    pub(crate) fn entry(&self, index: usize) -> Option<(u32, u64)>
+        ensures value { result ≡ slice_get self.now.attempt.reads index }
+        ensures next { OnSome result (index + 1 < 2 ^ 64) }
     {
-        self.logs.read_at(place)
+        self.logs.read_at(index)
     }
 
     /// The step in which an entry's word was found again.
     #[inline(always)]
-    pub(crate) fn take_equal(&mut self, time: u64, place: usize)
-        requires phase { self.old.attempt.phase ≡ Phase.ValidatesEntry time place }
-        requires next { place + 1 < 2 ^ 64 }
+    pub(crate) fn take_equal(&mut self, time: u64, index: usize)
+        requires phase { self.old.attempt.phase ≡ Phase.ValidatesEntry time index }
+        requires next { index + 1 < 2 ^ 64 }
         ensures begun { self.new.begun ≡ self.old.begun }
-        ensures attempt { self.new.attempt ≡ record self.old.attempt { phase = Phase.ValidatesEntry time (place + 1) } }
+        ensures attempt { self.new.attempt ≡ record self.old.attempt { phase = Phase.ValidatesEntry time (index + 1) } }
     {
-        let next = place + 1;
+        let next = index + 1;
         self.phase = Phase::ValidatesEntry(time, next);
     }
 
@@ -739,10 +740,10 @@ impl<A: Allocator + Copy> CoreSteps<A> {
 
     /// The step past the last entry, with the lock's value.
     #[inline(always)]
-    pub(crate) fn take_validation(&mut self, time: u64, place: usize, lock: u64)
+    pub(crate) fn take_validation(&mut self, time: u64, index: usize, lock: u64)
         requires begun { self.old.begun ≡ true }
-        requires phase { self.old.attempt.phase ≡ Phase.ValidatesEntry time place }
-        ensures { IsStep (core_compare self.old.attempt time place None (Value lock)) Outcome.Going self.new }
+        requires phase { self.old.attempt.phase ≡ Phase.ValidatesEntry time index }
+        ensures { IsStep (core_compare self.old.attempt time index None (Value lock)) Outcome.Going self.new }
     {
         if lock == time {
             self.snapshot = time;

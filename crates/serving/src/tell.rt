@@ -13,7 +13,7 @@ use crate::status::{ENDED, REFUSED, STOPPED, UNUSABLE};
 use command::{Format, UsageFault};
 use faults::{underline, words};
 use hints::hints;
-use lex::place;
+use lex::position;
 use lex::token::Span;
 use meaning::MeaningFault;
 use replay::ScheduleFault;
@@ -86,7 +86,7 @@ pub(crate) fn refuse<A: Allocator + Copy, E: Write>(
     let number = fault.number();
     match fault.span() {
         Some(span) => {
-            let (line, column) = place(text, span.start.min(text.len()));
+            let (line, column) = position(text, span.start.min(text.len()));
             tell_place(number, line, column, detail, err);
             if detail.lines {
                 show_line(alloc, text, span, err);

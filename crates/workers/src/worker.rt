@@ -211,21 +211,21 @@ impl<A: Allocator + Copy> Worker<A> {
         true
     }
 
-    /// The step of a commit that stores the pair at this place of the write log, or past the last one the lock: whether
+    /// The step of a commit that stores the pair at this index of the write log, or past the last one the lock: whether
     /// the commit goes on.
     #[inline(always)]
-    fn store(&mut self, words: &Words<A>, code: &Code<A>, place: usize) -> bool
+    fn store(&mut self, words: &Words<A>, code: &Code<A>, index: usize) -> bool
         requires table { words.now.table_id.words ≡ cells_of code.now + 1 }
         requires code { words.now.key.code ≡ code.now }
         requires worker { CanStep words.now.table_id words.now.key 1 self.old }
         requires stands { StandsAt code.now self.old.thread Doing.Commit }
-        requires stores { StoresNext self.old.thread place }
+        requires stores { StoresNext self.old.thread index }
         ensures goes_on { StepsBy words.now.table_id words.now.key 1 self.old self.new }
         ensures again { result ≡ true → StandsAt code.now self.new.thread Doing.Commit }
     {
-        let access = self.thread.store_access(code, place);
+        let access = self.thread.store_access(code, index);
         let _answer = make(words, &mut self.seat, access);
-        self.thread.take_store(code, place)
+        self.thread.take_store(code, index)
     }
 
     /// The steps of a commit's stores, one after another, at most so many: how many were made.
@@ -240,10 +240,10 @@ impl<A: Allocator + Copy> Worker<A> {
         ensures none { result ≡ 0 → StandsAt code.now self.new.thread Doing.Commit }
     {
         'stores: for made in 0..most {
-            let Some(place) = self.thread.storing() else {
+            let Some(index) = self.thread.storing() else {
                 return made;
             };
-            if !self.store(words, code, place) {
+            if !self.store(words, code, index) {
                 return made + 1;
             }
         }
@@ -313,47 +313,47 @@ impl<A: Allocator + Copy> Worker<A> {
         words: &Words<A>,
         code: &Code<A>,
         time: u64,
-        place: usize,
+        index: usize,
         entry: (u32, u64),
     ) -> bool
         requires table { words.now.table_id.words ≡ cells_of code.now + 1 }
         requires code { words.now.key.code ≡ code.now }
         requires worker { CanStep words.now.table_id words.now.key 1 self.old }
-        requires compares { ComparesNext code.now self.old.thread time place }
-        requires entry { ComparesEntry self.old.thread time place (Some entry) }
-        requires next { place + 1 < 2 ^ 64 }
+        requires compares { ComparesNext code.now self.old.thread time index }
+        requires entry { ComparesEntry self.old.thread time index (Some entry) }
+        requires next { index + 1 < 2 ^ 64 }
         requires access { access_of (effect code.now) self.old.thread.thread ≡ Access.LoadWord entry.0 }
         ensures goes_on { StepsBy words.now.table_id words.now.key 1 self.old self.new }
-        ensures next { result ≡ true → ComparesNext code.now self.new.thread time (place + 1) }
+        ensures next { result ≡ true → ComparesNext code.now self.new.thread time (index + 1) }
         ensures still { result ≡ true → StandsStill code.now self.old.thread self.new.thread }
     {
         let (cell, word) = entry;
         let found = load_word(words, &mut self.seat, cell as usize);
         if found != word {
-            self.thread.take_unequal(code, time, place, entry, found);
+            self.thread.take_unequal(code, time, index, entry, found);
             return false;
         }
-        self.thread.take_equal(code, time, place, entry);
+        self.thread.take_equal(code, time, index, entry);
         true
     }
 
     /// The step of validation past the last entry, which loads the lock.
     #[inline(always)]
-    fn confirm(&mut self, words: &Words<A>, code: &Code<A>, time: u64, place: usize)
+    fn confirm(&mut self, words: &Words<A>, code: &Code<A>, time: u64, index: usize)
         requires table { words.now.table_id.words ≡ cells_of code.now + 1 }
         requires code { words.now.key.code ≡ code.now }
         requires worker { CanStep words.now.table_id words.now.key 1 self.old }
-        requires compares { ComparesNext code.now self.old.thread time place }
-        requires entry { ComparesEntry self.old.thread time place None }
+        requires compares { ComparesNext code.now self.old.thread time index }
+        requires entry { ComparesEntry self.old.thread time index None }
         requires access { access_of (effect code.now) self.old.thread.thread ≡ Access.LoadLock }
         ensures goes_on { StepsBy words.now.table_id words.now.key 1 self.old self.new }
         ensures still { StandsStill code.now self.old.thread self.new.thread }
     {
         let lock = load_lock(words, &mut self.seat);
-        self.thread.take_validation(code, time, place, lock);
+        self.thread.take_validation(code, time, index, lock);
     }
 
-    /// Steps of validation at this lock value, from this place of the read log on, one after another, at most so many,
+    /// Steps of validation at this lock value, from this index of the read log on, one after another, at most so many,
     /// up to an entry whose word is another one, or past the last one: how many were made, and whether the attempt goes
     /// on.
     #[inline(always)]
@@ -374,16 +374,16 @@ impl<A: Allocator + Copy> Worker<A> {
         ensures some { 0 < most → 0 < result.0 }
         ensures still { result.1 ≡ true → StandsStill code.now self.old.thread self.new.thread }
     {
-        let mut place = from;
+        let mut index = from;
         'entries: for passed in 0..most {
-            let Some(entry) = self.thread.entry(code, time, place) else {
-                self.confirm(words, code, time, place);
+            let Some(entry) = self.thread.entry(code, time, index) else {
+                self.confirm(words, code, time, index);
                 return (passed + 1, true);
             };
-            if !self.compare_word(words, code, time, place, entry) {
+            if !self.compare_word(words, code, time, index, entry) {
                 return (passed + 1, false);
             }
-            place += 1;
+            index += 1;
         }
         (most, true)
     }
@@ -407,10 +407,10 @@ impl<A: Allocator + Copy> Worker<A> {
                 left -= 1;
                 continue;
             }
-            let Some((time, place)) = self.thread.comparing(code, doing) else {
+            let Some((time, index)) = self.thread.comparing(code, doing) else {
                 return most - left;
             };
-            let (compared, goes_on) = self.compare(words, code, time, place, left);
+            let (compared, goes_on) = self.compare(words, code, time, index, left);
             left -= compared;
             if !goes_on {
                 self.tally.count_drop();

@@ -32,7 +32,7 @@ leads_on n journal left c ps e le = sym (ap (λ cs. all_undone cs ps) (drop_of n
 pub can_last : (n : ℕ) (journal left : List Change) (c : Change) (ps : List (ℕ × ℕ)) → journal ≡ left ++ c ∷ [] → n ≤ length left → CanUndoAll (drop n journal) ps → CanUndo c ps × CanUndoAll (drop n left) (undone c ps)
 can_last n journal left c ps e le h = let r = can-split (drop n left) (c ∷ []) ps (subst (λ cs. CanUndoAll cs ps) (drop_of n journal left c e le) h) in (r.1.1, r.0)
 
--- ---- marks by place
+-- ---- marks by index
 
 pub map_same : (f g : ℕ → List (ℕ × ℕ)) (marks : List ℕ) → ((i : ℕ) → i < length marks → f (get_or marks i 0) ≡ g (get_or marks i 0)) → map f marks ≡ map g marks
 map_same f g [] h = refl

@@ -8,7 +8,7 @@ use Rattle.std.proofs.lemmas.List.Sums.{position_or_len_is}
 use Rattle.std.proofs.Math.Nat.{pow-suc}
 use Rattle.write_log.specs.Overlay.{Lacks, IsDistinct}
 use Rattle.write_log.specs.inner.Order.{IsPlace, IsFound, IsRising, IsOrderOf, AreBetween, IsAbove, IsSearched, AreWithin}
-use Rattle.write_log.proofs.Places.{lacks_all, lacks_at}
+use Rattle.write_log.proofs.Indices.{lacks_all, lacks_at}
 
 -- ---- searching
 
@@ -91,7 +91,7 @@ one_entry order k m up lk lm e = at (cases_order k m)
     at (inr (inl l)) = let r = up k m l lm in absurd (omega arith)
     at (inr (inr l)) = let r = up m k l lk in absurd (omega arith)
 
--- no two places have one cell
+-- no two indices have one cell
 one_place : (ps order : List (ℕ × ℕ)) (i j : ℕ) → IsOrderOf ps order → i < length ps → j < length ps → (get_or ps i (0, 0)).0 ≡ (get_or ps j (0, 0)).0 → i ≡ j
 one_place ps order i j o li lj e =
     let s = o.there i li in
@@ -142,7 +142,7 @@ pub above_all : (a : ℕ) (ps order : List (ℕ × ℕ)) → IsOrderOf ps order 
 above_all a ps order o over =
     (omega arith, (λ j l. let p = o.here j l in let q = over (get_or order j (0, 0)).1 p.0 in omega (arith, p.1)), (λ j le l. absurd (omega arith)))
 
--- the place that was found is the first, since no other has the cell
+-- the index that was found is the first, since no other has the cell
 before_place : (a : ℕ) (ps : List (ℕ × ℕ)) (i k : ℕ) → IsDistinct ps → IsPlace a ps i → k < i → (get_or ps k (0, 0)).0 ≢ a
 before_place a [] i k d h lt = absurd (omega (arith, h.0))
 before_place a (p ∷ ps) zero k d h lt = absurd (omega arith)
@@ -264,7 +264,7 @@ order-removed p ps order k o h = record {
   there = λ i l. let s = o.there i (omega (arith, length_push ps p)) in there i l s.0 s.1 s.2 (cases_order s.0 k);
 }
   where
-    -- another entry has a place below the last
+    -- another entry has an index below the last
     other : (m : ℕ) → m < length order → m ≢ k → IsPlace (get_or order m (0, 0)).0 ps (get_or order m (0, 0)).1
     other m l ne =
         let q = o.here m l in

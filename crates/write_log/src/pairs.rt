@@ -13,14 +13,14 @@ use std::cmp::Ordering;
 use std::marker::{Brand, Model};
 use std::sync::ledger::{Blank, Ledger};
 
-/// What a put has changed: it added the last pair, or replaced the word at a place, which was this.
+/// What a put has changed: it added the last pair, or replaced the word at an index, which was this.
 #[derive(Clone, Copy)]
 pub enum Change {
     Added,
     Replaced(usize, u64),
 }
 
-/// Each cell with its word, in order of first write, and beside them (cell, place) by cell. All cells lie
+/// Each cell with its word, in order of first write, and beside them (cell, index) by cell. All cells lie
 /// between `least` and `greatest`, which stay where pairs are taken back.
 #[derive(Drop)]
 pub struct Pairs<A: Allocator> {
@@ -166,7 +166,7 @@ impl<A: Allocator + Copy> Pairs<A> {
         self.list.len() < self.list.capacity() && self.order.len() < self.order.capacity()
     }
 
-    /// The place of a cell, if any. Outside of all cells it is a test, and no call.
+    /// The index of a cell's pair, if any. Outside of all cells it is a test, and no call.
     #[inline(always)]
     pub fn find<L: Ledger>(&self, cell: u32, looks: &mut Looks<L>) -> Option<usize>
         ensures found { IsFound cell self.now.pairs result }
@@ -226,10 +226,10 @@ impl<A: Allocator + Copy> Pairs<A> {
     {
         match slot_of(self.order.as_slice(), self.least, self.greatest, cell) {
             Ok(at) => {
-                let place = self.order[at].1;
-                let before = self.list[place].1;
-                self.list[place] = (cell, word);
-                Change::Replaced(place, before)
+                let index = self.order[at].1;
+                let before = self.list[index].1;
+                self.list[index] = (cell, word);
+                Change::Replaced(index, before)
             }
             Err(at) => {
                 insert_reserved(&mut self.order, at, (cell, self.list.len()));
@@ -254,19 +254,19 @@ impl<A: Allocator + Copy> Pairs<A> {
                     self.order.remove(at);
                 }
             }
-            Change::Replaced(place, word) => {
-                self.list[place].1 = word;
+            Change::Replaced(index, word) => {
+                self.list[index].1 = word;
             }
         }
     }
 
-    /// The pair at a place.
-    pub fn at(&self, place: usize) -> (u32, u64)
-        requires { place < length self.now.pairs }
-        ensures pair { slice_get self.now.pairs place ≡ Some result }
-        ensures within { place + 1 < 2 ^ 64 }
+    /// The pair at an index.
+    pub fn at(&self, index: usize) -> (u32, u64)
+        requires { index < length self.now.pairs }
+        ensures pair { slice_get self.now.pairs index ≡ Some result }
+        ensures within { index + 1 < 2 ^ 64 }
     {
-        self.list[place]
+        self.list[index]
     }
 
     /// How many pairs there are.

@@ -70,26 +70,26 @@ module _ (code : Code) (law : BeginsStayOpen code) (k : PlainContext) (running :
   core_swaps from e = core_swaps_at from k.core.attempt refl e
 
   -- a store
-  module _ (place : ℕ) (stores : IsSomeAnd k.core.attempt (λ a. IsStoring place a)) where
-    storing : (a : Attempt Saved) × (k.core.attempt ≡ Some a) × IsStoring place a
-    storing = some_and (λ a. IsStoring place a) k.core.attempt stores
+  module _ (index : ℕ) (stores : IsSomeAnd k.core.attempt (λ a. IsStoring index a)) where
+    storing : (a : Attempt Saved) × (k.core.attempt ≡ Some a) × IsStoring index a
+    storing = some_and (λ a. IsStoring index a) k.core.attempt stores
 
     abbrev b : Attempt Saved
     b = storing.0
 
-    core_stores : core_access k.core.attempt op.Commit ≡ store_access b.snapshot (slice_get b.writes place)
-    core_stores = ap (λ (z : Option (Attempt Saved)). core_access z op.Commit) storing.1 ∙ store_access_is k.core.saved b place storing.2
+    core_stores : core_access k.core.attempt op.Commit ≡ store_access b.snapshot (slice_get b.writes index)
+    core_stores = ap (λ (z : Option (Attempt Saved)). core_access z op.Commit) storing.1 ∙ store_access_is k.core.saved b index storing.2
 
     words_at : (snapshot : ℕ) (r : Option (ℕ × ℕ)) (y : Answer) → FitsRegister (store_access snapshot r) y
     words_at snapshot None y = tt
     words_at snapshot (Some p) y = tt
 
     store_word : (y : Answer) → FitsRegister (core_access k.core.attempt op.Commit) y
-    store_word y = subst (λ (x : Access). FitsRegister x y) (sym core_stores) (words_at b.snapshot (slice_get b.writes place) y)
+    store_word y = subst (λ (x : Access). FitsRegister x y) (sym core_stores) (words_at b.snapshot (slice_get b.writes index) y)
 
     store_stays : (y : Answer) (s : Saved) → IfSome (core_step k.core.saved k.core.attempt op.Commit y).back (λ z. s ≡ z)
     store_stays y s =
-        let e = ap (λ (z : Option (Attempt Saved)). (core_step k.core.saved z op.Commit y).back) storing.1 ∙ ap (λ (n : CoreStep Saved). n.back) (store_is k.core.saved b place storing.2 y) ∙ store_keeps k.core.saved b place (slice_get b.writes place) in
+        let e = ap (λ (z : Option (Attempt Saved)). (core_step k.core.saved z op.Commit y).back) storing.1 ∙ ap (λ (n : CoreStep Saved). n.back) (store_is k.core.saved b index storing.2 y) ∙ store_keeps k.core.saved b index (slice_get b.writes index) in
         subst (λ (z : Option Saved). IfSome z (λ w. s ≡ w)) (sym e) tt
 
     pub store_back : (y : Answer) (s : Saved) (r : Outcome) → r ≡ (core_step k.core.saved k.core.attempt op.Commit y).outcome → MayGoBack code k.configuration s (back_by (effect code k.configuration) r (begin_configuration k.configuration s))
@@ -125,9 +125,9 @@ module _ (code : Code) (law : BeginsStayOpen code) (k : PlainContext) (to : ℕ)
     begin_makes l r e er ea z = core_makes code law k op.Begin (Value lock) running runs begin_asked (λ h. same) tt begin_word l r e er ea (begin_stays l.core.saved) z
 
 -- what is under way in the thread that is shown is so in the one that is kept
-pub kept_stores : (c : Configuration) (place : ℕ) (o : Option (Attempt Saved)) → IsSomeAnd (shown_from c o) (λ a. IsStoring place a) → IsSomeAnd o (λ a. IsStoring place a)
-kept_stores c place None h = absurd h
-kept_stores c place (Some a) h = h
+pub kept_stores : (c : Configuration) (index : ℕ) (o : Option (Attempt Saved)) → IsSomeAnd (shown_from c o) (λ a. IsStoring index a) → IsSomeAnd o (λ a. IsStoring index a)
+kept_stores c index None h = absurd h
+kept_stores c index (Some a) h = h
 
 pub kept_none : (c : Configuration) (o : Option (Attempt Saved)) → shown_from c o ≡ None → o ≡ None
 kept_none c None e = refl

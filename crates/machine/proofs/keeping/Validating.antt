@@ -51,10 +51,10 @@ module _ (code : Code) (law : BeginsStayOpen code) (k : PlainContext) (running :
       let u = some_and (λ a. IsWaiting a) k.core.attempt w in
       ap (λ (z : Option (Attempt Saved)). core_access z o) u.1 ∙ waiting_access u.0 o u.2
 
-  core_compares : (time place : ℕ) (entry : Option (ℕ × ℕ)) → IsSomeAnd k.core.attempt (λ a. ComparesWith time place entry a) → core_access k.core.attempt o ≡ entry_access entry
-  core_compares time place entry w =
-      let u = some_and (λ a. ComparesWith time place entry a) k.core.attempt w in
-      ap (λ (z : Option (Attempt Saved)). core_access z o) u.1 ∙ comparing_access u.0 o time place entry u.2
+  core_compares : (time index : ℕ) (entry : Option (ℕ × ℕ)) → IsSomeAnd k.core.attempt (λ a. ComparesWith time index entry a) → core_access k.core.attempt o ≡ entry_access entry
+  core_compares time index entry w =
+      let u = some_and (λ a. ComparesWith time index entry a) k.core.attempt w in
+      ap (λ (z : Option (Attempt Saved)). core_access z o) u.1 ∙ comparing_access u.0 o time index entry u.2
 
   -- a step after which the operation goes on
   module _ (y : Answer) (l : PlainContext) (step : (q : Op) → IsAskedAgain k.core y q l.core) (configuration : l.configuration ≡ k.configuration) (status : l.status ≡ k.status) (trapping : l.trapping ≡ false) (text : l.text ≡ k.text) where
@@ -68,16 +68,16 @@ module _ (code : Code) (law : BeginsStayOpen code) (k : PlainContext) (running :
     pub waits_makes : IsSomeAnd k.core.attempt (λ a. IsWaiting a) → Makes code (step_with (effect code) (machine_thread k) y) l event.Quiet
     waits_makes w = goes LoadLock (core_waits w) tt
 
-    pub compares_makes : (time place : ℕ) (entry : ℕ × ℕ) → IsSomeAnd k.core.attempt (λ a. ComparesWith time place (Some entry) a) → FitsRegister (entry_access (Some entry)) y → Makes code (step_with (effect code) (machine_thread k) y) l event.Quiet
-    compares_makes time place entry w word = goes (entry_access (Some entry)) (core_compares time place (Some entry) w) word
+    pub compares_makes : (time index : ℕ) (entry : ℕ × ℕ) → IsSomeAnd k.core.attempt (λ a. ComparesWith time index (Some entry) a) → FitsRegister (entry_access (Some entry)) y → Makes code (step_with (effect code) (machine_thread k) y) l event.Quiet
+    compares_makes time index entry w word = goes (entry_access (Some entry)) (core_compares time index (Some entry) w) word
 
-    pub validates_makes : (time place : ℕ) → IsSomeAnd k.core.attempt (λ a. ComparesWith time place None a) → Makes code (step_with (effect code) (machine_thread k) y) l event.Quiet
-    validates_makes time place w = goes LoadLock (core_compares time place None w) tt
+    pub validates_makes : (time index : ℕ) → IsSomeAnd k.core.attempt (λ a. ComparesWith time index None a) → Makes code (step_with (effect code) (machine_thread k) y) l event.Quiet
+    validates_makes time index w = goes LoadLock (core_compares time index None w) tt
 
   -- a step that drops the attempt
-  module _ (time place : ℕ) (entry : ℕ × ℕ) (compares : IsSomeAnd k.core.attempt (λ a. ComparesWith time place (Some entry) a)) (word : ℕ) (fits : word < 2 ^ 64) where
+  module _ (time index : ℕ) (entry : ℕ × ℕ) (compares : IsSomeAnd k.core.attempt (λ a. ComparesWith time index (Some entry) a)) (word : ℕ) (fits : word < 2 ^ 64) where
     drops_word : FitsRegister (core_access k.core.attempt o) (Value word)
-    drops_word = subst (λ (x : Access). FitsRegister x (Value word)) (sym (core_compares time place (Some entry) compares)) fits
+    drops_word = subst (λ (x : Access). FitsRegister x (Value word)) (sym (core_compares time index (Some entry) compares)) fits
 
     stays : (d : CoreState) (n : IsDropped k.core (Value word) o d) → IfSome (core_step k.core.saved k.core.attempt o (Value word)).back (λ z. d.saved ≡ z)
     stays d n = subst (λ (z : Option Saved). IfSome z (λ w. d.saved ≡ w)) (sym n.back) refl

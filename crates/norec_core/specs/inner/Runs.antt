@@ -104,5 +104,5 @@ abbrev pub IsStanding : Phase → Bool → ℕ → Type 0
 IsStanding AtOperation kept snapshot = CanReleaseKept kept snapshot
 IsStanding (ReadsLock word) kept snapshot = kept ≡ false
 IsStanding ValidatesTime kept snapshot = kept ≡ false
-IsStanding (ValidatesEntry time place) kept snapshot = (kept ≡ false) × (time % 2 ≡ 0)
-IsStanding (Stores place) kept snapshot = CanRelease snapshot
+IsStanding (ValidatesEntry time index) kept snapshot = (kept ≡ false) × (time % 2 ≡ 0)
+IsStanding (Stores index) kept snapshot = CanRelease snapshot

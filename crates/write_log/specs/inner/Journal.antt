@@ -7,12 +7,12 @@ use Rattle.write_log.specs.declared.pairs.Change.TheVariants.{Added, Replaced}
 -- the list before a change
 abbrev pub undone : Change → List (ℕ × ℕ) → List (ℕ × ℕ)
 undone Added ps = take (length ps - 1) ps
-undone (Replaced place word) ps = slice_set ps place ((slice_index_or ps place (0, 0)).0, word)
+undone (Replaced index word) ps = slice_set ps index ((slice_index_or ps index (0, 0)).0, word)
 
 -- the change may have been the last one
 abbrev pub CanUndo : Change → List (ℕ × ℕ) → Type 0
 CanUndo Added ps = 0 < length ps
-CanUndo (Replaced place word) ps = place < length ps
+CanUndo (Replaced index word) ps = index < length ps
 
 -- the list before all changes: the last one is undone first
 abbrev pub all_undone : List Change → List (ℕ × ℕ) → List (ℕ × ℕ)

@@ -8,11 +8,11 @@ pub record Listed : Type 0 where
   pub pairs : List (ℕ × ℕ)
   pub room : ℕ
 
--- the list has a pair of this cell at this place
+-- the list has a pair of this cell at this index
 abbrev pub IsPlace : ℕ → List (ℕ × ℕ) → ℕ → Type 0
 IsPlace a ps i = (i < length ps) × ((slice_index_or ps i (0, 0)).0 ≡ a)
 
--- the place of a cell, or none if no pair has it
+-- the index of a cell's pair, or none if no pair has it
 abbrev pub IsFound : ℕ → List (ℕ × ℕ) → Option ℕ → Type 0
 IsFound a ps None = Lacks a ps
 IsFound a ps (Some i) = IsPlace a ps i
@@ -22,7 +22,7 @@ abbrev pub IsRising : List (ℕ × ℕ) → Type 0
 IsRising order = (i j : ℕ) → i < j → j < length order →
     (slice_index_or order i (0, 0)).0 < (slice_index_or order j (0, 0)).0
 
--- the order has (cell, place) of each pair, by cell
+-- the order has (cell, index) of each pair, by cell
 pub record IsOrderOf (pairs order : List (ℕ × ℕ)) : Type 0 where
   pub rising : IsRising order
   pub length_is : length order ≡ length pairs

@@ -7,4 +7,4 @@ use Rattle.machine.proofs.context.ThreadContext.take_equal.Goals as goal
 pub returns-clause-makes : goal.returns-clause-makes
 returns-clause-makes g c =
     let k = context_of {A = g.row.A.Denot} c.args.self.now in
-    compares_makes c.args.code.now (begins_stay_open c.args.code.now c.requires.valid) k c.requires.running c.requires.runs c.requires.operation _ _ c.take_equal.ensures.step refl refl refl refl c.args.time c.args.place c.args.entry c.requires.entry c.requires.word
+    compares_makes c.args.code.now (begins_stay_open c.args.code.now c.requires.valid) k c.requires.running c.requires.runs c.requires.operation _ _ c.take_equal.ensures.step refl refl refl refl c.args.time c.args.index c.args.entry c.requires.entry c.requires.word

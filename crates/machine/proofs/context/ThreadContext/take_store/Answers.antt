@@ -12,12 +12,12 @@ use Rattle.machine.proofs.context.ThreadContext.take_store.Goals as goal
 pub resume-event-requires-clause-back : goal.resume-event-requires-clause-back
 resume-event-requires-clause-back g c =
     let k = context_of {A = g.row.A.Denot} c.args.self.now in
-    store_back c.args.code.now (begins_stay_open c.args.code.now c.requires.valid) k c.requires.running c.requires.runs c.requires.tells c.args.place c.requires.stores Done c.take_store-outcome.new.self.saved c.take_store-outcome.result (c.take_store-outcome.ensures.outcome Done)
+    store_back c.args.code.now (begins_stay_open c.args.code.now c.requires.valid) k c.requires.running c.requires.runs c.requires.tells c.args.index c.requires.stores Done c.take_store-outcome.new.self.saved c.take_store-outcome.result (c.take_store-outcome.ensures.outcome Done)
 
 pub returns-clause-makes : goal.returns-clause-makes
 returns-clause-makes g c = λ answer.
     let k = context_of {A = g.row.A.Denot} c.args.self.now in
-    store_makes c.args.code.now (begins_stay_open c.args.code.now c.requires.valid) k c.requires.running c.requires.runs c.requires.tells c.args.place c.requires.stores answer
+    store_makes c.args.code.now (begins_stay_open c.args.code.now c.requires.valid) k c.requires.running c.requires.runs c.requires.tells c.args.index c.requires.stores answer
     _ c.take_store-outcome.result _ (c.take_store-outcome.ensures.outcome answer) (c.take_store-outcome.ensures.attempt answer)
     (record { configuration = c.resume-event.ensures.configuration; status = c.resume-event.ensures.status; trapping = refl; text = refl; event = c.resume-event.ensures.event })
 

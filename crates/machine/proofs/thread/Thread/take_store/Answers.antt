@@ -17,8 +17,8 @@ take_store-event-requires-clause-runs g c =
 
 pub take_store-event-requires-clause-stores : goal.take_store-event-requires-clause-stores
 take_store-event-requires-clause-stores g c =
-    kept_stores c.self.inside.held.frames.configuration c.args.place c.self.inside.held.core.attempt
-    (subst (λ (s : ThreadState). IsSomeAnd s.thread.attempt (λ a. IsStoring c.args.place a)) (sym c.self.view_is) c.requires.stores.stores)
+    kept_stores c.self.inside.held.frames.configuration c.args.index c.self.inside.held.core.attempt
+    (subst (λ (s : ThreadState). IsSomeAnd s.thread.attempt (λ a. IsStoring c.args.index a)) (sym c.self.view_is) c.requires.stores.stores)
 
 pub returns-clause-of : goal.returns-clause-of
 returns-clause-of g c = thread_of c.args.code.now c.requires.of.valid _ (c.take_store-event.ensures.makes Done).of

@@ -1,7 +1,7 @@
 use Rattle.std.proofs.Common.{◌≡◌, [], ◌∷◌, ◌++◌, Ok, Err, sym, ◌∙◌, ap, subst, length, arith}
 use Rattle.std.proofs.lemmas.List.{get_or_read}
 use Rattle.write_log.specs.inner.Order.{IsPlace, IsSearched}
-use Rattle.write_log.proofs.Places.{put_new, put_there}
+use Rattle.write_log.proofs.Indices.{put_new, put_there}
 use Rattle.write_log.proofs.Order.{order-distinct, found_place, missing, replaced_back, order-added, between-added}
 use Rattle.write_log.proofs.pairs.Pairs.put_among.Goals as goal
 
@@ -11,8 +11,8 @@ invariant_of-self-in-Err g c =
     let order = c.self.inside.order.items in
     let a = c.args.cell in
     let searched = subst (λ xs. IsSearched a xs (Err c.in-Err.at)) c.as_slice.ensures.value c.in-Err.ensures in
-    let place : c.len.result ≡ length ps = omega (arith, c.self.inside.list.ok.0) in
-    rw (c.push_reserved.ensures.items, c.insert_reserved.ensures.items, place, c.min-self-inside.ensures, c.max-self-inside.ensures)
+    let index : c.len.result ≡ length ps = omega (arith, c.self.inside.list.ok.0) in
+    rw (c.push_reserved.ensures.items, c.insert_reserved.ensures.items, index, c.min-self-inside.ensures, c.max-self-inside.ensures)
     (order-added a c.args.word ps order c.in-Err.at c.self.invariant.0 searched, between-added a c.args.word c.self.inside.least c.self.inside.greatest ps c.self.invariant.1)
 
 pub returns-in-Ok-clause-pairs : goal.returns-in-Ok-clause-pairs
