@@ -25,7 +25,7 @@ pub struct AtomicThread<A: Allocator = Global> {
 impl<A: Allocator> Model for AtomicThread<A> {
     ghost use Rattle.atomic_code.specs.Threads.{AtomicThreadState};
 
-    ghost Value = { ThreadState };
+    ghost Value = { AtomicThreadState };
 
     ghost use Rattle.atomic_code.specs.inner.Making as making;
 

@@ -103,7 +103,7 @@ fn loop_of<'p, A: Allocator + Copy>(s: &'p Stmt<A>) -> Option<Loop<'p, A>>
 
 /// The first of statements, and then the others.
 fn begin_apart<'p, A: Allocator>(frames: u64, ss: &'p [Stmt<A>]) -> Stepped<'p, A>
-    ensures { (source : Source A) → follow_of source result
+    ensures { (source : ProgramTables A) → follow_of source result
         ≡ going.apart_begun (program_in source) (called source frames) (stmts_of ss.now) }
 {
     match ss {
@@ -231,7 +231,7 @@ pub(crate) fn call_alone<'p, A: Allocator + Copy>(
 
 /// There is no frame for a call: the trap takes a tick.
 fn trap_frames<'p, A: Allocator>(m: &mut Machine<'p, '_, A>) -> Result<Stepped<'p, A>, Halted>
-    ensures { (source : Source A)
+    ensures { (source : ProgramTables A)
         → MeansStepped source result (act.trap {A = going.Follow} Frames (state_in m.old)) m.new }
 {
     tick(m)?;

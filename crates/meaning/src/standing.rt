@@ -106,7 +106,7 @@ fn went<'p, A: Allocator + Copy>(
     next: Stepped<'p, A>,
     m: Machine<'p, '_, A>,
 ) -> Result<Gone<'p, A>, AllocError>
-    ensures { (source : Source A)
+    ensures { (source : ProgramTables A)
         → IfOk result (λ g. IsGone source g (act.Gives (follow_of source next.entry) (state_in m.entry))) }
 {
     let Machine {
@@ -128,7 +128,7 @@ fn went<'p, A: Allocator + Copy>(
 
 /// A machine that goes no further.
 fn stop_machine<'p, A: Allocator>(m: Machine<'p, '_, A>) -> Result<Gone<'p, A>, AllocError>
-    ensures { (source : Source A)
+    ensures { (source : ProgramTables A)
         → IfOk result (λ g. Happened m.entry.why
         × IsGone source g (act.Stops (halt_of m.entry.why) (state_in m.entry))) }
 {
@@ -206,7 +206,7 @@ fn push_next<'p, A: Allocator + Copy>(
     left: &mut Vec<Left<'p, A>, A>,
     next: Stepped<'p, A>,
 ) -> Result<StmtCompletion, AllocError>
-    ensures { IfOk result (λ e. (source : Source A) (s : act.State)
+    ensures { IfOk result (λ e. (source : ProgramTables A) (s : act.State)
         → left_gone_on source left.new.items (end_of e) s ≡ act.go_on (follows (follow_of source next.entry) s)
         (left_gone_on source left.old.items)) }
 {
@@ -231,7 +231,7 @@ fn arrive<'p, A: Allocator + Copy>(
     at: Point<'p, A>,
     shown: Shown<A>,
 ) -> Result<(), AllocError>
-    ensures left { (source : Source A)
+    ensures left { (source : ProgramTables A)
         → OnOk result ((s : act.State) → left_gone_on source thread.new.left.items (end_of thread.new.end) s
         ≡ act.go_on (follows (follow_of source next.entry) s) (left_gone_on source thread.old.left.items)) }
     ensures at { OnOk result (thread.new.at ≡ at.entry) }
@@ -294,7 +294,7 @@ fn try_step<'p, A: Allocator + Copy>(
 
 /// The tick of a thread's end.
 fn at_end<A: Allocator + Copy>(alloc: A, ticks: u64) -> Stop<A>
-    ensures { (source : Source A) (thread : Thread A) → thread.at.ticks ≡ ticks → thread.left.items ≡ []
+    ensures { (source : ProgramTables A) (thread : Thread A) → thread.at.ticks ≡ ticks → thread.left.items ≡ []
         → IsStop source thread result }
 {
     let why = if ticks == 0 { Some(Halt::Spent) } else { None };

@@ -3,8 +3,8 @@
 ghost use Rattle.std.specs.Prelude.{◌≡◌, ◌++◌, IfOk, OnOk, None, Some, codes, decimal, if◌then◌else◌, map, nat_le};
 ghost use Rattle.picture.specs.Arrows.{arrow_title, dropped_for, is_store_to, last_store};
 
-use crate::layout::{BOX, lane, middle};
 use crate::glyph::Glyph;
+use crate::layout::{BOX, lane, middle};
 use crate::pieces::{Piece, push_pieces, put_line, put_number};
 use crate::sheet::{Sheet, Store};
 use crate::step::{MOST_ACCESSES, Step};

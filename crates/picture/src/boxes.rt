@@ -1,8 +1,8 @@
 //! Boxes: what has become of attempts, and of transactions inside them.
 
 use crate::attempt::Attempt;
-use crate::layout::{BOX, ROW, inset, lane, top};
 use crate::glyph::Look;
+use crate::layout::{BOX, ROW, inset, lane, top};
 use crate::pieces::{put_line, put_rectangle};
 use crate::sheet::Sheet;
 use std::alloc::{AllocError, Allocator};

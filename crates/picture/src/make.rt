@@ -1,8 +1,8 @@
 //! What is drawn of an access to the lock or to a word.
 
 use crate::attempt::{Attempt, Load, Phase};
-use crate::layout::{BOX, lane, middle};
 use crate::glyph::Look;
+use crate::layout::{BOX, lane, middle};
 use crate::pieces::{Piece, push_pieces, put_line};
 use crate::sheet::{Effect, Fold, Sheet, Store};
 use crate::step::Step;

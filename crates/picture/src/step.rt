@@ -4,8 +4,8 @@ ghost use Rattle.std.specs.Prelude.{◌≡◌};
 ghost use Rattle.picture.specs.Glyphs.{is_noted};
 
 use crate::boxes::Fate;
-use crate::layout::CHARACTERS;
 use crate::glyph::Look;
+use crate::layout::CHARACTERS;
 use crate::pieces::Piece;
 use crate::sheet::{Effect, Fold, Sheet};
 use crate::words::words;

@@ -6,9 +6,9 @@ ghost use Rattle.picture.specs.Glyphs.{IsPicture, is_drawn, glyph_text, title_of
 
 use crate::arrow::add_arrow;
 use crate::boxes::Fate;
+use crate::glyph::Glyph;
 use crate::layout::{FIRST, HEADED, PITCH, ROW, TOP, foot, heads, lane};
 use crate::legend::{LEGEND, STYLE};
-use crate::glyph::Glyph;
 use crate::pieces::{Piece, push_pieces, put_line, put_rectangle, put_text, put_words};
 use crate::sheet::{Cell, Effect, Sheet};
 use crate::step::{MOST_ACCESSES, Step};

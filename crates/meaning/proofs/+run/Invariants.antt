@@ -25,17 +25,17 @@ decreases-calls::call g l = weight (program_in l.source.now) l.frames + (8 * (de
 abbrev pub decreases-calls::values : goal.decreases-calls::values
 decreases-calls::values g l = weight (program_in l.source.now) l.frames + (8 * (deepest (exprs_of l.args.now)) + 4)
 
-abbrev pub decreases-calls::entered : goal.decreases-calls::entered
-decreases-calls::entered g l = weight (program_in l.source.now) l.frames + (8 * 0 + 1)
+abbrev pub decreases-calls::enter_function : goal.decreases-calls::enter_function
+decreases-calls::enter_function g l = weight (program_in l.source.now) l.frames + (8 * 0 + 1)
 
 abbrev pub decreases-simple::target : goal.decreases-simple::target
 decreases-simple::target g l = weight (program_in l.source.now) l.frames + (8 * (expr_depth (expr_of l.e.now)) + 2)
 
-abbrev pub decreases-simple::assigned : goal.decreases-simple::assigned
-decreases-simple::assigned g l = weight (program_in l.source.now) l.frames + (8 * (max (expr_depth (expr_of l.to.now)) (expr_depth (expr_of l.e.now))) + 4)
+abbrev pub decreases-simple::simple_assignment : goal.decreases-simple::simple_assignment
+decreases-simple::simple_assignment g l = weight (program_in l.source.now) l.frames + (8 * (max (expr_depth (expr_of l.to.now)) (expr_depth (expr_of l.e.now))) + 4)
 
-abbrev pub decreases-simple::changed : goal.decreases-simple::changed
-decreases-simple::changed g l = weight (program_in l.source.now) l.frames + (8 * (max (expr_depth (expr_of l.to.now)) (expr_depth (expr_of l.e.now))) + 4)
+abbrev pub decreases-simple::compound_assignment : goal.decreases-simple::compound_assignment
+decreases-simple::compound_assignment g l = weight (program_in l.source.now) l.frames + (8 * (max (expr_depth (expr_of l.to.now)) (expr_depth (expr_of l.e.now))) + 4)
 
 abbrev pub decreases-simple::simple : goal.decreases-simple::simple
 decreases-simple::simple g l = weight (program_in l.source.now) l.frames + (8 * (simple_depth (simple_of l.s.now)) + 0)
@@ -49,17 +49,17 @@ decreases-stmt::stmts g l = weight (program_in l.source.now) l.frames + (8 * (bl
 abbrev pub decreases-stmt::block : goal.decreases-stmt::block
 decreases-stmt::block g l = weight (program_in l.source.now) l.frames + (8 * (block_depth (stmts_of l.ss.now)) + 1)
 
-abbrev pub decreases-stmt::scoped : goal.decreases-stmt::scoped
-decreases-stmt::scoped g l = weight (program_in l.source.now) l.frames + (8 * (stmt_depth (stmt_of l.s.now)) + 3)
+abbrev pub decreases-stmt::scoped_stmt : goal.decreases-stmt::scoped_stmt
+decreases-stmt::scoped_stmt g l = weight (program_in l.source.now) l.frames + (8 * (stmt_depth (stmt_of l.s.now)) + 3)
 
-abbrev pub decreases-stmt::printed : goal.decreases-stmt::printed
-decreases-stmt::printed g l = weight (program_in l.source.now) l.frames + (8 * (deepest (exprs_of l.args.now)) + 6)
+abbrev pub decreases-stmt::print_output : goal.decreases-stmt::print_output
+decreases-stmt::print_output g l = weight (program_in l.source.now) l.frames + (8 * (deepest (exprs_of l.args.now)) + 6)
 
 abbrev pub decreases-stmt::either : goal.decreases-stmt::either
 decreases-stmt::either g l = weight (program_in l.source.now) l.frames + (8 * (max (expr_depth (expr_of l.c.now)) (max (stmt_depth (stmt_of l.a.now)) (else_depth (option_map stmt_of l.b.now)))) + 4)
 
-abbrev pub decreases-stmt::returned : goal.decreases-stmt::returned
-decreases-stmt::returned g l = weight (program_in l.source.now) l.frames + (8 * (optional_depth (option_map expr_of l.e.now)) + 4)
+abbrev pub decreases-stmt::return_end : goal.decreases-stmt::return_end
+decreases-stmt::return_end g l = weight (program_in l.source.now) l.frames + (8 * (optional_depth (option_map expr_of l.e.now)) + 4)
 
 abbrev pub decreases-loops::repeat : goal.decreases-loops::repeat
 decreases-loops::repeat g l = weight (program_in l.source.now) l.frames + (8 * (loop_depth l.which.now) + 7)
@@ -70,8 +70,8 @@ decreases-loops::turn g l = weight (program_in l.source.now) l.frames + (8 * (lo
 abbrev pub decreases-loops::turn_while : goal.decreases-loops::turn_while
 decreases-loops::turn_while g l = weight (program_in l.source.now) l.frames + (8 * (max (expr_depth (expr_of l.c.now)) (stmt_depth (stmt_of l.a.now))) + 5)
 
-abbrev pub decreases-loops::tested : goal.decreases-loops::tested
-decreases-loops::tested g l = weight (program_in l.source.now) l.frames + (8 * (expr_depth (expr_of l.c.now)) + 2)
+abbrev pub decreases-loops::loop_test : goal.decreases-loops::loop_test
+decreases-loops::loop_test g l = weight (program_in l.source.now) l.frames + (8 * (expr_depth (expr_of l.c.now)) + 2)
 
 abbrev pub decreases-loops::turn_do : goal.decreases-loops::turn_do
 decreases-loops::turn_do g l = weight (program_in l.source.now) l.frames + (8 * (max (stmt_depth (stmt_of l.a.now)) (expr_depth (expr_of l.c.now))) + 5)
@@ -82,8 +82,8 @@ decreases-loops::turn_for g l = weight (program_in l.source.now) l.frames + (8 *
 abbrev pub decreases-loops::holds : goal.decreases-loops::holds
 decreases-loops::holds g l = weight (program_in l.source.now) l.frames + (8 * (optional_depth (option_map expr_of l.c.now)) + 2)
 
-abbrev pub decreases-loops::stepped : goal.decreases-loops::stepped
-decreases-loops::stepped g l = weight (program_in l.source.now) l.frames + (8 * (optional_simple_depth (option_map simple_of l.step.now)) + 2)
+abbrev pub decreases-loops::for_step : goal.decreases-loops::for_step
+decreases-loops::for_step g l = weight (program_in l.source.now) l.frames + (8 * (optional_simple_depth (option_map simple_of l.step.now)) + 2)
 
 abbrev pub decreases-loops::for_scoped : goal.decreases-loops::for_scoped
 decreases-loops::for_scoped g l = weight (program_in l.source.now) l.frames + (8 * (head_depth l.head.now l.a.now) + 9)
@@ -91,8 +91,8 @@ decreases-loops::for_scoped g l = weight (program_in l.source.now) l.frames + (8
 abbrev pub decreases-loops::for_run : goal.decreases-loops::for_run
 decreases-loops::for_run g l = weight (program_in l.source.now) l.frames + (8 * (head_depth l.head.now l.a.now) + 8)
 
-abbrev pub decreases-loops::started : goal.decreases-loops::started
-decreases-loops::started g l = weight (program_in l.source.now) l.frames + (8 * (start_depth (start_of l.start.now)) + 5)
+abbrev pub decreases-loops::for_start : goal.decreases-loops::for_start
+decreases-loops::for_start g l = weight (program_in l.source.now) l.frames + (8 * (start_depth (start_of l.start.now)) + 5)
 
 abbrev pub decreases-simple::declare : goal.decreases-simple::declare
 decreases-simple::declare g l = weight (program_in l.source.now) l.frames + (8 * (deepest_value (map declarator_of l.ds.now)) + 4)
@@ -106,8 +106,8 @@ decreases-transactions::transaction g l = weight (program_in l.source.now) l.fra
 abbrev pub decreases-transactions::outermost : goal.decreases-transactions::outermost
 decreases-transactions::outermost g l = weight (program_in l.source.now) l.frames + (8 * (depth_within l.body.now) + 4)
 
-abbrev pub decreases-transactions::nested : goal.decreases-transactions::nested
-decreases-transactions::nested g l = weight (program_in l.source.now) l.frames + (8 * (depth_within l.body.now) + 4)
+abbrev pub decreases-transactions::nested_transaction : goal.decreases-transactions::nested_transaction
+decreases-transactions::nested_transaction g l = weight (program_in l.source.now) l.frames + (8 * (depth_within l.body.now) + 4)
 
 abbrev pub decreases-transactions::run_body : goal.decreases-transactions::run_body
 decreases-transactions::run_body g l = weight (program_in l.source.now) l.frames + (8 * (depth_within l.body.now) + 2)

@@ -483,7 +483,7 @@ lower_condition-returns-else-converts g t c =
 pub lower_all-each-preserved : goal.lower_all-each-preserved
 lower_all-each-preserved g t c =
     let here = ap (λ n. of_value (handed (program_in c.args.names.now) (scope_in c.args.scope.now) (drop n (types_of (map parameter_of c.args.parameters.now))) (expr_of c.one-item.result) c.each.to c.each.later (lists_of c.each.lists))) c.each.invariant.0 in
-    (ap (λ n. n + 1) c.each.invariant.0, next_value (program_in c.args.names.now) (scope_in c.args.scope.now) (types_of (map parameter_of c.args.parameters.now)) c.args.all.now c.each.one-index c.each.to c.each.later (lists_of c.each.lists) c.each.code.items c.each.registers.items _ c.one-item.result c.each-test.true c.one-item.is c.each.invariant.1 _ _ _ c.in_ok-held.location _ (same here c.in_ok-held.ensures) c.in_ok-add_operand.ensures c.above-later.ensures)
+    (ap (λ n. n + 1) c.each.invariant.0, next_value (program_in c.args.names.now) (scope_in c.args.scope.now) (types_of (map parameter_of c.args.parameters.now)) c.args.all.now c.each.one-index c.each.to c.each.later (lists_of c.each.lists) c.each.code.items c.each.registers.items _ c.one-item.result c.each-test.true c.one-item.is c.each.invariant.1 _ _ _ c.in_ok-held.held _ (same here c.in_ok-held.ensures) c.in_ok-add_operand.ensures c.above-later.ensures)
 
 pub lower_all-returns-in_err-held-clause-code : goal.lower_all-returns-in_err-held-clause-code
 lower_all-returns-in_err-held-clause-code g t c =

@@ -17,4 +17,4 @@ returns c = λ does means.
     let key = c.args.hall.setup in
     let ws = c.in-Ok.workers.items in
     let here : AllHere ws key.threads = all_here ws key.threads (λ n lt. c.in-Ok.ensures.2 n (c.requires.here n lt)) in
-    ran does c.args.budget key c.requires.few means c.args.hall.table.shared.table_id ws c.in-Ok.ensures.0 c.gather-words.result.words.items c.holder-is_held.result _ (c.gather-words.ensures c.in-Ok.ensures.0) here c.memory.ensures c.holder-is_held.ensures c.in-Ok.ensures.1
+    ran does c.args.budget key c.requires.few means c.args.hall.table.shared.table_id ws c.in-Ok.ensures.0 c.gather-words.result.words.items c.holder-held.result _ (c.gather-words.ensures c.in-Ok.ensures.0) here c.memory.ensures c.holder-held.ensures c.in-Ok.ensures.1

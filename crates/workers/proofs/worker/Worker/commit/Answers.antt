@@ -11,8 +11,8 @@ store_all-requires-clause-worker g c = can_after c.args.words.now.table_id c.arg
 pub returns-then-not-swap-clause-goes_on : goal.returns-then-not-swap-clause-goes_on
 returns-then-not-swap-clause-goes_on g c = by_more c.args.words.now.table_id c.args.words.now.key 0 c.store_all.result _ c.args.self.now c.swap.new.self c.store_all.new.self (omega arith) (c.swap.ensures.not_made c.if-not-swap.true) c.store_all.ensures.goes_on
 
-pub store_all-take_store-requires-clause-worker : goal.store_all-take_store-requires-clause-worker
-store_all-take_store-requires-clause-worker g c = let some = c.requires.some in can_after c.args.words.now.table_id c.args.words.now.key c.args.most 1 _ c.args.self.now c.swap.new.self (omega (arith, some)) c.requires.worker (c.swap.ensures.made c.if-not-swap.false)
+pub store_all-stored-requires-clause-worker : goal.store_all-stored-requires-clause-worker
+store_all-stored-requires-clause-worker g c = let some = c.requires.some in can_after c.args.words.now.table_id c.args.words.now.key c.args.most 1 _ c.args.self.now c.swap.new.self (omega (arith, some)) c.requires.worker (c.swap.ensures.made c.if-not-swap.false)
 
 pub returns-clause-goes_on : goal.returns-clause-goes_on
-returns-clause-goes_on g c = by_more c.args.words.now.table_id c.args.words.now.key 1 c.store_all-take_store.result _ c.args.self.now c.swap.new.self c.store_all-take_store.new.self (omega arith) (c.swap.ensures.made c.if-not-swap.false) c.store_all-take_store.ensures.goes_on
+returns-clause-goes_on g c = by_more c.args.words.now.table_id c.args.words.now.key 1 c.store_all-stored.result _ c.args.self.now c.swap.new.self c.store_all-stored.new.self (omega arith) (c.swap.ensures.made c.if-not-swap.false) c.store_all-stored.ensures.goes_on

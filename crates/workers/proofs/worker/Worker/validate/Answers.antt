@@ -27,18 +27,18 @@ steps-preserved-then-is_waiting g c =
 pub returns-then-not-goes_on-clause-goes_on : goal.returns-then-not-goes_on-clause-goes_on
 returns-then-not-goes_on-clause-goes_on g c =
     let few = c.steps.invariant.few in
-    let made = c.compare-take_equal.ensures.few in
-    by_more c.args.words.now.table_id c.args.words.now.key (c.args.most - c.steps.left) c.compare-take_equal.result.0 _ c.args.self.now c.steps.self c.compare-take_equal.new.self (omega (arith, few, made)) c.steps.invariant.goes_on c.compare-take_equal.ensures.goes_on
+    let made = c.compare-compared.ensures.few in
+    by_more c.args.words.now.table_id c.args.words.now.key (c.args.most - c.steps.left) c.compare-compared.result.0 _ c.args.self.now c.steps.self c.compare-compared.new.self (omega (arith, few, made)) c.steps.invariant.goes_on c.compare-compared.ensures.goes_on
 
 pub steps-preserved : goal.steps-preserved
 steps-preserved g c =
     let few = c.steps.invariant.few in
-    let made = c.compare-take_equal.ensures.few in
+    let made = c.compare-compared.ensures.few in
     record {
       few = omega (arith, few);
-      can = can_after c.args.words.now.table_id c.args.words.now.key c.steps.left c.compare-take_equal.result.0 _ c.steps.self c.compare-take_equal.new.self (omega (arith, made)) c.steps.invariant.can c.compare-take_equal.ensures.goes_on;
-      goes_on = by_more c.args.words.now.table_id c.args.words.now.key (c.args.most - c.steps.left) c.compare-take_equal.result.0 _ c.args.self.now c.steps.self c.compare-take_equal.new.self (omega (arith, few, made)) c.steps.invariant.goes_on c.compare-take_equal.ensures.goes_on;
-      stands = c.compare-take_equal.ensures.still c.if-not-goes_on.false c.doing-doing.result c.steps.invariant.stands;
+      can = can_after c.args.words.now.table_id c.args.words.now.key c.steps.left c.compare-compared.result.0 _ c.steps.self c.compare-compared.new.self (omega (arith, made)) c.steps.invariant.can c.compare-compared.ensures.goes_on;
+      goes_on = by_more c.args.words.now.table_id c.args.words.now.key (c.args.most - c.steps.left) c.compare-compared.result.0 _ c.args.self.now c.steps.self c.compare-compared.new.self (omega (arith, few, made)) c.steps.invariant.goes_on c.compare-compared.ensures.goes_on;
+      stands = c.compare-compared.ensures.still c.if-not-goes_on.false c.doing-doing.result c.steps.invariant.stands;
     }
 
 pub returns-clause-goes_on : goal.returns-clause-goes_on
