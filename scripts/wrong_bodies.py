@@ -3,13 +3,15 @@
 
   scripts/wrong_bodies.py            tries all of them, crate by crate
   scripts/wrong_bodies.py CRATE..    tries those of these crates
-  scripts/wrong_bodies.py --read     tries none, and fails where an edit's `old:` text does not stand once in its file
+  scripts/wrong_bodies.py --read     tries none, and fails where an edit's `old:` text does not stand once in its file; those of
+                                     must-fail/ are read too, since the gate passes with an edit that cannot be applied
 
 An edit has the form of those of a crate's must-fail/, which the gate tries. Here they are tried by `rt must-fail` too, in a copy of
 the crate and of those below it. What was proved of the crates below, in their out/ folders, is used; the crate itself is proved
 from nothing with its first edit. Ends in status 1 where one is not refused.
 """
 
+import glob
 import os
 import shutil
 import subprocess
@@ -23,6 +25,13 @@ EDITS = f"{TOP}/wrong_bodies"
 
 def edits_of(crate):
     return sorted(f"{EDITS}/{crate}/{it}" for it in os.listdir(f"{EDITS}/{crate}"))
+
+
+def all_edits(crates):
+    """Each edit with its crate: those of wrong_bodies/, and those that the gate tries."""
+    yield from ((crate, edit) for crate in crates for edit in edits_of(crate))
+    for edit in sorted(glob.glob(f"{TOP}/crates/*/must-fail/*.edit")):
+        yield edit.split("/")[-3], edit
 
 
 def read(path):
@@ -66,8 +75,9 @@ def tried(crate):
 def main(words):
     crates = sorted(os.listdir(EDITS))
     if words == ["--read"]:
-        wrong = [f"{os.path.relpath(it, TOP)}: {why}" for crate in crates for it in edits_of(crate) if (why := why_unread(crate, it))]
-        print("\n".join(wrong) or f"{sum(len(edits_of(it)) for it in crates)} wrong bodies can be applied")
+        edits = [*all_edits(crates)]
+        wrong = [f"{os.path.relpath(edit, TOP)}: {why}" for crate, edit in edits if (why := why_unread(crate, edit))]
+        print("\n".join(wrong) or f"{len(edits)} wrong bodies can be applied")
         return 1 if wrong else 0
     unknown = [it for it in words if it not in crates]
     if unknown:
