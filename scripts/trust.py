@@ -24,7 +24,7 @@ WORD = re.compile(r"[^\s(){}\[\],;]+")
 # What a call of `txc` promises, and the definitions of `crates/serving/specs` that say it: `serve`'s clauses name these.
 PROMISES = (
     ("`txc run`, by the source alone", "PrintsReport RunsInSomeOrder"),
-    ("`txc run`, all", "PrintsReport RunsInSomeOrder RunsAtOnce"),
+    ("`txc run`, all", "PrintsReport RunsInSomeOrder RunsConcurrently"),
     ("`txc source`", "PrintsReport RunsInOrder"),
     ("`txc outcomes`", "PrintsOutcomes"),
     ("`txc replay`, by the source alone", "PrintsReport RunsInSomeOrder behind_events"),

@@ -14,7 +14,7 @@ use Rattle.frames.proofs.Keeping.{begins_stay_open}
 use Rattle.frames.specs.Open.{CanRestore, IsConfigurationOf, MayStand, begin_configuration, saved_in}
 use Rattle.atomic_code.specs.declared.context.Signal.{Signal}
 use Rattle.atomic_code.specs.declared.context.Signal.TheVariants.{Goes, Leaves}
-use Rattle.atomic_code.specs.Threads.{AtomicThread, AreMemories, RunsAtomically, begins_of, cancelled_from}
+use Rattle.atomic_code.specs.Threads.{AtomicThread, AreTransactionMemories, RunsAtomically, begins_of, cancelled_from}
 use Rattle.atomic_code.specs.inner.Making.{Cancels, Makes, MayPrint, at_hand, begun_in, made_irrevocable, with_memory}
 use Rattle.atomic_code.proofs.Memories.{sized}
 use Rattle.atomic_code.proofs.Making as making
@@ -109,7 +109,7 @@ module _ (code : Code) (v : IsValid code) (k : AtomicThread) (running : k.status
 
   -- a shared access is to a cell of the memory
   module _ (o : OpenTransaction Saved) (some : k.open_in ≡ Some o) where
-    words : AreMemories (bounds_of code) o
+    words : AreTransactionMemories (bounds_of code) o
     words = (runs_at (Some o) some).memories
 
     pub cell_read : (a : ℕ) (f : ℕ → Configuration) → effect code c ≡ Read a f → a < length o.mem

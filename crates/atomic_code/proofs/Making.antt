@@ -18,7 +18,7 @@ use Rattle.frames.specs.Open.{BeginsStayOpen, MayStand, AreRestored, IsSuccessor
 use Rattle.atomic_code.specs.declared.context.Signal.{Signal}
 use Rattle.atomic_code.specs.declared.context.Signal.TheVariants.{Goes, Leaves}
 use Rattle.std.specs.Prelude.{Vec}
-use Rattle.atomic_code.specs.Threads.{AtomicThread, cancelled_from, inner_by, transaction_by, open_by, begins_of, AreMemories, HasMemories, RunsAtomically}
+use Rattle.atomic_code.specs.Threads.{AtomicThread, cancelled_from, inner_by, transaction_by, open_by, begins_of, AreTransactionMemories, HasMemories, RunsAtomically}
 use Rattle.atomic_code.specs.Carried.{finding, to_find}
 use Rattle.atomic_code.specs.inner.Making.{Makes, Cancels, with_memory, made_irrevocable, begun_in, MayPrint}
 use Rattle.atomic_code.proofs.Memories.{written, word_at}
@@ -129,7 +129,7 @@ module _ (code : Code) (v : IsValid code) (m : Option Memory) where
         is x e = absurd e
 
   module _ (c : Configuration) (o : OpenTransaction Saved) (t : List ℕ) (runs : RunsAtomically code (at c (Some o) t)) where
-    abbrev words : AreMemories (bounds_of code) o
+    abbrev words : AreTransactionMemories (bounds_of code) o
     words = runs.memories
 
     pub read_inside : {A : Type 0} (a : ℕ) (f : ℕ → Configuration) → effect code c ≡ Read a f → Makes {A = A} code m (at c (Some o) t) Goes (at (f (slice_index o.mem a)) (Some o) t)
@@ -163,14 +163,11 @@ module _ (code : Code) (v : IsValid code) (m : Option Memory) where
     abbrev rest : Memory → OpenTransaction Saved
     rest mem = with_memory o mem is
 
-    abbrev all : AreMemories (bounds_of code) whole
+    abbrev all : AreTransactionMemories (bounds_of code) whole
     all = runs.memories
 
     tail_is : (mem : Memory) (s : Saved) (ss : List Saved) → begins_of (Some whole) ≡ s ∷ ss → ss ≡ begins_of (Some (rest mem))
     tail_is mem s ss e = let h : ss ≡ map (λ (j : InnerTransaction Saved). j.cancelled) is ++ o.cancelled ∷ [] = cc in h
-
-    head_is : (s : Saved) (ss : List Saved) → begins_of (Some whole) ≡ s ∷ ss → s ≡ i.cancelled
-    head_is s ss e = let h : s ≡ i.cancelled = cc in h
 
     pub commit_inner : {A : Type 0} (d : Configuration) → effect code c ≡ Commit d → Makes {A = A} code m (at c (Some whole) t) Goes (at d (Some (rest o.mem)) t)
     commit_inner d e =
@@ -183,7 +180,7 @@ module _ (code : Code) (v : IsValid code) (m : Option Memory) where
     abbrev alone : OpenTransaction Saved
     alone = with_memory o o.mem []
 
-    abbrev both : AreMemories (bounds_of code) alone
+    abbrev both : AreTransactionMemories (bounds_of code) alone
     both = runs.memories
 
     pub commit_outermost : {A : Type 0} (d : Configuration) (left : Vec ℕ A) → effect code c ≡ Commit d → left.items ≡ o.mem → Makes {A = A} code m (at c (Some alone) t) (Leaves left) (at d None t)
@@ -198,7 +195,7 @@ module _ (code : Code) (v : IsValid code) (m : Option Memory) where
 
   -- a cancel of so many levels
   module _ (c : Configuration) (o : OpenTransaction Saved) (t : List ℕ) (runs : RunsAtomically code (at c (Some o) t)) (n : ℕ) (cancels : Cancels (effect code c) n) where
-    abbrev those : AreMemories (bounds_of code) o
+    abbrev those : AreTransactionMemories (bounds_of code) o
     those = runs.memories
 
     abbrev step_from : List (InnerTransaction Saved) → Bool → Sequential Configuration

@@ -54,11 +54,7 @@ all_behind t zero ts m is = (omega arith, is)
 all_behind t (suc n) ts [] is = absurd is
 all_behind t (suc n) ts (w ∷ m) is = let h = all_behind t n ts m is.1 in let le = h.0 in (omega (arith, le), h.1)
 
--- the bounds of the globals from a place on: those of the first one's cells, and the others
-pub bounds_from : {X : Type 0} (f : X → Global) (xs : List X) (i : ℕ) (x : X) → i < length xs → x ≡ get_or xs i x → bounds_of (map f (drop i xs)) ≡ map modulus (replicate (cells (f x)) (f x).ty ++ cell_types (map f (drop (i + 1) xs)))
-bounds_from f xs i x lt e = at_drop_more (λ ys. bounds_of (map f ys)) xs i x lt ∙ ap (λ y. bounds_of (map f (y ∷ drop (i + 1) xs))) (sym e)
-
--- and none from their end on
+-- from the end of the globals on there are no bounds
 pub no_bounds : {X : Type 0} (f : X → Global) (xs : List X) (i : ℕ) → length xs ≤ i → bounds_of (map f (drop i xs)) ≡ []
 no_bounds f xs i le = ap (λ ys. bounds_of (map f ys)) (drop_all i xs le)
 

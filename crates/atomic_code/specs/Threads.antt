@@ -67,14 +67,14 @@ begins_of None = []
 begins_of {S} (Some o) = map (λ (i : InnerTransaction S). i.cancelled) o.inner ++ o.cancelled ∷ []
 
 -- all memories of an open transaction are memories of the code
-pub record AreMemories {S : Type 0} (bounds : List ℕ) (o : OpenTransaction S) : Type 0 where
+pub record AreTransactionMemories {S : Type 0} (bounds : List ℕ) (o : OpenTransaction S) : Type 0 where
   pub found : IsMemory bounds o.found
   pub now : IsMemory bounds o.mem
   pub inner : AllByRecursion (λ (i : InnerTransaction S). IsMemory bounds i.mem) o.inner
 
 abbrev pub HasMemories : {S : Type 0} → List ℕ → Option (OpenTransaction S) → Type 0
 HasMemories bounds None = Unit {0}
-HasMemories bounds (Some o) = AreMemories bounds o
+HasMemories bounds (Some o) = AreTransactionMemories bounds o
 
 -- a thread that runs may stand where it does, with the begins that are open there, and has memories of the code
 pub record RunsAtomically (code : Code) (k : AtomicThread) : Type 0 where

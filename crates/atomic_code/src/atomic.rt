@@ -18,7 +18,7 @@ use syntax::numbers::Status;
 #[derive(Drop)]
 pub struct AtomicThread<A: Allocator = Global> {
     alloc: A,
-    held: AtomicContext<A>,
+    context: AtomicContext<A>,
     steps: u64,
 }
 
@@ -29,7 +29,7 @@ impl<A: Allocator> Model for AtomicThread<A> {
 
     ghost use Rattle.atomic_code.specs.inner.Making as making;
 
-    ghost view = { λ t. record { thread = making.thread_of t.held; steps = t.steps } };
+    ghost view = { λ t. record { thread = making.thread_of t.context; steps = t.steps } };
 }
 
 /// The end of a thread, by how it is.
@@ -71,7 +71,7 @@ impl<A: Allocator + Copy> AtomicThread<A> {
         let frames = Frames::new(alloc, code, number)?;
         Ok(AtomicThread {
             alloc,
-            held: AtomicContext {
+            context: AtomicContext {
                 frames,
                 open_in: None,
                 text: String::new(alloc),
@@ -107,20 +107,20 @@ impl<A: Allocator + Copy> AtomicThread<A> {
     {
         // The prover learns here that the code is valid.
         code.note_valid();
-        match end_of(self.held.status) {
+        match end_of(self.context.status) {
             Some(end) => Ok(Ran {
                 steps: 0,
                 left: None,
                 end: Some(end),
             }),
             None => {
-                let (made, outcome) = self.held.carry_on(self.alloc, code, Some(found), steps);
+                let (made, outcome) = self.context.carry_on(self.alloc, code, Some(found), steps);
                 self.steps += made;
                 match outcome {
                     Err(refused) => Err(refused),
-                    Ok(Signal::Goes) => Ok(ran(made, None, self.held.status)),
-                    Ok(Signal::Leaves(memory)) => Ok(ran(made, Some(memory), self.held.status)),
-                    Ok(Signal::Wants) => Ok(ran(made, None, self.held.status)),
+                    Ok(Signal::Goes) => Ok(ran(made, None, self.context.status)),
+                    Ok(Signal::Leaves(memory)) => Ok(ran(made, Some(memory), self.context.status)),
+                    Ok(Signal::Wants) => Ok(ran(made, None, self.context.status)),
                 }
             }
         }
@@ -137,13 +137,13 @@ impl<A: Allocator + Copy> AtomicThread<A> {
     pub fn status(&self) -> Status
         ensures { result ≡ self.now.thread.status }
     {
-        self.held.status
+        self.context.status
     }
 
     /// What it has printed.
     pub fn output(&self) -> &str
         ensures { result.now ≡ self.now.thread.text }
     {
-        self.held.text.as_str()
+        self.context.text.as_str()
     }
 }

@@ -7,7 +7,7 @@ ghost use Rattle.bytecode.specs.Effects.{Effect, after_cancel};
 ghost use Rattle.bytecode.specs.Code.{effect, going, onward, return_effect, setting};
 ghost use Rattle.bytecode.specs.Valid.{IsValid, bounds_of};
 ghost use Rattle.frames.specs.Open.{CanRestore, IsConfigurationOf, begin_configuration};
-ghost use Rattle.frames.specs.Told.{IsCall, IsLocalStep, piece_of};
+ghost use Rattle.frames.specs.Doings.{IsCall, IsLocalStep, piece_of};
 ghost use Rattle.atomic_code.specs.Threads.{RunsAtomically, cancelled_from};
 ghost use Rattle.atomic_code.specs.inner.Making.{Cancels, HasMemoryAtHand, Makes, MayPrint, at_hand, thread_of};
 ghost use Rattle.atomic_code.specs.inner.Making.{saved_by, transaction_of};

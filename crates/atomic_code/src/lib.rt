@@ -15,4 +15,4 @@ mod whole;
 pub use atomic::AtomicThread;
 pub use memory::is_memory;
 pub use ran::{End, Ran};
-pub use whole::{ThreadEnd, ThreadOutcome, thread};
+pub use whole::{AtomicThreadEnd, AtomicThreadOutcome, thread};

@@ -19,7 +19,7 @@ use syntax::numbers::{Halt, Status};
 
 /// How a thread is found after its instructions.
 #[derive(Clone, Copy, PartialEq, Eq)]
-pub enum ThreadEnd {
+pub enum AtomicThreadEnd {
     /// It has come to its end.
     Ended,
 
@@ -29,22 +29,22 @@ pub enum ThreadEnd {
 
 /// What a thread leaves and prints.
 #[derive(Drop)]
-pub struct ThreadOutcome<A: Allocator = Global> {
+pub struct AtomicThreadOutcome<A: Allocator = Global> {
     /// The memory that each outermost transaction left, a word for each cell, in the order in which they ended.
     pub lefts: Vec<Vec<u64, A>, A>,
     /// What is printed.
     pub text: String<A>,
-    pub end: ThreadEnd,
+    pub end: AtomicThreadEnd,
 }
 
 /// The end of a thread that wants no memory: spent, where it would go on.
-fn end_without_want(status: Status) -> ThreadEnd
+fn end_without_want(status: Status) -> AtomicThreadEnd
     ensures { thread_end_in result ≡ end_due false status }
 {
     match status {
-        Status::Running => ThreadEnd::Stopped(Halt::Spent),
-        Status::Ended => ThreadEnd::Ended,
-        Status::Trapped(cause) => ThreadEnd::Stopped(Halt::Trapped(cause)),
+        Status::Running => AtomicThreadEnd::Stopped(Halt::Spent),
+        Status::Ended => AtomicThreadEnd::Ended,
+        Status::Trapped(cause) => AtomicThreadEnd::Stopped(Halt::Trapped(cause)),
     }
 }
 
@@ -66,7 +66,7 @@ pub fn thread<A: Allocator + Copy, B: Allocator>(
     number: u32,
     founds: &[Vec<u64, A>],
     steps: u64,
-) -> Result<ThreadOutcome<A>, AllocError>
+) -> Result<AtomicThreadOutcome<A>, AllocError>
     requires { AllByRecursion (IsMemory (bounds_of code.now)) (memories_in founds.now) }
     ensures { IfOk result (λ o. outcome_in o ≡ meaning (effect code.now) (beginning code.now) number
         (memories_in founds.now) steps) }
@@ -74,7 +74,7 @@ pub fn thread<A: Allocator + Copy, B: Allocator>(
     // The prover learns here that the code is valid.
     code.note_valid();
     let frames = Frames::new(alloc, code, number)?;
-    let mut held = AtomicContext {
+    let mut context = AtomicContext {
         frames,
         open_in: None,
         text: String::new(alloc),
@@ -84,41 +84,41 @@ pub fn thread<A: Allocator + Copy, B: Allocator>(
     let mut made: u64 = 0;
     'turns: while made < steps {
         let found = memory_at(founds, lefts.len());
-        let (more, outcome) = held.carry_on(alloc, code, found, steps - made);
+        let (more, outcome) = context.carry_on(alloc, code, found, steps - made);
         made += more;
         match outcome {
             Err(refused) => return Err(refused),
             Ok(Signal::Goes) => {
-                let end = end_without_want(held.status);
-                return Ok(ThreadOutcome {
+                let end = end_without_want(context.status);
+                return Ok(AtomicThreadOutcome {
                     lefts,
-                    text: held.text,
+                    text: context.text,
                     end,
                 });
             }
             Ok(Signal::Wants) => {
-                return Ok(ThreadOutcome {
+                return Ok(AtomicThreadOutcome {
                     lefts,
-                    text: held.text,
-                    end: ThreadEnd::Stopped(Halt::Wants),
+                    text: context.text,
+                    end: AtomicThreadEnd::Stopped(Halt::Wants),
                 });
             }
             Ok(Signal::Leaves(memory)) => {
                 lefts.push(memory)?;
-                if !runs(held.status) {
-                    let end = end_without_want(held.status);
-                    return Ok(ThreadOutcome {
+                if !runs(context.status) {
+                    let end = end_without_want(context.status);
+                    return Ok(AtomicThreadOutcome {
                         lefts,
-                        text: held.text,
+                        text: context.text,
                         end,
                     });
                 }
             }
         }
     }
-    Ok(ThreadOutcome {
+    Ok(AtomicThreadOutcome {
         lefts,
-        text: held.text,
-        end: ThreadEnd::Stopped(Halt::Spent),
+        text: context.text,
+        end: AtomicThreadEnd::Stopped(Halt::Spent),
     })
 }

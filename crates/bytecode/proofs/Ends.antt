@@ -52,7 +52,7 @@ module _ (code : Code) (f : FunctionCode) where
       | inr o ↦ ([], subst (λ x. IsReached code f x []) (sym o.1) at_first, o.2)
     ];
     begun = v.at;
-    settled = λ q id e. elim (v.new q id e) [
+    expanded = λ q id e. elim (v.new q id e) [
       | inl o ↦ cc (o, unseen_table f.first n q)
       | inr o ↦ inl o.0
     ];

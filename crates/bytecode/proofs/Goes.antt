@@ -14,7 +14,7 @@ use Rattle.bytecode.proofs.Arrivals.{seen_table, seen_one, innermost, id_of, tab
 use Rattle.bytecode.proofs.Meets.{State, visited_gives}
 use Rattle.bytecode.proofs.Rounds.{not_empty, enough, rounds}
 use Rattle.bytecode.proofs.Leads.{leads_by, asks_by, leads_so, asks_to, only, either, first_of}
-use Rattle.bytecode.proofs.Walks.{Walked, Taken, visit_keeps, settles}
+use Rattle.bytecode.proofs.Walks.{Walked, Taken, visit_keeps, expands}
 
 module _ (code : Code) (f : FunctionCode) (ms : Arrivals) (work : List ℕ) (q made : ℕ) (i : Instr) (m : Arrival) (k : Taken code f ms work q made) (stands : slice_get code.instructions q ≡ Some i) (arrived : arrival_at f.first ms q ≡ Some m) (begins : List ℕ) (reached : IsReached code f q begins) (chain : IsChain (table f.first ms) (id_of m) begins) (at : table f.first ms q ≡ Some (id_of m)) where
   -- one way on
@@ -31,7 +31,7 @@ module _ (code : Code) (f : FunctionCode) (ms : Arrivals) (work : List ℕ) (q m
   one_way to bs m' s one a l c h =
       let v = visited_gives f.first ms work to m' s one h in
       let r = leads_to to bs (subst (λ x. Contains x (to, bs)) (sym l) (first_of (to, bs))) in
-      settles code f s.0 s.1 q made (id_of m) (visit_keeps code f ms s.0 work s.1 q made to m' bs k r c v) (v.grows q (id_of m) at) (record {
+      expands code f s.0 s.1 q made (id_of m) (visit_keeps code f ms s.0 work s.1 q made to m' bs k r c v) (v.grows q (id_of m) at) (record {
         begins = begins;
         chain = chain_grows (table f.first ms) (table f.first s.0) v.grows (id_of m) begins chain;
         asks = asked a;
@@ -41,7 +41,7 @@ module _ (code : Code) (f : FunctionCode) (ms : Arrivals) (work : List ℕ) (q m
       })
 
   no_way : (s : State) → asks_by (way_of i) begins → leads_by code q begins (way_of i) ≡ [] → Some (ms, work) ≡ Some s → Walked code f s.0 s.1 (suc made)
-  no_way s a l h = subst (λ (z : State). Walked code f z.0 z.1 (suc made)) (some_same (ms, work) s h) (settles code f ms work q made (id_of m) k at (record {
+  no_way s a l h = subst (λ (z : State). Walked code f z.0 z.1 (suc made)) (some_same (ms, work) s h) (expands code f ms work q made (id_of m) k at (record {
     begins = begins;
     chain = chain;
     asks = asked a;
@@ -59,7 +59,7 @@ module _ (code : Code) (f : FunctionCode) (ms : Arrivals) (work : List ℕ) (q m
       let k' = visit_keeps code f ms t.0 work t.1 q made (suc q) m begins k r chain v in
       let u = visited_gives f.first t.0 t.1 to m s one h in
       let c' = chain_grows (table f.first t.0) (table f.first s.0) u.grows (id_of m) begins c in
-      settles code f s.0 s.1 q made (id_of m) (visit_keeps code f t.0 s.0 t.1 s.1 q made to m begins k' r' c u) (u.grows q (id_of m) (v.grows q (id_of m) at)) (record {
+      expands code f s.0 s.1 q made (id_of m) (visit_keeps code f t.0 s.0 t.1 s.1 q made to m begins k' r' c u) (u.grows q (id_of m) (v.grows q (id_of m) at)) (record {
         begins = begins;
         chain = c';
         asks = asked (subst (λ x. asks_by x begins) (sym w) tt);

@@ -7,7 +7,7 @@ mod Arrivals
 mod Meets
 mod Rounds
 -- where instructions lead, what the walk over a function's ways keeps, and how it goes on, fails, begins and ends
-mod Leads
+pub mod Leads
 mod Walks
 mod Goes
 mod Fails
@@ -26,8 +26,8 @@ mod Spelled
 mod LoopEnds
 mod FlatCodes
 -- how the words of a code are read
-mod Kept
+mod Stored
 -- what a valid code reads and writes
 pub mod Fits
-mod Cells
+pub mod Cells
 mod Marking

@@ -15,14 +15,14 @@ module _ (code : Code) (f : FunctionCode) where
   T ms = table f.first ms
 
   -- a place that is gone on from: what its instruction asks is there, and where it leads is in the table
-  pub record Settled (ms : Arrivals) (q : ℕ) (id : Option ℕ) : Type 0 where
+  pub record Expanded (ms : Arrivals) (q : ℕ) (id : Option ℕ) : Type 0 where
     pub begins : List ℕ
     pub chain : IsChain (T ms) id begins
     pub asks : AsksOpen (slice_get code.instructions q) begins
     pub leads : (q' : ℕ) (begins' : List ℕ) → Contains (leads_from code q begins (slice_get code.instructions q)) (q', begins') → (id' : Option ℕ) × (T ms q' ≡ Some id') × IsChain (T ms) id' begins'
 
-  pub settled_grows : (ms ms' : Arrivals) → Grows (T ms) (T ms') → (q : ℕ) (id : Option ℕ) → Settled ms q id → Settled ms' q id
-  settled_grows ms ms' g q id s = record {
+  pub expanded_grows : (ms ms' : Arrivals) → Grows (T ms) (T ms') → (q : ℕ) (id : Option ℕ) → Expanded ms q id → Expanded ms' q id
+  expanded_grows ms ms' g q id s = record {
     begins = s.begins;
     chain = chain_grows (T ms) (T ms') g id s.begins s.chain;
     asks = s.asks;
@@ -33,7 +33,7 @@ module _ (code : Code) (f : FunctionCode) where
   pub record Walked (ms : Arrivals) (work : List ℕ) (made : ℕ) : Type 0 where
     pub found : IsFound code f (T ms)
     pub begun : T ms f.first ≡ Some None
-    pub settled : (q : ℕ) (id : Option ℕ) → T ms q ≡ Some id → Contains work q ⊎ Settled ms q id
+    pub expanded : (q : ℕ) (id : Option ℕ) → T ms q ≡ Some id → Contains work q ⊎ Expanded ms q id
     pub queued : (q : ℕ) → Contains work q → (id : Option ℕ) × (T ms q ≡ Some id)
     pub count : made + length work ≡ seen ms
 
@@ -43,11 +43,11 @@ module _ (code : Code) (f : FunctionCode) where
     | inr o ↦ (begins, subst (λ x. IsReached code f x begins) (sym o.1) r, subst (λ i. IsChain (T ms') i begins) (sym o.2) (chain_grows (T ms) (T ms') v.grows (id_of m) begins c))
   ]
 
-  -- a place is taken from the work: all that is kept but that it is settled
+  -- a place is taken from the work: all that is kept but that it is expanded
   pub record Taken (ms : Arrivals) (work : List ℕ) (q : ℕ) (made : ℕ) : Type 0 where
     pub found : IsFound code f (T ms)
     pub begun : T ms f.first ≡ Some None
-    pub settled : (p : ℕ) (id : Option ℕ) → T ms p ≡ Some id → Contains work p ⊎ (p ≡ q) ⊎ Settled ms p id
+    pub expanded : (p : ℕ) (id : Option ℕ) → T ms p ≡ Some id → Contains work p ⊎ (p ≡ q) ⊎ Expanded ms p id
     pub queued : (p : ℕ) → Contains work p → (id : Option ℕ) × (T ms p ≡ Some id)
     pub count : suc made + length work ≡ seen ms
 
@@ -55,7 +55,7 @@ module _ (code : Code) (f : FunctionCode) where
   taken ms work q made w = record {
     found = w.found;
     begun = w.begun;
-    settled = λ p id t. elim (w.settled p id t) [
+    expanded = λ p id t. elim (w.expanded p id t) [
       | inl c ↦ elim (Contains-push_cases work q p c) [
         | inl d ↦ inl d
         | inr e ↦ inr (inl (sym e))
@@ -71,12 +71,12 @@ module _ (code : Code) (f : FunctionCode) where
   visit_keeps ms ms' work work' q made p m begins k r c v = record {
     found = found_after ms ms' work work' p m begins k.found r c v;
     begun = v.grows f.first None k.begun;
-    settled = λ x id t. elim (v.new x id t) [
-      | inl o ↦ elim (k.settled x id o) [
+    expanded = λ x id t. elim (v.new x id t) [
+      | inl o ↦ elim (k.expanded x id o) [
         | inl d ↦ inl (v.kept x d)
         | inr e ↦ elim e [
           | inl s ↦ inr (inl s)
-          | inr s ↦ inr (inr (settled_grows ms ms' v.grows x id s))
+          | inr s ↦ inr (inr (expanded_grows ms ms' v.grows x id s))
         ]
       ]
       | inr o ↦ inl o.0
@@ -88,15 +88,15 @@ module _ (code : Code) (f : FunctionCode) where
     count = let h = k.count in let l = v.count in omega (arith, h, l);
   }
 
-  -- the place that was taken is settled
-  pub settles : (ms : Arrivals) (work : List ℕ) (q made : ℕ) (id : Option ℕ) → Taken ms work q made → T ms q ≡ Some id → Settled ms q id → Walked ms work (suc made)
-  settles ms work q made id k t s = record {
+  -- the place that was taken is expanded
+  pub expands : (ms : Arrivals) (work : List ℕ) (q made : ℕ) (id : Option ℕ) → Taken ms work q made → T ms q ≡ Some id → Expanded ms q id → Walked ms work (suc made)
+  expands ms work q made id k t s = record {
     found = k.found;
     begun = k.begun;
-    settled = λ p i u. elim (k.settled p i u) [
+    expanded = λ p i u. elim (k.expanded p i u) [
       | inl d ↦ inl d
       | inr e ↦ elim e [
-        | inl h ↦ inr (subst (λ x. Settled ms x i) (sym h) (subst (λ j. Settled ms q j) (some_same id i (sym t ∙ ap (T ms) (sym h) ∙ u)) s))
+        | inl h ↦ inr (subst (λ x. Expanded ms x i) (sym h) (subst (λ j. Expanded ms q j) (some_same id i (sym t ∙ ap (T ms) (sym h) ∙ u)) s))
         | inr h ↦ inr h
       ]
     ];
@@ -105,8 +105,8 @@ module _ (code : Code) (f : FunctionCode) where
   }
 
   -- at the end nothing is left to go on from, and the table is closed
-  pub closed : (ms : Arrivals) (made : ℕ) → Walked ms [] made → (q : ℕ) (id : Option ℕ) → T ms q ≡ Some id → Settled ms q id
-  closed ms made w q id t = elim (w.settled q id t) [
+  pub closed : (ms : Arrivals) (made : ℕ) → Walked ms [] made → (q : ℕ) (id : Option ℕ) → T ms q ≡ Some id → Expanded ms q id
+  closed ms made w q id t = elim (w.expanded q id t) [
     | inl c ↦ absurd (omega (arith, c.1))
     | inr s ↦ s
   ]

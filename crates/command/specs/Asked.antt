@@ -37,7 +37,7 @@ IsSaidOr default None n = n ≡ default
 IsSaidOr default (Some text) n = SaysNumber text n
 
 -- the number that is given for an argument, or else the default one, in its range
-pub record IsNumber (given : List Row) (id : Text) (default least most n : ℕ) : Type 0 where
+pub record IsNumberInRange (given : List Row) (id : Text) (default least most n : ℕ) : Type 0 where
   pub said : IsSaidOr default (one_of id given) n
   pub not_below : least ≤ n
   pub not_above : n ≤ most
@@ -57,11 +57,11 @@ abbrev pub AreSteps : List Row → Steps → Type 0
 AreSteps given (Schedule file) =
     (first_of (codes "schedule") given ≡ Some (string_bytes file)) × (one_of (codes "seed") given ≡ None)
 AreSteps given (Seed seed count) = (first_of (codes "schedule") given ≡ None) × IsGiven given (codes "seed") seed
-    × IsNumber given (codes "steps") 100000 0 1048576 count
+    × IsNumberInRange given (codes "steps") 100000 0 1048576 count
 
 -- 1 to 64 threads
 abbrev pub AreThreadsGiven : List Row → ℕ → Type 0
-AreThreadsGiven given n = IsNumber given (codes "threads") 1 1 64 n
+AreThreadsGiven given n = IsNumberInRange given (codes "threads") 1 1 64 n
 
 -- an order of threads
 pub record IsOrderGiven (given : List Row) (order : List ℕ) : Type 0 where
@@ -85,7 +85,7 @@ abbrev pub IsTask : Text → List Row → Task → Type 0
 IsTask name given Check = name ≡ codes "check"
 IsTask name given Listing = name ≡ codes "listing"
 IsTask name given (Run threads budget counts) = (name ≡ codes "run") × AreThreadsGiven given threads
-    × IsNumber given (codes "budget") 4294967295 0 4294967295 budget
+    × IsNumberInRange given (codes "budget") 4294967295 0 4294967295 budget
     × (IsTrue counts ↔ IsFlagged given (codes "counts"))
 IsTask name given (Replay threads steps) = (name ≡ codes "replay")
     × AreThreadsGiven given threads × AreSteps given steps × AreFlagged given false false false
@@ -97,10 +97,10 @@ IsTask name given (PrintSchedule threads seed count) = (name ≡ codes "replay")
     × AreSteps given (Seed seed count) × AreFlagged given false false true
 IsTask name given (Source threads order ticks) = (name ≡ codes "source") × AreThreadsGiven given threads
     × IsOrderGiven given order.items
-    × IsNumber given (codes "ticks") 100000 0 1000000 ticks
+    × IsNumberInRange given (codes "ticks") 100000 0 1000000 ticks
 IsTask name given (Outcomes threads ticks limit) = (name ≡ codes "outcomes") × AreThreadsGiven given threads
-    × IsNumber given (codes "ticks") 100000 0 1000000 ticks
-    × IsNumber given (codes "limit") 100000 0 4294967295 limit
+    × IsNumberInRange given (codes "ticks") 100000 0 1000000 ticks
+    × IsNumberInRange given (codes "limit") 100000 0 4294967295 limit
 
 -- how faults are to be told, by what is given for `--format`
 abbrev pub IsFormat : Option Text → Format → Type 0
@@ -132,7 +132,7 @@ abbrev pub AskHelp : List Text → Type 0
 AskHelp words = let kinds = fault_of program_app words in IsAmong DisplayHelp kinds ⊎ IsAmong DisplayVersion kinds
 
 -- the command line has not got such words, and it is no help that they ask for
-pub record AreStrange (words : List Text) : Type 0 where
+pub record AreUnknown (words : List Text) : Type 0 where
   pub kind : ErrorKind
   pub among : IsAmong kind (fault_of program_app words)
   pub no_help : kind ≢ DisplayHelp
@@ -143,4 +143,4 @@ pub record AreStrange (words : List Text) : Type 0 where
 abbrev pub Refuses : List Text → UsageFault → Type 0
 Refuses words OutOfMemory = Unit {0}
 Refuses words (Help text) = AskHelp words
-Refuses words (Wrong text) = AskNothing words × ((fault_of program_app words ≡ []) ⊎ AreStrange words)
+Refuses words (Wrong text) = AskNothing words × ((fault_of program_app words ≡ []) ⊎ AreUnknown words)

@@ -2,7 +2,7 @@
 
 ghost use Rattle.std.specs.Prelude.{◌≡◌, ◌≤◌, ℕ, List, IfOk, IfErr, Some, None, codes};
 ghost use Rattle.clap.specs.Words.{first_of, found_of, rows_of};
-ghost use Rattle.command.specs.Asked.{AreSteps, IsNumber, IsTask, AreThreadsGiven, IsOrderGiven};
+ghost use Rattle.command.specs.Asked.{AreSteps, IsNumberInRange, IsTask, AreThreadsGiven, IsOrderGiven};
 ghost use Rattle.command.specs.declared.request.Steps.{Steps};
 ghost use Rattle.command.specs.inner.Refusals.{AreNoTask, IsOutOfRange, IsOwn};
 
@@ -30,7 +30,7 @@ fn number(
     least: u32,
     most: u32,
 ) -> Result<u32, UsageFault>
-    ensures ok { IfOk result (λ n. IsNumber (rows_of (found_of given.now)) id.now default least most n) }
+    ensures ok { IfOk result (λ n. IsNumberInRange (rows_of (found_of given.now)) id.now default least most n) }
     ensures err { IfErr result (IsOwn (IsOutOfRange (rows_of (found_of given.now)) id.now default least most)) }
 {
     let number = number_given(alloc, given, id, least, most)?.unwrap_or(default);

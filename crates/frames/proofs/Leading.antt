@@ -116,19 +116,3 @@ asks_of bs (Instr.Call g d args) h = h
 asks_of bs (Instr.Return a) h = h
 asks_of bs (Instr.PrintText k) h = h
 asks_of bs (Instr.PrintNumber t a) h = h
-
--- the members of lists of one and of two
-pub only : {X : Type 0} (y x : X) → Contains (y ∷ []) x → y ≡ x
-only y x c = elim (Contains-push_cases [] y x c) [
-  | inl d ↦ absurd (omega (arith, d.1))
-  | inr e ↦ e
-]
-
-pub either : {X : Type 0} (y z x : X) → Contains (y ∷ z ∷ []) x → (y ≡ x) ⊎ (z ≡ x)
-either y z x c = elim (Contains-push_cases (y ∷ []) z x c) [
-  | inl d ↦ inl (only y x d)
-  | inr e ↦ inr e
-]
-
-pub first_of : {X : Type 0} (y : X) → Contains (y ∷ []) y
-first_of y = Contains-push [] y

@@ -4,7 +4,8 @@ use Rattle.std.specs.Prelude.{slice_get, Contains}
 use Rattle.std.proofs.lemmas.List.Elements.{Contains-push, Contains-append_left}
 use Rattle.bytecode.specs.Code.{Code, FunctionCode, Instr}
 use Rattle.bytecode.specs.Valid.{cancel_of, cancelled_in, leads_from, IsReached, at_first, further}
-use Rattle.frames.proofs.Leading.{Way, way_of, leads_by, leads_so, only, either, first_of}
+use Rattle.bytecode.proofs.Leads.{only, either, first_of}
+use Rattle.frames.proofs.Leading.{Way, way_of, leads_by, leads_so}
 
 -- a begin stands at the place
 abbrev pub IsBeginAt : Code → ℕ → Type 0

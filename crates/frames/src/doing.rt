@@ -2,7 +2,7 @@
 
 ghost use Rattle.std.specs.Prelude.{◌≡◌, ◌+◌, ◌≤◌, ◌<◌, ◌^◌, ◌++◌, OnOk, OnErr, length, string_bytes, string_len};
 ghost use Rattle.std.specs.Prelude.{string_capacity};
-ghost use Rattle.frames.specs.Told.{piece_of};
+ghost use Rattle.frames.specs.Doings.{piece_of};
 
 use bytecode::Code;
 use itoa::Buffer;

@@ -6,11 +6,11 @@
 #![tactic(auto)]
 
 mod calls;
+mod dispatch;
 mod doing;
 pub mod laws;
 mod lay;
 mod stack;
-mod told;
 
 pub use doing::{Doing, prepare_piece, push_piece};
 pub use stack::Frames;

@@ -20,8 +20,8 @@ fn declare_three<A: Allocator + Copy>(
 /// Whether a table has what these were first declared as, and nothing else.
 fn has_count_and_total<A: Allocator + Copy>(table: &Table<'static, u32, A>) -> bool {
     let values = table.get("count") == Some(&7) && table.get("total") == Some(&8);
-    let places = table.place_of("count") == Some(0) && table.place_of("total") == Some(1);
-    let other = table.get("turn").is_none() && table.place_of("turn").is_none();
+    let places = table.index_of("count") == Some(0) && table.index_of("total") == Some(1);
+    let other = table.get("turn").is_none() && table.index_of("turn").is_none();
     table.len() == 2 && values && places && other
 }
 
@@ -193,7 +193,7 @@ fn are_at_their_places<'a>(
 ) -> Option<bool> {
     for place in 0..10000usize {
         let name = name_at(text, place)?;
-        if table.place_of(name) != Some(place) || scope.newest(name) != Some((place, place)) {
+        if table.index_of(name) != Some(place) || scope.newest(name) != Some((place, place)) {
             return Some(false);
         }
     }

@@ -28,10 +28,10 @@ all_right (x ∷ xs) ys h = all_right xs ys (λ j e l. h (suc j) e (omega (arith
 globals_few : (earlier : List Item) (before : List Global) (taken : ℕ) (gs : List Global) → All (λ d. IsTrue d.met) (AreTypedGlobals earlier before taken gs) → taken ≤ 4096 → taken + total_cells gs ≤ 4096
 globals_few earlier before taken [] h few = omega (arith, few)
 globals_few earlier before taken (g ∷ gs) h few =
-    let first = demand 21 g.name.at (is_unknown (file_scope (earlier ++ Shares before ∷ []) g.name.text)) ++ IsLength g.length ++ HaveCells (drop (cells g) g.first) in
-    let here = demand 25 g.name.at (nat_le (taken + cells g) 4096) in
+    let first = demand 21 g.name.span (is_unknown (file_scope (earlier ++ Shares before ∷ []) g.name.text)) ++ IsLength g.length ++ HaveCells (drop (cells g) g.first) in
+    let here = demand 25 g.name.span (nat_le (taken + cells g) 4096) in
     let rest = AreTypedGlobals earlier (before ++ g ∷ []) (taken + cells g) gs in
-    let fits : taken + cells g ≤ 4096 = le_true (taken + cells g) 4096 (all_right first here (all_left (first ++ here) rest h) 0 (record { number = 0; at = g.name.at; met = nat_le 0 0 }) (omega arith)) in
+    let fits : taken + cells g ≤ 4096 = le_true (taken + cells g) 4096 (all_right first here (all_left (first ++ here) rest h) 0 (record { number = 0; span = g.name.span; met = nat_le 0 0 }) (omega arith)) in
     let k = globals_few earlier (before ++ g ∷ []) (taken + cells g) gs (all_right (first ++ here) rest h) fits in
     omega (arith, k)
 

@@ -2,7 +2,7 @@
 use Rattle.std.proofs.Common.{◌≡◌, ℕ, ◌+◌, ◌≤◌, List, [], ◌∷◌, Option, Some, None, option_map, Bool, true, false, refl, sym, ap, ◌∙◌, arith, bytes_eq, if◌then◌else◌}
 use Rattle.std.specs.Prelude.{IfSome}
 use Rattle.std.specs.Option.{option_or}
-use Rattle.name_tables.specs.Named.{first, declared}
+use Rattle.name_tables.specs.Named.{first, with_declaration}
 use Rattle.name_tables.proofs.Firsts.{first_declared}
 use Rattle.syntax.specs.Tree.{Global, Program}
 use Rattle.syntax.specs.Names.{GlobalCells, global_from, global_of, globals, cells}
@@ -22,7 +22,7 @@ put_last f false v None rest = refl
 put_last f b v (Some w) rest = refl
 
 -- one more declaration in a table
-pub one_more : {V W : Type 0} (f : V → W) (old new : List (List ℕ × V)) (name : List ℕ) (v : V) (y : List ℕ) → new ≡ declared old name v → name ≡ y →
+pub one_more : {V W : Type 0} (f : V → W) (old new : List (List ℕ × V)) (name : List ℕ) (v : V) (y : List ℕ) → new ≡ with_declaration old name v → name ≡ y →
     (x : List ℕ) (rest : Option W) → option_or (option_map f (first new x)) rest ≡ option_or (option_map f (first old x)) (if bytes_eq y x then Some (f v) else rest)
 one_more f old new name v y more same x rest =
     ap (λ es. option_or (option_map f (first es x)) rest) more

@@ -8,7 +8,7 @@ use Rattle.lex.specs.Tokens.{string_value}
 use Rattle.lex.specs.Spelling.{spelling}
 use Rattle.lex.specs.Faults.{character_len}
 use Rattle.lex.specs.Pieces.{value_from, type_of}
-use Rattle.lex.specs.Positions.{line_of, column_of}
+use Rattle.lex.specs.Places.{line_of, column_of}
 
 -- `0x1F` and `017`
 hexadecimal_31 : value_from 16 0 (codes "1F") ≡ 31

@@ -8,7 +8,7 @@ use Rattle.lex.specs.declared.fault.LexFault.{LexFault}
 use Rattle.lex.specs.declared.fault.LexFault.TheVariants as fault
 use Rattle.lex.specs.Bytes.{is_glue, is_continuation, starts}
 use Rattle.lex.specs.Tokens.{Tok}
-use Rattle.lex.specs.Pieces.{IsOpen, IsDirective, IsInclude, Constant, constant_type, Longest, Strange, FirstOnLine}
+use Rattle.lex.specs.Pieces.{IsOpen, IsDirective, IsInclude, Constant, constant_type, Longest, HasNoShape, FirstOnLine}
 use Rattle.lex.specs.Pieces.{Cut}
 
 -- how many bytes the character at the front has
@@ -18,7 +18,7 @@ character_len (b ∷ rest) = 1 + prefix_len is_continuation rest
 
 -- what is wrong at the place
 pub data FaultAt (text : List ℕ) (at : ℕ) : LexFault → Type 0 where
-  strange : at < length text → Strange (drop at text) →
+  strange : at < length text → HasNoShape (drop at text) →
       FaultAt text at (fault.BadCharacter (record { start = at; «end» = at + character_len (drop at text) }))
   misplaced : (len : ℕ) → Longest (drop at text) len → IsDirective (take len (drop at text)) →
       ¬ (FirstOnLine (take at text)) → FaultAt text at (fault.BadCharacter (record { start = at; «end» = at + 1 }))

@@ -91,10 +91,10 @@ is_digit_of Octal = is_octal
 is_digit_of Hexadecimal = is_hexadecimal
 
 -- what a base puts before its digits, and which digits make a constant of it
-abbrev pub IsWritten : Base → (before digits : List ℕ) → Type 0
-IsWritten Decimal before digits = (before ≡ []) × (0 < length digits) × (slice_index digits 0 ≢ 48)
-IsWritten Octal before digits = before ≡ codes "0"
-IsWritten Hexadecimal before digits = ((before ≡ codes "0x") ⊎ (before ≡ codes "0X")) × (0 < length digits)
+abbrev pub IsInBase : Base → (before digits : List ℕ) → Type 0
+IsInBase Decimal before digits = (before ≡ []) × (0 < length digits) × (slice_index digits 0 ≢ 48)
+IsInBase Octal before digits = before ≡ codes "0"
+IsInBase Hexadecimal before digits = ((before ≡ codes "0x") ⊎ (before ≡ codes "0X")) × (0 < length digits)
 
 -- nothing, `u`, `U`, `ll` or `LL`
 abbrev pub IsSuffix : List ℕ → Type 0
@@ -113,7 +113,7 @@ pub record Constant (w : List ℕ) : Type 0 where
   pub digits : List ℕ
   pub suffix : List ℕ
   pub whole : w ≡ before ++ (digits ++ suffix)
-  pub written : IsWritten base before digits
+  pub written : IsInBase base before digits
   pub all : Only (is_digit_of base) digits
   pub ended : IsSuffix suffix
 
@@ -178,8 +178,8 @@ pub record Longest (rest : List ℕ) (len : ℕ) : Type 0 where
   pub longest : (n : ℕ) → n ≤ length rest → Shape (take n rest) → n ≤ len
 
 -- no bytes at the front have a shape
-abbrev pub Strange : List ℕ → Type 0
-Strange rest = (n : ℕ) → n ≤ length rest → Shape (take n rest) → ⊥
+abbrev pub HasNoShape : List ℕ → Type 0
+HasNoShape rest = (n : ℕ) → n ≤ length rest → Shape (take n rest) → ⊥
 
 -- each byte before the place that no LF parts from it is a space or a tab
 abbrev pub FirstOnLine : List ℕ → Type 0

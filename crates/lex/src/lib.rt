@@ -17,4 +17,4 @@ mod word;
 pub use escape::unescape;
 pub use fault::LexFault;
 pub use lexer::{MOST_BYTES, lex};
-pub use line::position;
+pub use line::place;

@@ -2,7 +2,7 @@
 
 ghost use Rattle.std.specs.Prelude.{◌≡◌, ◌≤◌, ◌<◌, ◌^◌, length, reverse};
 ghost use Rattle.std.specs.List.{prefix_len};
-ghost use Rattle.lex.specs.Positions.{line_of, column_of};
+ghost use Rattle.lex.specs.Places.{line_of, column_of};
 ghost use Rattle.lex.specs.Bytes.{in_line};
 
 /// How many bytes stand behind the last LF.
@@ -15,7 +15,7 @@ fn behind_line_feed(before: &[u8]) -> usize
 
 /// The position in a text: the line and the column of an offset, both from 1. A line ends with LF, and a column counts
 /// bytes. The offset is one of the text's bytes or its length.
-pub fn position(text: &str, offset: usize) -> (usize, usize)
+pub fn place(text: &str, offset: usize) -> (usize, usize)
     requires { offset ≤ length text.now }
     ensures line { result.0 ≡ line_of text.now offset }
     ensures column { result.1 ≡ column_of text.now offset }

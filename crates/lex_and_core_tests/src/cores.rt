@@ -377,14 +377,14 @@ fn makes_reads_whole<A: Allocator + Copy, B: Allocator>(
 }
 
 /// Whether a commit of nothing is made at once, and neither it nor a write is made outside.
-fn commits_at_once<A: Allocator + Copy>(core: &mut Core<A>) -> bool {
+fn commits_locally<A: Allocator + Copy>(core: &mut Core<A>) -> bool {
     let outside = core.write(5, 9) || core.commit();
     let begun = makes(core, Op::Begin, 2);
     !outside && begun && core.commit() && !core.has_attempt()
 }
 
 /// Whether a read of this cell is made at once, with this word.
-fn reads_at_once<A: Allocator + Copy>(core: &mut Core<A>, cell: u32, word: u64) -> bool {
+fn reads_locally<A: Allocator + Copy>(core: &mut Core<A>, cell: u32, word: u64) -> bool {
     core.read(cell) == ReadStep::Written(word)
 }
 
@@ -393,13 +393,13 @@ fn reads_what_it_wrote<A: Allocator + Copy>(core: &mut Core<A>) -> bool {
     core.write(5, 8)
         && core.write(6, 7)
         && core.write(5, 9)
-        && reads_at_once(core, 5, 9)
-        && reads_at_once(core, 6, 7)
+        && reads_locally(core, 5, 9)
+        && reads_locally(core, 6, 7)
         && core.read(7) == ReadStep::Loads
 }
 
 /// Whether a write is made at once, and then reads of what was written, but no commit, which takes the lock.
-fn writes_at_once<A: Allocator + Copy>(core: &mut Core<A>) -> bool {
+fn writes_locally<A: Allocator + Copy>(core: &mut Core<A>) -> bool {
     let outside = core.read(5) == ReadStep::Other;
     let begun = makes(core, Op::Begin, 2);
     let written = reads_what_it_wrote(core);
@@ -407,8 +407,8 @@ fn writes_at_once<A: Allocator + Copy>(core: &mut Core<A>) -> bool {
 }
 
 /// Whether both are.
-fn does_both_at_once<A: Allocator + Copy>(core: &mut Core<A>) -> bool {
-    commits_at_once(core) && writes_at_once(core)
+fn does_both_locally<A: Allocator + Copy>(core: &mut Core<A>) -> bool {
+    commits_locally(core) && writes_locally(core)
 }
 
 /// What a new core plays.
@@ -422,7 +422,7 @@ enum Play {
     Rounds,
     LargeLogs,
     WholeReads,
-    AtOnce,
+    Locally,
 }
 
 /// Whether a core plays this.
@@ -440,7 +440,7 @@ fn plays_this<A: Allocator + Copy, B: Allocator>(
         Play::Rounds => stays_roomy(core, refusing),
         Play::LargeLogs => commits_many(core),
         Play::WholeReads => makes_reads_whole(core, refusing),
-        Play::AtOnce => does_both_at_once(core),
+        Play::Locally => does_both_locally(core),
     }
 }
 
@@ -510,6 +510,6 @@ fn reads_are_made_whole(rt: HostRuntime) {
 }
 
 #[test]
-fn writes_and_commits_are_made_at_once(rt: HostRuntime) {
-    assert_that(&rt, is_played(rt.alloc(), Play::AtOnce));
+fn writes_and_commits_are_made_locally(rt: HostRuntime) {
+    assert_that(&rt, is_played(rt.alloc(), Play::Locally));
 }

@@ -2,7 +2,7 @@
 
 use crate::asserted::{assert_all, assert_growths, assert_none};
 use lex::token::{Keyword, Kind, Scalar, Span, Token};
-use lex::{lex, position, unescape};
+use lex::{lex, place, unescape};
 use refusing::{Refusing, growths};
 use std::alloc::{Allocator, Global};
 
@@ -421,11 +421,11 @@ fn a_place_is_a_line_and_a_column_in_bytes(rt: HostRuntime) {
     assert_all(
         &rt,
         &[
-            ("the first", position(text, 0) == (1, 1)),
-            ("of the line's end", position(text, 1) == (1, 2)),
-            ("of the next line", position(text, 2) == (2, 1)),
-            ("behind two bytes", position(text, 11) == (2, 10)),
-            ("of the text's end", position(text, text.len()) == (3, 2)),
+            ("the first", place(text, 0) == (1, 1)),
+            ("of the line's end", place(text, 1) == (1, 2)),
+            ("of the next line", place(text, 2) == (2, 1)),
+            ("behind two bytes", place(text, 11) == (2, 10)),
+            ("of the text's end", place(text, text.len()) == (3, 2)),
         ],
     );
 }

@@ -14,7 +14,7 @@ use Rattle.bytecode.specs.Code.{FunctionCode}
 use Rattle.lower_spec.specs.Expressions.{LocalScope}
 use Rattle.selection.specs.Lists.{Lists}
 use Rattle.selection.specs.declared.locations.Exits.{Exits}
-use Rattle.selection.specs.Statements.{all_written}
+use Rattle.selection.specs.Statements.{stmts_code}
 use Rattle.selection.specs.Programs.{body_written, FunctionCodes, nothing_made, function_code, put_before, made_first, all_made, made_for}
 use Rattle.lower.specs.inner.Parts.{made_behind}
 
@@ -23,8 +23,8 @@ exits_of u = record { break_to = 0; continue_to = 0; in_loop = 0; in_function = 
 
 -- a body in equal scopes, with equal numbers of registers
 pub same_body : (p : Program) (body : Stmts) (from : ℕ) (l : Lists) (u u' : Scalar) (scope scope' : LocalScope) (n n' : ℕ) → u ≡ u' → scope ≡ scope' → n ≡ n' →
-    all_written p body (exits_of u) scope from (record l { registers = n }) ≡ all_written p body (exits_of u') scope' from (record l { registers = n' })
-same_body p body from l u u' scope scope' n n' t s e = λ j. all_written p body (exits_of (t j)) (s j) from (record l { registers = e j })
+    stmts_code p body (exits_of u) scope from (record l { registers = n }) ≡ stmts_code p body (exits_of u') scope' from (record l { registers = n' })
+same_body p body from l u u' scope scope' n n' t s e = λ j. stmts_code p body (exits_of (t j)) (s j) from (record l { registers = e j })
 
 -- an item alone
 pub definition_made : {A : Type 0} (p : Program) (item : OwnItem A) (f : OwnFunction A) (body : List (OwnStmt A)) (from : ℕ) (l : Lists) → item ≡ own.Function f → f.body ≡ Some body →

@@ -16,7 +16,7 @@ use Rattle.bytecode.specs.Views.{instr_of}
 use Rattle.lower_spec.specs.Programs.{parameter_locals}
 use Rattle.selection.specs.Lists.{Lists}
 use Rattle.selection.specs.Simples.{Written}
-use Rattle.selection.specs.Programs.{FunctionCodes, no_exits, body_written, nothing_ready, nothing_made, function_code, put_before, all_made, made_for, made_of, picked_code}
+use Rattle.selection.specs.Programs.{FunctionCodes, no_exits, body_written, nothing_preloaded, nothing_made, function_code, put_before, all_made, made_for, made_of, picked_code}
 use Rattle.selection.proofs.GrowingStmts.{stmts_more}
 use Rattle.lower.specs.declared.fault.LowerFault.{LowerFault}
 use Rattle.lower.specs.declared.fault.LowerFault.TheVariants.{OutOfMemory, TooManyRegisters, TooMuchCode, NestedTooDeep}
@@ -31,7 +31,7 @@ use Rattle.syntax.proofs.Items.{items_more}
 -- a function needs its parameters' registers at least
 pub parameters_fit : (p : Program) (f : Function) (body : Stmts) (from : ℕ) (l : Lists) → length f.parameters ≤ (body_written p f body from l).lists.registers
 parameters_fit p f body from l =
-    let a = stmts_more p body (no_exits f.result) (parameter_locals f.parameters) from (record l { registers = length f.parameters; layout = nothing_ready }) in
+    let a = stmts_more p body (no_exits f.result) (parameter_locals f.parameters) from (record l { registers = length f.parameters; layout = nothing_preloaded }) in
     let b = body_more p f body from l in
     omega (arith, a, b)
 

@@ -5,7 +5,7 @@ mod Nodes
 mod Loop
 mod Written
 mod Within
--- a body as it stands, or one that finds constants ready
+-- a body as it stands, or one that finds constants preloaded
 mod Better
 -- functions and items one after another
 mod Bodies

@@ -1,7 +1,7 @@
 -- The clean tree of a statement by the parts that are read of it, and what is picked for it there.
 use Rattle.std.proofs.Common.{◌≡◌, ℕ, List, map, Option, Some, None, option_map, Result, OnOk, sym, ap, subst, ◌∙◌}
 use Rattle.lex.specs.declared.token.Span.{Span}
-use Rattle.syntax.specs.declared.tree.Kind.{Kind}
+use Rattle.syntax.specs.declared.tree.TransactionKind.{TransactionKind}
 use Rattle.syntax.specs.declared.tree.Expr as E
 use Rattle.syntax.specs.declared.tree.Stmt as S
 use Rattle.syntax.specs.declared.tree.Stmt.TheOpen.{Stmt-F}
@@ -20,9 +20,9 @@ use Rattle.lower_spec.specs.Expressions.{LocalScope}
 use Rattle.lower_spec.specs.Statements.{locals_after}
 use Rattle.selection.specs.declared.locations.Exits.{Exits}
 use Rattle.selection.specs.Lists.{Lists}
-use Rattle.selection.specs.Statements.{written}
+use Rattle.selection.specs.Statements.{stmt_code}
 use Rattle.lower_exprs.specs.declared.fault.Failure.{Failure}
-use Rattle.lower_exprs.specs.Stretches.{Adds, of_written}
+use Rattle.lower_exprs.specs.Fragments.{Adds, of_written}
 
 module _ {A : Type 0} where
   pub simple_is : {s : S.Stmt A} {i : J.Simple A} → s ≡ S.Do i → stmt_of s ≡ Tree.Do (simple_of i)
@@ -63,13 +63,13 @@ module _ {A : Type 0} where
       ap stmt_of is ∙ stmt_of_for h a
       ∙ (λ j. Tree.For (start_of (sym f j).start) (option_map expr_of (sym f j).condition) (option_map simple_of (sym f j).step) (stmt_of (sym e j)))
 
-  pub transaction_is : {s : S.Stmt A} {kind : Kind} {ss ss' : List (S.Stmt A)} {at : Span} → s ≡ S.Transaction kind ss at → ss' ≡ ss → stmt_of s ≡ Tree.Transaction kind (stmts_of ss') at
+  pub transaction_is : {s : S.Stmt A} {kind : TransactionKind} {ss ss' : List (S.Stmt A)} {at : Span} → s ≡ S.Transaction kind ss at → ss' ≡ ss → stmt_of s ≡ Tree.Transaction kind (stmts_of ss') at
   transaction_is {kind = kind} {ss = ss} {at = at} is e = ap stmt_of is ∙ stmt_of_transaction kind ss at ∙ (λ j. Tree.Transaction kind (stmts_of (sym e j)) at)
 
 module _ {s z : Tree.Stmt} where
   -- a statement's code, and the locals behind it
-  pub code_there : (p : Program) (x : Exits) (scope : LocalScope) (from : ℕ) (l : Lists) {old new : List Instr} {m : Lists} {r : Result ℕ Failure} → s ≡ z → Adds (of_written (written p z x scope from l)) old new m r → Adds (of_written (written p s x scope from l)) old new m r
-  code_there p x scope from l {old = old} {new = new} {m = m} {r = r} is k = subst (λ (y : Tree.Stmt). Adds (of_written (written p y x scope from l)) old new m r) (sym is) k
+  pub code_there : (p : Program) (x : Exits) (scope : LocalScope) (from : ℕ) (l : Lists) {old new : List Instr} {m : Lists} {r : Result ℕ Failure} → s ≡ z → Adds (of_written (stmt_code p z x scope from l)) old new m r → Adds (of_written (stmt_code p s x scope from l)) old new m r
+  code_there p x scope from l {old = old} {new = new} {m = m} {r = r} is k = subst (λ (y : Tree.Stmt). Adds (of_written (stmt_code p y x scope from l)) old new m r) (sym is) k
 
   pub scope_there : (before after : LocalScope) (r : Result ℕ Failure) → s ≡ z → OnOk r (after ≡ locals_after z before) → OnOk r (after ≡ locals_after s before)
   scope_there before after r is k = subst (λ (y : Tree.Stmt). OnOk r (after ≡ locals_after y before)) (sym is) k

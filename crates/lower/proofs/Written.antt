@@ -10,9 +10,9 @@ use Rattle.lower_spec.specs.Statements.{locals_after, locals_at_end}
 use Rattle.selection.specs.declared.locations.Exits.{Exits}
 use Rattle.selection.specs.Lists.{Lists}
 use Rattle.selection.specs.Simples.{Written, and_then}
-use Rattle.selection.specs.Statements.{written, all_written}
+use Rattle.selection.specs.Statements.{stmt_code, stmts_code}
 use Rattle.selection.proofs.GrowingStmts.{stmts_more}
-use Rattle.lower_exprs.specs.Stretches.{Adds, of_written}
+use Rattle.lower_exprs.specs.Fragments.{Adds, of_written}
 use Rattle.lower_exprs.proofs.Adding.{written_behind}
 
 module _ {A : Type 0} (ys : List (OwnStmt A)) (i : ℕ) (scope : LocalScope) where
@@ -27,11 +27,11 @@ module _ {A : Type 0} (ys : List (OwnStmt A)) (i : ℕ) (scope : LocalScope) whe
 
 module _ (p : Program) (exits : Exits) {A : Type 0} (ys : List (OwnStmt A)) (i to : ℕ) (scope : LocalScope) (l : Lists) (code : List Instr) (whole : Written) where
   row : ℕ → LocalScope → ℕ → Lists → Written
-  row j s k m = all_written p (stmts_of (drop j ys)) exits s k m
+  row j s k m = stmts_code p (stmts_of (drop j ys)) exits s k m
 
-  module _ (y : OwnStmt A) (h : i < length ys) (is : y ≡ get_or ys i y) (inv : written_behind code (all_written p (stmts_of (drop i ys)) exits scope to l) ≡ whole) where
+  module _ (y : OwnStmt A) (h : i < length ys) (is : y ≡ get_or ys i y) (inv : written_behind code (stmts_code p (stmts_of (drop i ys)) exits scope to l) ≡ whole) where
     abbrev First : Written
-    First = written p (stmt_of y) exits scope to l
+    First = stmt_code p (stmt_of y) exits scope to l
 
     abbrev Behind : LocalScope
     Behind = locals_after (stmt_of y) scope
@@ -39,11 +39,11 @@ module _ (p : Program) (exits : Exits) {A : Type 0} (ys : List (OwnStmt A)) (i t
     here : row i scope to l ≡ and_then First (row (i + 1) Behind First.to First.lists)
     unfolding row
     here =
-        at_drop_more (λ xs. all_written p (stmts_of xs) exits scope to l) ys i y h
-        ∙ ap (λ x. all_written p (stmts_of (x ∷ drop (i + 1) ys)) exits scope to l) (sym is)
+        at_drop_more (λ xs. stmts_code p (stmts_of xs) exits scope to l) ys i y h
+        ∙ ap (λ x. stmts_code p (stmts_of (x ∷ drop (i + 1) ys)) exits scope to l) (sym is)
 
-    pub next_stmt : {scope' : LocalScope} {code' : List Instr} {to' : ℕ} {l' : Lists} → scope' ≡ locals_after (stmt_of y) scope → Adds (of_written (written p (stmt_of y) exits scope to l)) code code' l' (Ok to') →
-        written_behind code' (all_written p (stmts_of (drop (i + 1) ys)) exits scope' to' l') ≡ whole
+    pub next_stmt : {scope' : LocalScope} {code' : List Instr} {to' : ℕ} {l' : Lists} → scope' ≡ locals_after (stmt_of y) scope → Adds (of_written (stmt_code p (stmt_of y) exits scope to l)) code code' l' (Ok to') →
+        written_behind code' (stmts_code p (stmts_of (drop (i + 1) ys)) exits scope' to' l') ≡ whole
     unfolding row
     next_stmt {code' = code'} es k =
         let rest = row (i + 1) Behind First.to First.lists in
@@ -62,8 +62,8 @@ module _ (p : Program) (exits : Exits) {A : Type 0} (ys : List (OwnStmt A)) (i t
         let d = ap (λ (w : Written). w.lists.registers) inv in
         omega (arith, a, b, d)
 
-  pub no_more_stmts : length ys ≤ i → written_behind code (all_written p (stmts_of (drop i ys)) exits scope to l) ≡ whole → record { code = code; lists = l; to = to } ≡ whole
+  pub no_more_stmts : length ys ≤ i → written_behind code (stmts_code p (stmts_of (drop i ys)) exits scope to l) ≡ whole → record { code = code; lists = l; to = to } ≡ whole
   no_more_stmts h inv =
       (λ j. record { code = sym (append-nil code) j; lists = l; to = to })
-      ∙ sym (ap (λ xs. written_behind code (all_written p (stmts_of xs) exits scope to l)) (drop_all i ys h))
+      ∙ sym (ap (λ xs. written_behind code (stmts_code p (stmts_of xs) exits scope to l)) (drop_all i ys h))
       ∙ inv

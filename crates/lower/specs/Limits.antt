@@ -9,7 +9,7 @@ use Rattle.selection.specs.Programs.{made_for, picked_code}
 pub record NeedsTooMany (p : Program) (at : Span) : Type 0 where
   pub function : Function
   pub is_of : Contains p (Defines function)
-  pub is_at : at ≡ function.name.at
+  pub is_at : at ≡ function.name.span
   pub code : FunctionCode
   pub is_picked : Contains (picked_code p).functions code
   pub is_named : code.name ≡ function.name.text
@@ -30,6 +30,6 @@ pub record PassesWith (p : Program) (at : Span) : Type 0 where
   pub function : Function
   pub after : Program
   pub is_of : p ≡ before ++ Defines function ∷ after
-  pub is_at : at ≡ function.name.at
+  pub is_at : at ≡ function.name.span
   pub fits : picked_for p before ≤ MOST_INSTRUCTIONS
   pub passes : MOST_INSTRUCTIONS < picked_for p (before ++ Defines function ∷ [])

@@ -5,10 +5,10 @@ ghost use Rattle.std.specs.Prelude.{unwrap_or, OnOk, IfOk, IfErr};
 ghost use Rattle.syntax.specs.Views.{function_of, stmts_of, parameter_of};
 ghost use Rattle.lower_spec.specs.Programs.{parameter_locals};
 ghost use Rattle.selection.specs.Loops as loops;
-ghost use Rattle.selection.specs.Programs.{body_ready, body_with, body_written, nothing_ready};
+ghost use Rattle.selection.specs.Programs.{body_preloaded, body_with, body_written, nothing_preloaded};
 ghost use Rattle.lower_exprs.specs.Limits.{NeedsMore};
 ghost use Rattle.lower_exprs.specs.Lists.{lists_of};
-ghost use Rattle.lower_exprs.specs.Stretches.{Writes};
+ghost use Rattle.lower_exprs.specs.Fragments.{AddsWritten};
 ghost use Rattle.lower_exprs.specs.Views.{program_in, scope_in};
 
 use crate::loops::in_loops;
@@ -17,17 +17,17 @@ use bytecode::Instr;
 use lex::token::Scalar;
 use lower_exprs::fault::Failure;
 use lower_exprs::lists::Lists;
+use lower_exprs::preloaded::set_all;
 use lower_exprs::program::ProgramNames;
 use lower_exprs::put::{after, put};
-use lower_exprs::ready::set_all;
-use lower_exprs::scope::Scope;
+use lower_exprs::scope::LocalRegisters;
 use selection::locations::Exits;
 use std::alloc::{AllocError, Allocator};
 use syntax::tree::{Function, Parameter, Stmt};
 
 /// Declares a parameter, where it has a name.
 fn declare_parameter<'p, A: Allocator + Copy>(
-    scope: &mut Scope<'p, A>,
+    scope: &mut LocalRegisters<'p, A>,
     parameter: &'p Parameter<A>,
 ) -> Result<(), AllocError>
     ensures { OnOk result (scope_in scope.new ≡ scope_in scope.old ++ parameter_locals
@@ -43,10 +43,10 @@ fn declare_parameter<'p, A: Allocator + Copy>(
 fn parameter_locals<'p, A: Allocator + Copy>(
     names: &ProgramNames<'p, A>,
     parameters: &'p [Parameter<A>],
-) -> Result<Scope<'p, A>, AllocError>
+) -> Result<LocalRegisters<'p, A>, AllocError>
     ensures { IfOk result (λ s. scope_in s ≡ parameter_locals (map parameter_of parameters.now)) }
 {
-    let mut scope = Scope::new(names);
+    let mut scope = LocalRegisters::new(names);
     'each: for parameter in parameters {
         declare_parameter(&mut scope, parameter)?;
     }
@@ -74,7 +74,7 @@ fn lower_body<'p, A: Allocator + Copy>(
     from: u32,
 ) -> Result<u32, Failure>
     requires { length f.now.parameters ≤ 65535 }
-    ensures { Writes (body_with (lists_of lists.old).layout (program_in names.now) (function_of f.now)
+    ensures { AddsWritten (body_with (lists_of lists.old).layout (program_in names.now) (function_of f.now)
         (stmts_of body.now) from (lists_of lists.old)) code.old code.new lists.new result }
 {
     let parameters = f.parameters.as_slice();
@@ -127,7 +127,8 @@ fn lower_plain<'p, A: Allocator + Copy>(
     from: u32,
 ) -> Result<u32, Failure>
     requires { length f.now.parameters ≤ 65535 }
-    ensures { Writes (body_with nothing_ready (program_in names.now) (function_of f.now) (stmts_of body.now) from
+    ensures { AddsWritten (body_with nothing_preloaded (program_in names.now) (function_of f.now)
+        (stmts_of body.now) from
         (lists_of lists.old)) code.old code.new lists.new result }
 {
     lists.writable = 0;
@@ -135,9 +136,9 @@ fn lower_plain<'p, A: Allocator + Copy>(
     lower_body(names, lists, code, f, body, from)
 }
 
-/// A function's body that finds these constants ready, and in front of it the instructions that set them in registers
+/// A function's body that finds these constants preloaded, and in front of it the instructions that set them in registers
 /// from this one on; the place behind it.
-fn lower_ready<'p, A: Allocator + Copy>(
+fn lower_preloaded<'p, A: Allocator + Copy>(
     names: &ProgramNames<'p, A>,
     lists: &mut Lists<A>,
     code: &mut Vec<Instr, A>,
@@ -149,7 +150,8 @@ fn lower_ready<'p, A: Allocator + Copy>(
 ) -> Result<u32, Failure>
     requires parameters { length f.now.parameters ≤ 65535 }
     requires room { writable + length constants.items ≤ 65535 }
-    ensures code { OnOk result (Writes (body_ready (record { writable = writable; constants = constants.items })
+    ensures code { OnOk result
+        (AddsWritten (body_preloaded (record { writable = writable; constants = constants.items })
         (program_in names.now) (function_of f.now) (stmts_of body.now) from (lists_of lists.old))
         code.old code.new lists.new result) }
     ensures fails { IfErr result (λ why. NeedsMore why
@@ -181,7 +183,7 @@ fn in_loops_behind<A: Allocator>(
     in_loops(alloc, &code[others..], from)
 }
 
-/// Whether a body that needs so many registers is made once more with these constants ready: there are some, and a
+/// Whether a body that needs so many registers is made once more with these constants preloaded: there are some, and a
 /// function may have so many registers.
 fn is_better(registers: u32, constants: &[u64]) -> bool
     ensures { result ≡ (not (length constants.now == 0) && nat_le (registers + length constants.now) 65535) }
@@ -200,7 +202,7 @@ pub(crate) fn lower_function<'p, A: Allocator + Copy>(
     from: u32,
 ) -> Result<u32, Failure>
     requires { length f.now.parameters ≤ 65535 }
-    ensures { Writes (body_written (program_in names.now) (function_of f.now) (stmts_of body.now) from
+    ensures { AddsWritten (body_written (program_in names.now) (function_of f.now) (stmts_of body.now) from
         (lists_of lists.old)) code.old code.new lists.new result }
 {
     let lengths = Lengths {
@@ -215,5 +217,5 @@ pub(crate) fn lower_function<'p, A: Allocator + Copy>(
     }
     let writable = lists.registers as u16;
     cut_to(lists, code, lengths);
-    lower_ready(names, lists, code, f, body, from, writable, constants)
+    lower_preloaded(names, lists, code, f, body, from, writable, constants)
 }

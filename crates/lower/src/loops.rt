@@ -74,7 +74,7 @@ fn add_constant<A: Allocator>(
 
 /// A jump in front of others.
 fn lead_back<A: Allocator>(looped: &mut Looped<A>, to: u32)
-    ensures { looped_in looped.new ≡ loops.led_back to (looped_in looped.old) }
+    ensures { looped_in looped.new ≡ loops.with_jump_to to (looped_in looped.old) }
 {
     if to < looped.lowest {
         looped.lowest = to;

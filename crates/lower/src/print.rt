@@ -5,8 +5,8 @@ ghost use Rattle.syntax.specs.Formats.{pieces};
 ghost use Rattle.selection.specs.Statements as statements;
 ghost use Rattle.selection.specs.Statements.{pieces_written};
 ghost use Rattle.lower_exprs.specs.Lists.{lists_of};
-ghost use Rattle.lower_exprs.specs.Stretches.{Writes};
-ghost use Rattle.lower.specs.inner.Formats.{text_written, figure_written};
+ghost use Rattle.lower_exprs.specs.Fragments.{AddsWritten};
+ghost use Rattle.lower.specs.inner.Formats.{text_written, specifier_written};
 
 use bytecode::Instr;
 use containers::Text;
@@ -44,7 +44,7 @@ fn add_text<A: Allocator>(lists: &mut Lists<A>, text: Text<A>) -> Result<u32, Al
     }
 }
 
-/// A text of these bytes. Bytes that are no text are refused as memory is: none between two figures of a format are.
+/// A text of these bytes. Bytes that are no text are refused as memory is: none between two specifiers of a format are.
 fn text_from<A: Allocator>(bytes: Vec<u8, A>) -> Result<Text<A>, AllocError>
     ensures { IfOk result (λ text. text ≡ bytes.items) }
 {
@@ -61,7 +61,7 @@ fn put_text<A: Allocator>(
     bytes: Vec<u8, A>,
     from: u32,
 ) -> Result<u32, Failure>
-    ensures { Writes (text_written bytes.items from (lists_of lists.old)) code.old code.new lists.new result }
+    ensures { AddsWritten (text_written bytes.items from (lists_of lists.old)) code.old code.new lists.new result }
 {
     if bytes.len() == 0 {
         return Ok(from);
@@ -73,7 +73,7 @@ fn put_text<A: Allocator>(
 }
 
 /// A literal text, where there is any, and a number behind it; the place behind.
-fn put_figure<A: Allocator>(
+fn put_specifier<A: Allocator>(
     lists: &mut Lists<A>,
     code: &mut Vec<Instr, A>,
     bytes: Vec<u8, A>,
@@ -81,7 +81,8 @@ fn put_figure<A: Allocator>(
     r: u16,
     from: u32,
 ) -> Result<u32, Failure>
-    ensures { Writes (figure_written bytes.items ty r from (lists_of lists.old)) code.old code.new lists.new result }
+    ensures { AddsWritten (specifier_written bytes.items ty r from (lists_of lists.old)) code.old code.new lists.new
+        result }
 {
     let to = put_text(lists, code, bytes, from)?;
     put(code, printing(ty, r))?;
@@ -98,7 +99,7 @@ fn add_byte<A: Allocator>(bytes: &mut Vec<u8, A>, byte: u8) -> Result<(), AllocE
     }
 }
 
-/// The pieces of a format, with these registers for its figures; the place behind.
+/// The pieces of a format, with these registers for its specifiers; the place behind.
 pub(crate) fn put_pieces<A: Allocator + Copy>(
     alloc: A,
     lists: &mut Lists<A>,
@@ -107,7 +108,7 @@ pub(crate) fn put_pieces<A: Allocator + Copy>(
     registers: &[u16],
     from: u32,
 ) -> Result<u32, Failure>
-    ensures { Writes (pieces_written (pieces format.now) registers.now from (lists_of lists.old))
+    ensures { AddsWritten (pieces_written (pieces format.now) registers.now from (lists_of lists.old))
         code.old code.new lists.new result }
 {
     let mut bytes = Vec::new(alloc);
@@ -121,11 +122,11 @@ pub(crate) fn put_pieces<A: Allocator + Copy>(
                 i = next;
                 continue;
             }
-            FormatUnit::Figure(ty, next) => {
+            FormatUnit::Specifier(ty, next) => {
                 if k >= registers.len() {
                     return put_text(lists, code, bytes, to);
                 }
-                to = put_figure(lists, code, bytes, ty, registers[k], to)?;
+                to = put_specifier(lists, code, bytes, ty, registers[k], to)?;
                 bytes = Vec::new(alloc);
                 k += 1;
                 i = next;

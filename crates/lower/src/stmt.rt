@@ -1,4 +1,4 @@
-//! The instructions of statements. A loop is tested at its bottom; in front of it stand a jump and pads: places that
+//! The instructions of statements. A loop is tested at its bottom; in front of it stand jumps, which have places that
 //! are known before the body is made, from which a break and a continue go on.
 
 ghost use Rattle.std.specs.Prelude.{◌≡◌, ◌++◌, ◌∷◌, [], ◌+◌, ◌≤◌, option_map, Some, length, take, OnOk, IfOk};
@@ -9,31 +9,31 @@ ghost use Rattle.syntax.specs.Formats.{pieces};
 ghost use Rattle.bytecode.specs.declared.instr.Instr.TheVariants as instr;
 ghost use Rattle.lower_spec.specs.Statements.{locals_after, locals_at_end};
 ghost use Rattle.selection.specs.Lists.{Lists as Plain};
-ghost use Rattle.selection.specs.Expressions.{all_emitted, condition};
+ghost use Rattle.selection.specs.Expressions.{emit_all, condition};
 ghost use Rattle.selection.specs.Conditions as conditions;
 ghost use Rattle.selection.specs.Statements as statements;
 ghost use Rattle.selection.specs.Simples.{simple_written};
 ghost use Rattle.selection.specs.Statements.{print_written, tested_back, for_test, for_step};
-ghost use Rattle.selection.specs.Statements.{return_written, transaction_code, written, all_written};
+ghost use Rattle.selection.specs.Statements.{return_written, transaction_code, stmt_code, stmts_code};
 ghost use Rattle.lower_exprs.specs.Lists.{lists_of};
-ghost use Rattle.lower_exprs.specs.Stretches.{Adds, AddsTest, Writes, of_written};
+ghost use Rattle.lower_exprs.specs.Fragments.{Adds, AddsTest, AddsWritten, of_written};
 ghost use Rattle.lower_exprs.specs.Views.{program_in, scope_in};
 
 use crate::print::put_pieces;
 use bytecode::Instr;
 use lower_exprs::draft::{put_back, put_test};
-use lower_exprs::expr::{lower_all, lower_condition, lower_due};
+use lower_exprs::expr::{lower_all, lower_as, lower_condition};
 use lower_exprs::fault::Failure;
 use lower_exprs::lists::Lists;
 use lower_exprs::program::ProgramNames;
 use lower_exprs::put::{after, append, put};
-use lower_exprs::scope::Scope;
+use lower_exprs::scope::LocalRegisters;
 use lower_exprs::simple::{lower_declarators, lower_simple, lower_start};
 use selection::draft::Draft;
 use selection::locations::{ConditionRegister, Exits};
 use smallvec::SmallVec;
 use std::alloc::{AllocError, Allocator};
-use syntax::tree::{Expr, ForHead, Kind, Parameter, Simple, Stmt};
+use syntax::tree::{Expr, ForHead, Parameter, Simple, Stmt, TransactionKind};
 
 /// Writes so many commits and then an instruction, and gives the place behind them.
 fn leave<A: Allocator>(
@@ -55,13 +55,13 @@ fn leave<A: Allocator>(
 }
 
 /// How many transactions are open from the innermost outer one on, inside one more of this kind.
-fn level_in(kind: Kind, levels: u32) -> Result<u32, AllocError>
+fn level_in(kind: TransactionKind, levels: u32) -> Result<u32, AllocError>
     ensures { IfOk result (λ n. n ≡ statements.level_in kind levels) }
 {
     match kind {
-        Kind::Outer => Ok(1),
-        Kind::Plain(_) if levels == 0 => Ok(0),
-        Kind::Plain(_) => after(levels, 1),
+        TransactionKind::Outer => Ok(1),
+        TransactionKind::Plain(_) if levels == 0 => Ok(0),
+        TransactionKind::Plain(_) => after(levels, 1),
     }
 }
 
@@ -77,7 +77,7 @@ fn cancelling(levels: u32) -> Instr
 }
 
 /// One transaction more. No count is as large as the number of instructions, which memory bounds.
-fn enter_transaction(kind: Kind, exits: Exits) -> Result<Exits, AllocError>
+fn enter_transaction(kind: TransactionKind, exits: Exits) -> Result<Exits, AllocError>
     ensures { IfOk result (λ x. x ≡ statements.in_transaction kind exits) }
 {
     if exits.in_function >= 4_294_967_295 || exits.in_loop >= 4_294_967_295 {
@@ -109,7 +109,7 @@ fn looping(exits: Exits, break_to: u32, continue_to: u32) -> Exits
 /// A condition behind the locals.
 fn lower_head<A: Allocator + Copy>(
     names: &ProgramNames<'_, A>,
-    scope: &Scope<'_, A>,
+    scope: &LocalRegisters<'_, A>,
     lists: &mut Lists<A>,
     drafts: &mut Vec<Draft, A>,
     c: &Expr<A>,
@@ -125,14 +125,14 @@ fn lower_head<A: Allocator + Copy>(
 /// A condition, and a jump back where it holds.
 fn lower_back<A: Allocator + Copy>(
     names: &ProgramNames<'_, A>,
-    scope: &Scope<'_, A>,
+    scope: &LocalRegisters<'_, A>,
     lists: &mut Lists<A>,
     code: &mut Vec<Instr, A>,
     c: &Expr<A>,
     from: u32,
     back: u32,
 ) -> Result<u32, Failure>
-    ensures { Writes (tested_back
+    ensures { AddsWritten (tested_back
         (condition (program_in names.now) (scope_in scope.now) (expr_of c.now) from (length (scope_in scope.now))
         (lists_of lists.old))
         back) code.old code.new lists.new result }
@@ -145,13 +145,13 @@ fn lower_back<A: Allocator + Copy>(
 /// An assignment or an expression behind the locals.
 fn lower_do<A: Allocator + Copy>(
     names: &ProgramNames<'_, A>,
-    scope: &Scope<'_, A>,
+    scope: &LocalRegisters<'_, A>,
     lists: &mut Lists<A>,
     code: &mut Vec<Instr, A>,
     s: &Simple<A>,
     from: u32,
 ) -> Result<u32, Failure>
-    ensures { Writes (simple_written (program_in names.now) (scope_in scope.now) (simple_of s.now) from
+    ensures { AddsWritten (simple_written (program_in names.now) (scope_in scope.now) (simple_of s.now) from
         (length (scope_in scope.now)) (lists_of lists.old)) code.old code.new lists.new result }
 {
     let free = scope.len();
@@ -161,14 +161,14 @@ fn lower_do<A: Allocator + Copy>(
 /// The test of a `for`; a missing condition always holds.
 fn lower_test<A: Allocator + Copy>(
     names: &ProgramNames<'_, A>,
-    scope: &Scope<'_, A>,
+    scope: &LocalRegisters<'_, A>,
     lists: &mut Lists<A>,
     code: &mut Vec<Instr, A>,
     c: &Option<Expr<A>>,
     back: u32,
     from: u32,
 ) -> Result<u32, Failure>
-    ensures { Writes (for_test (program_in names.now) (scope_in scope.now) (option_map expr_of c.now) back from
+    ensures { AddsWritten (for_test (program_in names.now) (scope_in scope.now) (option_map expr_of c.now) back from
         (lists_of lists.old)) code.old code.new lists.new result }
 {
     match c {
@@ -183,13 +183,13 @@ fn lower_test<A: Allocator + Copy>(
 /// The step of a `for`.
 fn lower_step<A: Allocator + Copy>(
     names: &ProgramNames<'_, A>,
-    scope: &Scope<'_, A>,
+    scope: &LocalRegisters<'_, A>,
     lists: &mut Lists<A>,
     code: &mut Vec<Instr, A>,
     step: &Option<Simple<A>>,
     from: u32,
 ) -> Result<u32, Failure>
-    ensures { Writes (for_step (program_in names.now) (scope_in scope.now) (option_map simple_of step.now) from
+    ensures { AddsWritten (for_step (program_in names.now) (scope_in scope.now) (option_map simple_of step.now) from
         (lists_of lists.old)) code.old code.new lists.new result }
 {
     match step {
@@ -231,7 +231,7 @@ fn put_branches<A: Allocator>(
     append(code, second)
 }
 
-/// A loop that is tested first: a jump to its test, a pad for breaks, and the rest.
+/// A loop that is tested first: a jump to its test, one for breaks, and the rest.
 fn put_while<A: Allocator>(
     code: &mut Vec<Instr, A>,
     test_at: u32,
@@ -245,7 +245,7 @@ fn put_while<A: Allocator>(
     append(code, rest)
 }
 
-/// A loop with a pad for continues: a jump to where it begins, pads for breaks and continues, and the rest.
+/// A loop with a jump for continues: a jump to where it begins, jumps for breaks and continues, and the rest.
 fn put_loop<A: Allocator>(
     code: &mut Vec<Instr, A>,
     begin: u32,
@@ -276,15 +276,15 @@ fn put_transaction<A: Allocator>(
 /// A print.
 fn lower_print<A: Allocator + Copy>(
     names: &ProgramNames<'_, A>,
-    scope: &Scope<'_, A>,
+    scope: &LocalRegisters<'_, A>,
     lists: &mut Lists<A>,
     code: &mut Vec<Instr, A>,
     format: &str,
     args: &[Expr<A>],
     from: u32,
 ) -> Result<u32, Failure>
-    ensures { Writes (print_written
-        (all_emitted (program_in names.now) (scope_in scope.now) [] (exprs_of args.now) (from + 1)
+    ensures { AddsWritten (print_written
+        (emit_all (program_in names.now) (scope_in scope.now) [] (exprs_of args.now) (from + 1)
         (length (scope_in scope.now)) (lists_of lists.old))
         (pieces format.now)) code.old code.new lists.new result }
 {
@@ -317,22 +317,23 @@ fn lower_print<A: Allocator + Copy>(
 /// A return.
 fn lower_return<A: Allocator + Copy>(
     names: &ProgramNames<'_, A>,
-    scope: &Scope<'_, A>,
+    scope: &LocalRegisters<'_, A>,
     lists: &mut Lists<A>,
     code: &mut Vec<Instr, A>,
     e: &Option<Expr<A>>,
     exits: Exits,
     from: u32,
 ) -> Result<u32, Failure>
-    ensures { Writes (return_written (program_in names.now) (scope_in scope.now) (option_map expr_of e.now) exits from
+    ensures { AddsWritten (return_written (program_in names.now) (scope_in scope.now)
+        (option_map expr_of e.now) exits from
         (lists_of lists.old)) code.old code.new lists.new result }
 {
     match e {
         Some(e) => {
             let free = scope.len();
-            let held = lower_due(names, scope, lists, code, e, exits.gives, from, free, free)?;
-            let instr = Instr::ReturnValue(held.register);
-            leave(code, exits.in_function, instr, held.to)
+            let location = lower_as(names, scope, lists, code, e, exits.gives, from, free, free)?;
+            let instr = Instr::ReturnValue(location.register);
+            leave(code, exits.in_function, instr, location.to)
         }
         None => leave(code, exits.in_function, Instr::Return, from),
     }
@@ -342,7 +343,7 @@ fn lower_return<A: Allocator + Copy>(
 #[cycle(lower_stmt)]
 pub(crate) fn lower_stmt<'p, A: Allocator + Copy>(
     names: &ProgramNames<'p, A>,
-    scope: &mut Scope<'p, A>,
+    scope: &mut LocalRegisters<'p, A>,
     lists: &mut Lists<A>,
     code: &mut Vec<Instr, A>,
     s: &'p Stmt<A>,
@@ -350,7 +351,7 @@ pub(crate) fn lower_stmt<'p, A: Allocator + Copy>(
     from: u32,
 ) -> Result<u32, Failure>
     ensures scope { OnOk result (scope_in scope.new ≡ locals_after (stmt_of s.now) (scope_in scope.old)) }
-    ensures code { Writes (written (program_in names.now) (stmt_of s.now) exits (scope_in scope.old) from
+    ensures code { AddsWritten (stmt_code (program_in names.now) (stmt_of s.now) exits (scope_in scope.old) from
         (lists_of lists.old)) code.old code.new lists.new result }
 {
     match s {
@@ -484,7 +485,7 @@ pub(crate) fn lower_stmt<'p, A: Allocator + Copy>(
 #[cycle(lower_stmt)]
 fn lower_if<'p, A: Allocator + Copy>(
     names: &ProgramNames<'p, A>,
-    scope: &mut Scope<'p, A>,
+    scope: &mut LocalRegisters<'p, A>,
     lists: &mut Lists<A>,
     code: &mut Vec<Instr, A>,
     test: &mut Vec<Draft, A>,
@@ -497,7 +498,7 @@ fn lower_if<'p, A: Allocator + Copy>(
     requires test { test.old.items ≡ [] }
     requires branch { branch.old.items ≡ [] }
     ensures scope { OnOk result (scope_in scope.new ≡ scope_in scope.old) }
-    ensures code { Writes (written (program_in names.now) (Tree.If (expr_of c.now) (stmt_of then.now)) exits
+    ensures code { AddsWritten (stmt_code (program_in names.now) (Tree.If (expr_of c.now) (stmt_of then.now)) exits
         (scope_in scope.old) from (lists_of lists.old)) code.old code.new lists.new result }
 {
     let t = lower_head(names, scope, lists, test, c, from)?;
@@ -512,7 +513,7 @@ fn lower_if<'p, A: Allocator + Copy>(
 #[cycle(lower_stmt)]
 fn lower_if_else<'p, A: Allocator + Copy>(
     names: &ProgramNames<'p, A>,
-    scope: &mut Scope<'p, A>,
+    scope: &mut LocalRegisters<'p, A>,
     lists: &mut Lists<A>,
     code: &mut Vec<Instr, A>,
     test: &mut Vec<Draft, A>,
@@ -530,7 +531,7 @@ fn lower_if_else<'p, A: Allocator + Copy>(
     requires second { second.old.items ≡ [] }
     requires parts { s.now ≡ tree.If c.now then.now (Some other.now) }
     ensures scope { OnOk result (scope_in scope.new ≡ scope_in scope.old) }
-    ensures code { Writes (written (program_in names.now) (Tree.IfElse (expr_of c.now) (stmt_of then.now)
+    ensures code { AddsWritten (stmt_code (program_in names.now) (Tree.IfElse (expr_of c.now) (stmt_of then.now)
         (stmt_of other.now)) exits (scope_in scope.old) from (lists_of lists.old)) code.old code.new lists.new result }
 {
     let _whole = s;
@@ -547,7 +548,7 @@ fn lower_if_else<'p, A: Allocator + Copy>(
 #[cycle(lower_stmt)]
 fn lower_while<'p, A: Allocator + Copy>(
     names: &ProgramNames<'p, A>,
-    scope: &mut Scope<'p, A>,
+    scope: &mut LocalRegisters<'p, A>,
     lists: &mut Lists<A>,
     code: &mut Vec<Instr, A>,
     inner: &mut Vec<Instr, A>,
@@ -558,12 +559,12 @@ fn lower_while<'p, A: Allocator + Copy>(
 ) -> Result<u32, Failure>
     requires { inner.old.items ≡ [] }
     ensures scope { OnOk result (scope_in scope.new ≡ scope_in scope.old) }
-    ensures code { Writes (written (program_in names.now) (Tree.While (expr_of c.now) (stmt_of body.now)) exits
+    ensures code { AddsWritten (stmt_code (program_in names.now) (Tree.While (expr_of c.now) (stmt_of body.now)) exits
         (scope_in scope.old) from (lists_of lists.old)) code.old code.new lists.new result }
 {
-    let pad = after(from, 1)?;
+    let break_at = after(from, 1)?;
     let start = after(from, 2)?;
-    let exits = looping(exits, pad, from);
+    let exits = looping(exits, break_at, from);
     let test_at = lower_scoped(names, scope, lists, inner, body, exits, start)?;
     let to = lower_back(names, scope, lists, inner, c, test_at, start)?;
     put_while(code, test_at, to, inner)?;
@@ -574,7 +575,7 @@ fn lower_while<'p, A: Allocator + Copy>(
 #[cycle(lower_stmt)]
 fn lower_do_while<'p, A: Allocator + Copy>(
     names: &ProgramNames<'p, A>,
-    scope: &mut Scope<'p, A>,
+    scope: &mut LocalRegisters<'p, A>,
     lists: &mut Lists<A>,
     code: &mut Vec<Instr, A>,
     inner: &mut Vec<Instr, A>,
@@ -585,13 +586,13 @@ fn lower_do_while<'p, A: Allocator + Copy>(
 ) -> Result<u32, Failure>
     requires { inner.old.items ≡ [] }
     ensures scope { OnOk result (scope_in scope.new ≡ scope_in scope.old) }
-    ensures code { Writes (written (program_in names.now) (Tree.DoWhile (stmt_of body.now) (expr_of c.now)) exits
+    ensures code { AddsWritten (stmt_code (program_in names.now) (Tree.DoWhile (stmt_of body.now) (expr_of c.now)) exits
         (scope_in scope.old) from (lists_of lists.old)) code.old code.new lists.new result }
 {
-    let pad = after(from, 1)?;
-    let other = after(from, 2)?;
+    let break_at = after(from, 1)?;
+    let continue_at = after(from, 2)?;
     let start = after(from, 3)?;
-    let exits = looping(exits, pad, other);
+    let exits = looping(exits, break_at, continue_at);
     let test_at = lower_scoped(names, scope, lists, inner, body, exits, start)?;
     let to = lower_back(names, scope, lists, inner, c, test_at, start)?;
     put_loop(code, start, to, test_at, inner)?;
@@ -602,19 +603,19 @@ fn lower_do_while<'p, A: Allocator + Copy>(
 #[cycle(lower_stmt)]
 fn lower_transaction<'p, A: Allocator + Copy>(
     names: &ProgramNames<'p, A>,
-    scope: &mut Scope<'p, A>,
+    scope: &mut LocalRegisters<'p, A>,
     lists: &mut Lists<A>,
     code: &mut Vec<Instr, A>,
     inner: &mut Vec<Instr, A>,
     body: &'p [Stmt<A>],
-    kind: Kind,
+    kind: TransactionKind,
     exits: Exits,
     from: u32,
 ) -> Result<u32, Failure>
     requires { inner.old.items ≡ [] }
     ensures scope { OnOk result (scope_in scope.new ≡ scope_in scope.old) }
-    ensures code { Writes (transaction_code
-        (all_written (program_in names.now) (stmts_of body.now) (statements.in_transaction kind exits)
+    ensures code { AddsWritten (transaction_code
+        (stmts_code (program_in names.now) (stmts_of body.now) (statements.in_transaction kind exits)
         (scope_in scope.old) (from + 1) (lists_of lists.old)))
         code.old code.new lists.new result }
 {
@@ -626,11 +627,11 @@ fn lower_transaction<'p, A: Allocator + Copy>(
     Ok(to)
 }
 
-/// A `for`: its start, pads, and its body, its step and its test, which are gathered in `inner`.
+/// A `for`: its start, jumps, and its body, its step and its test, which are gathered in `inner`.
 #[cycle(lower_stmt)]
 fn lower_for<'p, A: Allocator + Copy>(
     names: &ProgramNames<'p, A>,
-    scope: &mut Scope<'p, A>,
+    scope: &mut LocalRegisters<'p, A>,
     lists: &mut Lists<A>,
     code: &mut Vec<Instr, A>,
     inner: &mut Vec<Instr, A>,
@@ -641,17 +642,17 @@ fn lower_for<'p, A: Allocator + Copy>(
 ) -> Result<u32, Failure>
     requires { inner.old.items ≡ [] }
     ensures scope { OnOk result (scope_in scope.new ≡ scope_in scope.old) }
-    ensures code { Writes (written (program_in names.now)
+    ensures code { AddsWritten (stmt_code (program_in names.now)
         (Tree.For (start_of head.now.start) (option_map expr_of head.now.condition)
         (option_map simple_of head.now.step) (stmt_of body.now))
         exits (scope_in scope.old) from (lists_of lists.old)) code.old code.new lists.new result }
 {
     let outer = scope.len();
-    let pads = lower_start(names, scope, lists, code, &head.start, from)?;
-    let pad = after(pads, 1)?;
-    let other = after(pads, 2)?;
-    let start = after(pads, 3)?;
-    let exits = looping(exits, pad, other);
+    let jumps_at = lower_start(names, scope, lists, code, &head.start, from)?;
+    let break_at = after(jumps_at, 1)?;
+    let continue_at = after(jumps_at, 2)?;
+    let start = after(jumps_at, 3)?;
+    let exits = looping(exits, break_at, continue_at);
     let step_at = lower_scoped(names, scope, lists, inner, body, exits, start)?;
     let test_at = lower_step(names, scope, lists, inner, &head.step, step_at)?;
     let to = lower_test(names, scope, lists, inner, &head.condition, start, test_at)?;
@@ -664,7 +665,7 @@ fn lower_for<'p, A: Allocator + Copy>(
 #[cycle(lower_stmt)]
 fn lower_scoped<'p, A: Allocator + Copy>(
     names: &ProgramNames<'p, A>,
-    scope: &mut Scope<'p, A>,
+    scope: &mut LocalRegisters<'p, A>,
     lists: &mut Lists<A>,
     code: &mut Vec<Instr, A>,
     s: &'p Stmt<A>,
@@ -672,7 +673,7 @@ fn lower_scoped<'p, A: Allocator + Copy>(
     from: u32,
 ) -> Result<u32, Failure>
     ensures scope { OnOk result (scope_in scope.new ≡ scope_in scope.old) }
-    ensures code { Writes (written (program_in names.now) (stmt_of s.now) exits (scope_in scope.old) from
+    ensures code { AddsWritten (stmt_code (program_in names.now) (stmt_of s.now) exits (scope_in scope.old) from
         (lists_of lists.old)) code.old code.new lists.new result }
 {
     let outer = scope.len();
@@ -685,7 +686,7 @@ fn lower_scoped<'p, A: Allocator + Copy>(
 #[cycle(lower_stmt)]
 fn lower_block<'p, A: Allocator + Copy>(
     names: &ProgramNames<'p, A>,
-    scope: &mut Scope<'p, A>,
+    scope: &mut LocalRegisters<'p, A>,
     lists: &mut Lists<A>,
     code: &mut Vec<Instr, A>,
     body: &'p [Stmt<A>],
@@ -693,7 +694,7 @@ fn lower_block<'p, A: Allocator + Copy>(
     from: u32,
 ) -> Result<u32, Failure>
     ensures scope { OnOk result (scope_in scope.new ≡ scope_in scope.old) }
-    ensures code { Writes (all_written (program_in names.now) (stmts_of body.now) exits (scope_in scope.old) from
+    ensures code { AddsWritten (stmts_code (program_in names.now) (stmts_of body.now) exits (scope_in scope.old) from
         (lists_of lists.old)) code.old code.new lists.new result }
 {
     let outer = scope.len();
@@ -706,7 +707,7 @@ fn lower_block<'p, A: Allocator + Copy>(
 #[cycle(lower_stmt)]
 pub(crate) fn lower_stmts<'p, A: Allocator + Copy>(
     names: &ProgramNames<'p, A>,
-    scope: &mut Scope<'p, A>,
+    scope: &mut LocalRegisters<'p, A>,
     lists: &mut Lists<A>,
     code: &mut Vec<Instr, A>,
     body: &'p [Stmt<A>],
@@ -714,7 +715,7 @@ pub(crate) fn lower_stmts<'p, A: Allocator + Copy>(
     from: u32,
 ) -> Result<u32, Failure>
     ensures scope { OnOk result (scope_in scope.new ≡ locals_at_end (stmts_of body.now) (scope_in scope.old)) }
-    ensures code { Writes (all_written (program_in names.now) (stmts_of body.now) exits (scope_in scope.old) from
+    ensures code { AddsWritten (stmts_code (program_in names.now) (stmts_of body.now) exits (scope_in scope.old) from
         (lists_of lists.old)) code.old code.new lists.new result }
 {
     let mut to = from;

@@ -1,4 +1,4 @@
--- How calls add stretches of code one behind the other.
+-- How calls add fragments of code one behind the other.
 use Rattle.std.proofs.Common.{◌≡◌, ℕ, ◌≤◌, true, false, List, [], ◌∷◌, ◌++◌, Result, Ok, Err, OnOk, IfOk, IfErr, IsErr, IsErrAnd, sym, ap, subst, ◌∙◌, append_assoc, arith}
 use Rattle.bytecode.specs.declared.instr.Instr.{Instr}
 use Rattle.selection.specs.declared.draft.Draft.{Draft}
@@ -11,21 +11,21 @@ use Rattle.selection.specs.Simples.{Written}
 use Rattle.lower_exprs.specs.declared.fault.Failure.{Failure}
 use Rattle.lower_exprs.specs.declared.fault.Failure.TheVariants as failure
 use Rattle.lower_exprs.specs.Limits.{NeedsMore}
-use Rattle.lower_exprs.specs.Stretches.{Stretch, Adds, of_value, of_test, of_written}
+use Rattle.lower_exprs.specs.Fragments.{Fragment, Adds, of_value, of_test, of_written}
 use Rattle.lower_exprs.specs.inner.Stretches.{standing, test_in_place}
 
--- two stretches, one behind the other
-abbrev pub behind : {I E F : Type 0} → Stretch I E → Stretch I F → Stretch I F
+-- two fragments, one behind the other
+abbrev pub behind : {I E F : Type 0} → Fragment I E → Fragment I F → Fragment I F
 behind a b = record { code = a.code ++ b.code; lists = b.lists; end = b.end }
 
 abbrev pub written_behind : List Instr → Written → Written
 written_behind code w = record w { code = code ++ w.code }
 
-pub same : {I E : Type 0} {old new : List I} {l : Lists} {a b : Stretch I E} {r : Result E Failure} → a ≡ b → Adds a old new l r → Adds b old new l r
-same {I = I} {E = E} {old = old} {new = new} {l = l} {r = r} e k = subst (λ (u : Stretch I E). Adds u old new l r) e k
+pub same : {I E : Type 0} {old new : List I} {l : Lists} {a b : Fragment I E} {r : Result E Failure} → a ≡ b → Adds a old new l r → Adds b old new l r
+same {I = I} {E = E} {old = old} {new = new} {l = l} {r = r} e k = subst (λ (u : Fragment I E). Adds u old new l r) e k
 
 -- a second call goes on where the first one ended
-pub in_turn : {I E F : Type 0} {old mid new : List I} {la l : Lists} {a : Stretch I E} {b n : Stretch I F} {e : E} {r : Result F Failure} →
+pub in_turn : {I E F : Type 0} {old mid new : List I} {la l : Lists} {a : Fragment I E} {b n : Fragment I F} {e : E} {r : Result F Failure} →
     Adds a old mid la (Ok e) → b ≡ n → Adds b mid new l r → Adds (behind a n) old new l r
 in_turn {I = I} {old = old} {mid = mid} {new = new} {a = a} {b = b} {n = n} {r = r} k is m =
     let there = same is m in
@@ -37,7 +37,7 @@ in_turn {I = I} {old = old} {mid = mid} {new = new} {a = a} {b = b} {n = n} {r =
     }
 
 -- one instruction was put there first
-pub one_in_front : {I E : Type 0} {old mid new : List I} {l : Lists} {a : Stretch I E} {i : I} {r : Result E Failure} → mid ≡ old ++ i ∷ [] → Adds a mid new l r → Adds (record { code = i ∷ a.code; lists = a.lists; end = a.end }) old new l r
+pub one_in_front : {I E : Type 0} {old mid new : List I} {l : Lists} {a : Fragment I E} {i : I} {r : Result E Failure} → mid ≡ old ++ i ∷ [] → Adds a mid new l r → Adds (record { code = i ∷ a.code; lists = a.lists; end = a.end }) old new l r
 one_in_front {I = I} {old = old} {new = new} {a = a} {i = i} {r = r} is k = record {
   code = subst (λ (is : List I). OnOk r (new ≡ is)) (ap (λ is. is ++ a.code) is ∙ append_assoc old (i ∷ []) a.code) k.code;
   lists = k.lists;
@@ -55,7 +55,7 @@ goes_on {new = new} {l = l} {r = r} is k = record {
 }
 
 -- what stands in a list that was empty
-pub alone : {I E : Type 0} {old new : List I} {l : Lists} {a : Stretch I E} {e : E} → Adds a old new l (Ok e) → old ≡ [] → new ≡ a.code
+pub alone : {I E : Type 0} {old new : List I} {l : Lists} {a : Fragment I E} {e : E} → Adds a old new l (Ok e) → old ≡ [] → new ≡ a.code
 alone {a = a} k none = k.code ∙ ap (λ is. is ++ a.code) none
 
 -- a value, a statement and a condition that were gathered there
@@ -73,7 +73,7 @@ needs_more failure.Registers m n h k = omega (arith, h, k)
 needs_more failure.OutOfMemory m n h k = tt
 
 -- what `?` hands on: the whole needs what a part of it needs
-pub needed_stops : {X J F : Type 0} {n : ℕ} {b : Stretch J F} {old new : List J} {l : Lists} {r : Result X Failure} {s : Result F Failure} {f : Failure} →
+pub needed_stops : {X J F : Type 0} {n : ℕ} {b : Fragment J F} {old new : List J} {l : Lists} {r : Result X Failure} {s : Result F Failure} {f : Failure} →
     IfErr r (λ why. NeedsMore why n) → r ≡ Err f → IsErr s × IsErrAnd s (λ y. y ≡ f) → n ≤ b.lists.registers → Adds b old new l s
 needed_stops {s = Ok y} k was is more = let e : false ≡ true = is.0 in absurd cc
 needed_stops {n = n} {b = b} {s = Err y} k was is more = record {
@@ -83,7 +83,7 @@ needed_stops {n = n} {b = b} {s = Err y} k was is more = record {
   fails = needs_more y n b.lists.registers more (subst (λ z. NeedsMore z n) (sym is.1) (subst (λ q. IfErr q (λ why. NeedsMore why n)) was k));
 }
 
-pub stops : {I J E F : Type 0} {a : Stretch I E} {b : Stretch J F} {old new : List I} {old' new' : List J} {l l' : Lists} {r : Result E Failure} {s : Result F Failure} {f : Failure} →
+pub stops : {I J E F : Type 0} {a : Fragment I E} {b : Fragment J F} {old new : List I} {old' new' : List J} {l l' : Lists} {r : Result E Failure} {s : Result F Failure} {f : Failure} →
     Adds a old new l r → r ≡ Err f → IsErr s × IsErrAnd s (λ y. y ≡ f) → a.lists.registers ≤ b.lists.registers → Adds b old' new' l' s
 stops k was is more = needed_stops k.fails was is more
 

@@ -12,15 +12,15 @@ use Rattle.selection.specs.declared.locations.ValueRegister.{ValueRegister}
 use Rattle.selection.specs.declared.locations.ConditionRegister.{ConditionRegister}
 use Rattle.selection.specs.Lists.{Lists}
 use Rattle.selection.specs.Conditions.{Condition}
-use Rattle.selection.specs.Expressions.{Emitted, value_into, then_one, conditional_value, emitted_type, due, condition, conditional}
-use Rattle.selection.proofs.Growing.{due_more, settled_more}
-use Rattle.lower_exprs.specs.Stretches.{Adds, of_value, of_test}
+use Rattle.selection.specs.Expressions.{Emitted, value_into, then_one, conditional_value, emitted_type, as_type, condition, conditional}
+use Rattle.selection.proofs.Growing.{due_more, into_more}
+use Rattle.lower_exprs.specs.Fragments.{Adds, of_value, of_test}
 use Rattle.lower_exprs.specs.inner.Stretches.{in_place, standing, test_in_place}
 use Rattle.lower_exprs.proofs.Adding.{behind, gathered, value_alone}
 
--- a value that is settled behind its instructions is settled with them
-pub settled_behind : (r : ℕ) (e : Emitted) → behind (of_value e) (of_value (value_into r (in_place e.location e.lists))) ≡ of_value (value_into r e)
-settled_behind r e = by (e.location.register == r)
+-- a value that comes into a register behind its instructions comes there with them
+pub into_behind : (r : ℕ) (e : Emitted) → behind (of_value e) (of_value (value_into r (in_place e.location e.lists))) ≡ of_value (value_into r e)
+into_behind r e = by (e.location.register == r)
   where
     by : (b : Bool) →
         behind (of_value e) (of_value (if b then in_place e.location e.lists else then_one (in_place e.location e.lists) (own.Move r e.location.register) r e.location.ty))
@@ -36,33 +36,33 @@ module _ (p : Program) (s : LocalScope) (c a b : Tree.Expr) (from into free : �
   Both = common (emitted_type p s a) (emitted_type p s b)
 
   abbrev One : Emitted
-  One = value_into into (due p s Both a (C.to + 1) into free C.lists)
+  One = value_into into (as_type p s Both a (C.to + 1) into free C.lists)
 
   abbrev Two : Emitted
-  Two = value_into into (due p s Both b (One.location.to + 1) into free One.lists)
+  Two = value_into into (as_type p s Both b (One.location.to + 1) into free One.lists)
 
   -- no part needs more registers than the whole
   pub second_within : One.lists.registers ≤ (conditional p s c a b from into free l).lists.registers
   second_within =
       let x = due_more p s Both b (One.location.to + 1) into free One.lists in
-      let y = settled_more into (due p s Both b (One.location.to + 1) into free One.lists) in
+      let y = into_more into (as_type p s Both b (One.location.to + 1) into free One.lists) in
       let z : (conditional p s c a b from into free l).lists.registers ≡ Two.lists.registers = refl in
       omega (arith, x, y, z)
 
   pub condition_within : C.lists.registers ≤ (conditional p s c a b from into free l).lists.registers
   condition_within =
       let x = due_more p s Both a (C.to + 1) into free C.lists in
-      let y = settled_more into (due p s Both a (C.to + 1) into free C.lists) in
+      let y = into_more into (as_type p s Both a (C.to + 1) into free C.lists) in
       let z = second_within in
       omega (arith, x, y, z)
 
   module _ {before drafts : List Draft} {lc : Lists} {t : ConditionRegister} {next : ℕ} (kc : Adds (of_test (condition p s c from free l)) before drafts lc (Ok t)) (en : next ≡ t.to + 1) {ty : Scalar} (eof : ty ≡ Both) where
-    pub one_is : value_into into (due p s ty a next into free lc) ≡ One
-    one_is = λ j. value_into into (due p s (eof j) a ((en ∙ ap (λ (k : ConditionRegister). k.to + 1) kc.end) j) into free (kc.lists j))
+    pub one_is : value_into into (as_type p s ty a next into free lc) ≡ One
+    one_is = λ j. value_into into (as_type p s (eof j) a ((en ∙ ap (λ (k : ConditionRegister). k.to + 1) kc.end) j) into free (kc.lists j))
 
     module _ {none first : List Instr} {la : Lists} {h : ValueRegister} {other : ℕ} (ka : Adds (of_value One) none first la (Ok h)) (eo : other ≡ h.to + 1) where
-      pub two_is : value_into into (due p s ty b other into free la) ≡ Two
-      two_is = λ j. value_into into (due p s (eof j) b ((eo ∙ ap (λ (k : ValueRegister). k.to + 1) ka.end) j) into free (ka.lists j))
+      pub two_is : value_into into (as_type p s ty b other into free la) ≡ Two
+      two_is = λ j. value_into into (as_type p s (eof j) b ((eo ∙ ap (λ (k : ValueRegister). k.to + 1) ka.end) j) into free (ka.lists j))
 
       pub chosen_there : {none' second : List Instr} {shown : List Draft} {lb : Lists} {k : ValueRegister} → Adds (of_value Two) none' second lb (Ok k) → before ≡ [] → none ≡ [] → none' ≡ [] → shown ≡ drafts → k.register ≡ into →
           conditional_value ty (test_in_place shown t lb) (standing first h lb) (standing second k lb) k.register ≡ conditional p s c a b from into free l

@@ -13,7 +13,7 @@ use Rattle.selection.specs.Lists.{Lists, with_register}
 use Rattle.selection.specs.Simples.{Written, and_then, first_written, declarator_written, declared_written}
 use Rattle.selection.proofs.GrowingStmts.{first_more, declared_more}
 use Rattle.lower_exprs.specs.declared.fault.Failure.{Failure}
-use Rattle.lower_exprs.specs.Stretches.{Stretch, Adds, of_written}
+use Rattle.lower_exprs.specs.Fragments.{Fragment, Adds, of_written}
 use Rattle.lower_exprs.proofs.Adding.{written_behind, in_turn}
 
 -- a local that is 0, and its first value behind that
@@ -21,7 +21,7 @@ module _ (p : Program) (t : Scalar) (d : Declarator) (scope : LocalScope) (from 
   pub declarator_there : {scope' : LocalScope} {i next : ℕ} {old c1 new : List Instr} {l1 l2 : Lists} {r : Result ℕ Failure} → i ≡ length scope → scope' ≡ with_local scope d.name.text t → c1 ≡ old ++ own.Constant i 0 ∷ [] → l1 ≡ with_register (length scope) l → next ≡ from + 1 →
       Adds (of_written (first_written p scope' i t d.first next l1)) c1 new l2 r → Adds (of_written (declarator_written p t d scope from l)) old new l2 r
   declarator_there {next = next} {old = old} {c1 = c1} {l1 = l1} ei es ec el en m =
-      let zero : Stretch Instr ℕ = record { code = own.Constant (length scope) 0 ∷ []; lists = with_register (length scope) l; end = from + 1 } in
+      let zero : Fragment Instr ℕ = record { code = own.Constant (length scope) 0 ∷ []; lists = with_register (length scope) l; end = from + 1 } in
       let k : Adds zero old c1 l1 (Ok next) = record { code = ec ∙ ap (λ i. old ++ own.Constant i 0 ∷ []) ei; lists = el; end = en; fails = tt } in
       in_turn k (λ j. of_written (first_written p (es j) (ei j) t d.first (en j) (el j))) m
 

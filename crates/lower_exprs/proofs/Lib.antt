@@ -1,7 +1,7 @@
 -- look-ups among locals, and in a file
 mod Lookup
 pub mod Files
--- stretches of code one behind the other
+-- fragments of code one behind the other
 pub mod Adding
 -- expressions by their parts: arguments, values one after another, nodes, and parts of a whole
 mod Handed

@@ -27,11 +27,11 @@ use Rattle.selection.specs.declared.locations.ValueRegister.{ValueRegister}
 use Rattle.selection.specs.declared.locations.ConditionRegister.{ConditionRegister}
 use Rattle.selection.specs.Lists.{Lists}
 use Rattle.selection.specs.Conditions.{Condition}
-use Rattle.selection.specs.Expressions.{Emitted, constant, converting, converted_by, constant_of, where_same, emitted_type, emitted, due, own_condition, condition, condition_of}
+use Rattle.selection.specs.Expressions.{Emitted, constant, converting, converted_by, constant_of, where_same, emitted_type, emit, as_type, own_condition, condition, condition_of}
 use Rattle.selection.proofs.Growing.{converted_more}
 use Rattle.selection.proofs.stands.Kinds.{emitted_is}
 use Rattle.lower_exprs.specs.declared.fault.Failure.{Failure}
-use Rattle.lower_exprs.specs.Stretches.{Adds, of_value, of_test}
+use Rattle.lower_exprs.specs.Fragments.{Adds, of_value, of_test}
 use Rattle.lower_exprs.specs.inner.Stretches.{in_place}
 use Rattle.lower_exprs.proofs.Adding.{behind, same, in_turn}
 
@@ -73,25 +73,25 @@ module _ {A : Type 0} where
 
 module _ (p : Program) (scope : LocalScope) {e x : Tree.Expr} (from : ℕ) where
   -- the value of a node
-  pub value_there : (into free : ℕ) (l : Lists) {old new : List Instr} {m : Lists} {r : Result ValueRegister Failure} → e ≡ x → Adds (of_value (emitted p scope x from into free l)) old new m r → Adds (of_value (emitted p scope e from into free l)) old new m r
-  value_there into free l {old = old} {new = new} {m = m} {r = r} is k = subst (λ (y : Tree.Expr). Adds (of_value (emitted p scope y from into free l)) old new m r) (sym is) k
+  pub value_there : (into free : ℕ) (l : Lists) {old new : List Instr} {m : Lists} {r : Result ValueRegister Failure} → e ≡ x → Adds (of_value (emit p scope x from into free l)) old new m r → Adds (of_value (emit p scope e from into free l)) old new m r
+  value_there into free l {old = old} {new = new} {m = m} {r = r} is k = subst (λ (y : Tree.Expr). Adds (of_value (emit p scope y from into free l)) old new m r) (sym is) k
 
   -- and its condition: that of its operator, or the test of its value, where its operator has none
   pub test_there : (free : ℕ) (l : Lists) {old new : List Draft} {m : Lists} {r : Result ConditionRegister Failure} → e ≡ x → Adds (of_test (condition p scope x from free l)) old new m r → Adds (of_test (condition p scope e from free l)) old new m r
   test_there free l {old = old} {new = new} {m = m} {r = r} is k = subst (λ (y : Tree.Expr). Adds (of_test (condition p scope y from free l)) old new m r) (sym is) k
 
-  pub value_test_there : (free : ℕ) (l : Lists) {old new : List Draft} {m : Lists} {r : Result ConditionRegister Failure} → e ≡ x → own_condition p scope x from free l ≡ None → Adds (of_test (condition_of None (emitted p scope e from free free l))) old new m r → Adds (of_test (condition p scope e from free l)) old new m r
+  pub value_test_there : (free : ℕ) (l : Lists) {old new : List Draft} {m : Lists} {r : Result ConditionRegister Failure} → e ≡ x → own_condition p scope x from free l ≡ None → Adds (of_test (condition_of None (emit p scope e from free free l))) old new m r → Adds (of_test (condition p scope e from free l)) old new m r
   value_test_there free l {old = old} {new = new} {m = m} {r = r} is none k =
-      subst (λ o. Adds (of_test (condition_of o (emitted p scope e from free free l))) old new m r) (sym (ap (λ y. own_condition p scope y from free l) is ∙ none)) k
+      subst (λ o. Adds (of_test (condition_of o (emit p scope e from free free l))) old new m r) (sym (ap (λ y. own_condition p scope y from free l) is ∙ none)) k
 
 -- what is due, of a constant and of another expression
-pub due_constant : (p : Program) (scope : LocalScope) (u : Scalar) (e : Tree.Expr) (n : ℕ) (t : Scalar) (from into free : ℕ) (l : Lists) → constant_of e ≡ Some (n, t) → due p scope u e from into free l ≡ constant (constant_in u t n) u from into l
+pub due_constant : (p : Program) (scope : LocalScope) (u : Scalar) (e : Tree.Expr) (n : ℕ) (t : Scalar) (from into free : ℕ) (l : Lists) → constant_of e ≡ Some (n, t) → as_type p scope u e from into free l ≡ constant (constant_in u t n) u from into l
 due_constant p scope u (Tree.Constant m s at) n t from into free l e =
     let same : (m, s) ≡ (n, t) = ap (λ o. unwrap_or o (m, s)) e in
     ap (λ (k : ℕ × Scalar). constant (constant_in u k.1 k.0) u from into l) same
 due_constant p scope u e n t from into free l k = absurd (cc)
 
-pub due_other : (p : Program) (scope : LocalScope) (u : Scalar) (e : Tree.Expr) (from into free : ℕ) (l : Lists) → constant_of e ≡ None → due p scope u e from into free l ≡ converted_by (converting (emitted_type p scope e) u) u (emitted p scope e from into free l) into
+pub due_other : (p : Program) (scope : LocalScope) (u : Scalar) (e : Tree.Expr) (from into free : ℕ) (l : Lists) → constant_of e ≡ None → as_type p scope u e from into free l ≡ converted_by (converting (emitted_type p scope e) u) u (emit p scope e from into free l) into
 due_other p scope u (Tree.Constant m s at) from into free l k = absurd (cc)
 due_other p scope u e from into free l k = refl
 
@@ -101,11 +101,11 @@ converted_behind None u e into = λ j. record { code = append-nil e.code j; list
 converted_behind (Some i) u e into = refl
 
 -- of a value that stands there already its type is the expression's
-pub due_there : (p : Program) (scope : LocalScope) (u : Scalar) (e : Tree.Expr) (from into free : ℕ) (l : Lists) → constant_of e ≡ None → {old mid new : List Instr} {l1 l2 : Lists} {h : ValueRegister} {r : Result ValueRegister Failure} → Adds (of_value (emitted p scope e from into free l)) old mid l1 (Ok h) → Adds (of_value (converted_by (converting h.ty u) u (in_place h l1) into)) mid new l2 r → Adds (of_value (due p scope u e from into free l)) old new l2 r
+pub due_there : (p : Program) (scope : LocalScope) (u : Scalar) (e : Tree.Expr) (from into free : ℕ) (l : Lists) → constant_of e ≡ None → {old mid new : List Instr} {l1 l2 : Lists} {h : ValueRegister} {r : Result ValueRegister Failure} → Adds (of_value (emit p scope e from into free l)) old mid l1 (Ok h) → Adds (of_value (converted_by (converting h.ty u) u (in_place h l1) into)) mid new l2 r → Adds (of_value (as_type p scope u e from into free l)) old new l2 r
 due_there p scope u e from into free l none {new = new} {l2 = l2} {r = r} k m =
     let own = emitted_is p scope e from into free l in
     let whole = in_turn k (λ j. of_value (converted_by (converting ((ap (λ (x : ValueRegister). x.ty) k.end ∙ own) j) u) u (in_place (k.end j) (k.lists j)) into)) m in
-    same (converted_behind (converting (emitted_type p scope e) u) u (emitted p scope e from into free l) into ∙ ap of_value (sym (due_other p scope u e from into free l none))) whole
+    same (converted_behind (converting (emitted_type p scope e) u) u (emit p scope e from into free l) into ∙ ap of_value (sym (due_other p scope u e from into free l none))) whole
 
 no_instruction : (s u : Scalar) → is_some (converting s u) ≡ false → IsNone (lowered_converting s u)
 no_instruction Int LongLong none = absurd (cc)
@@ -122,9 +122,9 @@ where_none : (i : Option (ℕ → ℕ → Instr)) → where_same i None ≡ None
 where_none None = refl
 where_none (Some i) = refl
 
-pub due_within : (p : Program) (scope : LocalScope) (u : Scalar) (e : Tree.Expr) (from into free : ℕ) (l : Lists) → constant_of e ≡ None → (emitted p scope e from into free l).lists.registers ≤ (due p scope u e from into free l).lists.registers
+pub due_within : (p : Program) (scope : LocalScope) (u : Scalar) (e : Tree.Expr) (from into free : ℕ) (l : Lists) → constant_of e ≡ None → (emit p scope e from into free l).lists.registers ≤ (as_type p scope u e from into free l).lists.registers
 due_within p scope u e from into free l none =
-    let x = converted_more (converting (emitted_type p scope e) u) u (emitted p scope e from into free l) into in
+    let x = converted_more (converting (emitted_type p scope e) u) u (emit p scope e from into free l) into in
     let y = ap (λ (w : Emitted). w.lists.registers) (due_other p scope u e from into free l none) in
     omega (arith, x, y)
 
@@ -135,7 +135,7 @@ cast_tested p scope u (Tree.Constant n t at') at from free l none =
     ∙ ap (λ o. condition_of o (constant (constant_in u t n) u from free l)) (sym (where_none (converting t u)))
 cast_tested p scope u a at from free l none = by (converting (emitted_type p scope a) u) none (own_condition p scope a from free l)
   where
-    by : (i : Option (ℕ → ℕ → Instr)) → is_some i ≡ false → (o : Option Condition) → condition_of o (emitted p scope a from free free l) ≡ condition_of (where_same i o) (converted_by i u (emitted p scope a from free free l) free)
+    by : (i : Option (ℕ → ℕ → Instr)) → is_some i ≡ false → (o : Option Condition) → condition_of o (emit p scope a from free free l) ≡ condition_of (where_same i o) (converted_by i u (emit p scope a from free free l) free)
     by None none (Some c) = refl
     by None none None = refl
     by (Some i) none o = absurd (cc)

@@ -10,10 +10,10 @@ use Rattle.bytecode.specs.declared.instr.Instr.{Instr}
 use Rattle.lower_spec.specs.Expressions.{LocalScope}
 use Rattle.selection.specs.declared.locations.ValueRegister.{ValueRegister}
 use Rattle.selection.specs.Lists.{Lists}
-use Rattle.selection.specs.Expressions.{Emitted, above, both, emitted_type, emitted, due, operand}
+use Rattle.selection.specs.Expressions.{Emitted, above, both, emitted_type, emit, as_type, operand}
 use Rattle.selection.proofs.Growing.{used_more, operand_more}
 use Rattle.lower_exprs.specs.declared.fault.Failure.{Failure}
-use Rattle.lower_exprs.specs.Stretches.{Adds, of_value}
+use Rattle.lower_exprs.specs.Fragments.{Adds, of_value}
 use Rattle.lower_exprs.specs.inner.Stretches.{in_place}
 use Rattle.lower_exprs.proofs.Adding.{same, in_turn}
 
@@ -25,13 +25,13 @@ module _ (p : Program) (s : LocalScope) (op : BinaryOp) (a b : Tree.Expr) (at : 
   U = operand_type op (emitted_type p s b) (emitted_type p s a)
 
   abbrev A : Emitted
-  A = due p s T a from free free l
+  A = as_type p s T a from free free l
 
   abbrev B : Emitted
   B = operand p s U b A.location.to (above free A.location.register) A.lists
 
   abbrev Whole : Emitted
-  Whole = emitted p s (Tree.Binary op a b at) from into free l
+  Whole = emit p s (Tree.Binary op a b at) from into free l
 
   pub right_within : B.lists.registers ≤ Whole.lists.registers
   right_within = used_more into B.lists
@@ -46,8 +46,8 @@ module _ (p : Program) (s : LocalScope) (op : BinaryOp) (a b : Tree.Expr) (at : 
     u_is : u ≡ U
     u_is = ev ∙ (λ j. operand_type op (et j) (eo j))
 
-    pub left_there : {old new : List Instr} {m : Lists} {r : Result ValueRegister Failure} → Adds (of_value (due p s t a from free free l)) old new m r → Adds (of_value A) old new m r
-    left_there k = same (ap (λ x. of_value (due p s x a from free free l)) t_is) k
+    pub left_there : {old new : List Instr} {m : Lists} {r : Result ValueRegister Failure} → Adds (of_value (as_type p s t a from free free l)) old new m r → Adds (of_value A) old new m r
+    left_there k = same (ap (λ x. of_value (as_type p s x a from free free l)) t_is) k
 
     module _ {old c1 : List Instr} {l1 : Lists} {h : ValueRegister} {later : ℕ} (k : Adds (of_value A) old c1 l1 (Ok h)) (en : later ≡ above free h.register) where
       pub right_there : {c2 : List Instr} {l2 : Lists} {r : Result ValueRegister Failure} → Adds (of_value (operand p s u b h.to later l1)) c1 c2 l2 r → Adds (of_value B) c1 c2 l2 r

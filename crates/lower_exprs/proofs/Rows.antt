@@ -10,9 +10,9 @@ use Rattle.bytecode.specs.declared.instr.Instr.{Instr}
 use Rattle.lower_spec.specs.Expressions.{LocalScope, types_left}
 use Rattle.selection.specs.declared.locations.ValueRegister.{ValueRegister}
 use Rattle.selection.specs.Lists.{Lists}
-use Rattle.selection.specs.Expressions.{Emitted, AllEmitted, above, with_argument, handed, types_of, all_emitted}
+use Rattle.selection.specs.Expressions.{Emitted, AllEmitted, above, with_argument, argument_value, types_of, emit_all}
 use Rattle.selection.proofs.Growing.{all_more}
-use Rattle.lower_exprs.specs.Stretches.{Adds, of_value}
+use Rattle.lower_exprs.specs.Fragments.{Adds, of_value}
 
 -- values behind other instructions and registers
 abbrev pub values_behind : List Instr → List ℕ → AllEmitted → AllEmitted
@@ -42,21 +42,21 @@ no_type (x ∷ qs) (suc i) h = no_type qs i (omega (arith, h))
 
 module _ (p : Program) (scope : LocalScope) {A : Type 0} (ts : List Scalar) (es : List (OwnExpr A)) (i to later : ℕ) (l : Lists) (code : List Instr) (rs : List ℕ) (whole : AllEmitted) where
   row : ℕ → ℕ → ℕ → Lists → AllEmitted
-  row j t k m = all_emitted p scope (drop j ts) (exprs_of (drop j es)) t k m
+  row j t k m = emit_all p scope (drop j ts) (exprs_of (drop j es)) t k m
 
-  module _ (e : OwnExpr A) (h : i < length es) (is : e ≡ get_or es i e) (inv : values_behind code rs (all_emitted p scope (drop i ts) (exprs_of (drop i es)) to later l) ≡ whole) where
+  module _ (e : OwnExpr A) (h : i < length es) (is : e ≡ get_or es i e) (inv : values_behind code rs (emit_all p scope (drop i ts) (exprs_of (drop i es)) to later l) ≡ whole) where
     abbrev First : Emitted
-    First = handed p scope (drop i ts) (expr_of e) to later l
+    First = argument_value p scope (drop i ts) (expr_of e) to later l
 
     here : row i to later l ≡ with_argument First (row (i + 1) First.location.to (above later First.location.register) First.lists)
     unfolding row
     here =
-        at_drop_more (λ xs. all_emitted p scope (drop i ts) (exprs_of xs) to later l) es i e h
-        ∙ ap (λ x. all_emitted p scope (drop i ts) (exprs_of (x ∷ drop (i + 1) es)) to later l) (sym is)
-        ∙ ap (λ us. with_argument First (all_emitted p scope us (exprs_of (drop (i + 1) es)) First.location.to (above later First.location.register) First.lists)) (types_further ts i)
+        at_drop_more (λ xs. emit_all p scope (drop i ts) (exprs_of xs) to later l) es i e h
+        ∙ ap (λ x. emit_all p scope (drop i ts) (exprs_of (x ∷ drop (i + 1) es)) to later l) (sym is)
+        ∙ ap (λ us. with_argument First (emit_all p scope us (exprs_of (drop (i + 1) es)) First.location.to (above later First.location.register) First.lists)) (types_further ts i)
 
     pub next_value : (code' : List Instr) (rs' : List ℕ) (l' : Lists) (a : ValueRegister) (later' : ℕ) → Adds (of_value First) code code' l' (Ok a) → rs' ≡ rs ++ a.register ∷ [] → later' ≡ above later a.register →
-        values_behind code' rs' (all_emitted p scope (drop (i + 1) ts) (exprs_of (drop (i + 1) es)) a.to later' l') ≡ whole
+        values_behind code' rs' (emit_all p scope (drop (i + 1) ts) (exprs_of (drop (i + 1) es)) a.to later' l') ≡ whole
     unfolding row
     next_value code' rs' l' a later' k er ek =
         let rest = row (i + 1) First.location.to (above later First.location.register) First.lists in
@@ -76,8 +76,8 @@ module _ (p : Program) (scope : LocalScope) {A : Type 0} (ts : List Scalar) (es 
         let d = ap (λ (w : AllEmitted). w.lists.registers) inv in
         omega (arith, a, b, d)
 
-  pub no_more_values : length es ≤ i → values_behind code rs (all_emitted p scope (drop i ts) (exprs_of (drop i es)) to later l) ≡ whole → record { code = code; lists = l; registers = rs; to = to } ≡ whole
+  pub no_more_values : length es ≤ i → values_behind code rs (emit_all p scope (drop i ts) (exprs_of (drop i es)) to later l) ≡ whole → record { code = code; lists = l; registers = rs; to = to } ≡ whole
   no_more_values h inv =
       (λ j. record { code = sym (append-nil code) j; lists = l; registers = sym (append-nil rs) j; to = to })
-      ∙ sym (ap (λ xs. values_behind code rs (all_emitted p scope (drop i ts) (exprs_of xs) to later l)) (drop_all i es h))
+      ∙ sym (ap (λ xs. values_behind code rs (emit_all p scope (drop i ts) (exprs_of xs) to later l)) (drop_all i es h))
       ∙ inv

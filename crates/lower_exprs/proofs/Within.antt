@@ -3,7 +3,7 @@ use Rattle.std.proofs.Common.{ℕ, ◌+◌, ◌≤◌, ◌++◌, length, Some, a
 use Rattle.syntax.specs.Tree as Tree
 use Rattle.syntax.specs.Tree.{Program}
 use Rattle.lower_spec.specs.Expressions.{LocalScope, argument_order}
-use Rattle.selection.specs.Lists.{Lists, with_register, holding}
+use Rattle.selection.specs.Lists.{Lists, with_register, with_registers}
 use Rattle.selection.specs.Names.{Callee}
 use Rattle.selection.specs.Expressions.{AllEmitted, call_code, condition}
 use Rattle.selection.proofs.Growing.{used_more, holding_more, condition_more}
@@ -24,5 +24,5 @@ arguments_within f args from into l =
     let handed = argument_order f.parameters args.registers in
     let made = record args.lists { arguments = args.lists.arguments ++ handed } in
     let x = holding_more (length handed) made in
-    let y = used_more into (holding (length handed) made) in
+    let y = used_more into (with_registers (length handed) made) in
     omega (arith, x, y)

@@ -4,6 +4,6 @@ pub mod Views
 -- what a failure says of lists of code
 pub mod Limits
 -- what a call answers that adds code
-pub mod Stretches
+pub mod Fragments
 -- what only private functions and proofs speak of
 pub mod inner

@@ -7,7 +7,7 @@ use Rattle.syntax.specs.Views.{program_of}
 use Rattle.syntax.specs.Names as Source
 use Rattle.lower_spec.specs.Expressions.{LocalScope}
 use Rattle.lower_exprs.specs.declared.program.ProgramNames.{ProgramNames}
-use Rattle.lower_exprs.specs.declared.scope.Scope.{Scope}
+use Rattle.lower_exprs.specs.declared.scope.LocalRegisters.{LocalRegisters}
 
 abbrev pub local_in : List ℕ × Scalar → Source.Local
 local_in l = record { name = l.0; ty = l.1; word = 0 }
@@ -16,5 +16,5 @@ module _ {A : Type 0} where
   abbrev pub program_in : ProgramNames A → Program
   program_in names = program_of names.unit.now
 
-  abbrev pub scope_in : Scope A → LocalScope
+  abbrev pub scope_in : LocalRegisters A → LocalScope
   scope_in scope = map local_in (locals_in scope.known)

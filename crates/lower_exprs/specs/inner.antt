@@ -1,4 +1,4 @@
 -- tables of names
 pub mod Tables
--- stretches of code of which a part stands there
+-- fragments of code of which a part stands there
 pub mod Stretches

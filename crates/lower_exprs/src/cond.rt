@@ -8,8 +8,8 @@ use selection::locations::ConditionRegister;
 use std::alloc::Allocator;
 use syntax::tree::{BinaryOp, Expr};
 
-fn is_nought<A: Allocator>(e: &Expr<A>) -> bool
-    ensures { result ≡ conditions.is_nought (expr_of e.now) }
+fn is_zero_constant<A: Allocator>(e: &Expr<A>) -> bool
+    ensures { result ≡ conditions.is_zero_constant (expr_of e.now) }
 {
     match e {
         Expr::Constant(0, _, _) => true,
@@ -21,7 +21,7 @@ fn is_nought<A: Allocator>(e: &Expr<A>) -> bool
 pub(crate) fn zero_test<A: Allocator>(op: BinaryOp, b: &Expr<A>) -> Option<bool>
     ensures { result ≡ conditions.zero_test op (expr_of b.now) }
 {
-    let nought = is_nought(b);
+    let nought = is_zero_constant(b);
     match op {
         BinaryOp::Equal => if nought { Some(true) } else { None },
         BinaryOp::NotEqual => if nought { Some(false) } else { None },

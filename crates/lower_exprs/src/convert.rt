@@ -6,13 +6,13 @@ ghost use Rattle.bytecode.specs.declared.instr.Instr.TheVariants as instr;
 ghost use Rattle.selection.specs.Expressions.{then_one, converting, converted_by};
 ghost use Rattle.selection.specs.Simples.{widening};
 ghost use Rattle.lower_exprs.specs.Lists.{lists_of};
-ghost use Rattle.lower_exprs.specs.Stretches.{AddsValue};
+ghost use Rattle.lower_exprs.specs.Fragments.{AddsValue};
 ghost use Rattle.lower_exprs.specs.inner.Stretches.{in_place};
 
 use crate::fault::Failure;
 use crate::lists::Lists;
+use crate::preloaded::constant_word;
 use crate::put::{put_one, take};
-use crate::ready::constant_word;
 use bytecode::Instr;
 use lex::token::Scalar;
 use selection::locations::ValueRegister;

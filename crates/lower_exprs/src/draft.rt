@@ -54,8 +54,8 @@ fn opposite(one: Draft) -> Draft
     }
 }
 
-fn led_on(op: LogicalOp, next: u32, one: Draft) -> Draft
-    ensures { result ≡ conditions.led_on op next one }
+fn with_second_at(op: LogicalOp, next: u32, one: Draft) -> Draft
+    ensures { result ≡ conditions.with_second_at op next one }
 {
     match op {
         LogicalOp::AndThen => match one {
@@ -122,10 +122,10 @@ fn lead_on<A: Allocator>(
     op: LogicalOp,
     next: u32,
 ) -> Result<(), AllocError>
-    ensures { OnOk result (drafts.new.items ≡ drafts.old.items ++ map (conditions.led_on op next) first.now) }
+    ensures { OnOk result (drafts.new.items ≡ drafts.old.items ++ map (conditions.with_second_at op next) first.now) }
 {
     'each: for one in first {
-        push(drafts, led_on(op, next, *one))?;
+        push(drafts, with_second_at(op, next, *one))?;
     }
     Ok(())
 }
@@ -153,7 +153,7 @@ pub(crate) fn put_first<A: Allocator>(
     t: ConditionRegister,
 ) -> Result<u32, AllocError>
     ensures code { OnOk result (drafts.new.items ≡ drafts.old.items
-        ++ (map (conditions.led_on op (t.to + 1)) first.now ++ conditions.short_jump op t ∷ [])) }
+        ++ (map (conditions.with_second_at op (t.to + 1)) first.now ++ conditions.short_jump op t ∷ [])) }
     ensures place { IfOk result (λ p. p ≡ t.to + 1) }
 {
     let next = after(t.to, 1)?;

@@ -7,15 +7,16 @@ ghost use Rattle.syntax.specs.Numbers.{word_of};
 ghost use Rattle.syntax.specs.Views.{expr_of, exprs_of, global_of, parameter_of};
 ghost use Rattle.bytecode.specs.declared.instr.Instr.TheVariants as instr;
 ghost use Rattle.lower_spec.specs.Expressions.{argument_order, named_ones, nameless_ones};
-ghost use Rattle.selection.specs.Lists.{Lists as Plain, holding};
+ghost use Rattle.selection.specs.Lists.{Lists as Plain, with_registers};
 ghost use Rattle.selection.specs.Conditions as conditions;
 ghost use Rattle.selection.specs.Expressions.{one, constant, variable, element, value_into, condition_value, call_code};
-ghost use Rattle.selection.specs.Expressions.{in_own_transaction, condition_of, taken_types, emitted, due, handed};
+ghost use Rattle.selection.specs.Expressions.{in_own_transaction, condition_of, taken_types, emit, as_type};
+ghost use Rattle.selection.specs.Expressions.{argument_value};
 ghost use Rattle.selection.specs.Expressions.{operand};
-ghost use Rattle.selection.specs.Expressions.{condition, both_conditions, conditional, types_of, all_emitted};
+ghost use Rattle.selection.specs.Expressions.{condition, both_conditions, conditional, types_of, emit_all};
 ghost use Rattle.lower_exprs.specs.Limits.{NeedsMore};
 ghost use Rattle.lower_exprs.specs.Lists.{lists_of};
-ghost use Rattle.lower_exprs.specs.Stretches.{AddsValue, AddsTest, AddsValues};
+ghost use Rattle.lower_exprs.specs.Fragments.{AddsValue, AddsTest, AddsValues};
 ghost use Rattle.lower_exprs.specs.inner.Stretches.{in_place, all_in_place, AddsFirst};
 ghost use Rattle.global_tables.specs.Tables.{shared_in};
 ghost use Rattle.lower_exprs.specs.inner.Tables.{callee_in};
@@ -27,13 +28,13 @@ use crate::draft::{keep, put_first, turn};
 use crate::fault::Failure;
 use crate::lists::Lists;
 use crate::names::{Callee, callee_of, global};
+use crate::preloaded::{constant_of, constant_word, preloaded_constant};
 use crate::program::ProgramNames;
 use crate::put::{
     above, after, put, put_answers, put_both, put_chosen, put_compared, put_complemented,
-    put_constant, put_in_transaction, put_negated, put_one, settle, take,
+    put_constant, put_in_transaction, put_into, put_negated, put_one, take,
 };
-use crate::ready::{constant_of, constant_ready, constant_word};
-use crate::scope::Scope;
+use crate::scope::LocalRegisters;
 use crate::value_type::value_type;
 use bytecode::Instr;
 use global_tables::Shared;
@@ -85,7 +86,7 @@ fn put_read<A: Allocator + Copy>(
 /// A variable's value.
 fn lower_variable<A: Allocator + Copy>(
     names: &ProgramNames<'_, A>,
-    scope: &Scope<'_, A>,
+    scope: &LocalRegisters<'_, A>,
     lists: &mut Lists<A>,
     code: &mut Vec<Instr, A>,
     x: &str,
@@ -196,10 +197,10 @@ fn push_arranged<A: Allocator>(
 }
 
 /// Notes that so many registers are used.
-fn hold<A: Allocator>(lists: &mut Lists<A>, count: usize) -> Result<u16, Failure>
-    ensures lists { OnOk result (lists_of lists.new ≡ holding count (lists_of lists.old)) }
+fn with_registers<A: Allocator>(lists: &mut Lists<A>, count: usize) -> Result<u16, Failure>
+    ensures lists { OnOk result (lists_of lists.new ≡ with_registers count (lists_of lists.old)) }
     ensures count { IfOk result (λ n. n ≡ count) }
-    ensures fails { IfErr result (λ why. NeedsMore why (holding count (lists_of lists.old)).registers) }
+    ensures fails { IfErr result (λ why. NeedsMore why (with_registers count (lists_of lists.old)).registers) }
 {
     if count > 65_535 {
         return Err(Failure::Registers);
@@ -216,21 +217,21 @@ fn hand_over<A: Allocator>(
     parameters: &[Parameter<A>],
     registers: &[u16],
 ) -> Result<(u32, u16), Failure>
-    ensures lists { let handed = argument_order (map parameter_of parameters.now) registers.now in
-        let arguments = lists.old.arguments.items ++ handed in
+    ensures lists { let in_order = argument_order (map parameter_of parameters.now) registers.now in
+        let arguments = lists.old.arguments.items ++ in_order in
         OnOk result (lists_of lists.new
-        ≡ holding (length handed) (record (lists_of lists.old) { arguments = arguments })) }
+        ≡ with_registers (length in_order) (record (lists_of lists.old) { arguments = arguments })) }
     ensures first { IfOk result (λ r. r.0 ≡ length lists.old.arguments.items) }
     ensures count { IfOk result (λ r. r.1 ≡ length (argument_order (map parameter_of parameters.now) registers.now)) }
     ensures fails { let n = length (argument_order (map parameter_of parameters.now) registers.now) in
-        IfErr result (λ why. NeedsMore why (holding n (lists_of lists.old)).registers) }
+        IfErr result (λ why. NeedsMore why (with_registers n (lists_of lists.old)).registers) }
 {
     let first = lists.arguments.len();
     if first > 4_294_967_295 {
         return Err(Failure::OutOfMemory);
     }
     let count = push_arranged(&mut lists.arguments, parameters, registers)?;
-    let count = hold(lists, count)?;
+    let count = with_registers(lists, count)?;
     Ok((first as u32, count))
 }
 
@@ -279,7 +280,7 @@ fn add_operand<A: Allocator>(
 #[cycle(lower_expr)]
 pub fn lower_expr<A: Allocator + Copy>(
     names: &ProgramNames<'_, A>,
-    scope: &Scope<'_, A>,
+    scope: &LocalRegisters<'_, A>,
     lists: &mut Lists<A>,
     code: &mut Vec<Instr, A>,
     e: &Expr<A>,
@@ -287,7 +288,7 @@ pub fn lower_expr<A: Allocator + Copy>(
     into: usize,
     free: usize,
 ) -> Result<ValueRegister, Failure>
-    ensures { AddsValue (emitted (program_in names.now) (scope_in scope.now) (expr_of e.now) from into free
+    ensures { AddsValue (emit (program_in names.now) (scope_in scope.now) (expr_of e.now) from into free
         (lists_of lists.old)) code.old code.new lists.new result }
 {
     match e {
@@ -323,7 +324,7 @@ pub fn lower_expr<A: Allocator + Copy>(
             lower_expr(names, scope, lists, code, e.get(), from, into, free)
         }
         Expr::Cast(ty, e, _) => {
-            lower_due(names, scope, lists, code, e.get(), *ty, from, into, free)
+            lower_as(names, scope, lists, code, e.get(), *ty, from, into, free)
         }
         Expr::Unary(op, e, _) => match op {
             UnaryOp::Keep => lower_expr(names, scope, lists, code, e.get(), from, into, free),
@@ -345,7 +346,7 @@ pub fn lower_expr<A: Allocator + Copy>(
             let other = value_type(names, scope, right.get());
             let ty = operand_type(*op, own, other);
             let due = operand_type(*op, other, own);
-            let a = lower_due(names, scope, lists, code, left.get(), ty, from, free, free)?;
+            let a = lower_as(names, scope, lists, code, left.get(), ty, from, free, free)?;
             let later = above(free, a.register);
             let b = lower_operand(names, scope, lists, code, right.get(), due, a.to, later)?;
             put_both(lists, code, *op, ty, a, b, into)
@@ -398,9 +399,9 @@ pub fn lower_expr<A: Allocator + Copy>(
 
 /// An expression's value in the type that is due: it is converted, and a constant is set as what it is converted to.
 #[cycle(lower_expr)]
-pub fn lower_due<A: Allocator + Copy>(
+pub fn lower_as<A: Allocator + Copy>(
     names: &ProgramNames<'_, A>,
-    scope: &Scope<'_, A>,
+    scope: &LocalRegisters<'_, A>,
     lists: &mut Lists<A>,
     code: &mut Vec<Instr, A>,
     e: &Expr<A>,
@@ -409,7 +410,7 @@ pub fn lower_due<A: Allocator + Copy>(
     into: usize,
     free: usize,
 ) -> Result<ValueRegister, Failure>
-    ensures { AddsValue (due (program_in names.now) (scope_in scope.now) ty (expr_of e.now) from into free
+    ensures { AddsValue (as_type (program_in names.now) (scope_in scope.now) ty (expr_of e.now) from into free
         (lists_of lists.old)) code.old code.new lists.new result }
 {
     match constant_of(e) {
@@ -427,7 +428,7 @@ pub fn lower_due<A: Allocator + Copy>(
 #[cycle(lower_expr)]
 pub(crate) fn lower_operand<A: Allocator + Copy>(
     names: &ProgramNames<'_, A>,
-    scope: &Scope<'_, A>,
+    scope: &LocalRegisters<'_, A>,
     lists: &mut Lists<A>,
     code: &mut Vec<Instr, A>,
     e: &Expr<A>,
@@ -438,9 +439,9 @@ pub(crate) fn lower_operand<A: Allocator + Copy>(
     ensures { AddsValue (operand (program_in names.now) (scope_in scope.now) ty (expr_of e.now) from free
         (lists_of lists.old)) code.old code.new lists.new result }
 {
-    match constant_ready(lists, ty, e, from) {
-        Some(held) => Ok(held),
-        None => lower_due(names, scope, lists, code, e, ty, from, free, free),
+    match preloaded_constant(lists, ty, e, from) {
+        Some(location) => Ok(location),
+        None => lower_as(names, scope, lists, code, e, ty, from, free, free),
     }
 }
 
@@ -448,7 +449,7 @@ pub(crate) fn lower_operand<A: Allocator + Copy>(
 #[cycle(lower_expr)]
 fn lower_call<A: Allocator + Copy>(
     names: &ProgramNames<'_, A>,
-    scope: &Scope<'_, A>,
+    scope: &LocalRegisters<'_, A>,
     lists: &mut Lists<A>,
     code: &mut Vec<Instr, A>,
     registers: &mut SmallVec<u16, 4, &A>,
@@ -460,7 +461,7 @@ fn lower_call<A: Allocator + Copy>(
 ) -> Result<ValueRegister, Failure>
     requires { registers.old.items ≡ [] }
     ensures { AddsValue (call_code (Some (callee_in f.entry))
-        (all_emitted (program_in names.now) (scope_in scope.now) (taken_types (Some (callee_in f.entry)))
+        (emit_all (program_in names.now) (scope_in scope.now) (taken_types (Some (callee_in f.entry)))
         (exprs_of all.now) from free (lists_of lists.old))
         from into (lists_of lists.old)) code.old code.new lists.new result }
 {
@@ -483,7 +484,7 @@ fn lower_call<A: Allocator + Copy>(
 #[cycle(lower_expr)]
 fn lower_logical<A: Allocator + Copy>(
     names: &ProgramNames<'_, A>,
-    scope: &Scope<'_, A>,
+    scope: &LocalRegisters<'_, A>,
     lists: &mut Lists<A>,
     code: &mut Vec<Instr, A>,
     test: &mut Vec<Draft, A>,
@@ -515,7 +516,7 @@ fn lower_logical<A: Allocator + Copy>(
 #[cycle(lower_expr)]
 fn lower_conditional<A: Allocator + Copy>(
     names: &ProgramNames<'_, A>,
-    scope: &Scope<'_, A>,
+    scope: &LocalRegisters<'_, A>,
     lists: &mut Lists<A>,
     code: &mut Vec<Instr, A>,
     test: &mut Vec<Draft, A>,
@@ -544,17 +545,17 @@ fn lower_conditional<A: Allocator + Copy>(
     let ty = common_type(own, another);
     let t = lower_condition(names, scope, lists, test, c, from, free)?;
     let next = after(t.to, 1)?;
-    let a = lower_settled(names, scope, lists, first, left, ty, next, into, free)?;
+    let a = lower_into(names, scope, lists, first, left, ty, next, into, free)?;
     let other = after(a.to, 1)?;
-    let b = lower_settled(names, scope, lists, second, right, ty, other, into, free)?;
+    let b = lower_into(names, scope, lists, second, right, ty, other, into, free)?;
     put_chosen(code, ty, test.as_slice(), t, first, a, second, b)
 }
 
 /// An expression's value in this type and in this very register.
 #[cycle(lower_expr)]
-fn lower_settled<A: Allocator + Copy>(
+fn lower_into<A: Allocator + Copy>(
     names: &ProgramNames<'_, A>,
-    scope: &Scope<'_, A>,
+    scope: &LocalRegisters<'_, A>,
     lists: &mut Lists<A>,
     code: &mut Vec<Instr, A>,
     e: &Expr<A>,
@@ -564,19 +565,19 @@ fn lower_settled<A: Allocator + Copy>(
     free: usize,
 ) -> Result<ValueRegister, Failure>
     ensures code { AddsValue (value_into into
-        (due (program_in names.now) (scope_in scope.now) ty (expr_of e.now) from into free (lists_of lists.old)))
+        (as_type (program_in names.now) (scope_in scope.now) ty (expr_of e.now) from into free (lists_of lists.old)))
         code.old code.new lists.new result }
-    ensures register { IfOk result (λ held. held.register ≡ into) }
+    ensures register { IfOk result (λ location. location.register ≡ into) }
 {
-    let held = lower_due(names, scope, lists, code, e, ty, from, into, free)?;
-    settle(lists, code, held, into)
+    let location = lower_as(names, scope, lists, code, e, ty, from, into, free)?;
+    put_into(lists, code, location, into)
 }
 
 /// A value that is computed in a transaction of its own.
 #[cycle(lower_expr)]
 fn lower_in_transaction<A: Allocator + Copy>(
     names: &ProgramNames<'_, A>,
-    scope: &Scope<'_, A>,
+    scope: &LocalRegisters<'_, A>,
     lists: &mut Lists<A>,
     code: &mut Vec<Instr, A>,
     e: &Expr<A>,
@@ -585,21 +586,21 @@ fn lower_in_transaction<A: Allocator + Copy>(
     free: usize,
 ) -> Result<ValueRegister, Failure>
     ensures { AddsValue (in_own_transaction
-        (emitted (program_in names.now) (scope_in scope.now) (expr_of e.now) (from + 1) into free
+        (emit (program_in names.now) (scope_in scope.now) (expr_of e.now) (from + 1) into free
         (lists_of lists.old)))
         code.old code.new lists.new result }
 {
     let next = after(from, 1)?;
     let mut operand = Vec::new(names.alloc);
-    let held = lower_expr(names, scope, lists, &mut operand, e, next, into, free)?;
-    put_in_transaction(code, &mut operand, held)
+    let location = lower_expr(names, scope, lists, &mut operand, e, next, into, free)?;
+    put_in_transaction(code, &mut operand, location)
 }
 
 /// A condition that is tested by its value.
 #[cycle(lower_expr)]
 fn lower_value<A: Allocator + Copy>(
     names: &ProgramNames<'_, A>,
-    scope: &Scope<'_, A>,
+    scope: &LocalRegisters<'_, A>,
     lists: &mut Lists<A>,
     drafts: &mut Vec<Draft, A>,
     e: &Expr<A>,
@@ -607,16 +608,16 @@ fn lower_value<A: Allocator + Copy>(
     free: usize,
 ) -> Result<ConditionRegister, Failure>
     ensures { AddsTest (condition_of None
-        (emitted (program_in names.now) (scope_in scope.now) (expr_of e.now) from free free (lists_of lists.old)))
+        (emit (program_in names.now) (scope_in scope.now) (expr_of e.now) from free free (lists_of lists.old)))
         drafts.old drafts.new lists.new result }
 {
     let mut code = Vec::new(names.alloc);
-    let held = lower_expr(names, scope, lists, &mut code, e, from, free, free)?;
+    let location = lower_expr(names, scope, lists, &mut code, e, from, free, free)?;
     keep(drafts, code.as_slice())?;
     Ok(ConditionRegister {
-        register: held.register,
+        register: location.register,
         at_zero: false,
-        to: held.to,
+        to: location.to,
     })
 }
 
@@ -624,7 +625,7 @@ fn lower_value<A: Allocator + Copy>(
 #[cycle(lower_expr)]
 fn lower_opposite<A: Allocator + Copy>(
     names: &ProgramNames<'_, A>,
-    scope: &Scope<'_, A>,
+    scope: &LocalRegisters<'_, A>,
     lists: &mut Lists<A>,
     drafts: &mut Vec<Draft, A>,
     e: &Expr<A>,
@@ -645,7 +646,7 @@ fn lower_opposite<A: Allocator + Copy>(
 #[cycle(lower_expr)]
 fn lower_first<A: Allocator + Copy>(
     names: &ProgramNames<'_, A>,
-    scope: &Scope<'_, A>,
+    scope: &LocalRegisters<'_, A>,
     lists: &mut Lists<A>,
     drafts: &mut Vec<Draft, A>,
     op: LogicalOp,
@@ -666,7 +667,7 @@ fn lower_first<A: Allocator + Copy>(
 #[cycle(lower_expr)]
 pub fn lower_condition<A: Allocator + Copy>(
     names: &ProgramNames<'_, A>,
-    scope: &Scope<'_, A>,
+    scope: &LocalRegisters<'_, A>,
     lists: &mut Lists<A>,
     drafts: &mut Vec<Draft, A>,
     e: &Expr<A>,
@@ -714,9 +715,9 @@ pub fn lower_condition<A: Allocator + Copy>(
 
 /// One of several values, in the type of the parameter of its number, if there is one.
 #[cycle(lower_expr)]
-fn lower_handed<A: Allocator + Copy>(
+fn lower_argument<A: Allocator + Copy>(
     names: &ProgramNames<'_, A>,
-    scope: &Scope<'_, A>,
+    scope: &LocalRegisters<'_, A>,
     lists: &mut Lists<A>,
     code: &mut Vec<Instr, A>,
     parameters: &[Parameter<A>],
@@ -725,13 +726,13 @@ fn lower_handed<A: Allocator + Copy>(
     from: u32,
     free: usize,
 ) -> Result<ValueRegister, Failure>
-    ensures { AddsValue (handed (program_in names.now) (scope_in scope.now)
+    ensures { AddsValue (argument_value (program_in names.now) (scope_in scope.now)
         (drop number (types_of (map parameter_of parameters.now))) (expr_of e.now) from free (lists_of lists.old))
         code.old code.new lists.new result }
 {
     if number < parameters.len() {
         let ty = parameters[number].ty;
-        lower_due(names, scope, lists, code, e, ty, from, free, free)
+        lower_as(names, scope, lists, code, e, ty, from, free, free)
     } else {
         lower_expr(names, scope, lists, code, e, from, free, free)
     }
@@ -742,7 +743,7 @@ fn lower_handed<A: Allocator + Copy>(
 #[cycle(lower_expr)]
 pub fn lower_all<A: Allocator + Copy>(
     names: &ProgramNames<'_, A>,
-    scope: &Scope<'_, A>,
+    scope: &LocalRegisters<'_, A>,
     lists: &mut Lists<A>,
     code: &mut Vec<Instr, A>,
     registers: &mut SmallVec<u16, 4, &A>,
@@ -752,9 +753,9 @@ pub fn lower_all<A: Allocator + Copy>(
     free: usize,
 ) -> Result<u32, Failure>
     ensures registers { OnOk result (registers.new.items ≡ registers.old.items
-        ++ (all_emitted (program_in names.now) (scope_in scope.now) (types_of (map parameter_of parameters.now))
+        ++ (emit_all (program_in names.now) (scope_in scope.now) (types_of (map parameter_of parameters.now))
         (exprs_of all.now) from free (lists_of lists.old)).registers) }
-    ensures code { AddsValues (all_emitted (program_in names.now) (scope_in scope.now)
+    ensures code { AddsValues (emit_all (program_in names.now) (scope_in scope.now)
         (types_of (map parameter_of parameters.now)) (exprs_of all.now) from free (lists_of lists.old))
         code.old code.new lists.new result }
 {
@@ -762,12 +763,12 @@ pub fn lower_all<A: Allocator + Copy>(
     let mut later = free;
     let mut number = 0;
     'each: for one in all {
-        let held = lower_handed(
+        let location = lower_argument(
             names, scope, lists, code, parameters, number, one, to, later,
         )?;
-        add_operand(registers, held.register)?;
-        later = above(later, held.register);
-        to = held.to;
+        add_operand(registers, location.register)?;
+        later = above(later, location.register);
+        to = location.to;
         number += 1;
     }
     Ok(to)

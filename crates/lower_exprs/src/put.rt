@@ -5,7 +5,7 @@ ghost use Rattle.selection.specs.Lists.{Lists as Plain, with_register};
 ghost use Rattle.selection.specs.Expressions as expressions;
 ghost use Rattle.lower_exprs.specs.Limits.{NeedsMore};
 ghost use Rattle.lower_exprs.specs.Lists.{lists_of};
-ghost use Rattle.lower_exprs.specs.Stretches.{Adds, AddsValue, of_value};
+ghost use Rattle.lower_exprs.specs.Fragments.{Adds, AddsValue, of_value};
 ghost use Rattle.lower_exprs.specs.inner.Stretches.{in_place, standing, test_in_place};
 
 use crate::draft::put_test;
@@ -112,26 +112,26 @@ pub(crate) fn put_constant<A: Allocator>(
 }
 
 /// A value in this very register.
-pub(crate) fn settle<A: Allocator>(
+pub(crate) fn put_into<A: Allocator>(
     lists: &mut Lists<A>,
     code: &mut Vec<Instr, A>,
-    held: ValueRegister,
+    location: ValueRegister,
     r: usize,
 ) -> Result<ValueRegister, Failure>
-    ensures code { AddsValue (expressions.value_into r (in_place held (lists_of lists.old)))
+    ensures code { AddsValue (expressions.value_into r (in_place location (lists_of lists.old)))
         code.old code.new lists.new result }
     ensures register { IfOk result (λ now. now.register ≡ r) }
 {
-    if held.register as usize == r {
-        return Ok(held);
+    if location.register as usize == r {
+        return Ok(location);
     }
     let register = take(lists, r)?;
     Ok(put_one(
         code,
-        Instr::Move(register, held.register),
-        held.to,
+        Instr::Move(register, location.register),
+        location.to,
         register,
-        held.ty,
+        location.ty,
     )?)
 }
 
@@ -370,18 +370,18 @@ pub(crate) fn put_chosen<A: Allocator>(
 pub(crate) fn put_in_transaction<A: Allocator>(
     code: &mut Vec<Instr, A>,
     operand: &mut Vec<Instr, A>,
-    held: ValueRegister,
+    location: ValueRegister,
 ) -> Result<ValueRegister, Failure>
-    ensures { (l : Plain) → Adds (of_value (expressions.in_own_transaction (standing operand.old.items held l)))
+    ensures { (l : Plain) → Adds (of_value (expressions.in_own_transaction (standing operand.old.items location l)))
         code.old.items code.new.items l result }
 {
-    let to = after(held.to, 1)?;
+    let to = after(location.to, 1)?;
     put(code, Instr::Begin(to))?;
     append(code, operand)?;
     put(code, Instr::Commit)?;
     Ok(ValueRegister {
-        register: held.register,
-        ty: held.ty,
+        register: location.register,
+        ty: location.ty,
         to,
     })
 }

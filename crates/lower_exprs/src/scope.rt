@@ -11,16 +11,16 @@ use std::alloc::{AllocError, Allocator};
 
 /// The locals that are known at a place, in order of declaration: a local's number is its register.
 #[derive(Drop)]
-pub struct Scope<'p, A: Allocator> {
+pub struct LocalRegisters<'p, A: Allocator> {
     pub(crate) known: name_tables::Scope<'p, Scalar, A>,
 }
 
-impl<'p, A: Allocator + Copy> Scope<'p, A> {
+impl<'p, A: Allocator + Copy> LocalRegisters<'p, A> {
     /// No locals of a program. Takes no memory.
-    pub fn new(names: &ProgramNames<'p, A>) -> Scope<'p, A>
+    pub fn new(names: &ProgramNames<'p, A>) -> LocalRegisters<'p, A>
         ensures { scope_in result ≡ [] }
     {
-        Scope {
+        LocalRegisters {
             known: name_tables::Scope::new(names.alloc, names.key),
         }
     }

@@ -8,12 +8,13 @@ ghost use Rattle.bytecode.specs.declared.instr.Instr.{Instr};
 ghost use Rattle.lower_spec.specs.Statements.{with_local, with_declared, locals_of_start};
 ghost use Rattle.selection.specs.Lists.{Lists as Plain};
 ghost use Rattle.selection.specs.Simples as simples;
-ghost use Rattle.selection.specs.Simples.{emitted_one, value_or_one, aimed, variable_target, element_target};
+ghost use Rattle.selection.specs.Simples.{emitted_one, value_or_one, target_code, variable_target, element_target};
 ghost use Rattle.selection.specs.Simples.{target_value};
-ghost use Rattle.selection.specs.Simples.{target_store, assigned, changed, adjusted, simple_written, first_written};
+ghost use Rattle.selection.specs.Simples.{target_store, assignment_code, compound_value, compound_code, simple_written};
+ghost use Rattle.selection.specs.Simples.{first_written};
 ghost use Rattle.selection.specs.Simples.{declarator_written, declared_written, start_written};
 ghost use Rattle.lower_exprs.specs.Lists.{lists_of};
-ghost use Rattle.lower_exprs.specs.Stretches.{Adds, AddsValue, Writes, of_written};
+ghost use Rattle.lower_exprs.specs.Fragments.{Adds, AddsValue, AddsWritten, of_written};
 ghost use Rattle.lower_exprs.specs.inner.Stretches.{in_place, of_aim, Aims};
 ghost use Rattle.global_tables.specs.Tables.{shared_in};
 ghost use Rattle.lower_exprs.specs.Views.{program_in, scope_in};
@@ -24,10 +25,10 @@ use crate::expr::{lower_expr, lower_operand};
 use crate::fault::Failure;
 use crate::lists::Lists;
 use crate::names::global;
+use crate::preloaded::{constant_of, preloaded};
 use crate::program::ProgramNames;
 use crate::put::{above, after, put, put_both, put_constant, put_one, take};
-use crate::ready::{constant_of, ready};
-use crate::scope::Scope;
+use crate::scope::LocalRegisters;
 use crate::value_type::value_type;
 use bytecode::Instr;
 use global_tables::Shared;
@@ -46,7 +47,7 @@ fn aim_at(target: AssignmentTarget, to: u32) -> Aim
 /// Where an assignment to a variable goes.
 fn aim_variable<A: Allocator + Copy>(
     names: &ProgramNames<'_, A>,
-    scope: &Scope<'_, A>,
+    scope: &LocalRegisters<'_, A>,
     lists: &mut Lists<A>,
     x: &str,
     from: u32,
@@ -91,7 +92,7 @@ fn put_check<A: Allocator + Copy>(
 /// Where an assignment goes.
 fn aim<A: Allocator + Copy>(
     names: &ProgramNames<'_, A>,
-    scope: &Scope<'_, A>,
+    scope: &LocalRegisters<'_, A>,
     lists: &mut Lists<A>,
     code: &mut Vec<Instr, A>,
     check: bool,
@@ -99,7 +100,7 @@ fn aim<A: Allocator + Copy>(
     from: u32,
     free: usize,
 ) -> Result<Aim, Failure>
-    ensures { Aims (aimed (program_in names.now) (scope_in scope.now) check (expr_of e.now) from free
+    ensures { Aims (target_code (program_in names.now) (scope_in scope.now) check (expr_of e.now) from free
         (lists_of lists.old)) code.old code.new lists.new result }
 {
     match e {
@@ -231,7 +232,7 @@ fn put_fitting<A: Allocator>(
 /// An expression's value on its way to a target.
 fn lower_fitting<A: Allocator + Copy>(
     names: &ProgramNames<'_, A>,
-    scope: &Scope<'_, A>,
+    scope: &LocalRegisters<'_, A>,
     lists: &mut Lists<A>,
     code: &mut Vec<Instr, A>,
     target: AssignmentTarget,
@@ -240,7 +241,8 @@ fn lower_fitting<A: Allocator + Copy>(
     home: usize,
     free: usize,
 ) -> Result<ValueRegister, Failure>
-    ensures { AddsValue (simples.placed (program_in names.now) (scope_in scope.now) target (expr_of e.now) from home
+    ensures { AddsValue (simples.stored_value (program_in names.now) (scope_in scope.now) target
+        (expr_of e.now) from home
         free (lists_of lists.old)) code.old code.new lists.new result }
 {
     match constant_of(e) {
@@ -258,7 +260,7 @@ fn lower_fitting<A: Allocator + Copy>(
 /// `to = value`
 fn lower_assign<A: Allocator + Copy>(
     names: &ProgramNames<'_, A>,
-    scope: &Scope<'_, A>,
+    scope: &LocalRegisters<'_, A>,
     lists: &mut Lists<A>,
     code: &mut Vec<Instr, A>,
     to: &Expr<A>,
@@ -266,16 +268,17 @@ fn lower_assign<A: Allocator + Copy>(
     from: u32,
     free: usize,
 ) -> Result<u32, Failure>
-    ensures { Writes (assigned (program_in names.now) (scope_in scope.now) (expr_of to.now) (expr_of value.now) from
+    ensures { AddsWritten (assignment_code (program_in names.now) (scope_in scope.now) (expr_of to.now)
+        (expr_of value.now) from
         free (lists_of lists.old)) code.old code.new lists.new result }
 {
     let aim = aim(names, scope, lists, code, true, to, from, free)?;
     let later = above_target(aim.target, free);
     let home = home_or(aim.target, later);
-    let held = lower_fitting(
+    let location = lower_fitting(
         names, scope, lists, code, aim.target, value, aim.to, home, later,
     )?;
-    store(code, aim.target, held.register, held.to)
+    store(code, aim.target, location.register, location.to)
 }
 
 /// The 1 that is added or subtracted, in this type.
@@ -288,8 +291,8 @@ fn lower_one<A: Allocator>(
 ) -> Result<ValueRegister, Failure>
     ensures { AddsValue (emitted_one ty from free (lists_of lists.old)) code.old code.new lists.new result }
 {
-    match ready(lists, 1, ty, from) {
-        Some(held) => Ok(held),
+    match preloaded(lists, 1, ty, from) {
+        Some(location) => Ok(location),
         None => put_constant(lists, code, 1, ty, from, free),
     }
 }
@@ -297,7 +300,7 @@ fn lower_one<A: Allocator>(
 /// The type of the right side of an operator.
 fn type_or_int<A: Allocator + Copy>(
     names: &ProgramNames<'_, A>,
-    scope: &Scope<'_, A>,
+    scope: &LocalRegisters<'_, A>,
     by: Option<&Expr<A>>,
 ) -> Scalar
     ensures { result ≡ simples.type_or_int (program_in names.now) (scope_in scope.now)
@@ -312,7 +315,7 @@ fn type_or_int<A: Allocator + Copy>(
 /// The right side of an operator in this type: a value, or else the 1 that is added or subtracted.
 fn lower_by<A: Allocator + Copy>(
     names: &ProgramNames<'_, A>,
-    scope: &Scope<'_, A>,
+    scope: &LocalRegisters<'_, A>,
     lists: &mut Lists<A>,
     code: &mut Vec<Instr, A>,
     ty: Scalar,
@@ -333,7 +336,7 @@ fn lower_by<A: Allocator + Copy>(
 /// The old value, another one, and the operator on both, as it goes to the target.
 fn lower_changed<'e, A: Allocator + Copy>(
     names: &ProgramNames<'_, A>,
-    scope: &Scope<'_, A>,
+    scope: &LocalRegisters<'_, A>,
     lists: &mut Lists<A>,
     code: &mut Vec<Instr, A>,
     op: BinaryOp,
@@ -342,7 +345,7 @@ fn lower_changed<'e, A: Allocator + Copy>(
     from: u32,
     free: usize,
 ) -> Result<ValueRegister, Failure>
-    ensures { AddsValue (changed (program_in names.now) (scope_in scope.now) op
+    ensures { AddsValue (compound_value (program_in names.now) (scope_in scope.now) op
         (option_map expr_of (option_copied by.entry)) target from free (lists_of lists.old))
         code.old code.new lists.new result }
 {
@@ -355,14 +358,14 @@ fn lower_changed<'e, A: Allocator + Copy>(
     let behind = above(free, old.register);
     let right = lower_by(names, scope, lists, code, due, by, old.to, behind)?;
     let home = home_or(target, free);
-    let held = put_both(lists, code, op, ty, old, right, home)?;
-    put_fitting(lists, code, target, result_type(op, ty), held, home)
+    let location = put_both(lists, code, op, ty, old, right, home)?;
+    put_fitting(lists, code, target, result_type(op, ty), location, home)
 }
 
 /// `to op= by`; with no `by`, `to++` or `to--`
 fn lower_adjust<'e, A: Allocator + Copy>(
     names: &ProgramNames<'_, A>,
-    scope: &Scope<'_, A>,
+    scope: &LocalRegisters<'_, A>,
     lists: &mut Lists<A>,
     code: &mut Vec<Instr, A>,
     op: BinaryOp,
@@ -371,33 +374,33 @@ fn lower_adjust<'e, A: Allocator + Copy>(
     from: u32,
     free: usize,
 ) -> Result<u32, Failure>
-    ensures { Writes (adjusted (program_in names.now) (scope_in scope.now) op (expr_of to.now)
+    ensures { AddsWritten (compound_code (program_in names.now) (scope_in scope.now) op (expr_of to.now)
         (option_map expr_of (option_copied by.entry)) from free (lists_of lists.old))
         code.old code.new lists.new result }
 {
     let aim = aim(names, scope, lists, code, false, to, from, free)?;
     let later = above_target(aim.target, free);
-    let held = lower_changed(names, scope, lists, code, op, by, aim.target, aim.to, later)?;
-    store(code, aim.target, held.register, held.to)
+    let location = lower_changed(names, scope, lists, code, op, by, aim.target, aim.to, later)?;
+    store(code, aim.target, location.register, location.to)
 }
 
 /// An expression that stands as a statement, or an assignment.
 pub fn lower_simple<A: Allocator + Copy>(
     names: &ProgramNames<'_, A>,
-    scope: &Scope<'_, A>,
+    scope: &LocalRegisters<'_, A>,
     lists: &mut Lists<A>,
     code: &mut Vec<Instr, A>,
     s: &Simple<A>,
     from: u32,
     free: usize,
 ) -> Result<u32, Failure>
-    ensures { Writes (simple_written (program_in names.now) (scope_in scope.now) (simple_of s.now) from free
+    ensures { AddsWritten (simple_written (program_in names.now) (scope_in scope.now) (simple_of s.now) from free
         (lists_of lists.old)) code.old code.new lists.new result }
 {
     match s {
         Simple::Evaluate(e) => {
-            let held = lower_expr(names, scope, lists, code, e, from, free, free)?;
-            Ok(held.to)
+            let location = lower_expr(names, scope, lists, code, e, from, free, free)?;
+            Ok(location.to)
         }
         Simple::Assign(to, op, value) => match op {
             None => lower_assign(names, scope, lists, code, to, value, from, free),
@@ -424,7 +427,7 @@ pub fn lower_simple<A: Allocator + Copy>(
 /// The first value of the local in this register.
 fn lower_first<A: Allocator + Copy>(
     names: &ProgramNames<'_, A>,
-    scope: &Scope<'_, A>,
+    scope: &LocalRegisters<'_, A>,
     lists: &mut Lists<A>,
     code: &mut Vec<Instr, A>,
     register: u16,
@@ -432,15 +435,15 @@ fn lower_first<A: Allocator + Copy>(
     first: &Option<Expr<A>>,
     from: u32,
 ) -> Result<u32, Failure>
-    ensures { Writes (first_written (program_in names.now) (scope_in scope.now) register ty
+    ensures { AddsWritten (first_written (program_in names.now) (scope_in scope.now) register ty
         (option_map expr_of first.now) from (lists_of lists.old)) code.old code.new lists.new result }
 {
     match first {
         Some(e) => {
             let i = register as usize;
             let target = AssignmentTarget::Local(register, ty);
-            let held = lower_fitting(names, scope, lists, code, target, e, from, i, i + 1)?;
-            store(code, target, held.register, held.to)
+            let location = lower_fitting(names, scope, lists, code, target, e, from, i, i + 1)?;
+            store(code, target, location.register, location.to)
         }
         None => Ok(from),
     }
@@ -449,7 +452,7 @@ fn lower_first<A: Allocator + Copy>(
 /// A declared local is 0 and then has its first value.
 fn lower_declarator<'p, A: Allocator + Copy>(
     names: &ProgramNames<'p, A>,
-    scope: &mut Scope<'p, A>,
+    scope: &mut LocalRegisters<'p, A>,
     lists: &mut Lists<A>,
     code: &mut Vec<Instr, A>,
     ty: Scalar,
@@ -457,7 +460,8 @@ fn lower_declarator<'p, A: Allocator + Copy>(
     from: u32,
 ) -> Result<u32, Failure>
     ensures scope { OnOk result (scope_in scope.new ≡ with_local (scope_in scope.old) d.now.name.text ty) }
-    ensures code { Writes (declarator_written (program_in names.now) ty (declarator_of d.now) (scope_in scope.old) from
+    ensures code { AddsWritten
+        (declarator_written (program_in names.now) ty (declarator_of d.now) (scope_in scope.old) from
         (lists_of lists.old)) code.old code.new lists.new result }
 {
     let register = take(lists, scope.len())?;
@@ -470,7 +474,7 @@ fn lower_declarator<'p, A: Allocator + Copy>(
 /// The locals of one declaration, in order.
 pub fn lower_declarators<'p, A: Allocator + Copy>(
     names: &ProgramNames<'p, A>,
-    scope: &mut Scope<'p, A>,
+    scope: &mut LocalRegisters<'p, A>,
     lists: &mut Lists<A>,
     code: &mut Vec<Instr, A>,
     ty: Scalar,
@@ -479,7 +483,8 @@ pub fn lower_declarators<'p, A: Allocator + Copy>(
 ) -> Result<u32, Failure>
     ensures scope { OnOk result (scope_in scope.new ≡ with_declared ty (map declarator_of all.now)
         (scope_in scope.old)) }
-    ensures code { Writes (declared_written (program_in names.now) ty (map declarator_of all.now) (scope_in scope.old)
+    ensures code { AddsWritten
+        (declared_written (program_in names.now) ty (map declarator_of all.now) (scope_in scope.old)
         from (lists_of lists.old)) code.old code.new lists.new result }
 {
     let mut to = from;
@@ -492,14 +497,14 @@ pub fn lower_declarators<'p, A: Allocator + Copy>(
 /// What the head of a `for` begins with.
 pub fn lower_start<'p, A: Allocator + Copy>(
     names: &ProgramNames<'p, A>,
-    scope: &mut Scope<'p, A>,
+    scope: &mut LocalRegisters<'p, A>,
     lists: &mut Lists<A>,
     code: &mut Vec<Instr, A>,
     start: &'p Start<A>,
     from: u32,
 ) -> Result<u32, Failure>
     ensures scope { OnOk result (scope_in scope.new ≡ locals_of_start (start_of start.now) (scope_in scope.old)) }
-    ensures code { Writes (start_written (program_in names.now) (start_of start.now) (scope_in scope.old) from
+    ensures code { AddsWritten (start_written (program_in names.now) (start_of start.now) (scope_in scope.old) from
         (lists_of lists.old)) code.old code.new lists.new result }
 {
     match start {

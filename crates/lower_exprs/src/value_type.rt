@@ -9,7 +9,7 @@ ghost use Rattle.lower_exprs.specs.Views.{program_in, scope_in};
 
 use crate::names::{callee_of, global};
 use crate::program::ProgramNames;
-use crate::scope::Scope;
+use crate::scope::LocalRegisters;
 use lex::token::Scalar;
 use std::alloc::Allocator;
 use syntax::tree::{Expr, UnaryOp};
@@ -18,7 +18,7 @@ use syntax::types::{common_type, operand_type, result_type};
 /// The type of a variable's value.
 fn type_of_variable<A: Allocator + Copy>(
     names: &ProgramNames<'_, A>,
-    scope: &Scope<'_, A>,
+    scope: &LocalRegisters<'_, A>,
     x: &str,
 ) -> Scalar
     ensures { result ≡ variable_type (Source.newest (scope_in scope.now) x.now)
@@ -37,7 +37,7 @@ fn type_of_variable<A: Allocator + Copy>(
 #[cycle(value_type)]
 pub(crate) fn value_type<A: Allocator + Copy>(
     names: &ProgramNames<'_, A>,
-    scope: &Scope<'_, A>,
+    scope: &LocalRegisters<'_, A>,
     e: &Expr<A>,
 ) -> Scalar
     ensures { result ≡ emitted_type (program_in names.now) (scope_in scope.now) (expr_of e.now) }

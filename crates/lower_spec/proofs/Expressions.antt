@@ -14,7 +14,7 @@ use Rattle.syntax.specs.Names.{definition_of}
 use Rattle.bytecode.specs.Code.{FunctionCode}
 use Rattle.syntax.specs.Tree.{Exprs, Stmts, Function, Expr, Variable, Constant, Element, Call, Parenthesized, Cast, Unary, Binary, Logical, Conditional, InTransaction, Program}
 use Rattle.syntax.specs.declared.tree.Mode.{Mode}
-use Rattle.syntax.specs.declared.tree.Kind.TheVariants.{Plain}
+use Rattle.syntax.specs.declared.tree.TransactionKind.TheVariants.{Plain}
 use Rattle.syntax.specs.declared.numbers.Halt.TheVariants.{Wants, Astray}
 use Rattle.syntax.specs.declared.numbers.Trap.{Trap}
 use Rattle.syntax.specs.declared.numbers.Trap.TheVariants.{Index}
@@ -25,7 +25,7 @@ use Rattle.syntax.specs.Types.{type_of, running_scope}
 use Rattle.syntax.specs.Laws.{shape}
 use Rattle.syntax.specs.Behaviours.{Memory, Outcome}
 use Rattle.syntax.specs.Actions.{Outside, Inside, State, Answer, Gives, Stops, Action, pure, stop, go_on, ◌>>=◌, ◌>>◌, tick, trap, or_trap, or_astray, locals}
-use Rattle.syntax.specs.Meaning.{Spot, InLocal, InCell, Completion, Returns, fetch, close_inner, close, transaction, value_at, value_transaction, Caller, spot_from, expr, exprs}
+use Rattle.syntax.specs.Meaning.{Lvalue, InLocal, InCell, Completion, Returns, fetch, close_inner, close, transaction, value_at, value_transaction, Caller, lvalue_from, expr, exprs}
 use Rattle.std.specs.Option.{option_or}
 use Rattle.std.specs.Prelude.{bytes_eq, neg_ℤ}
 use Rattle.syntax.specs.Numbers.{fit_result}
@@ -36,7 +36,7 @@ use Rattle.lower_spec.specs.Expressions.{ValueTransactionCode, LocalScope, IsLik
 use Rattle.lower_spec.proofs.Locals.{word_typed, type_like, KnownLocal, newest_known}
 use Rattle.lower_spec.proofs.Conversions.{unconverted, truth_under, truth_converted, zero_in, zero_kept, operated_below}
 use Rattle.lower_spec.proofs.Agreement.{Agrees, astray, same, fewer}
-use Rattle.lower_spec.proofs.Runs.{Enters, enters, Held, inner_held, outermost_held, begins_inner, begins_outermost, wants_one, commits_inner, leaves_outermost, next_commit, IsBounded, AreBounded, KnownCells, HasCellsOf, AreMemories, Around, Bare, Within, Shared, context_of, holding, state, IsSeen, on_seen, IsGood, registers_in, Holds, Keeps, keeps_all, keeps_more, keeps_set, keeps_on, kept_at, holds_on, configuration, effect_at, goes, goes_by, reads_by, word_read, tick_goes, traps}
+use Rattle.lower_spec.proofs.Runs.{Enters, enters, Transactions, with_inner, outermost_alone, begins_inner, begins_outermost, wants_one, commits_inner, leaves_outermost, next_commit, IsBounded, AreBounded, KnownCells, HasCellsOf, AreMemories, Around, Bare, Within, Shared, context_of, holding, state, IsSeen, on_seen, IsGood, registers_in, Holds, Keeps, keeps_all, keeps_more, keeps_set, keeps_on, kept_at, holds_on, configuration, effect_at, goes, goes_by, reads_by, word_read, tick_goes, traps}
 
 complement_below : (t : Scalar) (w : ℕ) → bitwise_complement t w < modulus t
 complement_below Int w = omega arith
@@ -77,7 +77,7 @@ handed ts [] = []
 handed ts (v ∷ vs) = first_word ts v ∷ handed (types_left ts) vs
 
 -- an element's cell, or a trap
-abbrev pub element_in : Option GlobalCells → Value → Action Spot
+abbrev pub element_in : Option GlobalCells → Value → Action Lvalue
 element_in o k = or_astray o >>= λ g. if nat_lt k.word (cells g.global) then pure (InCell (g.cell + k.word) g.global.ty) else trap Index
 
 module _ (p : Program) (call : Caller) (code : Code) (layout : Layout) (frames : List Frame) where
@@ -169,18 +169,18 @@ module _ (p : Program) (call : Caller) (code : Code) (layout : Layout) (frames :
       (results (computing op o r ra rb) (result_type op o) a sh text ls after q to home free r t old rs res c (computing_does code op o (configuration code q rs frames) r ra rb) (operated_below op ta tb _ _ below_a below_b) len keeps good s go)
 
   -- where a variable stands
-  abbrev pub spot_in : Option (ℕ × Scalar) → Option GlobalCells → Action Spot
-  spot_in (Some l) g = pure (InLocal l.0 l.1)
-  spot_in None g = or_astray g >>= λ g. pure (InCell g.cell g.global.ty)
+  abbrev pub lvalue_in : Option (ℕ × Scalar) → Option GlobalCells → Action Lvalue
+  lvalue_in (Some l) g = pure (InLocal l.0 l.1)
+  lvalue_in None g = or_astray g >>= λ g. pure (InCell g.cell g.global.ty)
 
-  pub spot_from_is : (x : List ℕ) (o : Option (ℕ × Scalar)) (s : State) → spot_from p call x o s ≡ spot_in o (global_of p x) s
-  spot_from_is x (Some l) s = refl
-  spot_from_is x None s = refl
+  pub lvalue_from_is : (x : List ℕ) (o : Option (ℕ × Scalar)) (s : State) → lvalue_from p call x o s ≡ lvalue_in o (global_of p x) s
+  lvalue_from_is x (Some l) s = refl
+  lvalue_from_is x None s = refl
 
   same_length : (scope : LocalScope) (ls : List Local) → IsLike scope ls → length ls ≡ length scope
   same_length scope ls e = sym (length-map ls shape) ∙ ap length e ∙ length-map scope shape
 
-  variable_runs : {N K : ℕ} (home : Option ℕ) (o : Option (ℕ × Scalar)) (g : Option GlobalCells) (scope : LocalScope) (from to free r : ℕ) (t : Scalar) → VariableCode code layout home (length scope) o g from to free r t → KnownLocal scope o → KnownCells code g → (a : Around) (sh : Shared) (text : List ℕ) (ls : List Local) (old : List ℕ) (after : Answer Value → Outcome) → Holds scope ls layout free old → IsGood code a sh → IsSeen a after → GoesOn N K a after ls to home free r t old → Does N K a sh text ls from old (λ s. after (go_on (spot_in o g s) fetch))
+  variable_runs : {N K : ℕ} (home : Option ℕ) (o : Option (ℕ × Scalar)) (g : Option GlobalCells) (scope : LocalScope) (from to free r : ℕ) (t : Scalar) → VariableCode code layout home (length scope) o g from to free r t → KnownLocal scope o → KnownCells code g → (a : Around) (sh : Shared) (text : List ℕ) (ls : List Local) (old : List ℕ) (after : Answer Value → Outcome) → Holds scope ls layout free old → IsGood code a sh → IsSeen a after → GoesOn N K a after ls to home free r t old → Does N K a sh text ls from old (λ s. after (go_on (lvalue_in o g s) fetch))
   variable_runs home (Some l) g scope from to free r t c type_is known a sh text ls old after h good s go =
       let below : l.0 < length ls = subst (λ n. l.0 < n) (sym (same_length scope ls h.like)) c.known in
       go_at a after ls to from home free r t l.1 old c.to_is c.type_is go (record { ty = l.1; word = word_at ls l.0 }) sh text old
@@ -495,12 +495,12 @@ module _ (p : Program) (call : Caller) (code : Code) (layout : Layout) (frames :
       wanted zero = refl
       wanted (suc n) = refl
   bare_value {N = N} {K = K} mode home scope e ih from to free r t (found ∷ founds) lefts memory kept text ls old after c h g s go =
-      let held : Held = outermost_held code mode (configuration code to old frames) found founds lefts in
+      let round : Transactions = outermost_alone code mode (configuration code to old frames) found founds lefts in
       let after1 : Answer Value → Outcome = λ q. after (go_on (close (Plain mode) founds lefts ls found (go_on q returning)) value_at) in
-      let seen1 : IsSeen (Within held) after1 = record { spent = λ u. s.spent _; wants = λ u. s.wants _; trapped = λ k u. s.trapped k _; astray = λ u. s.astray _ } in
+      let seen1 : IsSeen (Within round) after1 = record { spent = λ u. s.spent _; wants = λ u. s.wants _; trapped = λ k u. s.trapped k _; astray = λ u. s.astray _ } in
       tick_goes code Bare after (transaction (Plain mode) (expr p call e >>= returning) >>= value_at) (record { founds = found ∷ founds; lefts = lefts; memory = memory; kept = kept }) ls text (configuration code from old frames) s
       (begins_outermost code found founds lefts memory kept text mode (configuration code from old frames) (configuration code (suc from) old frames) (configuration code to old frames) (effect_at code from (Instr.Begin to) old frames c.begins)
-      (ih N K (suc from) c.last free r t (Within held) (record { founds = founds; lefts = lefts; memory = found; kept = false }) text ls old after1 c.computes h (g.0, (λ d. (refl, d)), (λ d. cc)) seen1
+      (ih N K (suc from) c.last free r t (Within round) (record { founds = founds; lefts = lefts; memory = found; kept = false }) text ls old after1 c.computes h (g.0, (λ d. (refl, d)), (λ d. cc)) seen1
       (λ v sh1 text1 new d.
       let after2 : Answer Completion → Outcome = λ q. after (go_on q value_at) in
       let sh2 : Shared = record { founds = founds; lefts = lefts ++ sh1.memory ∷ []; memory = sh1.memory; kept = sh1.kept } in
@@ -509,18 +509,18 @@ module _ (p : Program) (call : Caller) (code : Code) (layout : Layout) (frames :
       (on_seen Bare after value_at s)
       (go_at Bare after ls to (suc c.last) home free r t t old c.to_is refl go v sh2 text1 new (given_there g.1 d)))))
 
-  inner_value : {N K : ℕ} (mode : Mode) (home : Option ℕ) (scope : LocalScope) (e : Expr) → AlwaysFollows home scope e → (from to free r : ℕ) (t : Scalar) (k : Held) (sh : Shared) (text : List ℕ) (ls : List Local) (old : List ℕ) (after : Answer Value → Outcome) → Enters k.mode (Plain mode) → ValueTransactionCode code layout (ExprCode code layout p home scope e) from to free r t → Holds scope ls layout free old → IsGood code (Within k) sh → IsSeen (Within k) after → GoesOn N K (Within k) after ls to home free r t old → Does N K (Within k) sh text ls from old (λ s. after (value_transaction mode (expr p call e) s))
+  inner_value : {N K : ℕ} (mode : Mode) (home : Option ℕ) (scope : LocalScope) (e : Expr) → AlwaysFollows home scope e → (from to free r : ℕ) (t : Scalar) (k : Transactions) (sh : Shared) (text : List ℕ) (ls : List Local) (old : List ℕ) (after : Answer Value → Outcome) → Enters k.mode (Plain mode) → ValueTransactionCode code layout (ExprCode code layout p home scope e) from to free r t → Holds scope ls layout free old → IsGood code (Within k) sh → IsSeen (Within k) after → GoesOn N K (Within k) after ls to home free r t old → Does N K (Within k) sh text ls from old (λ s. after (value_transaction mode (expr p call e) s))
   unfolding returning
   inner_value mode home scope e ih from to free r t k sh text ls old after (inr f) c h g s go =
       same (effect code) (λ n. after (Stops Astray (state n ls (Inside k.mode sh.memory) text))) (λ n. ap (λ q. after (go_on q value_at)) (f sh.memory (expr p call e >>= returning) (state n ls (Inside k.mode sh.memory) text)))
       (astray (effect code) 0 (s.astray _))
   inner_value {N = N} {K = K} mode home scope e ih from to free r t k sh text ls old after (inl f) c h g s go =
-      let held : Held = inner_held code k mode sh.memory (configuration code to old frames) in
+      let round : Transactions = with_inner code k mode sh.memory (configuration code to old frames) in
       let after1 : Answer Value → Outcome = λ q. after (go_on (close_inner k.mode (Plain mode) ls sh.memory (go_on q returning)) value_at) in
-      let seen1 : IsSeen (Within held) after1 = record { spent = s.spent; wants = s.wants; trapped = s.trapped; astray = s.astray } in
+      let seen1 : IsSeen (Within round) after1 = record { spent = s.spent; wants = s.wants; trapped = s.trapped; astray = s.astray } in
       same (effect code) (λ n. after1 (expr p call e (state n ls (Inside mode sh.memory) text))) (λ n. ap (λ q. after (go_on q value_at)) (f.0 sh.memory (expr p call e >>= returning) (state n ls (Inside k.mode sh.memory) text)))
       (begins_inner code k sh text mode (configuration code from old frames) (configuration code (suc from) old frames) (configuration code to old frames) (effect_at code from (Instr.Begin to) old frames c.begins)
-      (ih N K (suc from) c.last free r t (Within held) sh text ls old after1 c.computes h (g.0, (λ d. ((g.1 d).0, f.1 (g.1 d).1)), g.2) seen1
+      (ih N K (suc from) c.last free r t (Within round) sh text ls old after1 c.computes h (g.0, (λ d. ((g.1 d).0, f.1 (g.1 d).1)), g.2) seen1
       (λ v sh1 text1 new d.
       let good1 : IsGood code (Within k) sh1 = (d.good.0, (λ z. ((d.good.1 z).0, (g.1 z).1)), d.good.2) in
       commits_inner code k sh1 text1 mode sh.memory (configuration code c.last new frames) (configuration code (suc c.last) new frames) (configuration code to old frames) (effect_at code c.last Instr.Commit new frames c.commits)
@@ -574,8 +574,8 @@ module _ (p : Program) (call : Caller) (code : Code) (layout : Layout) (frames :
     mutual
       pub expr_follows : (home : Option ℕ) (scope : LocalScope) (e : Expr) (N K from to free r : ℕ) (t : Scalar) (a : Around) (sh : Shared) (text : List ℕ) (ls : List Local) (old : List ℕ) (after : Answer Value → Outcome) → Follows home scope e N K from to free r t a sh text ls old after
       expr_follows home scope (Variable x) N K from to free r t a sh text ls old after c h good s go =
-          same (effect code) (λ n. after (go_on (spot_in (newest scope x.text) (global_of p x.text) (state n ls (context_of a sh) text)) fetch))
-          (λ n. ap (λ o. after (go_on (spot_from p call x.text o (state n ls (context_of a sh) text)) fetch)) (newest_like x.text scope ls h.like) ∙ ap (λ y. after (go_on y fetch)) (spot_from_is x.text (newest scope x.text) (state n ls (context_of a sh) text)))
+          same (effect code) (λ n. after (go_on (lvalue_in (newest scope x.text) (global_of p x.text) (state n ls (context_of a sh) text)) fetch))
+          (λ n. ap (λ o. after (go_on (lvalue_from p call x.text o (state n ls (context_of a sh) text)) fetch)) (newest_like x.text scope ls h.like) ∙ ap (λ y. after (go_on y fetch)) (lvalue_from_is x.text (newest scope x.text) (state n ls (context_of a sh) text)))
           (variable_runs home (newest scope x.text) (global_of p x.text) scope from to free r t c (newest_known scope x.text) (are x.text) a sh text ls old after h good s go)
       expr_follows home scope (Constant n u at) N K from to free r t a sh text ls old after c h good s go =
           sets (Instr.Constant r (word_of u (pos n))) u a sh text ls after from to home free r (word_of u (pos n)) t old old c refl h.size_is (word_below u (pos n)) (keeps_all layout home free old) good go

@@ -8,8 +8,8 @@ use Rattle.lex.specs.declared.token.Scalar.{Scalar}
 use Rattle.lex.specs.declared.token.Scalar.TheVariants.{Int}
 use Rattle.syntax.specs.declared.tree.Mode.{Mode}
 use Rattle.syntax.specs.declared.tree.Mode.TheVariants.{Atomic}
-use Rattle.syntax.specs.declared.tree.Kind.{Kind}
-use Rattle.syntax.specs.declared.tree.Kind.TheVariants.{Plain, Outer}
+use Rattle.syntax.specs.declared.tree.TransactionKind.{TransactionKind}
+use Rattle.syntax.specs.declared.tree.TransactionKind.TheVariants.{Plain, Outer}
 use Rattle.syntax.specs.Tree.{Expr, Simple, Declarator, Start, Nothing, Declares, Does, Stmt, Stmts, Empty, Declare, Do, Block, Print, If, IfElse, While, DoWhile, For, Break, Continue, Return, Transaction, Cancel, CancelOuter, Program}
 use Rattle.syntax.specs.declared.numbers.Value.{Value}
 use Rattle.syntax.specs.declared.numbers.Halt.TheVariants.{Wants, Astray}
@@ -20,11 +20,11 @@ use Rattle.bytecode.specs.Sequential.{cancel_step}
 use Rattle.lower_spec.proofs.Agreement.{quiet, Agrees, astray, same, fewer, none_left}
 use Rattle.lower_spec.proofs.OuterCancels.{opened, OuterGoes, outer_as, outer_fewer, through_plain, through_bare, leaves_by, outer_follows}
 use Rattle.syntax.specs.Actions.{Outside, Inside, Answer, Gives, Stops, Action, pure, stop, go_on, ◌>>=◌, ◌>>◌, tick, locals, put_locals, may_print}
-use Rattle.syntax.specs.Meaning.{InLocal, Completion, Next, Breaks, Continues, Returns, Cancels, CancelsOuter, mode_of, on_next, in_scope, after_turn, loop, after_body, close_inner, close, leave, transaction, Caller, expr, simple, first_value, declare, holds, stepped, start_with, stmt, stmts}
+use Rattle.syntax.specs.Meaning.{InLocal, Completion, Next, Breaks, Continues, Returns, Cancels, CancelsOuter, mode_of, on_next, in_scope, after_turn, loop, after_body, close_inner, close, leave, transaction, Caller, expr, simple, first_value, declare, for_condition, optional_step, start_with, stmt, stmts}
 use Rattle.bytecode.specs.Code.{Code, Configuration, Frame, Instr, effect}
 use Rattle.lower_spec.specs.Expressions.{LocalScope, IsLike, InstructionAt, LeadsTo, Layout}
 use Rattle.lower_spec.specs.Statements.{LocalAt, Exits, with_level, in_transaction, looping, with_local, with_declared, locals_of_start, locals_after, locals_at_end, Testing, Leaves, FirstValueCode, DeclareCode, IfCode, IfElseCode, WhileCode, DoWhileCode, HoldsCode, SteppedCode, StartCode, ForCode, TransactionCode, StmtCode, StmtsCode}
-use Rattle.lower_spec.proofs.Runs.{Enters, enters, Held, Around, Bare, Within, Shared, context_of, holding, state, IsSeen, on_seen, HasCellsOf, AreMemories, IsGood, Holds, configuration, effect_at, goes, goes_by, seen_spent, tick_goes, tick_counts, inner_held, outermost_held, begins_inner, begins_outermost, wants_one, commits_inner, cancels_inner, leaves_outermost, next_commit, next_cancel}
+use Rattle.lower_spec.proofs.Runs.{Enters, enters, Transactions, Around, Bare, Within, Shared, context_of, holding, state, IsSeen, on_seen, HasCellsOf, AreMemories, IsGood, Holds, configuration, effect_at, goes, goes_by, seen_spent, tick_goes, tick_counts, with_inner, outermost_alone, begins_inner, begins_outermost, wants_one, commits_inner, cancels_inner, leaves_outermost, next_commit, next_cancel}
 use Rattle.lower_spec.proofs.Conversions.{truth_converted}
 use Rattle.lower_spec.proofs.Locals.{TypeIs, type_last, length_like, word_taken, words_taken, shape_taken, word_new, word_last, words_new, shape_new}
 use Rattle.lower_spec.proofs.Statements.{Goes, GoesNext, GoesTest, expr_stores, result_follows, test_follows, simple_follows}
@@ -421,7 +421,7 @@ module _ (p : Program) (call : Caller) (code : Code) (layout : Layout) (frames :
           (leads p call code layout frames a sh1 text1 c.again_at c.body_at rs1 c.again (again sh1 text1 ls rs1 good1 h1))
 
   -- `for`
-  stepped_follows : {N K : ℕ} (scope : LocalScope) (turn : Action (Option Completion)) (o : Option Simple) (from last head : ℕ) → SteppedCode code layout p scope o from last → LeadsTo code last head → (a : Around) (sh : Shared) (text : List ℕ) (ls : List Local) (rs : List ℕ) (after : Answer Completion → Outcome) → IsSeen a after → Again N K a after scope head turn → Here scope ls rs → IsGood code a sh → Goes p call code layout frames cf are N K a sh text ls from rs (λ s. after (go_on (stepped p call o s) (after_turn (loop turn))))
+  stepped_follows : {N K : ℕ} (scope : LocalScope) (turn : Action (Option Completion)) (o : Option Simple) (from last head : ℕ) → SteppedCode code layout p scope o from last → LeadsTo code last head → (a : Around) (sh : Shared) (text : List ℕ) (ls : List Local) (rs : List ℕ) (after : Answer Completion → Outcome) → IsSeen a after → Again N K a after scope head turn → Here scope ls rs → IsGood code a sh → Goes p call code layout frames cf are N K a sh text ls from rs (λ s. after (go_on (optional_step p call o s) (after_turn (loop turn))))
   stepped_follows scope turn None from last head c i a sh text ls rs after s again h good = leads p call code layout frames a sh text from head rs (subst (λ y. LeadsTo code y head) c i) (again sh text ls rs good h)
   stepped_follows scope turn (Some st) from last head c i a sh text ls rs after s again h good =
       let after1 : Answer (Option Completion) → Outcome = λ q. after (go_on q (after_turn (loop turn))) in
@@ -432,7 +432,7 @@ module _ (p : Program) (call : Caller) (code : Code) (layout : Layout) (frames :
   holds_follows : {N K : ℕ} (scope : LocalScope) (o : Option Expr) (rest : Bool → Action (Option Completion)) (from met out : ℕ) → HoldsCode code layout p scope o from met out → (a : Around) (sh : Shared) (text : List ℕ) (ls : List Local) (rs : List ℕ) (after : Answer (Option Completion) → Outcome) → Here scope ls rs → IsGood code a sh → IsSeen a after
       → ((sh1 : Shared) (text1 : List ℕ) (rs1 : List ℕ) → IsGood code a sh1 → Here scope ls rs1 → Goes p call code layout frames cf are N K a sh1 text1 ls met rs1 (λ s. after (rest true s)))
       → ((sh1 : Shared) (text1 : List ℕ) (rs1 : List ℕ) → IsGood code a sh1 → Here scope ls rs1 → Goes p call code layout frames cf are N K a sh1 text1 ls out rs1 (λ s. after (rest false s)))
-      → Goes p call code layout frames cf are N (suc K) a sh text ls from rs (λ s. after ((holds p call o >>= rest) s))
+      → Goes p call code layout frames cf are N (suc K) a sh text ls from rs (λ s. after ((for_condition p call o >>= rest) s))
   holds_follows {N = N} {K = K} scope None rest from met out c a sh text ls rs after h good s where_so where_not =
       goes code a sh text (configuration code from rs frames) (configuration code met rs frames) (effect_at code from (Instr.Jump met) rs frames c) (where_so sh text rs good h)
   holds_follows {N = N} {K = K} scope (Some e) rest from met out c a sh text ls rs after h good s where_so where_not =
@@ -447,14 +447,14 @@ module _ (p : Program) (call : Caller) (code : Code) (layout : Layout) (frames :
   for_follows : (x : Exits) (scope : LocalScope) (starts : ℕ → ℕ → Type 0) (o : Option Expr) (step : Option Simple) (st : Stmt) → StmtFollows st → (from to : ℕ) (c : ForCode code layout p x scope starts o step (λ y. StmtCode code layout p y scope st) from to) (a : Around) (after : Answer Completion → Outcome) → IsSeen a after → TurnFollows a after x scope c.test_at to (for_turn p call o step st)
   for_follows x scope starts o step st ih from to c a after s N K M less enough sh text ls rs again h good go =
       let turn : Action (Option Completion) = for_turn p call o step st in
-      let rest : Bool → Action (Option Completion) = λ more. if more then (in_scope (stmt p call st) >>= after_body (stepped p call step)) else pure (Some Next) in
+      let rest : Bool → Action (Option Completion) = λ more. if more then (in_scope (stmt p call st) >>= after_body (optional_step p call step)) else pure (Some Next) in
       let after1 : Answer (Option Completion) → Outcome = λ q. after (go_on q (after_turn (loop turn))) in
       let seen1 : IsSeen a after1 = on_seen a after (after_turn (loop turn)) s in
       fewer (effect code) (omega arith) enough
       (holds_follows scope o rest c.test_at c.body_at c.out c.tests a sh text ls rs after1 h good seen1
       (λ sh1 text1 rs1 good1 h1.
-      part_follows st ih N M (looping x c.break_to c.continue_to) scope c.body_at c.last a sh1 text1 ls rs1 (λ q. after1 (go_on q (after_body (stepped p call step)))) c.body h1 good1 (on_seen a after1 (after_body (stepped p call step)) seen1)
-      (body_ends x scope turn (stepped p call step) c.break_to c.continue_to c.step_at to c.last a after c.breaks c.continues c.goes_on
+      part_follows st ih N M (looping x c.break_to c.continue_to) scope c.body_at c.last a sh1 text1 ls rs1 (λ q. after1 (go_on q (after_body (optional_step p call step)))) c.body h1 good1 (on_seen a after1 (after_body (optional_step p call step)) seen1)
+      (body_ends x scope turn (optional_step p call step) c.break_to c.continue_to c.step_at to c.last a after c.breaks c.continues c.goes_on
       (λ sh2 text2 ls2 rs2 good2 h2. stepped_follows scope turn step c.step_at c.stepped c.test_at c.steps c.again a sh2 text2 ls2 rs2 after s again h2 good2)
       (fewer_end a after x (Here scope) (Here scope) to (omega arith) less go)))
       (λ sh1 text1 rs1 good1 h1. leads p call code layout frames a sh1 text1 c.out to rs1 c.ends (fewer (effect code) (omega arith) less (go.ends Next sh1 text1 ls rs1 to good1 (refl, h1)))))
@@ -515,12 +515,12 @@ module _ (p : Program) (call : Caller) (code : Code) (layout : Layout) (frames :
   atomic_of mode e = ap some_mode e
 
   -- an outermost transaction is left by a commit
-  bare_commits : {N K : ℕ} (end : Completion) (kind : Kind) (found : Memory) (founds lefts : List Memory) (to : ℕ) (sh : Shared) (text : List ℕ) (ls : List Local) (old rs : List ℕ) (q : ℕ) (after : Answer Completion → Outcome) → InstructionAt code q Instr.Commit → IsSeen Bare after → AreMemories code founds → Goes p call code layout frames cf are N K Bare (record { founds = founds; lefts = lefts ++ sh.memory ∷ []; memory = sh.memory; kept = sh.kept }) text ls (suc q) rs (λ s. after (Gives end s)) → Agrees (effect code) N K (holding (Within (outermost_held code (mode_of kind) (configuration code to old frames) found founds lefts)) sh text (configuration code q rs frames)) (λ n. after (leave founds lefts (record { end = end; locals = ls; memory = sh.memory }) (state n ls (Inside (mode_of kind) sh.memory) text)))
+  bare_commits : {N K : ℕ} (end : Completion) (kind : TransactionKind) (found : Memory) (founds lefts : List Memory) (to : ℕ) (sh : Shared) (text : List ℕ) (ls : List Local) (old rs : List ℕ) (q : ℕ) (after : Answer Completion → Outcome) → InstructionAt code q Instr.Commit → IsSeen Bare after → AreMemories code founds → Goes p call code layout frames cf are N K Bare (record { founds = founds; lefts = lefts ++ sh.memory ∷ []; memory = sh.memory; kept = sh.kept }) text ls (suc q) rs (λ s. after (Gives end s)) → Agrees (effect code) N K (holding (Within (outermost_alone code (mode_of kind) (configuration code to old frames) found founds lefts)) sh text (configuration code q rs frames)) (λ n. after (leave founds lefts (record { end = end; locals = ls; memory = sh.memory }) (state n ls (Inside (mode_of kind) sh.memory) text)))
   bare_commits end kind found founds lefts to sh text ls old rs q after i s g go =
       leaves_outermost code after (Gives end) (mode_of kind) found sh.memory founds lefts sh text ls ls (configuration code q rs frames) (configuration code (suc q) rs frames) (configuration code to old frames)
       (next_commit code (mode_of kind) found founds lefts sh text (configuration code q rs frames) (configuration code (suc q) rs frames) (configuration code to old frames) (effect_at code q Instr.Commit rs frames i)) s go
 
-  bare_each : {N K : ℕ} (kind : Kind) (x : Exits) (scope : LocalScope) (ss : Stmts) (from to : ℕ) (c : TransactionCode code layout p kind x (BodyCode scope ss) from to) (found : Memory) (founds lefts : List Memory) (ls : List Local) (old : List ℕ) (after : Answer Completion → Outcome) → Here scope ls old → IsSeen Bare after → AreMemories code founds → GoesEnd N K Bare after x (Here scope) (Here scope) to → EndsGo N K (Within (outermost_held code (mode_of kind) (configuration code to old frames) found founds lefts)) (λ q. after (close kind founds lefts ls found q)) (in_transaction kind x) (Here scope) (Here scope) c.last
+  bare_each : {N K : ℕ} (kind : TransactionKind) (x : Exits) (scope : LocalScope) (ss : Stmts) (from to : ℕ) (c : TransactionCode code layout p kind x (BodyCode scope ss) from to) (found : Memory) (founds lefts : List Memory) (ls : List Local) (old : List ℕ) (after : Answer Completion → Outcome) → Here scope ls old → IsSeen Bare after → AreMemories code founds → GoesEnd N K Bare after x (Here scope) (Here scope) to → EndsGo N K (Within (outermost_alone code (mode_of kind) (configuration code to old frames) found founds lefts)) (λ q. after (close kind founds lefts ls found q)) (in_transaction kind x) (Here scope) (Here scope) c.last
   bare_each kind x scope ss from to c found founds lefts ls old after h s g go Next sh text ls1 rs q good arrived =
       bare_commits Next kind found founds lefts to sh text ls1 old rs q after (subst (λ y. InstructionAt code y Instr.Commit) (sym arrived.0) c.commits) s g
       (go.ends Next (record { founds = founds; lefts = lefts ++ sh.memory ∷ []; memory = sh.memory; kept = sh.kept }) text ls1 rs (suc q) g (ap suc arrived.0 ∙ sym c.to_is, arrived.1))
@@ -536,46 +536,46 @@ module _ (p : Program) (call : Caller) (code : Code) (layout : Layout) (frames :
       (go.ends Next (record { founds = founds; lefts = lefts ++ found ∷ []; memory = sh.memory; kept = sh.kept }) text ls old to g (refl, h))
   bare_each kind x scope ss from to c found founds lefts ls old after h s g go CancelsOuter sh text ls1 rs q good arrived = absurd arrived
 
-  bare_outer : {N K : ℕ} (kind : Kind) (x : Exits) (scope : LocalScope) (ss : Stmts) (from to : ℕ) (c : TransactionCode code layout p kind x (BodyCode scope ss) from to) (found : Memory) (founds lefts : List Memory) (ls : List Local) (old : List ℕ) (after : Answer Completion → Outcome) → Here scope ls old → IsSeen Bare after → AreMemories code founds → GoesEnd N K Bare after x (Here scope) (Here scope) to → OuterGoes code N K (Within (outermost_held code (mode_of kind) (configuration code to old frames) found founds lefts)) (λ q. after (close kind founds lefts ls found q)) (with_level kind x.in_outer)
+  bare_outer : {N K : ℕ} (kind : TransactionKind) (x : Exits) (scope : LocalScope) (ss : Stmts) (from to : ℕ) (c : TransactionCode code layout p kind x (BodyCode scope ss) from to) (found : Memory) (founds lefts : List Memory) (ls : List Local) (old : List ℕ) (after : Answer Completion → Outcome) → Here scope ls old → IsSeen Bare after → AreMemories code founds → GoesEnd N K Bare after x (Here scope) (Here scope) to → OuterGoes code N K (Within (outermost_alone code (mode_of kind) (configuration code to old frames) found founds lefts)) (λ q. after (close kind founds lefts ls found q)) (with_level kind x.in_outer)
   bare_outer Outer x scope ss from to c found founds lefts ls old after h s g go = (
     (λ e. refl),
     λ sh text ls1 s0 good cancels.
         leaves_by code after (Gives Next) found founds lefts text ls1 ls (configuration code to old frames) s0
-        (cancels.next_is ∙ ap (λ b. cancel_step (holding (Within (outermost_held code Atomic (configuration code to old frames) found founds lefts)) sh text s0.configuration) (opened code (outermost_held code Atomic (configuration code to old frames) found founds lefts) sh) [] b) (cancels.free refl))
+        (cancels.next_is ∙ ap (λ b. cancel_step (holding (Within (outermost_alone code Atomic (configuration code to old frames) found founds lefts)) sh text s0.configuration) (opened code (outermost_alone code Atomic (configuration code to old frames) found founds lefts) sh) [] b) (cancels.free refl))
         cancels.seen s
         (go.ends Next (record { founds = founds; lefts = lefts ++ found ∷ []; memory = sh.memory; kept = sh.kept }) text ls old to g (refl, h)),
   )
   bare_outer (Plain mode) x scope ss from to c found founds lefts ls old after h s g go =
-      through_bare code _ _ (outermost_held code mode (configuration code to old frames) found founds lefts) after (λ q. after (close (Plain mode) founds lefts ls found q)) x.in_outer go.outer
+      through_bare code _ _ (outermost_alone code mode (configuration code to old frames) found founds lefts) after (λ q. after (close (Plain mode) founds lefts ls found q)) x.in_outer go.outer
 
-  bare_ends : {N K : ℕ} (kind : Kind) (x : Exits) (scope : LocalScope) (ss : Stmts) (from to : ℕ) (c : TransactionCode code layout p kind x (BodyCode scope ss) from to) (found : Memory) (founds lefts : List Memory) (ls : List Local) (old : List ℕ) (after : Answer Completion → Outcome) → Here scope ls old → IsSeen Bare after → AreMemories code founds → GoesEnd N K Bare after x (Here scope) (Here scope) to → GoesEnd N K (Within (outermost_held code (mode_of kind) (configuration code to old frames) found founds lefts)) (λ q. after (close kind founds lefts ls found q)) (in_transaction kind x) (Here scope) (Here scope) c.last
+  bare_ends : {N K : ℕ} (kind : TransactionKind) (x : Exits) (scope : LocalScope) (ss : Stmts) (from to : ℕ) (c : TransactionCode code layout p kind x (BodyCode scope ss) from to) (found : Memory) (founds lefts : List Memory) (ls : List Local) (old : List ℕ) (after : Answer Completion → Outcome) → Here scope ls old → IsSeen Bare after → AreMemories code founds → GoesEnd N K Bare after x (Here scope) (Here scope) to → GoesEnd N K (Within (outermost_alone code (mode_of kind) (configuration code to old frames) found founds lefts)) (λ q. after (close kind founds lefts ls found q)) (in_transaction kind x) (Here scope) (Here scope) c.last
   bare_ends kind x scope ss from to c found founds lefts ls old after h s g go = record {
     ends = bare_each kind x scope ss from to c found founds lefts ls old after h s g go;
     outer = bare_outer kind x scope ss from to c found founds lefts ls old after h s g go;
   }
 
-  bare_transaction : (kind : Kind) (ss : Stmts) → StmtsFollow ss → (N K : ℕ) (x : Exits) (scope : LocalScope) (from to : ℕ) (founds lefts : List Memory) (memory : Memory) (kept : Bool) (text : List ℕ) (ls : List Local) (old : List ℕ) (after : Answer Completion → Outcome) → TransactionCode code layout p kind x (BodyCode scope ss) from to → Here scope ls old → AreMemories code founds → IsSeen Bare after → GoesEnd N K Bare after x (Here scope) (Here scope) to → Goes p call code layout frames cf are N K Bare (record { founds = founds; lefts = lefts; memory = memory; kept = kept }) text ls from old (λ s. after (go_on (tick s) (λ u. transaction kind (in_scope (stmts p call ss)))))
+  bare_transaction : (kind : TransactionKind) (ss : Stmts) → StmtsFollow ss → (N K : ℕ) (x : Exits) (scope : LocalScope) (from to : ℕ) (founds lefts : List Memory) (memory : Memory) (kept : Bool) (text : List ℕ) (ls : List Local) (old : List ℕ) (after : Answer Completion → Outcome) → TransactionCode code layout p kind x (BodyCode scope ss) from to → Here scope ls old → AreMemories code founds → IsSeen Bare after → GoesEnd N K Bare after x (Here scope) (Here scope) to → Goes p call code layout frames cf are N K Bare (record { founds = founds; lefts = lefts; memory = memory; kept = kept }) text ls from old (λ s. after (go_on (tick s) (λ u. transaction kind (in_scope (stmts p call ss)))))
   bare_transaction kind ss ih N K x scope from to [] lefts memory kept text ls old after c h g s go =
       same (effect code) (λ n. after (go_on (tick (state n ls (Outside [] lefts) text)) (λ u. stop Wants))) (wanted kind (in_scope (stmts p call ss)) lefts text ls after)
       (wants_one code after lefts memory kept text ls (configuration code from old frames) (configuration code (suc from) old frames) (configuration code to old frames) s (effect_at code from (Instr.Begin to) old frames c.begins))
     where
-      wanted : (kind : Kind) (run : Action Completion) (lefts : List Memory) (text : List ℕ) (ls : List Local) (after : Answer Completion → Outcome) (n : ℕ) → after (go_on (tick (state n ls (Outside [] lefts) text)) (λ u. transaction kind run)) ≡ after (go_on (tick (state n ls (Outside [] lefts) text)) (λ u. stop Wants))
+      wanted : (kind : TransactionKind) (run : Action Completion) (lefts : List Memory) (text : List ℕ) (ls : List Local) (after : Answer Completion → Outcome) (n : ℕ) → after (go_on (tick (state n ls (Outside [] lefts) text)) (λ u. transaction kind run)) ≡ after (go_on (tick (state n ls (Outside [] lefts) text)) (λ u. stop Wants))
       wanted kind run lefts text ls after zero = refl
       wanted kind run lefts text ls after (suc n) = refl
   bare_transaction kind ss ih N K x scope from to (found ∷ founds) lefts memory kept text ls old after c h g s go =
-      let held : Held = outermost_held code (mode_of kind) (configuration code to old frames) found founds lefts in
+      let round : Transactions = outermost_alone code (mode_of kind) (configuration code to old frames) found founds lefts in
       let after1 : Answer Completion → Outcome = λ q. after (close kind founds lefts ls found q) in
-      let seen1 : IsSeen (Within held) after1 = record { spent = λ t. s.spent _; wants = λ t. s.wants _; trapped = λ k t. s.trapped k _; astray = λ t. s.astray _ } in
+      let seen1 : IsSeen (Within round) after1 = record { spent = λ t. s.spent _; wants = λ t. s.wants _; trapped = λ k t. s.trapped k _; astray = λ t. s.astray _ } in
       tick_goes code Bare after (transaction kind (in_scope (stmts p call ss))) (record { founds = found ∷ founds; lefts = lefts; memory = memory; kept = kept }) ls text (configuration code from old frames) s
       (begins_outermost code found founds lefts memory kept text (mode_of kind) (configuration code from old frames) (configuration code (suc from) old frames) (configuration code to old frames) (effect_at code from (Instr.Begin to) old frames c.begins)
-      (scoped_follows ss ih N K (in_transaction kind x) scope (suc from) c.last (Within held) (record { founds = founds; lefts = lefts; memory = found; kept = false }) text ls old after1 c.runs h (g.0, (λ e. (refl, e)), (λ e. e)) seen1
+      (scoped_follows ss ih N K (in_transaction kind x) scope (suc from) c.last (Within round) (record { founds = founds; lefts = lefts; memory = found; kept = false }) text ls old after1 c.runs h (g.0, (λ e. (refl, e)), (λ e. e)) seen1
       (bare_ends kind x scope ss from to c found founds lefts ls old after h s g.1 go)))
 
   -- what is good in an inner transaction is good outside it
-  good_out : (h : Held) (kind : Kind) (sh sh1 : Shared) (m : Memory) (d : Configuration) → IsGood code (Within h) sh → IsGood code (Within (inner_held code h (mode_of kind) m d)) sh1 → IsGood code (Within h) sh1
+  good_out : (h : Transactions) (kind : TransactionKind) (sh sh1 : Shared) (m : Memory) (d : Configuration) → IsGood code (Within h) sh → IsGood code (Within (with_inner code h (mode_of kind) m d)) sh1 → IsGood code (Within h) sh1
   good_out h kind sh sh1 m d g g1 = (g1.0, (λ e. ((g1.1 e).0, (g.1 e).1)), g1.2)
 
-  inner_each : {N K : ℕ} (k : Held) (kind : Kind) (x : Exits) (scope : LocalScope) (ss : Stmts) (from to : ℕ) (c : TransactionCode code layout p kind x (BodyCode scope ss) from to) (sh : Shared) (ls : List Local) (old : List ℕ) (after : Answer Completion → Outcome) → Here scope ls old → IsGood code (Within k) sh → GoesEnd N K (Within k) after x (Here scope) (Here scope) to → EndsGo N K (Within (inner_held code k (mode_of kind) sh.memory (configuration code to old frames))) (λ q. after (close_inner k.mode kind ls sh.memory q)) (in_transaction kind x) (Here scope) (Here scope) c.last
+  inner_each : {N K : ℕ} (k : Transactions) (kind : TransactionKind) (x : Exits) (scope : LocalScope) (ss : Stmts) (from to : ℕ) (c : TransactionCode code layout p kind x (BodyCode scope ss) from to) (sh : Shared) (ls : List Local) (old : List ℕ) (after : Answer Completion → Outcome) → Here scope ls old → IsGood code (Within k) sh → GoesEnd N K (Within k) after x (Here scope) (Here scope) to → EndsGo N K (Within (with_inner code k (mode_of kind) sh.memory (configuration code to old frames))) (λ q. after (close_inner k.mode kind ls sh.memory q)) (in_transaction kind x) (Here scope) (Here scope) c.last
   inner_each k kind x scope ss from to c sh ls old after h g go Next sh1 text ls1 rs q good arrived =
       commits_inner code k sh1 text (mode_of kind) sh.memory (configuration code q rs frames) (configuration code (suc q) rs frames) (configuration code to old frames) (effect_at code q Instr.Commit rs frames (subst (λ y. InstructionAt code y Instr.Commit) (sym arrived.0) c.commits))
       (go.ends Next sh1 text ls1 rs (suc q) (good_out k kind sh sh1 sh.memory (configuration code to old frames) g good) (ap suc arrived.0 ∙ sym c.to_is, arrived.1))
@@ -593,7 +593,7 @@ module _ (p : Program) (call : Caller) (code : Code) (layout : Layout) (frames :
       (go.ends Next (record sh1 { memory = sh.memory }) text ls old to (g.0, (λ e. ((good.1 e).0, (g.1 e).1)), good.2) (refl, h))
   inner_each k kind x scope ss from to c sh ls old after h g go CancelsOuter sh1 text ls1 rs q good arrived = absurd arrived
 
-  inner_outer : {N K : ℕ} (k : Held) (kind : Kind) (x : Exits) (scope : LocalScope) (ss : Stmts) (from to : ℕ) (c : TransactionCode code layout p kind x (BodyCode scope ss) from to) (sh : Shared) (ls : List Local) (old : List ℕ) (after : Answer Completion → Outcome) → Here scope ls old → IsGood code (Within k) sh → GoesEnd N K (Within k) after x (Here scope) (Here scope) to → OuterGoes code N K (Within (inner_held code k (mode_of kind) sh.memory (configuration code to old frames))) (λ q. after (close_inner k.mode kind ls sh.memory q)) (with_level kind x.in_outer)
+  inner_outer : {N K : ℕ} (k : Transactions) (kind : TransactionKind) (x : Exits) (scope : LocalScope) (ss : Stmts) (from to : ℕ) (c : TransactionCode code layout p kind x (BodyCode scope ss) from to) (sh : Shared) (ls : List Local) (old : List ℕ) (after : Answer Completion → Outcome) → Here scope ls old → IsGood code (Within k) sh → GoesEnd N K (Within k) after x (Here scope) (Here scope) to → OuterGoes code N K (Within (with_inner code k (mode_of kind) sh.memory (configuration code to old frames))) (λ q. after (close_inner k.mode kind ls sh.memory q)) (with_level kind x.in_outer)
   inner_outer k Outer x scope ss from to c sh ls old after h g go = (
     (λ e. absurd (cc e)),
     λ sh1 text ls1 s0 good cancels.
@@ -604,26 +604,26 @@ module _ (p : Program) (call : Caller) (code : Code) (layout : Layout) (frames :
   inner_outer k (Plain mode) x scope ss from to c sh ls old after h g go =
       through_plain code _ _ k mode sh.memory (configuration code to old frames) sh ls after g x.in_outer go.outer
 
-  inner_ends : {N K : ℕ} (k : Held) (kind : Kind) (x : Exits) (scope : LocalScope) (ss : Stmts) (from to : ℕ) (c : TransactionCode code layout p kind x (BodyCode scope ss) from to) (sh : Shared) (ls : List Local) (old : List ℕ) (after : Answer Completion → Outcome) → Here scope ls old → IsGood code (Within k) sh → GoesEnd N K (Within k) after x (Here scope) (Here scope) to → GoesEnd N K (Within (inner_held code k (mode_of kind) sh.memory (configuration code to old frames))) (λ q. after (close_inner k.mode kind ls sh.memory q)) (in_transaction kind x) (Here scope) (Here scope) c.last
+  inner_ends : {N K : ℕ} (k : Transactions) (kind : TransactionKind) (x : Exits) (scope : LocalScope) (ss : Stmts) (from to : ℕ) (c : TransactionCode code layout p kind x (BodyCode scope ss) from to) (sh : Shared) (ls : List Local) (old : List ℕ) (after : Answer Completion → Outcome) → Here scope ls old → IsGood code (Within k) sh → GoesEnd N K (Within k) after x (Here scope) (Here scope) to → GoesEnd N K (Within (with_inner code k (mode_of kind) sh.memory (configuration code to old frames))) (λ q. after (close_inner k.mode kind ls sh.memory q)) (in_transaction kind x) (Here scope) (Here scope) c.last
   inner_ends k kind x scope ss from to c sh ls old after h g go =
       record { ends = inner_each k kind x scope ss from to c sh ls old after h g go; outer = inner_outer k kind x scope ss from to c sh ls old after h g go }
 
-  inner_transaction : (kind : Kind) (ss : Stmts) → StmtsFollow ss → (N K : ℕ) (x : Exits) (scope : LocalScope) (from to : ℕ) (k : Held) (sh : Shared) (text : List ℕ) (ls : List Local) (old : List ℕ) (after : Answer Completion → Outcome) → Enters k.mode kind → TransactionCode code layout p kind x (BodyCode scope ss) from to → Here scope ls old → IsGood code (Within k) sh → IsSeen (Within k) after → GoesEnd N K (Within k) after x (Here scope) (Here scope) to → Goes p call code layout frames cf are N K (Within k) sh text ls from old (λ s. after (transaction kind (in_scope (stmts p call ss)) s))
+  inner_transaction : (kind : TransactionKind) (ss : Stmts) → StmtsFollow ss → (N K : ℕ) (x : Exits) (scope : LocalScope) (from to : ℕ) (k : Transactions) (sh : Shared) (text : List ℕ) (ls : List Local) (old : List ℕ) (after : Answer Completion → Outcome) → Enters k.mode kind → TransactionCode code layout p kind x (BodyCode scope ss) from to → Here scope ls old → IsGood code (Within k) sh → IsSeen (Within k) after → GoesEnd N K (Within k) after x (Here scope) (Here scope) to → Goes p call code layout frames cf are N K (Within k) sh text ls from old (λ s. after (transaction kind (in_scope (stmts p call ss)) s))
   inner_transaction kind ss ih N K x scope from to k sh text ls old after (inl e) c h g s go =
       let run : Action Completion = in_scope (stmts p call ss) in
-      let held : Held = inner_held code k (mode_of kind) sh.memory (configuration code to old frames) in
+      let round : Transactions = with_inner code k (mode_of kind) sh.memory (configuration code to old frames) in
       let after1 : Answer Completion → Outcome = λ q. after (close_inner k.mode kind ls sh.memory q) in
-      let seen1 : IsSeen (Within held) after1 = record { spent = s.spent; wants = s.wants; trapped = s.trapped; astray = s.astray } in
+      let seen1 : IsSeen (Within round) after1 = record { spent = s.spent; wants = s.wants; trapped = s.trapped; astray = s.astray } in
       same (effect code) (λ n. after1 (run (state n ls (Inside (mode_of kind) sh.memory) text))) (λ n. ap after (e.0 sh.memory run (state n ls (Inside k.mode sh.memory) text)))
       (begins_inner code k sh text (mode_of kind) (configuration code from old frames) (configuration code (suc from) old frames) (configuration code to old frames) (effect_at code from (Instr.Begin to) old frames c.begins)
-      (scoped_follows ss ih N K (in_transaction kind x) scope (suc from) c.last (Within held) sh text ls old after1 c.runs h (g.0, (λ d. ((g.1 d).0, e.1 (g.1 d).1)), g.2) seen1
+      (scoped_follows ss ih N K (in_transaction kind x) scope (suc from) c.last (Within round) sh text ls old after1 c.runs h (g.0, (λ d. ((g.1 d).0, e.1 (g.1 d).1)), g.2) seen1
       (inner_ends k kind x scope ss from to c sh ls old after h g go)))
   inner_transaction kind ss ih N K x scope from to k sh text ls old after (inr e) c h g s go =
       let run : Action Completion = in_scope (stmts p call ss) in
       same (effect code) (λ n. after (Stops Astray (state n ls (Inside k.mode sh.memory) text))) (λ n. ap after (e sh.memory run (state n ls (Inside k.mode sh.memory) text)))
       (astray (effect code) 0 (s.astray _))
 
-  transaction_follows : (kind : Kind) (ss : Stmts) → StmtsFollow ss → (N K : ℕ) (x : Exits) (scope : LocalScope) (from to : ℕ) (a : Around) (sh : Shared) (text : List ℕ) (ls : List Local) (old : List ℕ) (after : Answer Completion → Outcome) → TransactionCode code layout p kind x (BodyCode scope ss) from to → Here scope ls old → IsGood code a sh → IsSeen a after → GoesEnd N K a after x (Here scope) (Here scope) to → Goes p call code layout frames cf are N K a sh text ls from old (λ s. after (go_on (tick s) (λ u. transaction kind (in_scope (stmts p call ss)))))
+  transaction_follows : (kind : TransactionKind) (ss : Stmts) → StmtsFollow ss → (N K : ℕ) (x : Exits) (scope : LocalScope) (from to : ℕ) (a : Around) (sh : Shared) (text : List ℕ) (ls : List Local) (old : List ℕ) (after : Answer Completion → Outcome) → TransactionCode code layout p kind x (BodyCode scope ss) from to → Here scope ls old → IsGood code a sh → IsSeen a after → GoesEnd N K a after x (Here scope) (Here scope) to → Goes p call code layout frames cf are N K a sh text ls from old (λ s. after (go_on (tick s) (λ u. transaction kind (in_scope (stmts p call ss)))))
   transaction_follows kind ss ih N K x scope from to Bare sh text ls old after c h g s go =
       bare_transaction kind ss ih N K x scope from to sh.founds sh.lefts sh.memory sh.kept text ls old after c h g s go
   transaction_follows kind ss ih N K x scope from to (Within k) sh text ls old after c h g s go =

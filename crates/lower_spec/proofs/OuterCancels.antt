@@ -4,7 +4,7 @@ use Rattle.std.proofs.Common.{◌≡◌, ℕ, zero, suc, ◌≤◌, Bool, true, 
 use Rattle.std.specs.Prelude.{◌-◌, drop, option_map}
 use Rattle.syntax.specs.declared.tree.Mode.{Mode}
 use Rattle.syntax.specs.declared.tree.Mode.TheVariants.{Atomic}
-use Rattle.syntax.specs.declared.tree.Kind.TheVariants.{Plain}
+use Rattle.syntax.specs.declared.tree.TransactionKind.TheVariants.{Plain}
 use Rattle.syntax.specs.declared.numbers.Halt.TheVariants.{Spent}
 use Rattle.syntax.specs.declared.numbers.Status.TheVariants.{Running}
 use Rattle.syntax.specs.Tree.{Program}
@@ -17,14 +17,14 @@ use Rattle.bytecode.specs.Sequential.{Sequential, OpenTransaction, InnerTransact
 use Rattle.lower_spec.specs.Expressions.{InstructionAt, Layout}
 use Rattle.lower_spec.specs.Statements.{cancelling, OuterCancelCode}
 use Rattle.lower_spec.proofs.Agreement.{Agrees, same, fewer, shown}
-use Rattle.lower_spec.proofs.Runs.{Held, Around, Bare, Within, Shared, context_of, holding, state, IsSeen, IsGood, configuration, effect_at, inner_held}
+use Rattle.lower_spec.proofs.Runs.{Transactions, Around, Bare, Within, Shared, context_of, holding, state, IsSeen, IsGood, configuration, effect_at, with_inner}
 
 module _ (code : Code) where
   -- a thread whose next step cancels the innermost transaction of h, and with it so many that lie round it
-  abbrev pub opened : Held → Shared → OpenTransaction Configuration
+  abbrev pub opened : Transactions → Shared → OpenTransaction Configuration
   opened h sh = record { cancelled = h.cancelled; found = h.found; mem = sh.memory; inner = h.inner; kept = sh.kept }
 
-  pub record IsCancelling (n : ℕ) (h : Held) (sh : Shared) (text : List ℕ) (s : Sequential Configuration) : Type 0 where
+  pub record IsCancelling (n : ℕ) (h : Transactions) (sh : Shared) (text : List ℕ) (s : Sequential Configuration) : Type 0 where
     pub seen : outcome_of s ≡ record { lefts = h.lefts; text = text; end = Stopped Spent }
     pub next_is : next (effect code) s ≡ cancel_step (holding (Within h) sh text s.configuration) (opened h sh) (drop n h.inner) sh.kept
     pub free : drop n h.inner ≡ [] → sh.kept ≡ false
@@ -49,12 +49,12 @@ module _ (code : Code) where
   outer_fewer (Within h) after b d (Some n) g = (g.0, λ sh text ls s good c. fewer (effect code) b d (g.1 sh text ls s good c))
 
   -- through a plain transaction inside another
-  through_step : (k : Held) (mode : Mode) (m : Memory) (d c : Configuration) (sh : Shared) (text : List ℕ) (ls : List (InnerTransaction Configuration)) (kept : Bool) → (ls ≡ [] → kept ≡ false) → cancel_step (holding (Within (inner_held code k mode m d)) sh text c) (opened (inner_held code k mode m d) sh) ls kept ≡ cancel_step (holding (Within k) sh text c) (opened k sh) ls kept
+  through_step : (k : Transactions) (mode : Mode) (m : Memory) (d c : Configuration) (sh : Shared) (text : List ℕ) (ls : List (InnerTransaction Configuration)) (kept : Bool) → (ls ≡ [] → kept ≡ false) → cancel_step (holding (Within (with_inner code k mode m d)) sh text c) (opened (with_inner code k mode m d) sh) ls kept ≡ cancel_step (holding (Within k) sh text c) (opened k sh) ls kept
   through_step k mode m d c sh text [] false f = refl
   through_step k mode m d c sh text [] true f = absurd (cc (f refl))
   through_step k mode m d c sh text (l ∷ ls) kept f = refl
 
-  pub through_plain : (N K : ℕ) (k : Held) (mode : Mode) (m : Memory) (d : Configuration) (sh0 : Shared) (mine : List Local) (after : Answer Completion → Outcome) → IsGood code (Within k) sh0 → (o : Option ℕ) → OuterGoes N K (Within k) after o → OuterGoes N K (Within (inner_held code k mode m d)) (λ q. after (close_inner k.mode (Plain mode) mine m q)) (option_map suc o)
+  pub through_plain : (N K : ℕ) (k : Transactions) (mode : Mode) (m : Memory) (d : Configuration) (sh0 : Shared) (mine : List Local) (after : Answer Completion → Outcome) → IsGood code (Within k) sh0 → (o : Option ℕ) → OuterGoes N K (Within k) after o → OuterGoes N K (Within (with_inner code k mode m d)) (λ q. after (close_inner k.mode (Plain mode) mine m q)) (option_map suc o)
   through_plain N K k mode m d sh0 mine after g0 None g = tt
   through_plain N K k mode m d sh0 mine after g0 (Some n) g = (
     g.0,
@@ -62,7 +62,7 @@ module _ (code : Code) where
         (record { seen = c.seen; next_is = c.next_is ∙ through_step k mode m d s.configuration sh text (drop n k.inner) sh.kept c.free; free = c.free }),
   )
 
-  pub through_bare : (N K : ℕ) (h : Held) (after after' : Answer Completion → Outcome) (o : Option ℕ) → OuterGoes N K Bare after o → OuterGoes N K (Within h) after' (option_map suc o)
+  pub through_bare : (N K : ℕ) (h : Transactions) (after after' : Answer Completion → Outcome) (o : Option ℕ) → OuterGoes N K Bare after o → OuterGoes N K (Within h) after' (option_map suc o)
   through_bare N K h after after' None g = tt
   through_bare N K h after after' (Some n) g = absurd g
 
@@ -71,7 +71,7 @@ module _ (code : Code) where
   leaves_by after give left founds lefts text ls ls' d s0 e seen s g = fewer (effect code) (omega arith) (omega arith) (shown (effect code) _ e (s.spent _ ∙ sym seen) (λ n. refl) g)
 
   -- the instruction of an outer cancel
-  cancels_next : (frames : List Frame) (n : ℕ) (h : Held) (sh : Shared) (text : List ℕ) (q : ℕ) (rs : List ℕ) → InstructionAt code q (cancelling n) → next (effect code) (holding (Within h) sh text (configuration code q rs frames)) ≡ cancel_step (holding (Within h) sh text (configuration code q rs frames)) (opened h sh) (drop n h.inner) sh.kept
+  cancels_next : (frames : List Frame) (n : ℕ) (h : Transactions) (sh : Shared) (text : List ℕ) (q : ℕ) (rs : List ℕ) → InstructionAt code q (cancelling n) → next (effect code) (holding (Within h) sh text (configuration code q rs frames)) ≡ cancel_step (holding (Within h) sh text (configuration code q rs frames)) (opened h sh) (drop n h.inner) sh.kept
   cancels_next frames zero h sh text q rs i = ap (λ x. sequential_step (holding (Within h) sh text (configuration code q rs frames)) false Running (holding (Within h) sh text (configuration code q rs frames)).inside x) (effect_at code q Instr.Cancel rs frames i)
   cancels_next frames (suc n) h sh text q rs i =
       let one_less : suc (suc n) - 1 ≡ suc n = omega arith in

@@ -16,10 +16,10 @@ use Rattle.bytecode.specs.Code.{Code, Frame, Instr, effect, print_effect}
 use Rattle.lower_spec.specs.Expressions.{LocalScope, Layout}
 use Rattle.lower_spec.specs.Statements.{PiecesCode, PrintCode}
 use Rattle.lower_spec.proofs.Agreement.{astray, same}
-use Rattle.lower_spec.proofs.Runs.{Held, Around, Bare, Within, Shared, state, IsSeen, on_seen, HasCellsOf, IsGood, Holds, configuration, effect_at, PrintsIn, prints_piece, irrevocable_bare, irrevocable_within}
+use Rattle.lower_spec.proofs.Runs.{Transactions, Around, Bare, Within, Shared, state, IsSeen, on_seen, HasCellsOf, IsGood, Holds, configuration, effect_at, PrintsIn, prints_piece, irrevocable_bare, irrevocable_within}
 use Rattle.std.specs.Fmt.{signed_decimal}
 use Rattle.syntax.specs.Numbers.{number}
-use Rattle.syntax.specs.Formats.{Piece, Literal, Figure, pieces}
+use Rattle.syntax.specs.Formats.{Piece, Literal, Specifier, pieces}
 use Rattle.lower_spec.proofs.Statements.{raised, lowered, Goes, GoesNext}
 
 -- values that are due in no types
@@ -33,7 +33,7 @@ module _ (p : Program) (call : Caller) (code : Code) (layout : Layout) (frames :
   MayPrint Bare sh = Unit {0}
   MayPrint (Within k) sh = sh.kept ≡ true
 
-  -- the figures' registers, one for each value
+  -- the specifiers' registers, one for each value
   pieces_follow : {N K : ℕ} (ps : List Piece) (rs : List ℕ) (vs : List Value) (from to : ℕ) → PiecesCode code layout p ps rs from to → (a : Around) (sh : Shared) (text : List ℕ) (ls : List Local) (registers : List ℕ) (after : Answer (Unit {0}) → Outcome) → map (slice_index registers) rs ≡ map (λ (v : Value). v.word) vs → MayPrint a sh → IsSeen a after → ((text1 : List ℕ) → Goes p call code layout frames cf are N K a sh text1 ls to registers (λ s. after (Gives tt s))) → Goes p call code layout frames cf are N K a sh text ls from registers (λ s. after (print_pieces ps vs s))
   pieces_follow {N = N} {K = K} [] rs vs from to c a sh text ls registers after words may s go =
       subst (λ q. Goes p call code layout frames cf are N K a sh text ls q registers (λ s. after (Gives tt s))) c (go text)
@@ -45,9 +45,9 @@ module _ (p : Program) (call : Caller) (code : Code) (layout : Layout) (frames :
       may_of : (a : Around) (sh : Shared) → MayPrint a sh → PrintsIn code a sh
       may_of Bare sh m = m
       may_of (Within k) sh m = m
-  pieces_follow (Figure t ∷ ps) [] vs from to c a sh text ls registers after words may s go = absurd c
-  pieces_follow (Figure t ∷ ps) (r ∷ rs) [] from to c a sh text ls registers after words may s go = astray (effect code) 0 (s.astray _)
-  pieces_follow (Figure t ∷ ps) (r ∷ rs) (v ∷ vs) from to c a sh text ls registers after words may s go =
+  pieces_follow (Specifier t ∷ ps) [] vs from to c a sh text ls registers after words may s go = absurd c
+  pieces_follow (Specifier t ∷ ps) (r ∷ rs) [] from to c a sh text ls registers after words may s go = astray (effect code) 0 (s.astray _)
+  pieces_follow (Specifier t ∷ ps) (r ∷ rs) (v ∷ vs) from to c a sh text ls registers after words may s go =
       prints_piece code a after (print_pieces ps vs) sh ls text (signed_decimal (number t v.word)) (configuration code from registers frames) (configuration code (suc from) registers frames) s (may_of a sh may)
       (effect_at code from (Instr.PrintNumber t r) registers frames c.0 ∙ ap (λ w. Effect.Print (signed_decimal (number t w)) (configuration code (suc from) registers frames)) (ap (first_or 0) words))
       (pieces_follow ps rs vs (suc from) to c.1 a sh (text ++ signed_decimal (number t v.word)) ls registers after (ap others_of words) may s go)
@@ -90,12 +90,12 @@ module _ (p : Program) (call : Caller) (code : Code) (layout : Layout) (frames :
       (print_goes scope format es from to c Bare sh text ls old after (λ sh1 g. tt) h good s go)
   print_follows scope format es from to c (Within k) sh text ls old after h good s go = inside_print k sh good go s (prints_inside k.mode)
     where
-      inside_print : {N K : ℕ} (k : Held) (sh : Shared) → IsGood code (Within k) sh → GoesNext p call code layout frames cf are N K (Within k) after scope to → IsSeen (Within k) after → (((m : Memory) (s : State) → may_print_at (Inside k.mode m) s ≡ Gives tt s) × (k.mode ≡ Atomic → ⊥)) ⊎ ((m : Memory) (s : State) → may_print_at (Inside k.mode m) s ≡ Stops Astray s) → Goes p call code layout frames cf are N K (Within k) sh text ls from old (λ s. after (go_on (may_print s) (λ u. print_rest format es)))
+      inside_print : {N K : ℕ} (k : Transactions) (sh : Shared) → IsGood code (Within k) sh → GoesNext p call code layout frames cf are N K (Within k) after scope to → IsSeen (Within k) after → (((m : Memory) (s : State) → may_print_at (Inside k.mode m) s ≡ Gives tt s) × (k.mode ≡ Atomic → ⊥)) ⊎ ((m : Memory) (s : State) → may_print_at (Inside k.mode m) s ≡ Stops Astray s) → Goes p call code layout frames cf are N K (Within k) sh text ls from old (λ s. after (go_on (may_print s) (λ u. print_rest format es)))
       inside_print k sh good go s (inr e) =
           same (effect code) (λ n. after (Stops Astray (state n ls (Inside k.mode sh.memory) text))) (λ n. ap (λ q. after (go_on q (λ u. print_rest format es))) (e sh.memory (state n ls (Inside k.mode sh.memory) text)))
           (astray (effect code) 0 (s.astray _))
       inside_print k sh good go s (inl e) =
-          let kept : Held = record k { must = true } in
+          let kept : Transactions = record k { must = true } in
           let sh1 : Shared = record sh { kept = true } in
           same (effect code) (λ n. after (print_rest format es (state n ls (Inside k.mode sh.memory) text))) (λ n. ap (λ q. after (go_on q (λ u. print_rest format es))) (e.0 sh.memory (state n ls (Inside k.mode sh.memory) text)))
           (irrevocable_within code k sh text (configuration code from old frames) (configuration code (suc from) old frames) (effect_at code from Instr.Irrevocable old frames c.irrevocable)

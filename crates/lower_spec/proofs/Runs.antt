@@ -5,8 +5,8 @@ use Rattle.std.specs.List.{AllByRecursion}
 use Rattle.std.proofs.lemmas.List.{get_or-set_other, length-set}
 use Rattle.syntax.specs.declared.tree.Mode.{Mode}
 use Rattle.syntax.specs.declared.tree.Mode.TheVariants.{Atomic, Relaxed}
-use Rattle.syntax.specs.declared.tree.Kind.{Kind}
-use Rattle.syntax.specs.declared.tree.Kind.TheVariants.{Plain, Outer}
+use Rattle.syntax.specs.declared.tree.TransactionKind.{TransactionKind}
+use Rattle.syntax.specs.declared.tree.TransactionKind.TheVariants.{Plain, Outer}
 use Rattle.syntax.specs.declared.numbers.Trap.{Trap}
 use Rattle.syntax.specs.declared.numbers.Halt.TheVariants.{Trapped, Wants, Spent, Astray}
 use Rattle.lex.specs.declared.token.Scalar.{Scalar}
@@ -26,7 +26,7 @@ use Rattle.lower_spec.proofs.Locals.{AreWords}
 use Rattle.lower_spec.proofs.Agreement.{Agrees, quiet, ticked, shown, over, fewer}
 
 -- the transactions round a run: what of them no instruction inside changes
-pub record Held : Type 0 where
+pub record Transactions : Type 0 where
   pub outer : Mode
   pub must : Bool  -- it is known that an irrevocable was carried out
   pub mode : Mode
@@ -38,7 +38,7 @@ pub record Held : Type 0 where
 
 pub data Around : Type 0 where
   Bare : Around
-  Within : (h : Held) → Around
+  Within : (h : Transactions) → Around
 
 -- what instructions change: outside transactions the founds and the lefts, inside the memory and whether it is kept
 pub record Shared : Type 0 where
@@ -78,12 +78,12 @@ pub on_seen : {A B : Type 0} (a : Around) (after : Answer B → Outcome) (rest :
 on_seen a after rest s = record { spent = s.spent; wants = s.wants; trapped = s.trapped; astray = s.astray }
 
 -- a transaction inside another: an atomic one holds only atomic ones
-abbrev pub Enters : Mode → Kind → Type 0
+abbrev pub Enters : Mode → TransactionKind → Type 0
 Enters o kind =
     (((m : Memory) (run : Action Completion) (s : State) → enter (Inside o m) kind run s ≡ close_inner o kind s.locals m (run (record s { context = Inside (mode_of kind) m }))) × (o ≡ Atomic → mode_of kind ≡ Atomic))
     ⊎ ((m : Memory) (run : Action Completion) (s : State) → enter (Inside o m) kind run s ≡ Stops Astray s)
 
-pub enters : (o : Mode) (kind : Kind) → Enters o kind
+pub enters : (o : Mode) (kind : TransactionKind) → Enters o kind
 enters Relaxed kind = inl ((λ m run s. refl), (λ e. absurd (apart e)))
   where
     apart : Relaxed ≡ Atomic → ⊥
@@ -144,13 +144,6 @@ pub keeps_on : (layout : Layout) (home : Option ℕ) (free later : ℕ) (old mid
 keeps_on layout home free later old mid new h k l = record {
   size = l.size ∙ k.size;
   below = λ i b s. l.below i (omega (arith, b, h)) s ∙ k.below i b tt;
-  behind = λ i b. l.behind i b ∙ k.behind i b;
-}
-
-pub keeps_then : (layout : Layout) (home : Option ℕ) (free later : ℕ) (old mid new : List ℕ) → free ≤ later → Keeps layout home free old mid → Keeps layout None later mid new → Keeps layout home free old new
-keeps_then layout home free later old mid new h k l = record {
-  size = l.size ∙ k.size;
-  below = λ i b s. l.below i (omega (arith, b, h)) tt ∙ k.below i b s;
   behind = λ i b. l.behind i b ∙ k.behind i b;
 }
 
@@ -278,27 +271,27 @@ module _ (code : Code) where
   word_read m cell t h e = word_in_memory (bounds_of code) m cell (modulus t) h e (some_below t)
 
   -- a shared read inside a transaction
-  pub reads_by : {N K : ℕ} (h : Held) (sh : Shared) (text : List ℕ) {does : ℕ → Outcome} (c : Configuration) (cell : ℕ) (k : ℕ → Configuration) → effect code c ≡ Effect.Read cell k → Agrees (effect code) N K (holding (Within h) sh text (k (slice_index sh.memory cell))) does → Agrees (effect code) N K (holding (Within h) sh text c) does
+  pub reads_by : {N K : ℕ} (h : Transactions) (sh : Shared) (text : List ℕ) {does : ℕ → Outcome} (c : Configuration) (cell : ℕ) (k : ℕ → Configuration) → effect code c ≡ Effect.Read cell k → Agrees (effect code) N K (holding (Within h) sh text (k (slice_index sh.memory cell))) does → Agrees (effect code) N K (holding (Within h) sh text c) does
   reads_by {N = N} {K = K} h sh text c cell k e m =
       fewer (effect code) (all N) (less K) (quiet (effect code) (ap (λ x. sequential_step (holding (Within h) sh text c) false Running (holding (Within h) sh text c).inside x) e) refl m)
 
   -- a shared write inside a transaction
-  pub writes_by : {N K : ℕ} (h : Held) (sh : Shared) (text : List ℕ) {does : ℕ → Outcome} (c c' : Configuration) (cell w : ℕ) → effect code c ≡ Effect.Write cell w c' → Agrees (effect code) N K (holding (Within h) (record sh { memory = slice_set sh.memory cell w }) text c') does → Agrees (effect code) N K (holding (Within h) sh text c) does
+  pub writes_by : {N K : ℕ} (h : Transactions) (sh : Shared) (text : List ℕ) {does : ℕ → Outcome} (c c' : Configuration) (cell w : ℕ) → effect code c ≡ Effect.Write cell w c' → Agrees (effect code) N K (holding (Within h) (record sh { memory = slice_set sh.memory cell w }) text c') does → Agrees (effect code) N K (holding (Within h) sh text c) does
   writes_by {N = N} {K = K} h sh text c c' cell w e m =
       fewer (effect code) (all N) (less K) (quiet (effect code) (ap (λ x. sequential_step (holding (Within h) sh text c) false Running (holding (Within h) sh text c).inside x) e) refl m)
 
-  -- where a transaction begins: what is held in it
-  abbrev pub inner_held : Held → Mode → Memory → Configuration → Held
-  inner_held h mode m cancelled = record h { mode = mode; inner = record { cancelled = cancelled; mem = m } ∷ h.inner }
+  -- the transactions round what runs inside one more, which begins
+  abbrev pub with_inner : Transactions → Mode → Memory → Configuration → Transactions
+  with_inner h mode m cancelled = record h { mode = mode; inner = record { cancelled = cancelled; mem = m } ∷ h.inner }
 
-  abbrev pub outermost_held : Mode → Configuration → Memory → List Memory → List Memory → Held
-  outermost_held mode cancelled found founds lefts = record { outer = mode; must = false; mode = mode; cancelled = cancelled; found = found; inner = []; founds = founds; lefts = lefts }
+  abbrev pub outermost_alone : Mode → Configuration → Memory → List Memory → List Memory → Transactions
+  outermost_alone mode cancelled found founds lefts = record { outer = mode; must = false; mode = mode; cancelled = cancelled; found = found; inner = []; founds = founds; lefts = lefts }
 
-  pub begins_inner : {N K : ℕ} (h : Held) (sh : Shared) (text : List ℕ) {does : ℕ → Outcome} (mode : Mode) (c c' d : Configuration) → effect code c ≡ Effect.Begin c' d → Agrees (effect code) N K (holding (Within (inner_held h mode sh.memory d)) sh text c') does → Agrees (effect code) N K (holding (Within h) sh text c) does
+  pub begins_inner : {N K : ℕ} (h : Transactions) (sh : Shared) (text : List ℕ) {does : ℕ → Outcome} (mode : Mode) (c c' d : Configuration) → effect code c ≡ Effect.Begin c' d → Agrees (effect code) N K (holding (Within (with_inner h mode sh.memory d)) sh text c') does → Agrees (effect code) N K (holding (Within h) sh text c) does
   begins_inner {N = N} {K = K} h sh text mode c c' d e m =
       fewer (effect code) (all N) (less K) (quiet (effect code) (ap (λ x. sequential_step (holding (Within h) sh text c) false Running (holding (Within h) sh text c).inside x) e) refl m)
 
-  pub begins_outermost : {N K : ℕ} (found : Memory) (founds lefts : List Memory) (memory : Memory) (kept : Bool) (text : List ℕ) {does : ℕ → Outcome} (mode : Mode) (c c' d : Configuration) → effect code c ≡ Effect.Begin c' d → Agrees (effect code) N K (holding (Within (outermost_held mode d found founds lefts)) (record { founds = founds; lefts = lefts; memory = found; kept = false }) text c') does → Agrees (effect code) N K (holding Bare (record { founds = found ∷ founds; lefts = lefts; memory = memory; kept = kept }) text c) does
+  pub begins_outermost : {N K : ℕ} (found : Memory) (founds lefts : List Memory) (memory : Memory) (kept : Bool) (text : List ℕ) {does : ℕ → Outcome} (mode : Mode) (c c' d : Configuration) → effect code c ≡ Effect.Begin c' d → Agrees (effect code) N K (holding (Within (outermost_alone mode d found founds lefts)) (record { founds = founds; lefts = lefts; memory = found; kept = false }) text c') does → Agrees (effect code) N K (holding Bare (record { founds = found ∷ founds; lefts = lefts; memory = memory; kept = kept }) text c) does
   begins_outermost {N = N} {K = K} found founds lefts memory kept text mode c c' d e m =
       fewer (effect code) (all N) (less K) (quiet (effect code) (ap (λ x. sequential_step (outside c (found ∷ founds) lefts text Running) false Running None x) e) refl m)
 
@@ -325,26 +318,26 @@ module _ (code : Code) where
       (over (effect code) (wanting_rests c lefts text) (λ n. wanting_seen after c lefts text n ls s)))
 
   -- an inner commit, and an inner cancel
-  pub commits_inner : {N K : ℕ} (h : Held) (sh : Shared) (text : List ℕ) {does : ℕ → Outcome} (mode : Mode) (m : Memory) (c c' d : Configuration) → effect code c ≡ Effect.Commit c' → Agrees (effect code) N K (holding (Within h) sh text c') does → Agrees (effect code) N K (holding (Within (inner_held h mode m d)) sh text c) does
+  pub commits_inner : {N K : ℕ} (h : Transactions) (sh : Shared) (text : List ℕ) {does : ℕ → Outcome} (mode : Mode) (m : Memory) (c c' d : Configuration) → effect code c ≡ Effect.Commit c' → Agrees (effect code) N K (holding (Within h) sh text c') does → Agrees (effect code) N K (holding (Within (with_inner h mode m d)) sh text c) does
   commits_inner {N = N} {K = K} h sh text mode m c c' d e g =
-      fewer (effect code) (all N) (less K) (quiet (effect code) (ap (λ x. sequential_step (holding (Within (inner_held h mode m d)) sh text c) false Running (holding (Within (inner_held h mode m d)) sh text c).inside x) e) refl g)
+      fewer (effect code) (all N) (less K) (quiet (effect code) (ap (λ x. sequential_step (holding (Within (with_inner h mode m d)) sh text c) false Running (holding (Within (with_inner h mode m d)) sh text c).inside x) e) refl g)
 
-  pub cancels_inner : {N K : ℕ} (h : Held) (sh : Shared) (text : List ℕ) {does : ℕ → Outcome} (mode : Mode) (m : Memory) (c d : Configuration) → effect code c ≡ Effect.Cancel → Agrees (effect code) N K (holding (Within h) (record sh { memory = m }) text d) does → Agrees (effect code) N K (holding (Within (inner_held h mode m d)) sh text c) does
+  pub cancels_inner : {N K : ℕ} (h : Transactions) (sh : Shared) (text : List ℕ) {does : ℕ → Outcome} (mode : Mode) (m : Memory) (c d : Configuration) → effect code c ≡ Effect.Cancel → Agrees (effect code) N K (holding (Within h) (record sh { memory = m }) text d) does → Agrees (effect code) N K (holding (Within (with_inner h mode m d)) sh text c) does
   cancels_inner {N = N} {K = K} h sh text mode m c d e g =
-      fewer (effect code) (all N) (less K) (quiet (effect code) (ap (λ x. sequential_step (holding (Within (inner_held h mode m d)) sh text c) false Running (holding (Within (inner_held h mode m d)) sh text c).inside x) e) refl g)
+      fewer (effect code) (all N) (less K) (quiet (effect code) (ap (λ x. sequential_step (holding (Within (with_inner h mode m d)) sh text c) false Running (holding (Within (with_inner h mode m d)) sh text c).inside x) e) refl g)
 
   -- an outermost transaction is left: its tick and the instruction are one
-  pub leaves_outermost : {N K : ℕ} {A : Type 0} (after : Answer A → Outcome) (give : State → Answer A) (mode : Mode) (found left : Memory) (founds lefts : List Memory) (sh : Shared) (text : List ℕ) (ls ls' : List Local) (c c' d : Configuration) → next (effect code) (holding (Within (outermost_held mode d found founds lefts)) sh text c) ≡ outside c' founds (lefts ++ left ∷ []) text Running → IsSeen Bare after → Agrees (effect code) N K (outside c' founds (lefts ++ left ∷ []) text Running) (λ n. after (give (state n ls' (Outside founds (lefts ++ left ∷ [])) text))) → Agrees (effect code) N K (holding (Within (outermost_held mode d found founds lefts)) sh text c) (λ n. after (go_on (tick (state n ls (Outside founds lefts) text)) (λ u then_. give (record then_ { locals = ls'; context = Outside founds (lefts ++ left ∷ []) }))))
+  pub leaves_outermost : {N K : ℕ} {A : Type 0} (after : Answer A → Outcome) (give : State → Answer A) (mode : Mode) (found left : Memory) (founds lefts : List Memory) (sh : Shared) (text : List ℕ) (ls ls' : List Local) (c c' d : Configuration) → next (effect code) (holding (Within (outermost_alone mode d found founds lefts)) sh text c) ≡ outside c' founds (lefts ++ left ∷ []) text Running → IsSeen Bare after → Agrees (effect code) N K (outside c' founds (lefts ++ left ∷ []) text Running) (λ n. after (give (state n ls' (Outside founds (lefts ++ left ∷ [])) text))) → Agrees (effect code) N K (holding (Within (outermost_alone mode d found founds lefts)) sh text c) (λ n. after (go_on (tick (state n ls (Outside founds lefts) text)) (λ u then_. give (record then_ { locals = ls'; context = Outside founds (lefts ++ left ∷ []) }))))
   leaves_outermost {N = N} {K = K} after give mode found left founds lefts sh text ls ls' c c' d e s g =
       fewer (effect code) (less N) (less K) (shown (effect code) _ e (s.spent _) (λ n. refl) g)
 
-  pub next_commit : (mode : Mode) (found : Memory) (founds lefts : List Memory) (sh : Shared) (text : List ℕ) (c c' d : Configuration) → effect code c ≡ Effect.Commit c' → next (effect code) (holding (Within (outermost_held mode d found founds lefts)) sh text c) ≡ outside c' founds (lefts ++ sh.memory ∷ []) text Running
-  next_commit mode found founds lefts sh text c c' d e = ap (λ x. sequential_step (holding (Within (outermost_held mode d found founds lefts)) sh text c) false Running (holding (Within (outermost_held mode d found founds lefts)) sh text c).inside x) e
+  pub next_commit : (mode : Mode) (found : Memory) (founds lefts : List Memory) (sh : Shared) (text : List ℕ) (c c' d : Configuration) → effect code c ≡ Effect.Commit c' → next (effect code) (holding (Within (outermost_alone mode d found founds lefts)) sh text c) ≡ outside c' founds (lefts ++ sh.memory ∷ []) text Running
+  next_commit mode found founds lefts sh text c c' d e = ap (λ x. sequential_step (holding (Within (outermost_alone mode d found founds lefts)) sh text c) false Running (holding (Within (outermost_alone mode d found founds lefts)) sh text c).inside x) e
 
-  pub next_cancel : (mode : Mode) (found : Memory) (founds lefts : List Memory) (sh : Shared) (text : List ℕ) (c d : Configuration) → effect code c ≡ Effect.Cancel → sh.kept ≡ false → next (effect code) (holding (Within (outermost_held mode d found founds lefts)) sh text c) ≡ outside d founds (lefts ++ found ∷ []) text Running
+  pub next_cancel : (mode : Mode) (found : Memory) (founds lefts : List Memory) (sh : Shared) (text : List ℕ) (c d : Configuration) → effect code c ≡ Effect.Cancel → sh.kept ≡ false → next (effect code) (holding (Within (outermost_alone mode d found founds lefts)) sh text c) ≡ outside d founds (lefts ++ found ∷ []) text Running
   next_cancel mode found founds lefts sh text c d e k =
-      ap (λ x. sequential_step (holding (Within (outermost_held mode d found founds lefts)) sh text c) false Running (holding (Within (outermost_held mode d found founds lefts)) sh text c).inside x) e
-      ∙ ap (λ b. cancel_step (holding (Within (outermost_held mode d found founds lefts)) sh text c) (record { cancelled = d; found = found; mem = sh.memory; inner = []; kept = sh.kept }) [] b) k
+      ap (λ x. sequential_step (holding (Within (outermost_alone mode d found founds lefts)) sh text c) false Running (holding (Within (outermost_alone mode d found founds lefts)) sh text c).inside x) e
+      ∙ ap (λ b. cancel_step (holding (Within (outermost_alone mode d found founds lefts)) sh text c) (record { cancelled = d; found = found; mem = sh.memory; inner = []; kept = sh.kept }) [] b) k
 
   -- what may be printed: outside, or behind an irrevocable
   abbrev pub PrintsIn : Around → Shared → Type 0
@@ -366,6 +359,6 @@ module _ (code : Code) where
   irrevocable_bare {N = N} {K = K} sh text c c' e m =
       fewer (effect code) (all N) (less K) (quiet (effect code) (ap (λ x. sequential_step (holding Bare sh text c) false Running None x) e) refl m)
 
-  pub irrevocable_within : {N K : ℕ} (h : Held) (sh : Shared) (text : List ℕ) {does : ℕ → Outcome} (c c' : Configuration) → effect code c ≡ Effect.Irrevocable c' → Agrees (effect code) N K (holding (Within h) (record sh { kept = true }) text c') does → Agrees (effect code) N K (holding (Within h) sh text c) does
+  pub irrevocable_within : {N K : ℕ} (h : Transactions) (sh : Shared) (text : List ℕ) {does : ℕ → Outcome} (c c' : Configuration) → effect code c ≡ Effect.Irrevocable c' → Agrees (effect code) N K (holding (Within h) (record sh { kept = true }) text c') does → Agrees (effect code) N K (holding (Within h) sh text c) does
   irrevocable_within {N = N} {K = K} h sh text c c' e m =
       fewer (effect code) (all N) (less K) (quiet (effect code) (ap (λ x. sequential_step (holding (Within h) sh text c) false Running (holding (Within h) sh text c).inside x) e) refl m)

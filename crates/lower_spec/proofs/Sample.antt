@@ -7,7 +7,7 @@ use Rattle.lex.specs.declared.token.Scalar.TheVariants.{Int}
 use Rattle.syntax.specs.declared.tree.BinaryOp.TheVariants.{Add, Less}
 use Rattle.syntax.specs.declared.tree.IncDec.TheVariants.{Increment}
 use Rattle.syntax.specs.declared.tree.Mode.TheVariants.{Atomic}
-use Rattle.syntax.specs.declared.tree.Kind.TheVariants.{Plain}
+use Rattle.syntax.specs.declared.tree.TransactionKind.TheVariants.{Plain}
 use Rattle.syntax.specs.Tree.{Name, Variable, Constant, Binary, Assign, Adjust, Stmt, Stmts, Declare, Block, Do, While, Transaction, Function, Global, Defines, Shares, Program}
 use Rattle.syntax.specs.Names.{definition_of}
 use Rattle.syntax.specs.Threads.{thread}
@@ -23,7 +23,7 @@ abbrev nowhere : Span
 nowhere = record { start = 0; end = 0 }
 
 abbrev named : List ℕ → Name
-named text = record { text = text; at = nowhere }
+named text = record { text = text; span = nowhere }
 
 abbrev adding : Stmt
 adding = Transaction (Plain Atomic) (Stmts.◌∷◌ (Do (Assign (Variable (named (codes "x"))) (Some Add) (Variable (named (codes "i"))))) Stmts.[]) nowhere

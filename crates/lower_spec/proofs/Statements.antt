@@ -14,7 +14,7 @@ use Rattle.syntax.specs.Numbers.{modulus, residue, number_of, word_of, value_in_
 use Rattle.syntax.specs.Names.{Local, newest, word_at, with_word, global_of, cells, GlobalCells}
 use Rattle.syntax.specs.Behaviours.{Outcome}
 use Rattle.syntax.specs.Actions.{Inside, State, Answer, Gives, Action, pure, go_on, ◌>>=◌, ◌>>◌, trap, or_trap}
-use Rattle.syntax.specs.Meaning.{Spot, InLocal, InCell, fetch, assign, Completion, Next, op_of, int_one, Caller, spot_from, expr, spot, changed, assigned, simple}
+use Rattle.syntax.specs.Meaning.{Lvalue, InLocal, InCell, fetch, assign, Completion, Next, op_of, int_one, Caller, lvalue_from, expr, lvalue, assign_by_operator, assign_by, simple}
 use Rattle.syntax.proofs.Words.{residue_below, word_below}
 use Rattle.syntax.proofs.Memories.{written_memory}
 use Rattle.bytecode.specs.Effects.{Effect}
@@ -24,7 +24,7 @@ use Rattle.lower_spec.specs.Statements.{Target, LocalAt, CellAt, ElementOf, assi
 use Rattle.lower_spec.proofs.Conversions.{residue_same, cell_residue, truth_converted}
 use Rattle.lower_spec.proofs.Agreement.{Agrees, astray, same}
 use Rattle.lower_spec.proofs.Runs.{Around, Bare, Within, Shared, context_of, holding, state, IsSeen, on_seen, IsBounded, AreBounded, KnownCells, HasCellsOf, IsGood, registers_in, Holds, Keeps, ready_kept, keeps_all, keeps_more, keeps_set, keeps_on, kept_at, holds_on, configuration, effect_at, goes_by, writes_by, traps}
-use Rattle.lower_spec.proofs.Expressions.{CallsFollow, element_in, newest_like, GoesOn, GoesTaken, Does, Computed, set_on, comes, taken, reads, operates, spot_in, spot_from_is, word_comes, operand_follows, due_follows, expr_follows, cond_follows}
+use Rattle.lower_spec.proofs.Expressions.{CallsFollow, element_in, newest_like, GoesOn, GoesTaken, Does, Computed, set_on, comes, taken, reads, operates, lvalue_in, lvalue_from_is, word_comes, operand_follows, due_follows, expr_follows, cond_follows}
 use Rattle.lower_spec.proofs.Locals.{TypeIs, word_typed, type_like, KnownLocal, newest_known, word_written, word_other, words_written, shape_written, length_like}
 
 -- one local is written: the registers are as they were, but for its own
@@ -67,12 +67,12 @@ missing r e = subst IsMissing e tt
 
 module _ (p : Program) (call : Caller) (code : Code) (layout : Layout) (frames : List Frame) (cf : CallsFollow p call code layout frames) (are : HasCellsOf code p) where
   -- where a target stands
-  abbrev pub IsAt : LocalScope → Target → List ℕ → Spot → Type 0
+  abbrev pub IsAt : LocalScope → Target → List ℕ → Lvalue → Type 0
   IsAt scope (LocalAt l) rs at = (at ≡ InLocal l.0 l.1) × (l.0 < length scope) × TypeIs scope l.0 l.1
   IsAt scope (CellAt g) rs at = (at ≡ InCell g.cell g.global.ty) × AreBounded code g
   IsAt scope (ElementOf g ri) rs at = (at ≡ InCell (g.cell + slice_index rs ri) g.global.ty) × (nat_lt (slice_index rs ri) (cells g.global) ≡ true) × AreBounded code g
 
-  at_kept : (scope : LocalScope) (tg : Target) (later : ℕ) (old new : List ℕ) (at : Spot) → Spares tg later → Keeps layout None later old new → IsAt scope tg old at → IsAt scope tg new at
+  at_kept : (scope : LocalScope) (tg : Target) (later : ℕ) (old new : List ℕ) (at : Lvalue) → Spares tg later → Keeps layout None later old new → IsAt scope tg old at → IsAt scope tg new at
   at_kept scope (LocalAt l) later old new at s k i = i
   at_kept scope (CellAt g) later old new at s k i = i
   at_kept scope (ElementOf g ri) later old new at s k i = (i.0 ∙ ap (λ w. InCell (g.cell + w) g.global.ty) (sym (k.below ri s tt)), ap (λ w. nat_lt w (cells g.global)) (k.below ri s tt) ∙ i.1, i.2)
@@ -116,7 +116,7 @@ module _ (p : Program) (call : Caller) (code : Code) (layout : Layout) (frames :
       (go (record sh { memory = slice_set sh.memory cell w }) text ls rs (written_memory (bounds_of code) sh.memory cell w (stored_below cell t (slice_index rs ra) bounded) g.0, g.1, g.2) h))
 
   -- a target is written
-  assigns : {N K : ℕ} (tg : Target) (at : Spot) (scope : LocalScope) (later : ℕ) (a : Around) (sh : Shared) (text : List ℕ) (ls : List Local) (after : Answer Completion → Outcome) (q ra : ℕ) (old rs : List ℕ) (v : Value) → length scope ≤ later → IsAt scope tg old at → Spares tg later → InstructionAt code q (assigning tg ra) → Keeps layout (home_of tg) later old rs → Lies tg (slice_index rs ra) v → Holds scope ls layout (length scope) old → IsGood code a sh → IsSeen a after → GoesNext N K a after scope (suc q) → Goes N K a sh text ls q rs (λ s. after (go_on (assign at v s) (λ u. pure Next)))
+  assigns : {N K : ℕ} (tg : Target) (at : Lvalue) (scope : LocalScope) (later : ℕ) (a : Around) (sh : Shared) (text : List ℕ) (ls : List Local) (after : Answer Completion → Outcome) (q ra : ℕ) (old rs : List ℕ) (v : Value) → length scope ≤ later → IsAt scope tg old at → Spares tg later → InstructionAt code q (assigning tg ra) → Keeps layout (home_of tg) later old rs → Lies tg (slice_index rs ra) v → Holds scope ls layout (length scope) old → IsGood code a sh → IsSeen a after → GoesNext N K a after scope (suc q) → Goes N K a sh text ls q rs (λ s. after (go_on (assign at v s) (λ u. pure Next)))
   assigns (LocalAt l) at scope later a sh text ls after q ra old rs v room is_at sp i k here h g s go =
       let w : ℕ = slice_index rs ra in
       let len : length ls ≡ length scope = length_like scope ls h.like in
@@ -141,7 +141,7 @@ module _ (p : Program) (call : Caller) (code : Code) (layout : Layout) (frames :
       (is_at.2.1 (slice_index rs ri) is_at.1) here (lowered scope ls layout later old rs room h k) g s go)
 
   -- a value goes to its target, or lies there already
-  stored_at : {N K : ℕ} (tg : Target) (at : Spot) (scope : LocalScope) (later : ℕ) (a : Around) (sh : Shared) (text : List ℕ) (ls : List Local) (after : Answer Completion → Outcome) (q to ra : ℕ) (old rs : List ℕ) (v : Value) → length scope ≤ later → IsAt scope tg old at → Spares tg later → StoreCode code layout p tg ra q to → Keeps layout (home_of tg) later old rs → Lies tg (slice_index rs ra) v → Holds scope ls layout (length scope) old → IsGood code a sh → IsSeen a after → GoesNext N K a after scope to → Goes N K a sh text ls q rs (λ s. after (go_on (assign at v s) (λ u. pure Next)))
+  stored_at : {N K : ℕ} (tg : Target) (at : Lvalue) (scope : LocalScope) (later : ℕ) (a : Around) (sh : Shared) (text : List ℕ) (ls : List Local) (after : Answer Completion → Outcome) (q to ra : ℕ) (old rs : List ℕ) (v : Value) → length scope ≤ later → IsAt scope tg old at → Spares tg later → StoreCode code layout p tg ra q to → Keeps layout (home_of tg) later old rs → Lies tg (slice_index rs ra) v → Holds scope ls layout (length scope) old → IsGood code a sh → IsSeen a after → GoesNext N K a after scope to → Goes N K a sh text ls q rs (λ s. after (go_on (assign at v s) (λ u. pure Next)))
   stored_at {N = N} {K = K} tg at scope later a sh text ls after q to ra old rs v room is_at sp (inl c) k here h g s go =
       assigns tg at scope later a sh text ls after q ra old rs v room is_at sp c.1 k here h g s (subst (λ x. GoesNext N K a after scope x) c.0 go)
   stored_at {N = N} {K = K} (LocalAt l) at scope later a sh text ls after q to ra old rs v room is_at sp (inr c) k here h g s go =
@@ -166,7 +166,7 @@ module _ (p : Program) (call : Caller) (code : Code) (layout : Layout) (frames :
       (go rs (ap (residue t) there ∙ sym (cell_residue x t v.word below tt) ∙ ap (λ o. word_of t (number_of (record { ty = o; word = v.word }))) (sym d.typed_so)) d.keeps)
 
   -- a value in a register goes to its target, once it is converted
-  pub stores : {N K : ℕ} (tg : Target) (at : Spot) (scope : LocalScope) (later : ℕ) (a : Around) (sh : Shared) (text : List ℕ) (ls : List Local) (after : Answer Completion → Outcome) (q to ra : ℕ) (t : Scalar) (old rs : List ℕ) (v : Value) → length scope ≤ later → IsAt scope tg old at → Spares tg later → StoredCode code layout p tg t ra q to later → Computed p call code layout frames a t ra (home_of tg) later old v sh rs → length rs ≡ registers_in layout → Holds scope ls layout (length scope) old → IsSeen a after → GoesNext N K a after scope to → Goes N K a sh text ls q rs (λ s. after (go_on (assign at v s) (λ u. pure Next)))
+  pub stores : {N K : ℕ} (tg : Target) (at : Lvalue) (scope : LocalScope) (later : ℕ) (a : Around) (sh : Shared) (text : List ℕ) (ls : List Local) (after : Answer Completion → Outcome) (q to ra : ℕ) (t : Scalar) (old rs : List ℕ) (v : Value) → length scope ≤ later → IsAt scope tg old at → Spares tg later → StoredCode code layout p tg t ra q to later → Computed p call code layout frames a t ra (home_of tg) later old v sh rs → length rs ≡ registers_in layout → Holds scope ls layout (length scope) old → IsSeen a after → GoesNext N K a after scope to → Goes N K a sh text ls q rs (λ s. after (go_on (assign at v s) (λ u. pure Next)))
   stores (LocalAt l) at scope later a sh text ls after q to ra t old rs v room is_at sp c d len h s go =
       comes p call code layout frames t l.1 v a sh text (λ n. after (go_on (assign at v (state n ls (context_of a sh) text)) (λ u. pure Next))) q c.mid (Some l.0) later ra c.r old rs c.converts d len
       (λ new here keeps. stored_at (LocalAt l) at scope later a sh text ls after c.mid to c.r old new v room is_at sp c.stores keeps here h d.good s go)
@@ -184,7 +184,7 @@ module _ (p : Program) (call : Caller) (code : Code) (layout : Layout) (frames :
   constant_lies (ElementOf g ri) x n w e = ap (residue g.global.ty) e ∙ residue_same g.global.ty (constant_in g.global.ty x n) (word_below g.global.ty (number_of (record { ty = x; word = word_of x (pos n) })))
 
   -- an expression's value goes to its target, whatever follows
-  pub expr_stores : {N K : ℕ} (e : Expr) (tg : Target) (at : Spot) (scope : LocalScope) (later : ℕ) (a : Around) (sh : Shared) (text : List ℕ) (ls : List Local) (after : Answer Completion → Outcome) (whole : Answer (Unit {0}) → Outcome) (from to : ℕ) (old : List ℕ) → ((v : Value) (s : State) → whole (assign at v s) ≡ after (go_on (assign at v s) (λ u. pure Next))) → length scope ≤ later → IsAt scope tg old at → Spares tg later → ExprStored code layout p scope tg e from to later → Holds scope ls layout (length scope) old → IsGood code a sh → IsSeen a after → IsSeen a whole → GoesNext N K a after scope to → Goes N K a sh text ls from old (λ s. whole (go_on (expr p call e s) (assign at)))
+  pub expr_stores : {N K : ℕ} (e : Expr) (tg : Target) (at : Lvalue) (scope : LocalScope) (later : ℕ) (a : Around) (sh : Shared) (text : List ℕ) (ls : List Local) (after : Answer Completion → Outcome) (whole : Answer (Unit {0}) → Outcome) (from to : ℕ) (old : List ℕ) → ((v : Value) (s : State) → whole (assign at v s) ≡ after (go_on (assign at v s) (λ u. pure Next))) → length scope ≤ later → IsAt scope tg old at → Spares tg later → ExprStored code layout p scope tg e from to later → Holds scope ls layout (length scope) old → IsGood code a sh → IsSeen a after → IsSeen a whole → GoesNext N K a after scope to → Goes N K a sh text ls from old (λ s. whole (go_on (expr p call e s) (assign at)))
   expr_stores (Constant n x y) tg at scope later a sh text ls after whole from to old is room is_at sp c h g s s1 go =
       let v : Value = record { ty = x; word = word_of x (pos n) } in
       same (effect code) (λ m. after (go_on (assign at v (state m ls (context_of a sh) text)) (λ u. pure Next))) (λ m. is v (state m ls (context_of a sh) text))
@@ -197,20 +197,20 @@ module _ (p : Program) (call : Caller) (code : Code) (layout : Layout) (frames :
       (stores tg at scope later a sh1 text1 ls after c.mid to c.r c.t old rs1 v room is_at sp c.stores d (d.keeps.size ∙ h.size_is) h s go))
 
   -- the left side of an assignment
-  abbrev GoesAt : ℕ → ℕ → (a : Around) → (Answer Spot → Outcome) → LocalScope → Target → List Local → (to : ℕ) → List ℕ → Type 0
+  abbrev GoesAt : ℕ → ℕ → (a : Around) → (Answer Lvalue → Outcome) → LocalScope → Target → List Local → (to : ℕ) → List ℕ → Type 0
   GoesAt N K a after scope tg ls to old =
-      (at : Spot) (sh : Shared) (text : List ℕ) (rs : List ℕ) → IsAt scope tg rs at → Holds scope ls layout (length scope) rs → IsGood code a sh → Goes N K a sh text ls to rs (λ s. after (Gives at s))
+      (at : Lvalue) (sh : Shared) (text : List ℕ) (rs : List ℕ) → IsAt scope tg rs at → Holds scope ls layout (length scope) rs → IsGood code a sh → Goes N K a sh text ls to rs (λ s. after (Gives at s))
 
-  variable_spot : {N K : ℕ} (o : Option (ℕ × Scalar)) (g : Option GlobalCells) (scope : LocalScope) (tg : Target) (from to : ℕ) → to ≡ from → VariableTarget code layout p scope o g tg → KnownLocal scope o → KnownCells code g → (a : Around) (sh : Shared) (text : List ℕ) (ls : List Local) (old : List ℕ) (after : Answer Spot → Outcome) → Holds scope ls layout (length scope) old → IsGood code a sh → GoesAt N K a after scope tg ls to old → Goes N K a sh text ls from old (λ s. after (spot_in p call code layout frames o g s))
-  variable_spot {N = N} {K = K} (Some l) g scope tg from to e c type_is known a sh text ls old after h good go =
+  variable_lvalue : {N K : ℕ} (o : Option (ℕ × Scalar)) (g : Option GlobalCells) (scope : LocalScope) (tg : Target) (from to : ℕ) → to ≡ from → VariableTarget code layout p scope o g tg → KnownLocal scope o → KnownCells code g → (a : Around) (sh : Shared) (text : List ℕ) (ls : List Local) (old : List ℕ) (after : Answer Lvalue → Outcome) → Holds scope ls layout (length scope) old → IsGood code a sh → GoesAt N K a after scope tg ls to old → Goes N K a sh text ls from old (λ s. after (lvalue_in p call code layout frames o g s))
+  variable_lvalue {N = N} {K = K} (Some l) g scope tg from to e c type_is known a sh text ls old after h good go =
       let go1 : GoesAt N K a after scope (LocalAt l) ls from old = subst (λ x. GoesAt N K a after scope x ls from old) c.1 (subst (λ x. GoesAt N K a after scope tg ls x old) e go) in
       go1 (InLocal l.0 l.1) sh text old (refl, c.0, type_is) h good
-  variable_spot None None scope tg from to e c type_is known a sh text ls old after h good go = absurd c
-  variable_spot {N = N} {K = K} None (Some g) scope tg from to e c type_is known a sh text ls old after h good go =
+  variable_lvalue None None scope tg from to e c type_is known a sh text ls old after h good go = absurd c
+  variable_lvalue {N = N} {K = K} None (Some g) scope tg from to e c type_is known a sh text ls old after h good go =
       let go1 : GoesAt N K a after scope (CellAt g) ls from old = subst (λ x. GoesAt N K a after scope x ls from old) c (subst (λ x. GoesAt N K a after scope tg ls x old) e go) in
       go1 (InCell g.cell g.global.ty) sh text old (refl, known) h good
 
-  checked : {N K : ℕ} (g : GlobalCells) (ri : ℕ) (b : Bool) (k : Value) (scope : LocalScope) (tg : Target) (a : Around) (sh : Shared) (text : List ℕ) (ls : List Local) (after : Answer Spot → Outcome) (q to : ℕ) (old rs : List ℕ) → AreBounded code g → nat_lt k.word (cells g.global) ≡ b → slice_index rs ri ≡ k.word → InstructionAt code q (Instr.Check ri (cells g.global)) → to ≡ suc q → tg ≡ ElementOf g ri → Holds scope ls layout (length scope) rs → IsGood code a sh → IsSeen a after → GoesAt N K a after scope tg ls to old → Goes N K a sh text ls q rs (λ s. after ((if b then pure (InCell (g.cell + k.word) g.global.ty) else trap Index) s))
+  checked : {N K : ℕ} (g : GlobalCells) (ri : ℕ) (b : Bool) (k : Value) (scope : LocalScope) (tg : Target) (a : Around) (sh : Shared) (text : List ℕ) (ls : List Local) (after : Answer Lvalue → Outcome) (q to : ℕ) (old rs : List ℕ) → AreBounded code g → nat_lt k.word (cells g.global) ≡ b → slice_index rs ri ≡ k.word → InstructionAt code q (Instr.Check ri (cells g.global)) → to ≡ suc q → tg ≡ ElementOf g ri → Holds scope ls layout (length scope) rs → IsGood code a sh → IsSeen a after → GoesAt N K a after scope tg ls to old → Goes N K a sh text ls q rs (λ s. after ((if b then pure (InCell (g.cell + k.word) g.global.ty) else trap Index) s))
   checked {N = N} {K = K} g ri true k scope tg a sh text ls after q to old rs known e f i to_is tg_is h good s go =
       let go1 : GoesAt N K a after scope (ElementOf g ri) ls (suc q) old = subst (λ x. GoesAt N K a after scope x ls (suc q) old) tg_is (subst (λ x. GoesAt N K a after scope tg ls x old) to_is go) in
       goes_by code a sh text (configuration code q rs frames) (configuration code (suc q) rs frames)
@@ -224,23 +224,23 @@ module _ (p : Program) (call : Caller) (code : Code) (layout : Layout) (frames :
       ∙ ap (λ w. if nat_lt w (cells g.global) then Effect.Pure (configuration code (suc q) rs frames) else Effect.Traps Index) f
       ∙ ap (λ b. if b then Effect.Pure (configuration code (suc q) rs frames) else Effect.Traps Index) e)
 
-  element_spot : {N K : ℕ} (o : Option GlobalCells) (scope : LocalScope) (i : Expr) (tg : Target) (from to : ℕ) → CheckedAt code layout p o (Coding code layout p None scope i) from to (length scope) tg → KnownCells code o → (a : Around) (sh : Shared) (text : List ℕ) (ls : List Local) (old : List ℕ) (after : Answer Spot → Outcome) → Holds scope ls layout (length scope) old → IsGood code a sh → IsSeen a after → GoesAt N K a after scope tg ls to old → Goes N K a sh text ls from old (λ s. after (go_on (expr p call i s) (element_in o)))
-  element_spot None scope i tg from to c known a sh text ls old after h good s go = absurd c
-  element_spot {N = N} {K = K} (Some g) scope i tg from to c known a sh text ls old after h good s go =
+  element_lvalue : {N K : ℕ} (o : Option GlobalCells) (scope : LocalScope) (i : Expr) (tg : Target) (from to : ℕ) → CheckedAt code layout p o (Coding code layout p None scope i) from to (length scope) tg → KnownCells code o → (a : Around) (sh : Shared) (text : List ℕ) (ls : List Local) (old : List ℕ) (after : Answer Lvalue → Outcome) → Holds scope ls layout (length scope) old → IsGood code a sh → IsSeen a after → GoesAt N K a after scope tg ls to old → Goes N K a sh text ls from old (λ s. after (go_on (expr p call i s) (element_in o)))
+  element_lvalue None scope i tg from to c known a sh text ls old after h good s go = absurd c
+  element_lvalue {N = N} {K = K} (Some g) scope i tg from to c known a sh text ls old after h good s go =
       expr_follows p call code layout frames cf are None scope i N K from c.mid (length scope) c.ri c.ti a sh text ls old (λ q. after (go_on q (element_in (Some g)))) c.computes h good (on_seen a after (element_in (Some g)) s)
       (λ k sh1 text1 rs1 d. checked g c.ri (nat_lt k.word (cells g.global)) k scope tg a sh1 text1 ls after c.mid to old rs1 known refl d.here c.checks c.to_is c.target_is (lowered scope ls layout (length scope) old rs1 (omega arith) h d.keeps) d.good s go)
 
-  spot_follows : {N K : ℕ} (scope : LocalScope) (e : Expr) (tg : Target) (from to : ℕ) → TargetCode code layout p scope e from to (length scope) tg → (a : Around) (sh : Shared) (text : List ℕ) (ls : List Local) (old : List ℕ) (after : Answer Spot → Outcome) → Holds scope ls layout (length scope) old → IsGood code a sh → IsSeen a after → GoesAt N K a after scope tg ls to old → Goes N K a sh text ls from old (λ s. after (spot p call e s))
-  spot_follows scope (Variable x) tg from to c a sh text ls old after h good s go =
-      same (effect code) (λ n. after (spot_in p call code layout frames (newest scope x.text) (global_of p x.text) (state n ls (context_of a sh) text)))
-      (λ n. ap (λ o. after (spot_from p call x.text o (state n ls (context_of a sh) text))) (newest_like x.text scope ls h.like) ∙ ap after (spot_from_is p call code layout frames x.text (newest scope x.text) (state n ls (context_of a sh) text)))
-      (variable_spot (newest scope x.text) (global_of p x.text) scope tg from to c.0 c.1 (newest_known scope x.text) (are x.text) a sh text ls old after h good go)
-  spot_follows scope (Element x i at) tg from to c a sh text ls old after h good s go =
-      element_spot (global_of p x.text) scope i tg from to c (are x.text) a sh text ls old after h good s go
-  spot_follows scope e tg from to c a sh text ls old after h good s go = absurd c
+  lvalue_follows : {N K : ℕ} (scope : LocalScope) (e : Expr) (tg : Target) (from to : ℕ) → TargetCode code layout p scope e from to (length scope) tg → (a : Around) (sh : Shared) (text : List ℕ) (ls : List Local) (old : List ℕ) (after : Answer Lvalue → Outcome) → Holds scope ls layout (length scope) old → IsGood code a sh → IsSeen a after → GoesAt N K a after scope tg ls to old → Goes N K a sh text ls from old (λ s. after (lvalue p call e s))
+  lvalue_follows scope (Variable x) tg from to c a sh text ls old after h good s go =
+      same (effect code) (λ n. after (lvalue_in p call code layout frames (newest scope x.text) (global_of p x.text) (state n ls (context_of a sh) text)))
+      (λ n. ap (λ o. after (lvalue_from p call x.text o (state n ls (context_of a sh) text))) (newest_like x.text scope ls h.like) ∙ ap after (lvalue_from_is p call code layout frames x.text (newest scope x.text) (state n ls (context_of a sh) text)))
+      (variable_lvalue (newest scope x.text) (global_of p x.text) scope tg from to c.0 c.1 (newest_known scope x.text) (are x.text) a sh text ls old after h good go)
+  lvalue_follows scope (Element x i at) tg from to c a sh text ls old after h good s go =
+      element_lvalue (global_of p x.text) scope i tg from to c (are x.text) a sh text ls old after h good s go
+  lvalue_follows scope e tg from to c a sh text ls old after h good s go = absurd c
 
   -- an element that is read at once, whose index the read checks
-  unchecked : {N K : ℕ} (g : GlobalCells) (ri : ℕ) (b : Bool) (k : Value) (scope : LocalScope) (tg : Target) (a : Around) (sh : Shared) (text : List ℕ) (ls : List Local) (after : Answer Spot → Outcome) (q fetched free r : ℕ) (t : Scalar) (old rs : List ℕ) → AreBounded code g → nat_lt k.word (cells g.global) ≡ b → slice_index rs ri ≡ k.word → FetchCode code layout p (ElementOf g ri) q fetched free r t → tg ≡ ElementOf g ri → Holds scope ls layout (length scope) rs → IsGood code a sh → IsSeen a after → GoesAt N K a after scope tg ls q old → Goes N K a sh text ls q rs (λ s. after ((if b then pure (InCell (g.cell + k.word) g.global.ty) else trap Index) s))
+  unchecked : {N K : ℕ} (g : GlobalCells) (ri : ℕ) (b : Bool) (k : Value) (scope : LocalScope) (tg : Target) (a : Around) (sh : Shared) (text : List ℕ) (ls : List Local) (after : Answer Lvalue → Outcome) (q fetched free r : ℕ) (t : Scalar) (old rs : List ℕ) → AreBounded code g → nat_lt k.word (cells g.global) ≡ b → slice_index rs ri ≡ k.word → FetchCode code layout p (ElementOf g ri) q fetched free r t → tg ≡ ElementOf g ri → Holds scope ls layout (length scope) rs → IsGood code a sh → IsSeen a after → GoesAt N K a after scope tg ls q old → Goes N K a sh text ls q rs (λ s. after ((if b then pure (InCell (g.cell + k.word) g.global.ty) else trap Index) s))
   unchecked {N = N} {K = K} g ri true k scope tg a sh text ls after q fetched free r t old rs known e f c tg_is h good s go =
       let go1 : GoesAt N K a after scope (ElementOf g ri) ls q old = subst (λ x. GoesAt N K a after scope x ls q old) tg_is go in
       go1 (InCell (g.cell + k.word) g.global.ty) sh text rs (ap (λ w. InCell (g.cell + w) g.global.ty) (sym f), ap (λ w. nat_lt w (cells g.global)) f ∙ e, known) h good
@@ -250,19 +250,19 @@ module _ (p : Program) (call : Caller) (code : Code) (layout : Layout) (frames :
       ∙ ap (λ w. if nat_lt w (cells g.global) then Effect.Read (g.cell + w) (setting (configuration code q rs frames) r) else Effect.Traps Index) f
       ∙ ap (λ b. if b then Effect.Read (g.cell + k.word) (setting (configuration code q rs frames) r) else Effect.Traps Index) e)
 
-  read_element : {N K : ℕ} (o : Option GlobalCells) (scope : LocalScope) (i : Expr) (tg : Target) (from to fetched free r : ℕ) (t : Scalar) → UncheckedAt code layout p o (Coding code layout p None scope i) from to (length scope) tg → FetchCode code layout p tg to fetched free r t → KnownCells code o → (a : Around) (sh : Shared) (text : List ℕ) (ls : List Local) (old : List ℕ) (after : Answer Spot → Outcome) → Holds scope ls layout (length scope) old → IsGood code a sh → IsSeen a after → GoesAt N K a after scope tg ls to old → Goes N K a sh text ls from old (λ s. after (go_on (expr p call i s) (element_in o)))
+  read_element : {N K : ℕ} (o : Option GlobalCells) (scope : LocalScope) (i : Expr) (tg : Target) (from to fetched free r : ℕ) (t : Scalar) → UncheckedAt code layout p o (Coding code layout p None scope i) from to (length scope) tg → FetchCode code layout p tg to fetched free r t → KnownCells code o → (a : Around) (sh : Shared) (text : List ℕ) (ls : List Local) (old : List ℕ) (after : Answer Lvalue → Outcome) → Holds scope ls layout (length scope) old → IsGood code a sh → IsSeen a after → GoesAt N K a after scope tg ls to old → Goes N K a sh text ls from old (λ s. after (go_on (expr p call i s) (element_in o)))
   read_element None scope i tg from to fetched free r t c d known a sh text ls old after h good s go = absurd c
   read_element {N = N} {K = K} (Some g) scope i tg from to fetched free r t c d known a sh text ls old after h good s go =
       expr_follows p call code layout frames cf are None scope i N K from to (length scope) c.ri c.ti a sh text ls old (λ q. after (go_on q (element_in (Some g)))) c.computes h good (on_seen a after (element_in (Some g)) s)
       (λ k sh1 text1 rs1 e. unchecked g c.ri (nat_lt k.word (cells g.global)) k scope tg a sh1 text1 ls after to fetched free r t old rs1 known refl e.here (subst (λ x. FetchCode code layout p x to fetched free r t) c.target_is d) c.target_is (lowered scope ls layout (length scope) old rs1 (omega arith) h e.keeps) e.good s go)
 
-  read_follows : {N K : ℕ} (scope : LocalScope) (e : Expr) (tg : Target) (from to fetched free r : ℕ) (t : Scalar) → ReadTarget code layout p scope e from to (length scope) tg → FetchCode code layout p tg to fetched free r t → (a : Around) (sh : Shared) (text : List ℕ) (ls : List Local) (old : List ℕ) (after : Answer Spot → Outcome) → Holds scope ls layout (length scope) old → IsGood code a sh → IsSeen a after → GoesAt N K a after scope tg ls to old → Goes N K a sh text ls from old (λ s. after (spot p call e s))
+  read_follows : {N K : ℕ} (scope : LocalScope) (e : Expr) (tg : Target) (from to fetched free r : ℕ) (t : Scalar) → ReadTarget code layout p scope e from to (length scope) tg → FetchCode code layout p tg to fetched free r t → (a : Around) (sh : Shared) (text : List ℕ) (ls : List Local) (old : List ℕ) (after : Answer Lvalue → Outcome) → Holds scope ls layout (length scope) old → IsGood code a sh → IsSeen a after → GoesAt N K a after scope tg ls to old → Goes N K a sh text ls from old (λ s. after (lvalue p call e s))
   read_follows scope (Element x i at) tg from to fetched free r t c d a sh text ls old after h good s go =
       read_element (global_of p x.text) scope i tg from to fetched free r t c d (are x.text) a sh text ls old after h good s go
   read_follows scope e tg from to fetched free r t c d a sh text ls old after h good s go = absurd c
 
   -- the old value of a target
-  fetch_follows : {N K : ℕ} (tg : Target) (at : Spot) (scope : LocalScope) (free : ℕ) (a : Around) (sh : Shared) (text : List ℕ) (ls : List Local) (after : Answer Value → Outcome) (from to r : ℕ) (t : Scalar) (old : List ℕ) → FetchCode code layout p tg from to free r t → IsAt scope tg old at → Holds scope ls layout free old → IsGood code a sh → IsSeen a after → GoesOn p call code layout frames N K a after ls to None free r t old → Goes N K a sh text ls from old (λ s. after (fetch at s))
+  fetch_follows : {N K : ℕ} (tg : Target) (at : Lvalue) (scope : LocalScope) (free : ℕ) (a : Around) (sh : Shared) (text : List ℕ) (ls : List Local) (after : Answer Value → Outcome) (from to r : ℕ) (t : Scalar) (old : List ℕ) → FetchCode code layout p tg from to free r t → IsAt scope tg old at → Holds scope ls layout free old → IsGood code a sh → IsSeen a after → GoesOn p call code layout frames N K a after ls to None free r t old → Goes N K a sh text ls from old (λ s. after (fetch at s))
   fetch_follows {N = N} {K = K} (LocalAt l) at scope free a sh text ls after from to r t old c i h good s go =
       let below : l.0 < length ls = subst (λ n. l.0 < n) (sym (length_like scope ls h.like)) i.1 in
       let go1 : GoesOn p call code layout frames N K a after ls from None free r l.1 old = subst (λ x. GoesOn p call code layout frames N K a after ls x None free r l.1 old) c.0 (subst (λ y. GoesOn p call code layout frames N K a after ls to None free r y old) c.2 go) in
@@ -282,14 +282,14 @@ module _ (p : Program) (call : Caller) (code : Code) (layout : Layout) (frames :
   abbrev ended : Action (Unit {0}) → Action Completion
   ended run = run >> pure Next
 
-  assigned_follows : {N K : ℕ} (scope : LocalScope) (lhs e : Expr) (from to : ℕ) → AssignCode code layout p scope lhs e from to → (a : Around) (sh : Shared) (text : List ℕ) (ls : List Local) (old : List ℕ) (after : Answer Completion → Outcome) → Holds scope ls layout (length scope) old → IsGood code a sh → IsSeen a after → GoesNext N K a after scope to → Goes N K a sh text ls from old (λ s. after ((spot p call lhs >>= λ at. ended (assigned p call at (expr p call e) None)) s))
+  assigned_follows : {N K : ℕ} (scope : LocalScope) (lhs e : Expr) (from to : ℕ) → AssignCode code layout p scope lhs e from to → (a : Around) (sh : Shared) (text : List ℕ) (ls : List Local) (old : List ℕ) (after : Answer Completion → Outcome) → Holds scope ls layout (length scope) old → IsGood code a sh → IsSeen a after → GoesNext N K a after scope to → Goes N K a sh text ls from old (λ s. after ((lvalue p call lhs >>= λ at. ended (assign_by p call at (expr p call e) None)) s))
   assigned_follows scope lhs e from to c a sh text ls old after h good s go =
-      let rest : Spot → Action Completion = λ at. ended (assigned p call at (expr p call e) None) in
-      spot_follows scope lhs c.target from c.mid c.goes_to a sh text ls old (λ q. after (go_on q rest)) h good (on_seen a after rest s)
+      let rest : Lvalue → Action Completion = λ at. ended (assign_by p call at (expr p call e) None) in
+      lvalue_follows scope lhs c.target from c.mid c.goes_to a sh text ls old (λ q. after (go_on q rest)) h good (on_seen a after rest s)
       (λ at sh1 text1 rs1 is_at h1 good1. expr_stores e c.target at scope c.later a sh1 text1 ls after (λ q. after (go_on q (λ u. pure Next))) c.mid to rs1 (λ v s1. refl) c.room is_at c.spares c.stores h1 good1 s (on_seen a after (λ u. pure Next) s) go)
 
   -- once the target is known
-  changed_from : {N K : ℕ} (scope : LocalScope) (lhs : Expr) (op : BinaryOp) (by : Action Value) (C : Due) → FollowTaken scope by C → (from to : ℕ) (c : ChangeCode code layout p scope lhs op C from to) (at : Spot) (a : Around) (sh1 : Shared) (text1 : List ℕ) (ls : List Local) (rs1 : List ℕ) (after : Answer Completion → Outcome) → IsAt scope c.target rs1 at → Holds scope ls layout (length scope) rs1 → IsGood code a sh1 → IsSeen a after → GoesNext N K a after scope to → Goes N K a sh1 text1 ls c.mid rs1 (λ s. after (ended (changed p call at by op) s))
+  changed_from : {N K : ℕ} (scope : LocalScope) (lhs : Expr) (op : BinaryOp) (by : Action Value) (C : Due) → FollowTaken scope by C → (from to : ℕ) (c : ChangeCode code layout p scope lhs op C from to) (at : Lvalue) (a : Around) (sh1 : Shared) (text1 : List ℕ) (ls : List Local) (rs1 : List ℕ) (after : Answer Completion → Outcome) → IsAt scope c.target rs1 at → Holds scope ls layout (length scope) rs1 → IsGood code a sh1 → IsSeen a after → GoesNext N K a after scope to → Goes N K a sh1 text1 ls c.mid rs1 (λ s. after (ended (assign_by_operator p call at by op) s))
   changed_from {N = N} {K = K} scope lhs op by C follow from to c at a sh1 text1 ls rs1 after is_at h1 good1 s go =
       let after1 : Answer (Unit {0}) → Outcome = λ q. after (go_on q (λ u. pure Next)) in
       let seen1 : IsSeen a after1 = on_seen a after (λ u. pure Next) s in
@@ -306,15 +306,15 @@ module _ (p : Program) (call : Caller) (code : Code) (layout : Layout) (frames :
       operates p call code layout frames op o1 v b.ta b.tb b.ra b.rb a sh4 text4 ls (λ q. after1 (go_on q (assign at))) b.last c.done (home_of c.target) c.later c.r c.t rs1 rs4 e.typed_so f.typed_so (kept_at layout b.later b.ra rs3 rs4 b.apart f.keeps ∙ e.here) f.here b.operates (keeps.size ∙ h1.size_is) (keeps_more layout (home_of c.target) c.later rs1 rs4 keeps) f.good (on_seen a after1 (assign at) seen1)
       (λ new sh5 text5 rs5 g. stores c.target at scope c.later a sh5 text5 ls after c.done to c.r c.t rs1 rs5 new c.room is_at c.spares c.stores g (g.keeps.size ∙ h1.size_is) h1 s go))))
 
-  changed_follows : {N K : ℕ} (scope : LocalScope) (lhs : Expr) (op : BinaryOp) (by : Action Value) (C : Due) → FollowTaken scope by C → (from to : ℕ) → ChangeCode code layout p scope lhs op C from to → (a : Around) (sh : Shared) (text : List ℕ) (ls : List Local) (old : List ℕ) (after : Answer Completion → Outcome) → Holds scope ls layout (length scope) old → IsGood code a sh → IsSeen a after → GoesNext N K a after scope to → Goes N K a sh text ls from old (λ s. after ((spot p call lhs >>= λ at. ended (changed p call at by op)) s))
+  changed_follows : {N K : ℕ} (scope : LocalScope) (lhs : Expr) (op : BinaryOp) (by : Action Value) (C : Due) → FollowTaken scope by C → (from to : ℕ) → ChangeCode code layout p scope lhs op C from to → (a : Around) (sh : Shared) (text : List ℕ) (ls : List Local) (old : List ℕ) (after : Answer Completion → Outcome) → Holds scope ls layout (length scope) old → IsGood code a sh → IsSeen a after → GoesNext N K a after scope to → Goes N K a sh text ls from old (λ s. after ((lvalue p call lhs >>= λ at. ended (assign_by_operator p call at by op)) s))
   changed_follows {N = N} {K = K} scope lhs op by C follow from to c a sh text ls old after h good s go = by_target c.goes_to
     where
-      by_target : TargetCode code layout p scope lhs from c.mid (length scope) c.target ⊎ ReadTarget code layout p scope lhs from c.mid (length scope) c.target → Goes N K a sh text ls from old (λ s. after ((spot p call lhs >>= λ at. ended (changed p call at by op)) s))
+      by_target : TargetCode code layout p scope lhs from c.mid (length scope) c.target ⊎ ReadTarget code layout p scope lhs from c.mid (length scope) c.target → Goes N K a sh text ls from old (λ s. after ((lvalue p call lhs >>= λ at. ended (assign_by_operator p call at by op)) s))
       by_target (inl d) =
-          spot_follows scope lhs c.target from c.mid d a sh text ls old (λ q. after (go_on q (λ at. ended (changed p call at by op)))) h good (on_seen a after (λ at. ended (changed p call at by op)) s)
+          lvalue_follows scope lhs c.target from c.mid d a sh text ls old (λ q. after (go_on q (λ at. ended (assign_by_operator p call at by op)))) h good (on_seen a after (λ at. ended (assign_by_operator p call at by op)) s)
           (λ at sh1 text1 rs1 is_at h1 good1. changed_from scope lhs op by C follow from to c at a sh1 text1 ls rs1 after is_at h1 good1 s go)
       by_target (inr d) =
-          read_follows scope lhs c.target from c.mid c.operates.left.mid c.later c.operates.left.ra c.operates.ta d c.operates.left.computes a sh text ls old (λ q. after (go_on q (λ at. ended (changed p call at by op)))) h good (on_seen a after (λ at. ended (changed p call at by op)) s)
+          read_follows scope lhs c.target from c.mid c.operates.left.mid c.later c.operates.left.ra c.operates.ta d c.operates.left.computes a sh text ls old (λ q. after (go_on q (λ at. ended (assign_by_operator p call at by op)))) h good (on_seen a after (λ at. ended (assign_by_operator p call at by op)) s)
           (λ at sh1 text1 rs1 is_at h1 good1. changed_from scope lhs op by C follow from to c at a sh1 text1 ls rs1 after is_at h1 good1 s go)
 
   one_follows : (scope : LocalScope) → FollowTaken scope (pure int_one) (OneCode code layout p)

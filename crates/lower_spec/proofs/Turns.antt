@@ -4,7 +4,7 @@ use Rattle.std.specs.Prelude.{if◌then◌else◌}
 use Rattle.syntax.specs.Tree.{Expr, Simple, Stmt, Program}
 use Rattle.syntax.specs.Numbers.{is_zero}
 use Rattle.syntax.specs.Actions.{State, Action, state_of, pure, ◌>>=◌}
-use Rattle.syntax.specs.Meaning.{Completion, Next, Breaks, Continues, Returns, Cancels, CancelsOuter, in_scope, after_body, Caller, expr, simple, stmt, holds, stepped, calls}
+use Rattle.syntax.specs.Meaning.{Completion, Next, Breaks, Continues, Returns, Cancels, CancelsOuter, in_scope, after_body, Caller, expr, simple, stmt, for_condition, optional_step, calls}
 use Rattle.syntax.proofs.Ticks.{on_falls, ticks_never_grow, simples_never_grow}
 
 abbrev pub while_turn : Program → Caller → Expr → Stmt → Action (Option Completion)
@@ -14,7 +14,7 @@ abbrev pub do_turn : Program → Caller → Stmt → Expr → Action (Option Com
 do_turn p call st c = in_scope (stmt p call st) >>= after_body (expr p call c >>= λ v. pure (if is_zero v then Some Next else None))
 
 abbrev pub for_turn : Program → Caller → Option Expr → Option Simple → Stmt → Action (Option Completion)
-for_turn p call c step st = holds p call c >>= λ more. if more then (in_scope (stmt p call st) >>= after_body (stepped p call step)) else pure (Some Next)
+for_turn p call c step st = for_condition p call c >>= λ more. if more then (in_scope (stmt p call st) >>= after_body (optional_step p call step)) else pure (Some Next)
 
 -- it gains no ticks
 abbrev pub Falls : {A : Type 0} → Action A → Type 0
@@ -48,13 +48,13 @@ module _ (p : Program) (k : ℕ) where
   pub do_falls : (st : Stmt) (c : Expr) → Falls (do_turn p (calls p k) st c)
   do_falls st c = body_falls st _ (on_falling (expr p (calls p k) c) _ ((ticks_never_grow p k).0 c) (λ v s. omega arith))
 
-  holds_fall : (c : Option Expr) → Falls (holds p (calls p k) c)
+  holds_fall : (c : Option Expr) → Falls (for_condition p (calls p k) c)
   holds_fall None s = omega arith
   holds_fall (Some e) s = on_falls s.ticks (expr p (calls p k) e s) _ ((ticks_never_grow p k).0 e s) (λ v t. omega arith)
 
-  stepped_falls : (o : Option Simple) → Falls (stepped p (calls p k) o)
+  stepped_falls : (o : Option Simple) → Falls (optional_step p (calls p k) o)
   stepped_falls None s = omega arith
   stepped_falls (Some st) s = on_falls s.ticks (simple p (calls p k) st s) (λ e. pure {A = Option Completion} None) (simples_never_grow p k st s) (λ e t. omega arith)
 
   pub for_falls : (c : Option Expr) (step : Option Simple) (st : Stmt) → Falls (for_turn p (calls p k) c step st)
-  for_falls c step st = on_falling (holds p (calls p k) c) _ (holds_fall c) (λ more. if_falls more (in_scope (stmt p (calls p k) st) >>= after_body (stepped p (calls p k) step)) (pure (Some Next)) (body_falls st (stepped p (calls p k) step) (stepped_falls step)) (λ s. omega arith))
+  for_falls c step st = on_falling (for_condition p (calls p k) c) _ (holds_fall c) (λ more. if_falls more (in_scope (stmt p (calls p k) st) >>= after_body (optional_step p (calls p k) step)) (pure (Some Next)) (body_falls st (optional_step p (calls p k) step) (stepped_falls step)) (λ s. omega arith))

@@ -108,8 +108,8 @@ pub record Layout : Type 0 where
   pub constants : List ℕ
 
 -- a constant 0, with which a comparison asks whether the other side holds
-abbrev pub IsNought : Expr → Type 0
-IsNought e = (t : Scalar) × (at : Span) × (e ≡ Constant 0 t at)
+abbrev pub IsZeroConstant : Expr → Type 0
+IsZeroConstant e = (t : Scalar) × (at : Span) × (e ≡ Constant 0 t at)
 
 module _ (code : Code) (layout : Layout) where
   -- one instruction that gives a value
@@ -154,7 +154,7 @@ module _ (code : Code) (layout : Layout) where
     pub type_is : t ≡ l.1
 
   -- a word lies in a register from the function's beginning on
-  pub record LiesReady (w : ℕ) (u : Scalar) (from to r : ℕ) (t : Scalar) : Type 0 where
+  pub record IsPreloaded (w : ℕ) (u : Scalar) (from to r : ℕ) (t : Scalar) : Type 0 where
     pub number : ℕ
     pub known : slice_get layout.constants number ≡ Some w
     pub to_is : to ≡ from
@@ -164,7 +164,7 @@ module _ (code : Code) (layout : Layout) where
   -- a word is set in a register, or is preloaded in one
   abbrev pub WordCode : (w : ℕ) (u : Scalar) (from to free r : ℕ) → Type 0
   WordCode w u from to free r =
-      GivenBy None (Instr.Constant r w) u from to free r u ⊎ LiesReady w u from to r u
+      GivenBy None (Instr.Constant r w) u from to free r u ⊎ IsPreloaded w u from to r u
 
   -- an operand of an operator: a constant is set, or is preloaded, as what it is converted to
   abbrev pub OperandCode : Expr → Coded → Due
@@ -256,7 +256,7 @@ module _ (code : Code) (layout : Layout) where
   -- a comparison with 0
   abbrev pub ComparedWithZero : BinaryOp → Expr → Branching → Branching
   ComparedWithZero op b tests from met unmet free =
-      IsNought b × (((op ≡ NotEqual) × tests from met unmet free) ⊎ ((op ≡ Equal) × tests from unmet met free))
+      IsZeroConstant b × (((op ≡ NotEqual) × tests from met unmet free) ⊎ ((op ≡ Equal) × tests from unmet met free))
 
   -- the int 1 where a condition holds, and 0 where it does not
   pub record TruthCode (home : Option ℕ) (tests : Branching) (from to free r : ℕ) (t : Scalar) : Type 0 where

@@ -6,13 +6,13 @@ use Rattle.lex.specs.declared.token.Scalar.TheVariants.{Int}
 use Rattle.syntax.specs.declared.tree.BinaryOp.{BinaryOp}
 use Rattle.syntax.specs.declared.tree.Mode.{Mode}
 use Rattle.syntax.specs.declared.tree.Mode.TheVariants.{Atomic}
-use Rattle.syntax.specs.declared.tree.Kind.{Kind}
-use Rattle.syntax.specs.declared.tree.Kind.TheVariants.{Plain, Outer}
+use Rattle.syntax.specs.declared.tree.TransactionKind.{TransactionKind}
+use Rattle.syntax.specs.declared.tree.TransactionKind.TheVariants.{Plain, Outer}
 use Rattle.syntax.specs.Tree.{Expr, Exprs, Variable, Constant, Element, Simple, Evaluate, Assign, Adjust, Declarator}
 use Rattle.syntax.specs.Tree.{Start, Nothing, Declares, Does, Stmt, Stmts, Empty, Declare, Do, Block, Print, If, IfElse}
 use Rattle.syntax.specs.Tree.{While, DoWhile, For, Break, Continue, Return, Transaction, Cancel, CancelOuter, Program}
 use Rattle.syntax.specs.Meaning.{op_of, mode_of}
-use Rattle.syntax.specs.Formats.{Piece, Literal, Figure, pieces}
+use Rattle.syntax.specs.Formats.{Piece, Literal, Specifier, pieces}
 use Rattle.syntax.specs.Names.{newest, global_of, cells, GlobalCells}
 use Rattle.bytecode.specs.Code.{Instr, Code}
 use Rattle.lower_spec.specs.Expressions.{LocalScope, Layout, InstructionAt, LeadsTo, Coded, Due, Branching, converting}
@@ -63,11 +63,11 @@ pub record Exits : Type 0 where
   pub in_outer : Option ℕ
   pub gives : Scalar
 
-abbrev pub with_level : Kind → Option ℕ → Option ℕ
+abbrev pub with_level : TransactionKind → Option ℕ → Option ℕ
 with_level Outer levels = Some 0
 with_level (Plain mode) levels = option_map suc levels
 
-abbrev pub in_transaction : Kind → Exits → Exits
+abbrev pub in_transaction : TransactionKind → Exits → Exits
 in_transaction kind x = record x {
   in_loop = suc x.in_loop;
   in_function = suc x.in_function;
@@ -374,7 +374,7 @@ module _ (code : Code) (layout : Layout) (p : Program) where
     pub breaks : LeadsTo code break_to to
     pub continues : LeadsTo code continue_to step_at
 
-  -- the pieces of a format, with these registers for its figures
+  -- the pieces of a format, with these registers for its specifiers
   pub record LiteralCode (text : List ℕ) (q : ℕ) : Type 0 where
     pub number : ℕ
     pub known : slice_get code.texts number ≡ Some text
@@ -383,8 +383,8 @@ module _ (code : Code) (layout : Layout) (p : Program) where
   abbrev pub PiecesCode : List Piece → List ℕ → (from to : ℕ) → Type 0
   PiecesCode [] rs from to = to ≡ from
   PiecesCode (Literal text ∷ ps) rs from to = LiteralCode text from × PiecesCode ps rs (suc from) to
-  PiecesCode (Figure t ∷ ps) [] from to = ⊥
-  PiecesCode (Figure t ∷ ps) (r ∷ rs) from to = InstructionAt code from (Instr.PrintNumber t r)
+  PiecesCode (Specifier t ∷ ps) [] from to = ⊥
+  PiecesCode (Specifier t ∷ ps) (r ∷ rs) from to = InstructionAt code from (Instr.PrintNumber t r)
       × PiecesCode ps rs (suc from) to
 
   pub record PrintCode (scope : LocalScope) (format : List ℕ) (es : Exprs) (from to : ℕ) : Type 0 where
@@ -396,7 +396,8 @@ module _ (code : Code) (layout : Layout) (p : Program) where
     pub args : ArgsCode code layout p scope [] es (suc from) mid free rs
     pub prints : PiecesCode (pieces format) rs mid to
 
-  pub record TransactionCode (kind : Kind) (x : Exits) (body : Exits → ℕ → ℕ → Type 0) (from to : ℕ) : Type 0 where
+  pub record TransactionCode (kind : TransactionKind) (x : Exits) (body : Exits → ℕ → ℕ → Type 0)
+      (from to : ℕ) : Type 0 where
     pub last : ℕ
     pub begins : InstructionAt code from (Instr.Begin to)
     pub runs : body (in_transaction kind x) (suc from) last

@@ -9,14 +9,14 @@ use Rattle.machine.specs.Threads.{access}
 use Rattle.machine.specs.Worlds.{Part, World}
 
 -- these pairs are of cells of the memory
-abbrev pub AreCells : ℕ → List (ℕ × ℕ) → Type 0
-AreCells cells ps = AllByRecursion (λ (q : ℕ × ℕ). q.0 < cells) ps
+abbrev pub AreOfCells : ℕ → List (ℕ × ℕ) → Type 0
+AreOfCells cells ps = AllByRecursion (λ (q : ℕ × ℕ). q.0 < cells) ps
 
 -- both logs, and the write log as it was at each inner begin
 pub record LogsFit {C : Type 0} (cells : ℕ) (a : Attempt C) : Type 0 where
-  pub reads : AreCells cells a.reads
-  pub writes : AreCells cells a.writes
-  pub marks : AllByRecursion (λ (k : Checkpoint C). AreCells cells k.writes) a.inner
+  pub reads : AreOfCells cells a.reads
+  pub writes : AreOfCells cells a.writes
+  pub marks : AllByRecursion (λ (k : Checkpoint C). AreOfCells cells k.writes) a.inner
 
 abbrev pub LogsFitIf : {C : Type 0} → ℕ → Option (Attempt C) → Type 0
 LogsFitIf cells None = Unit {0}

@@ -12,7 +12,7 @@ use Rattle.frames.specs.Open.{saved_in}
 use Rattle.frames.specs.Stack.{HasRoom}
 use Rattle.frames.specs.declared.doing.Doing.{Doing}
 use Rattle.frames.specs.declared.doing.Doing.TheVariants as doing
-use Rattle.frames.specs.Told.{IsCall, Tells}
+use Rattle.frames.specs.Doings.{IsCall, IsDoingAt}
 use Rattle.norec_core.specs.declared.step.Op.{Op}
 use Rattle.norec_core.specs.declared.step.Op.TheVariants as op
 use Rattle.norec_core.specs.declared.step.Access.{Access}
@@ -21,7 +21,7 @@ use Rattle.norec_core.specs.declared.step.Answer.{Answer}
 use Rattle.norec_core.specs.declared.step.Answer.TheVariants.{Value}
 use Rattle.norec_core.specs.Attempts.{Attempt}
 use Rattle.norec_core.specs.Accesses.{stops}
-use Rattle.norec_core.specs.Cores.{CommitsAtOnce, ComparesWith, IsComparing, IsStoring, IsWaiting}
+use Rattle.norec_core.specs.Cores.{CommitsLocally, ComparesWith, IsComparing, IsStoring, IsWaiting}
 use Rattle.machine.specs.Explained.{has_lock}
 use Rattle.machine.specs.Threads.{Next, Thread, op_of, access, step_with}
 
@@ -69,14 +69,14 @@ pub record IsPrepared (code : Code) (s : ThreadState) : Type 0 where
 
 -- where the thread runs, this is what stands at its place to be done
 abbrev pub StandsAt : Code → ThreadState → Doing → Type 0
-StandsAt code s doing = s.thread.status ≡ Running → Tells code s.thread.configuration doing
+StandsAt code s doing = s.thread.status ≡ Running → IsDoingAt code s.thread.configuration doing
 
 -- what a thread that runs leaves where it makes steps by itself: no local step in its registers, no return, and no
 -- commit that makes no access and has not the lock
 abbrev pub IsLeft : {S : Type 0} → Option (Attempt S) → Doing → Type 0
 IsLeft o doing.Local = ⊥
 IsLeft o (doing.Return w) = ⊥
-IsLeft o doing.Commit = IsSomeAnd o (λ a. CommitsAtOnce a) → ⊥
+IsLeft o doing.Commit = IsSomeAnd o (λ a. CommitsLocally a) → ⊥
 IsLeft o x = Unit {0}
 
 -- The thread runs, and its next step is the load of an outermost begin. What the begin saves is ready.

@@ -9,13 +9,13 @@ ghost use Rattle.bytecode.specs.Code.{effect, onward};
 ghost use Rattle.bytecode.specs.Valid.{IsValid};
 ghost use Rattle.frames.specs.Open.{IsConfigurationOf, CanRestore, begin_configuration, saved_in};
 ghost use Rattle.frames.specs.Stack.{HasRoom};
-ghost use Rattle.frames.specs.Told.{IsCall, Tells, piece_of};
+ghost use Rattle.frames.specs.Doings.{IsCall, IsDoingAt, piece_of};
 ghost use Rattle.norec_core.specs.Accesses.{IsAnswerTo, stops};
 ghost use Rattle.norec_core.specs.declared.step.Answer.{Answer as Reply};
 ghost use Rattle.norec_core.specs.declared.step.Answer.TheVariants.{Value};
 ghost use Rattle.machine.specs.Threads.{access, step_with as told_spec, resume as resume_spec, status_after};
 ghost use Rattle.machine.specs.Threads.{with_value};
-ghost use Rattle.norec_core.specs.Cores.{CommitsAtOnce, IsStoring};
+ghost use Rattle.norec_core.specs.Cores.{CommitsLocally, IsStoring};
 ghost use Rattle.norec_core.specs.Phases.{core_access};
 ghost use Rattle.machine.specs.Standing.{begins_of};
 ghost use Rattle.machine.specs.States.{IsLeft, IsReady, IsWordOf};
@@ -122,7 +122,7 @@ fn take<A: Allocator + Copy, B: Allocator>(
     word: u64,
 )
     requires of { IsConfigurationOf code.now frames.old.configuration }
-    requires tells { Tells code.now frames.old.configuration doing }
+    requires tells { IsDoingAt code.now frames.old.configuration doing }
     ensures { frames.new.configuration ≡ with_value (effect code.now frames.old.configuration) frames.old.configuration
         word }
 {
@@ -141,7 +141,7 @@ fn finish<A: Allocator + Copy, B: Allocator>(
     doing: Doing,
 ) -> Event
     requires of { IsConfigurationOf code.now frames.old.configuration }
-    requires tells { Tells code.now frames.old.configuration doing }
+    requires tells { IsDoingAt code.now frames.old.configuration doing }
     requires back { MayGoBack code.now frames.old.configuration core.now.saved
         (back_done (effect code.now frames.old.configuration)
         (begin_configuration frames.old.configuration core.now.saved)) }
@@ -200,7 +200,7 @@ fn resume<A: Allocator + Copy, B: Allocator>(
     outcome: Outcome,
 ) -> Event
     requires of { IsConfigurationOf code.now frames.old.configuration }
-    requires tells { Tells code.now frames.old.configuration doing }
+    requires tells { IsDoingAt code.now frames.old.configuration doing }
     requires back { MayGoBack code.now frames.old.configuration core.now.saved
         (back_by (effect code.now frames.old.configuration) outcome
         (begin_configuration frames.old.configuration core.now.saved)) }
@@ -253,7 +253,7 @@ fn make_room<A: Allocator + Copy, B: Allocator>(
     doing: Doing,
 ) -> Result<(), AllocError>
     requires of { IsConfigurationOf code.now frames.old.configuration }
-    requires tells { Tells code.now frames.old.configuration doing }
+    requires tells { IsDoingAt code.now frames.old.configuration doing }
     ensures configuration { frames.new.configuration ≡ frames.old.configuration }
     ensures text { string_bytes text.new ≡ string_bytes text.old }
     ensures call { OnOk result (IsCall code.now frames.old.configuration → HasRoom code.now frames.new) }
@@ -287,7 +287,7 @@ fn enter<A: Allocator + Copy, B: Allocator>(
     doing: Doing,
 ) -> bool
     requires of { IsConfigurationOf code.now frames.old.configuration }
-    requires tells { Tells code.now frames.old.configuration doing }
+    requires tells { IsDoingAt code.now frames.old.configuration doing }
     ensures passed { result ≡ true → effect code.now frames.old.configuration ≡ Effect.Pure frames.new.configuration }
     ensures still { result ≡ false → frames.new.configuration ≡ frames.old.configuration }
     ensures full { result ≡ false → doing ≡ Doing.Call → HasRoom code.now frames.old → ⊥ }
@@ -312,7 +312,7 @@ fn change_frames<A: Allocator + Copy, B: Allocator>(
     doing: Doing,
 ) -> bool
     requires of { IsConfigurationOf code.now frames.old.configuration }
-    requires tells { Tells code.now frames.old.configuration doing }
+    requires tells { IsDoingAt code.now frames.old.configuration doing }
     ensures passed { result ≡ true → effect code.now frames.old.configuration ≡ Effect.Pure frames.new.configuration }
     ensures still { result ≡ false → frames.new.configuration ≡ frames.old.configuration }
     ensures returns { (word : ℕ) → result ≡ false → doing ≡ Doing.Return word → ⊥ }
@@ -348,12 +348,12 @@ impl<A: Allocator + Copy> ThreadContext<A> {
         requires valid { IsValid code.now }
         requires running { self.old.status ≡ Running }
         requires runs { RunsInContext code.now (context_of self.old) }
-        requires tells { Tells code.now self.old.frames.configuration Doing.Commit }
+        requires tells { IsDoingAt code.now self.old.frames.configuration Doing.Commit }
         ensures advances { Advances code.now (context_of self.old) (if result then 1 else 0) (context_of self.new) }
         ensures running { self.new.status ≡ Running }
         ensures still { result ≡ false → self.new.frames.configuration ≡ self.old.frames.configuration }
         ensures not_done { result ≡ false → self.new.core.attempt ≡ self.old.core.attempt }
-        ensures at_once { result ≡ false → IsSomeAnd self.old.core.attempt (λ a. CommitsAtOnce a) → ⊥ }
+        ensures locally { result ≡ false → IsSomeAnd self.old.core.attempt (λ a. CommitsLocally a) → ⊥ }
     {
         if !self.core.commit() {
             return false;
@@ -370,7 +370,7 @@ impl<A: Allocator + Copy> ThreadContext<A> {
         requires valid { IsValid code.now }
         requires running { self.old.status ≡ Running }
         requires runs { RunsInContext code.now (context_of self.old) }
-        requires tells { Tells code.now self.old.frames.configuration doing }
+        requires tells { IsDoingAt code.now self.old.frames.configuration doing }
         ensures advances { Advances code.now (context_of self.old) (if result then 1 else 0) (context_of self.new) }
         ensures running { self.new.status ≡ Running }
         ensures still { result ≡ false → self.new.frames.configuration ≡ self.old.frames.configuration }
@@ -406,7 +406,7 @@ impl<A: Allocator + Copy> ThreadContext<A> {
         ensures count { result.0 ≤ most }
         ensures all { IfNone result.1 (result.0 ≡ most) }
         ensures tells { IfSome result.1 (λ doing. (result.0 < most)
-            × Tells code.now self.new.frames.configuration doing) }
+            × IsDoingAt code.now self.new.frames.configuration doing) }
         ensures ends { IfSome result.1 (λ doing. doing ≡ Doing.Local → ⊥) }
     {
         let mut inside = Inside {
@@ -441,7 +441,7 @@ impl<A: Allocator + Copy> ThreadContext<A> {
         ensures count { result.0 ≤ most }
         ensures all { IfNone result.1 (result.0 ≡ most) }
         ensures tells { IfSome result.1 (λ doing. (result.0 < most)
-            × Tells code.now self.new.frames.configuration doing) }
+            × IsDoingAt code.now self.new.frames.configuration doing) }
         ensures left { IfSome result.1 (λ doing. IsLeft self.new.core.attempt doing) }
     {
         let mut left = most;
@@ -470,7 +470,7 @@ impl<A: Allocator + Copy> ThreadContext<A> {
     ) -> Result<Access, Stop>
         requires running { self.old.status ≡ Running }
         requires runs { RunsInContext code.now (context_of self.old) }
-        requires tells { Tells code.now self.old.frames.configuration doing }
+        requires tells { IsDoingAt code.now self.old.frames.configuration doing }
         ensures attempt { self.new.core.attempt ≡ self.old.core.attempt }
         ensures configuration { self.new.frames.configuration ≡ self.old.frames.configuration }
         ensures trapping { self.new.trapping ≡ self.old.trapping }
@@ -510,7 +510,7 @@ impl<A: Allocator + Copy> ThreadContext<A> {
         requires valid { IsValid code.now }
         requires running { self.old.status ≡ Running }
         requires runs { RunsInContext code.now (context_of self.old) }
-        requires tells { Tells code.now self.old.frames.configuration doing }
+        requires tells { IsDoingAt code.now self.old.frames.configuration doing }
         requires asked { op_asked doing self.old.core.attempt self.old.trapping ≡ Some op }
         requires ready { IsReady code.now (machine_thread (context_of self.old)) (ready self.old) }
         requires fits { IsAnswerTo (access (effect code.now) (machine_thread (context_of self.old))) answer }
@@ -538,7 +538,7 @@ impl<A: Allocator + Copy> ThreadContext<A> {
         requires valid { IsValid code.now }
         requires running { self.old.status ≡ Running }
         requires runs { RunsInContext code.now (context_of self.old) }
-        requires tells { Tells code.now self.old.frames.configuration doing }
+        requires tells { IsDoingAt code.now self.old.frames.configuration doing }
         requires asked { op_asked doing self.old.core.attempt self.old.trapping ≡ None }
         requires ready { IsReady code.now (machine_thread (context_of self.old)) (ready self.old) }
         ensures { (answer : Reply)
@@ -613,7 +613,7 @@ impl<A: Allocator + Copy> ThreadContext<A> {
         requires valid { IsValid code.now }
         requires running { self.old.status ≡ Running }
         requires runs { RunsInContext code.now (context_of self.old) }
-        requires tells { Tells code.now self.old.frames.configuration (Doing.Begin to) }
+        requires tells { IsDoingAt code.now self.old.frames.configuration (Doing.Begin to) }
         requires none { self.old.core.attempt ≡ None }
         requires saved { self.old.core.saved ≡ saved_in self.old.frames.configuration }
         ensures { Makes code.now (told_spec (effect code.now) (machine_thread (context_of self.old)) (Value lock))
@@ -642,7 +642,7 @@ impl<A: Allocator + Copy> ThreadContext<A> {
         requires valid { IsValid code.now }
         requires running { self.old.status ≡ Running }
         requires runs { RunsInContext code.now (context_of self.old) }
-        requires tells { Tells code.now self.old.frames.configuration Doing.Commit }
+        requires tells { IsDoingAt code.now self.old.frames.configuration Doing.Commit }
         requires swaps { core_access self.old.core.attempt Op.Commit ≡ Access.Swap from }
         requires goes_on { stops (Access.Swap from) ≡ false }
         ensures makes { Makes code.now (told_spec (effect code.now) (machine_thread (context_of self.old)) answer)
@@ -667,7 +667,7 @@ impl<A: Allocator + Copy> ThreadContext<A> {
         requires valid { IsValid code.now }
         requires running { self.old.status ≡ Running }
         requires runs { RunsInContext code.now (context_of self.old) }
-        requires tells { Tells code.now self.old.frames.configuration Doing.Commit }
+        requires tells { IsDoingAt code.now self.old.frames.configuration Doing.Commit }
         requires stores { IsSomeAnd self.old.core.attempt (λ a. IsStoring index a) }
         ensures makes { (answer : Reply)
             → Makes code.now (told_spec (effect code.now) (machine_thread (context_of self.old)) answer)
@@ -699,7 +699,7 @@ impl<A: Allocator + Copy> ThreadContext<A> {
         requires valid { IsValid code.now }
         requires running { self.old.status ≡ Running }
         requires runs { RunsInContext code.now (context_of self.old) }
-        requires tells { Tells code.now self.old.frames.configuration doing }
+        requires tells { IsDoingAt code.now self.old.frames.configuration doing }
         requires ready { IsReady code.now (machine_thread (context_of self.old)) (ready self.old) }
         requires fits { IsAnswerTo (access (effect code.now) (machine_thread (context_of self.old))) answer }
         requires word { IsWordOf code.now (access (effect code.now) (machine_thread (context_of self.old))) answer }

@@ -33,7 +33,7 @@ use syntax::numbers::Status;
 /// and makes all room that the step needs, `step_with` takes the answer, and neither fails nor takes memory.
 #[derive(Drop)]
 pub struct Thread<A: Allocator = Global> {
-    held: ThreadContext<A>,
+    context: ThreadContext<A>,
     accesses: u64,
     prepared: Option<Access>,
 }
@@ -47,14 +47,14 @@ impl<A: Allocator> Model for Thread<A> {
     ghost use Rattle.machine.specs.inner.Contexts.{AreWithin, context_of, ready, machine_thread};
 
     ghost view = { λ t. record {
-      thread = machine_thread (context_of t.held);
+      thread = machine_thread (context_of t.context);
       prepared = t.prepared;
       accesses = t.accesses;
-      ready = ready t.held;
+      ready = ready t.context;
     } };
 
     // The frames of all open begins are still there.
-    ghost invariant = { λ t. AreWithin t.held.frames.configuration (begins_of t.held.core.attempt) };
+    ghost invariant = { λ t. AreWithin t.context.frames.configuration (begins_of t.context.core.attempt) };
 }
 
 /// How many accesses to the lock or the words what was prepared makes.
@@ -90,7 +90,7 @@ impl<A: Allocator + Copy> Thread<A> {
         let core = Core::new(alloc);
         let text = String::new(alloc);
         Ok(Thread {
-            held: ThreadContext {
+            context: ThreadContext {
                 frames,
                 core,
                 trapping: false,
@@ -107,8 +107,8 @@ impl<A: Allocator + Copy> Thread<A> {
         requires { IsThreadOf code.now self.now.thread }
         ensures { StandsAt code.now self.now result }
     {
-        match self.held.status {
-            Status::Running => self.held.frames.doing(code),
+        match self.context.status {
+            Status::Running => self.context.frames.doing(code),
             Status::Ended => Doing::Local,
             Status::Trapped(_) => Doing::Local,
         }
@@ -137,8 +137,8 @@ impl<A: Allocator + Copy> Thread<A> {
             → IfSome result.1 (λ doing. IsLeft self.new.thread.attempt doing) }
         ensures of { IsThreadOf code.now self.new.thread }
     {
-        match self.held.status {
-            Status::Running => self.held.advance(code, loads, &mut self.accesses, most),
+        match self.context.status {
+            Status::Running => self.context.advance(code, loads, &mut self.accesses, most),
             Status::Ended => {
                 loads.stays();
                 (0, idle(most))
@@ -201,8 +201,8 @@ impl<A: Allocator + Copy> Thread<A> {
         ensures used_up { (result ≡ Err Stop.SequenceUsedUp)
             ↔ (stops (access (effect code.now) self.old.thread) ≡ true) }
     {
-        match self.held.status {
-            Status::Running => match self.held.prepare(code, doing) {
+        match self.context.status {
+            Status::Running => match self.context.prepare(code, doing) {
                 Ok(access) => {
                     self.prepared = Some(access);
                     Ok(access)
@@ -243,8 +243,8 @@ impl<A: Allocator + Copy> Thread<A> {
     {
         self.accesses += cost_of(self.prepared);
         self.prepared = None;
-        match self.held.status {
-            Status::Running => self.held.told(code, doing, answer),
+        match self.context.status {
+            Status::Running => self.context.told(code, doing, answer),
             Status::Ended => (Event::Quiet, false),
             Status::Trapped(_) => (Event::Quiet, false),
         }
@@ -265,11 +265,11 @@ impl<A: Allocator + Copy> Thread<A> {
     {
         // The prover names by it where the begin leads.
         let _to = to;
-        match self.held.status {
-            Status::Running => self.held.core.prepare_begin(
-                self.held.frames.registers(),
-                self.held.frames.frames(),
-                self.held.frames.place(),
+        match self.context.status {
+            Status::Running => self.context.core.prepare_begin(
+                self.context.frames.registers(),
+                self.context.frames.frames(),
+                self.context.frames.place(),
             ),
             Status::Ended => false,
             Status::Trapped(_) => false,
@@ -288,7 +288,7 @@ impl<A: Allocator + Copy> Thread<A> {
         ensures accesses { self.new.accesses ≡ self.old.accesses + 1 }
     {
         self.accesses += 1;
-        let _event = self.held.take_begin(code, to, lock);
+        let _event = self.context.take_begin(code, to, lock);
     }
 
     /// From which value of the lock the commit that stands at its place swaps it in its next step, where it does.
@@ -299,8 +299,8 @@ impl<A: Allocator + Copy> Thread<A> {
         ensures some { IfSome result (λ from. SwapsNext code.now self.now from) }
         ensures none { IfNone result ((from : ℕ) → SwapsNext code.now self.now from → ⊥) }
     {
-        match self.held.status {
-            Status::Running => self.held.core.swaps_from(),
+        match self.context.status {
+            Status::Running => self.context.core.swaps_from(),
             Status::Ended => None,
             Status::Trapped(_) => None,
         }
@@ -319,7 +319,7 @@ impl<A: Allocator + Copy> Thread<A> {
         ensures accesses { self.new.accesses ≡ self.old.accesses + 1 }
     {
         self.accesses += 1;
-        let _event = self.held.take_swap(code, from, answer);
+        let _event = self.context.take_swap(code, from, answer);
     }
 
     /// The index in the write log that its commit stores next, where it stores; past the last pair it stores the lock.
@@ -328,8 +328,8 @@ impl<A: Allocator + Copy> Thread<A> {
         ensures some { IfSome result (λ index. StoresNext self.now index) }
         ensures none { IfNone result ((index : ℕ) → StoresNext self.now index → ⊥) }
     {
-        match self.held.status {
-            Status::Running => self.held.core.storing(),
+        match self.context.status {
+            Status::Running => self.context.core.storing(),
             Status::Ended => None,
             Status::Trapped(_) => None,
         }
@@ -345,7 +345,7 @@ impl<A: Allocator + Copy> Thread<A> {
         ensures goes_on { stops result ≡ false }
         ensures cost { cost result ≡ 1 }
     {
-        self.held.core.store_access(index)
+        self.context.core.store_access(index)
     }
 
     /// Makes such a step, whose access was made: whether the commit stands there still. It takes no memory.
@@ -362,7 +362,7 @@ impl<A: Allocator + Copy> Thread<A> {
         ensures accesses { self.new.accesses ≡ self.old.accesses + 1 }
     {
         self.accesses += 1;
-        let (_event, again) = self.held.take_store(code, index);
+        let (_event, again) = self.context.take_store(code, index);
         again
     }
 
@@ -370,21 +370,21 @@ impl<A: Allocator + Copy> Thread<A> {
     pub fn status(&self) -> Status
         ensures { result ≡ self.now.thread.status }
     {
-        self.held.status
+        self.context.status
     }
 
     /// The place in the code at which it stands.
     pub fn place(&self) -> u32
         ensures { result ≡ self.now.thread.configuration.place }
     {
-        self.held.frames.place()
+        self.context.frames.place()
     }
 
     /// What it has printed.
     pub fn output(&self) -> &str
         ensures { result.now ≡ self.now.thread.text }
     {
-        self.held.text.as_str()
+        self.context.text.as_str()
     }
 
     /// How many accesses to the lock or the words it has made.
@@ -399,7 +399,7 @@ impl<A: Allocator + Copy> Thread<A> {
     pub fn has_lock(&self) -> bool
         ensures { result ≡ thread_has_lock self.now.thread }
     {
-        self.held.core.has_lock()
+        self.context.core.has_lock()
     }
 
     /// Whether the operation that stands at its place is under validation, and loads the lock next, until it is even.
@@ -411,8 +411,8 @@ impl<A: Allocator + Copy> Thread<A> {
         ensures not_waits { result ≡ false → WaitsNext code.now self.now → ⊥ }
         ensures access { result ≡ true → access (effect code.now) self.now.thread ≡ Access.LoadLock }
     {
-        match self.held.status {
-            Status::Running => is_validated(doing) && self.held.core.is_waiting(),
+        match self.context.status {
+            Status::Running => is_validated(doing) && self.context.core.is_waiting(),
             Status::Ended => false,
             Status::Trapped(_) => false,
         }
@@ -430,7 +430,7 @@ impl<A: Allocator + Copy> Thread<A> {
         ensures accesses { self.new.accesses ≡ self.old.accesses + 1 }
     {
         self.accesses += 1;
-        self.held.take_wait(code, lock);
+        self.context.take_wait(code, lock);
     }
 
     /// Where the operation that stands at its place is under validation, and compares an entry next, or past the last
@@ -442,10 +442,10 @@ impl<A: Allocator + Copy> Thread<A> {
         ensures some { IfSome result (λ at. ComparesNext code.now self.now at.0 at.1) }
         ensures none { IfNone result ((time index : ℕ) → ComparesNext code.now self.now time index → ⊥) }
     {
-        match self.held.status {
+        match self.context.status {
             Status::Running => {
                 if is_validated(doing) {
-                    self.held.core.comparing()
+                    self.context.core.comparing()
                 } else {
                     None
                 }
@@ -465,7 +465,7 @@ impl<A: Allocator + Copy> Thread<A> {
         ensures next { OnSome result (index + 1 < 2 ^ 64) }
         ensures access { access (effect code.now) self.now.thread ≡ entry_access result }
     {
-        self.held.core.entry(time, index)
+        self.context.core.entry(time, index)
     }
 
     /// Makes the step that compares this entry, where its word was loaded again: the entry behind it is compared next.
@@ -491,7 +491,7 @@ impl<A: Allocator + Copy> Thread<A> {
         ensures accesses { self.new.accesses ≡ self.old.accesses + 1 }
     {
         self.accesses += 1;
-        self.held.take_equal(code, time, index, entry);
+        self.context.take_equal(code, time, index, entry);
     }
 
     /// Makes the step that compares this entry, where another word was loaded: the attempt is dropped. It takes no
@@ -516,7 +516,7 @@ impl<A: Allocator + Copy> Thread<A> {
         ensures accesses { self.new.accesses ≡ self.old.accesses + 1 }
     {
         self.accesses += 1;
-        self.held.take_unequal(code, time, index, entry, word);
+        self.context.take_unequal(code, time, index, entry, word);
     }
 
     /// Makes the step past the last entry, with the lock's value that was loaded: where it is the one at which
@@ -539,6 +539,6 @@ impl<A: Allocator + Copy> Thread<A> {
         ensures accesses { self.new.accesses ≡ self.old.accesses + 1 }
     {
         self.accesses += 1;
-        self.held.take_validation(code, time, index, lock);
+        self.context.take_validation(code, time, index, lock);
     }
 }

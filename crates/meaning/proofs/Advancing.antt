@@ -21,14 +21,14 @@ use Rattle.meaning.specs.declared.machine.StmtCompletion.{StmtCompletion as OwnE
 use Rattle.meaning.specs.declared.standing.Point.{Point}
 use Rattle.meaning.specs.declared.standing.Shown.{Shown}
 use Rattle.meaning.specs.declared.standing.Thread.{Thread}
-use Rattle.meaning.specs.declared.standing.Stop.{Stop}
+use Rattle.meaning.specs.declared.standing.StoppedThread.{StoppedThread}
 use Rattle.meaning.specs.declared.program.ProgramTables.{ProgramTables}
 use Rattle.meaning.specs.declared.machine.Local.{Local as OwnLocal}
 use Rattle.meaning.specs.inner.Machine.{end_of, items_in, local_in, program_in}
 use Rattle.meaning.specs.Frames.{StateExtension, context_framed, extended_state}
 use Rattle.meaning.specs.inner.Calls.{Begins, begin_call}
 use Rattle.meaning.specs.inner.Going.{Follow, IsStep, call_left, follows, gone_on}
-use Rattle.meaning.specs.inner.Left.{does_task, follow_of, left_gone_on, resumed}
+use Rattle.meaning.specs.inner.Left.{does_task, follow_of, left_gone_on, continue_with}
 use Rattle.meaning.specs.inner.Standing.{IsStop, bare, end_by, frame_of, rest, seen_of, state_at}
 use Rattle.meaning.proofs.GoesOn.{gone_on_last, stopped_is, went_is}
 
@@ -45,13 +45,13 @@ module _ {A : Type 0} (source : ProgramTables A) where
       λ i. state at.ticks (items_in at.locals) (memories_in at.due.items ++ founds) (many i) (long i)
 
   -- the piece at the end is the innermost one
-  at_last : (all ls : List (Left A)) (l : Left A) (e : Completion) (s : State) → all ≡ ls ++ l ∷ [] → left_gone_on source all e s ≡ gone_on (map (resumed source) ls ++ resumed source l ∷ []) e s
-  at_last all ls l e s h = ap (λ ks. gone_on ks e s) (ap (map (resumed source)) h ∙ map-append (resumed source) ls (l ∷ []))
+  at_last : (all ls : List (Left A)) (l : Left A) (e : Completion) (s : State) → all ≡ ls ++ l ∷ [] → left_gone_on source all e s ≡ gone_on (map (continue_with source) ls ++ continue_with source l ∷ []) e s
+  at_last all ls l e s h = ap (λ ks. gone_on ks e s) (ap (map (continue_with source)) h ∙ map-append (continue_with source) ls (l ∷ []))
 
-  last_goes : (ls : List (Left A)) (l : Left A) (e : Completion) (s : State) → left_gone_on source (ls ++ l ∷ []) e s ≡ go_on (resumed source l e s) (left_gone_on source ls)
-  last_goes ls l e s = ap (λ ks. gone_on ks e s) (map-append (resumed source) ls (l ∷ [])) ∙ gone_on_last (map (resumed source) ls) (resumed source l) e s
+  last_goes : (ls : List (Left A)) (l : Left A) (e : Completion) (s : State) → left_gone_on source (ls ++ l ∷ []) e s ≡ go_on (continue_with source l e s) (left_gone_on source ls)
+  last_goes ls l e s = ap (λ ks. gone_on ks e s) (map-append (continue_with source) ls (l ∷ [])) ∙ gone_on_last (map (continue_with source) ls) (continue_with source l) e s
 
-  behind : (ls : List (Left A)) (l : Left A) (r : Answer Completion) → go_on r (left_gone_on source (ls ++ l ∷ [])) ≡ go_on (go_on r (resumed source l)) (left_gone_on source ls)
+  behind : (ls : List (Left A)) (l : Left A) (r : Answer Completion) → go_on r (left_gone_on source (ls ++ l ∷ [])) ≡ go_on (go_on r (continue_with source l)) (left_gone_on source ls)
   behind ls l (Gives e s) = last_goes ls l e s
   behind ls l (Stops why s) = refl
 
@@ -71,7 +71,7 @@ module _ {A : Type 0} (source : ProgramTables A) where
 
   -- a thread that has made a step has the same left to do
   pub advanced : (thread new : Thread A) (l : Left A) (ls : List (Left A)) (run : Action Follow) (next : Stepped A) (at : Point A) (more : Shown A) →
-      thread.left.items ≡ ls ++ l ∷ [] → IsStep (resumed source l) (end_of thread.end) run → run (bare thread.at) ≡ Gives (follow_of source next) (state_at at more) →
+      thread.left.items ≡ ls ++ l ∷ [] → IsStep (continue_with source l) (end_of thread.end) run → run (bare thread.at) ≡ Gives (follow_of source next) (state_at at more) →
       ((s : State) → left_gone_on source new.left.items (end_of new.end) s ≡ go_on (follows (follow_of source next) s) (left_gone_on source ls)) → new.at ≡ at →
       new.shown.lefts.items ≡ thread.shown.lefts.items ++ more.lefts.items → new.shown.text.items ≡ thread.shown.text.items ++ more.text.items →
       (founds : List Memory) → rest source new founds ≡ rest source thread founds
@@ -81,7 +81,7 @@ module _ {A : Type 0} (source : ProgramTables A) where
       (ap (λ p. left_gone_on source new.left.items (end_of new.end) (extended_state (frame_of founds new.shown) (bare p))) there
       ∙ ap (left_gone_on source new.left.items (end_of new.end)) (sym (reached founds thread.shown more new.shown at lefts text))
       ∙ put (extended_state f (state_at at more))
-      ∙ sym (went_is (resumed source l) (map (resumed source) ls) (end_of thread.end) run step f (bare thread.at) (state_at at more) (follow_of source next) h)
+      ∙ sym (went_is (continue_with source l) (map (continue_with source) ls) (end_of thread.end) run step f (bare thread.at) (state_at at more) (follow_of source next) h)
       ∙ sym (at_last thread.left.items ls l (end_of thread.end) (extended_state f (bare thread.at)) last))
 
   shown_by : (why : Halt) (f : StateExtension) (s : State) (founds lefts : List Memory) (text : List ℕ) → s.context ≡ Outside founds lefts → s.text ≡ text →
@@ -90,16 +90,13 @@ module _ {A : Type 0} (source : ProgramTables A) where
 
   -- a thread that stops at a step
   pub stops_at : (thread : Thread A) (l : Left A) (ls : List (Left A)) (run : Action Follow) (why : Halt) (more : Shown A) (s : State) (founds : List Memory) →
-      thread.left.items ≡ ls ++ l ∷ [] → IsStep (resumed source l) (end_of thread.end) run → run (bare thread.at) ≡ Stops why s →
-      s.context ≡ Outside founds (memories_in more.lefts.items) → s.text ≡ more.text.items → (stop : Stop A) → stop.why ≡ Some why → stop.shown ≡ more → IsStop source thread stop
+      thread.left.items ≡ ls ++ l ∷ [] → IsStep (continue_with source l) (end_of thread.end) run → run (bare thread.at) ≡ Stops why s →
+      s.context ≡ Outside founds (memories_in more.lefts.items) → s.text ≡ more.text.items → (stop : StoppedThread A) → stop.why ≡ Some why → stop.shown ≡ more → IsStop source thread stop
   stops_at thread l ls run why more s founds last step h there printed stop is what =
       let f = frame_of [] thread.shown in
-      ap (λ r. outcome_of (go_on r (λ _. tick))) (at_last thread.left.items ls l (end_of thread.end) (extended_state f (bare thread.at)) last ∙ stopped_is (resumed source l) (map (resumed source) ls) (end_of thread.end) run step f (bare thread.at) s why refl h)
+      ap (λ r. outcome_of (go_on r (λ _. tick))) (at_last thread.left.items ls l (end_of thread.end) (extended_state f (bare thread.at)) last ∙ stopped_is (continue_with source l) (map (continue_with source) ls) (end_of thread.end) run step f (bare thread.at) s why refl h)
       ∙ shown_by why f s founds (memories_in more.lefts.items) more.text.items there printed
       ∙ (λ i. record { lefts = f.lefts ++ memories_in (sym what i).lefts.items; text = f.text ++ (sym what i).text.items; end = end_by (sym is i) })
-
-  pub ends : (at : Point A) (shown : Shown A) (n : ℕ) → at.ticks ≡ suc n → outcome_of (tick (extended_state (frame_of [] shown) (bare at))) ≡ record { lefts = memories_in shown.lefts.items ++ []; text = shown.text.items ++ []; end = Ended }
-  ends at shown n more = ap (λ n. outcome_of (spend n (extended_state (frame_of [] shown) (bare at)))) more
 
   -- a thread that finds a memory finds it before what it finds further
   pub finds : (thread new : Thread A) (m : Memory) → new.left ≡ thread.left → new.end ≡ thread.end → new.shown ≡ thread.shown → new.at.ticks ≡ thread.at.ticks → new.at.locals ≡ thread.at.locals →
@@ -110,7 +107,7 @@ module _ {A : Type 0} (source : ProgramTables A) where
 
   -- what is known of a thread from its beginning on
   module _ (p : Program) (ticks t : ℕ) (thread : Thread A) (founds : List Memory) (stands : (further : List Memory) → rest source thread further ≡ worker_run p t (first_state (founds ++ further) ticks)) where
-    pub seen_is : (stop : Stop A) → IsStop source thread stop → seen_of thread stop ≡ behaviour p t founds ticks
+    pub seen_is : (stop : StoppedThread A) → IsStop source thread stop → seen_of thread stop ≡ behaviour p t founds ticks
     seen_is stop h = sym h ∙ ap outcome_of (stands []) ∙ ap (λ fs. outcome_of (worker_run p t (first_state fs ticks))) (append-nil founds)
 
 abbrev is_given : {X : Type 0} → Answer X → Type 0

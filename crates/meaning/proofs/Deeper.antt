@@ -1,7 +1,7 @@
 -- A part of a tree is less deep than the whole.
 use Rattle.std.proofs.Common.{◌≡◌, ℕ, ◌+◌, ◌<◌, ◌≤◌, List, Option, Some, None, max, map, option_map, length, get_or, zero, suc, [], ◌∷◌, sym, ap, ◌∙◌, arith}
 use Rattle.lex.specs.declared.token.Span.{Span}
-use Rattle.syntax.specs.declared.tree.Kind.{Kind}
+use Rattle.syntax.specs.declared.tree.TransactionKind.{TransactionKind}
 use Rattle.syntax.specs.declared.tree.Expr as E
 use Rattle.syntax.specs.declared.tree.Declarator as R
 use Rattle.syntax.specs.declared.tree.Stmt as S
@@ -26,7 +26,7 @@ module _ {A : Type 0} where
   pub block_deep : (s : S.Stmt A) (ss ss' : List (S.Stmt A)) → s ≡ S.Block ss → ss' ≡ ss → block_depth (stmts_of ss') ≤ stmt_depth (stmt_of s)
   block_deep s ss ss' is a = same _ _ _ (ap (λ y. stmt_depth (stmt_of y)) is ∙ ap stmt_depth (stmt_of_block ss)) (ap (λ y. block_depth (stmts_of y)) a)
 
-  pub transaction_deep : (s : S.Stmt A) (kind : Kind) (ss ss' : List (S.Stmt A)) (at : Span) → s ≡ S.Transaction kind ss at → ss' ≡ ss → block_depth (stmts_of ss') + 1 ≤ stmt_depth (stmt_of s)
+  pub transaction_deep : (s : S.Stmt A) (kind : TransactionKind) (ss ss' : List (S.Stmt A)) (at : Span) → s ≡ S.Transaction kind ss at → ss' ≡ ss → block_depth (stmts_of ss') + 1 ≤ stmt_depth (stmt_of s)
   transaction_deep s kind ss ss' at is a = one _ _ _ (ap (λ y. stmt_depth (stmt_of y)) is ∙ ap stmt_depth (stmt_of_transaction kind ss at)) (ap (λ y. block_depth (stmts_of y)) a)
 
   pub do_deep : (s : S.Stmt A) (a : Simple A) → s ≡ S.Do a → stmt_depth (stmt_of s) ≡ simple_depth (simple_of a)

@@ -2,14 +2,14 @@
 use Rattle.std.proofs.Common.{◌≡◌, ℕ, zero, suc, List, [], ◌∷◌, ◌++◌, Option, Some, None, Bool, true, false, refl, sym, ap, ◌∙◌, subst, append_assoc}
 use Rattle.syntax.specs.declared.tree.Mode.{Mode}
 use Rattle.syntax.specs.declared.tree.Mode.TheVariants.{Atomic, Relaxed}
-use Rattle.syntax.specs.declared.tree.Kind.{Kind}
-use Rattle.syntax.specs.declared.tree.Kind.TheVariants.{Plain, Outer}
+use Rattle.syntax.specs.declared.tree.TransactionKind.{TransactionKind}
+use Rattle.syntax.specs.declared.tree.TransactionKind.TheVariants.{Plain, Outer}
 use Rattle.syntax.specs.Names.{Local}
 use Rattle.syntax.specs.declared.numbers.Halt.TheVariants.{Trapped, Wants, Spent, Astray}
 use Rattle.syntax.specs.Behaviours.{Memory}
 use Rattle.syntax.specs.Actions.{Context, Outside, Inside, State, Answer, Gives, Stops, Action, go_on, ◌>>=◌, spend, tick, load_at, store_at, may_print_at, memory_in, write}
 use Rattle.syntax.specs.Meaning.{Completion, after_turn, turns, Left, undoes, left_or, left_by, leave_inner, close_inner, inner, close, enter, mode_of, begin_at}
-use Rattle.syntax.proofs.Kept.{IsAlwaysKept}
+use Rattle.syntax.proofs.Preserved.{IsAlwaysPreserved}
 use Rattle.meaning.specs.Frames.{StateExtension, context_framed, extended_state, Alike, IsFramed}
 
 on_alike : {A B : Type 0} (f : StateExtension) (r more : Answer A) (rest : A → Action B) → Alike f r more → ((a : A) (t : State) → Alike f (rest a t) (rest a (extended_state f t))) → Alike f (go_on r rest) (go_on more rest)
@@ -69,7 +69,7 @@ left_framed : (f : StateExtension) (undone : Bool) (mine : List Local) (found : 
 left_framed f true mine found end now = refl
 left_framed f false mine found end now = ap (λ m. left_with end now.locals m) (memory_framed f now.context)
 
-close_inner_alike : (outer : Mode) (kind : Kind) (mine : List Local) (found : Memory) (f : StateExtension) (r more : Answer Completion) → Alike f r more → Alike f (close_inner outer kind mine found r) (close_inner outer kind mine found more)
+close_inner_alike : (outer : Mode) (kind : TransactionKind) (mine : List Local) (found : Memory) (f : StateExtension) (r more : Answer Completion) → Alike f r more → Alike f (close_inner outer kind mine found r) (close_inner outer kind mine found more)
 close_inner_alike outer kind mine found f (Gives end now) more e =
     ap (close_inner outer kind mine found) e ∙ ap (λ l. leave_inner outer l (extended_state f now)) (left_framed f (undoes end kind) mine found end now)
 close_inner_alike outer kind mine found f (Stops (Trapped t) s) more e = ap (close_inner outer kind mine found) e
@@ -77,7 +77,7 @@ close_inner_alike outer kind mine found f (Stops Astray s) more e = ap (close_in
 close_inner_alike outer kind mine found f (Stops Spent s) more e = ap (close_inner outer kind mine found) e
 close_inner_alike outer kind mine found f (Stops Wants s) more e = λ n. ap (close_inner outer kind mine found) (e n)
 
-inner_alike : (f : StateExtension) (outer : Mode) (kind : Kind) (found : Memory) (run : Action Completion) → IsFramed run → (s : State) → Alike f (inner outer kind found run s) (inner outer kind found run (extended_state f s))
+inner_alike : (f : StateExtension) (outer : Mode) (kind : TransactionKind) (found : Memory) (run : Action Completion) → IsFramed run → (s : State) → Alike f (inner outer kind found run s) (inner outer kind found run (extended_state f s))
 inner_alike f outer kind found run h s =
     let start = state s.ticks s.locals (Inside (mode_of kind) found) s.text in
     close_inner_alike outer kind s.locals found f (run start) (run (extended_state f start)) (h.alike f start)
@@ -92,7 +92,7 @@ leave_alike f zero now founds lefts left = refl
 leave_alike f (suc n) now founds lefts left =
     ap (λ ls. Gives left.end (state n left.locals (Outside (founds ++ f.founds) ls) (f.text ++ now.text))) (append_assoc f.lefts lefts (left.memory ∷ []))
 
-close_alike : (kind : Kind) (f : StateExtension) (founds lefts : List Memory) (mine : List Local) (found : Memory) (r more : Answer Completion) → Alike f r more → Alike f (close kind founds lefts mine found r) (close kind (founds ++ f.founds) (f.lefts ++ lefts) mine found more)
+close_alike : (kind : TransactionKind) (f : StateExtension) (founds lefts : List Memory) (mine : List Local) (found : Memory) (r more : Answer Completion) → Alike f r more → Alike f (close kind founds lefts mine found r) (close kind (founds ++ f.founds) (f.lefts ++ lefts) mine found more)
 close_alike kind f founds lefts mine found (Gives end now) more e =
     let left = left_by kind mine found end now in
     let same = ap (close kind (founds ++ f.founds) (f.lefts ++ lefts) mine found) e ∙ ap (λ l. leave_at now.ticks (extended_state f now) (founds ++ f.founds) (f.lefts ++ lefts) l) (left_framed f (undoes end kind) mine found end now) in
@@ -105,10 +105,10 @@ close_alike kind f founds lefts mine found (Stops Spent s) more e = ap (close ki
 close_alike kind f founds lefts mine found (Stops Wants s) more e = λ n. ap (close kind (founds ++ f.founds) (f.lefts ++ lefts) mine found) (e n)
 
 -- a transaction that finds no memory finds none where there is no further one
-wants_alike : (f : StateExtension) (founds lefts : List Memory) (kind : Kind) (run : Action Completion) (s : State) → founds ≡ [] → enter (Outside founds lefts) kind run s ≡ Stops Wants s
+wants_alike : (f : StateExtension) (founds lefts : List Memory) (kind : TransactionKind) (run : Action Completion) (s : State) → founds ≡ [] → enter (Outside founds lefts) kind run s ≡ Stops Wants s
 wants_alike f founds lefts kind run s none = ap (λ fs. enter (Outside fs lefts) kind run s) none
 
-enter_alike : (f : StateExtension) (kind : Kind) (run : Action Completion) → IsFramed run → (p : Context) (n : ℕ) (ls : List Local) (t : List ℕ) → Alike f (enter p kind run (state n ls p t)) (enter (context_framed f p) kind run (extended_state f (state n ls p t)))
+enter_alike : (f : StateExtension) (kind : TransactionKind) (run : Action Completion) → IsFramed run → (p : Context) (n : ℕ) (ls : List Local) (t : List ℕ) → Alike f (enter p kind run (state n ls p t)) (enter (context_framed f p) kind run (extended_state f (state n ls p t)))
 enter_alike f kind run h (Outside [] lefts) n ls t = λ none. wants_alike f f.founds (f.lefts ++ lefts) kind run (extended_state f (state n ls (Outside [] lefts) t)) none
 enter_alike f kind run h (Outside (found ∷ founds) lefts) n ls t =
     let start = state n ls (Inside (mode_of kind) found) t in
@@ -122,7 +122,7 @@ begin_alike : (f : StateExtension) (p : Context) (s : State) → Alike f (begin_
 begin_alike f (Outside founds lefts) s = tick_framed.alike f s
 begin_alike f (Inside mode m) s = refl
 
-pub framed_kept : IsAlwaysKept (λ A run. IsFramed run)
+pub framed_kept : IsAlwaysPreserved (λ A run. IsFramed run)
 framed_kept = record {
   pure_holds = λ a. record { alike = λ f s. refl };
   on_holds = on_framed;

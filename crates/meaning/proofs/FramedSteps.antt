@@ -7,9 +7,9 @@ use Rattle.syntax.specs.declared.numbers.Trap.TheVariants.{Frames}
 use Rattle.syntax.specs.Tree.{Program, Stmt, Expr, Exprs, Simple, Start, Declarator}
 use Rattle.syntax.specs.Names.{Local, definition_of}
 use Rattle.syntax.specs.Actions.{Action, pure, locals, put_locals, tick, or_astray, ◌>>=◌, ◌>>◌}
-use Rattle.syntax.specs.Meaning.{Completion, Next, Breaks, Continues, Returns, Cancels, CancelsOuter, InLocal, call_locals, expr, exprs, stmt, after_body, holds, stepped, simple, first_value, declare, start_with, result_of, calls}
-use Rattle.syntax.proofs.Kept.{each_expr_holds, each_simple_holds, each_stmt_holds}
-use Rattle.meaning.specs.inner.Going.{Follow, Ends, ticks_left, drop_names, call_left, when_next, scope_begun, loop_begun, test_of, behind_of, turns_begun, either_begun, for_begun, frame_begun, call_begun}
+use Rattle.syntax.specs.Meaning.{Completion, Next, Breaks, Continues, Returns, Cancels, CancelsOuter, InLocal, call_locals, expr, exprs, stmt, after_body, for_condition, optional_step, simple, first_value, declare, start_with, result_of, calls}
+use Rattle.syntax.proofs.Preserved.{each_expr_holds, each_simple_holds, each_stmt_holds}
+use Rattle.meaning.specs.inner.Going.{Follow, Ends, ticks_left, drop_names, call_left, when_next, scope_begun, loop_begun, test_of, turn_end_of, turns_begun, either_begun, for_begun, frame_begun, call_begun}
 use Rattle.meaning.specs.inner.Calls.{begin_call}
 use Rattle.meaning.specs.Frames.{IsFramed}
 use Rattle.meaning.proofs.Framed.{on_framed, framed_kept}
@@ -99,11 +99,11 @@ module _ (p : Program) (k : ℕ) where
   start_framed (tree.Declares d) = declare_framed d.ty d.declarators
   start_framed (tree.Does i) = simple_framed i
 
-  holds_framed : (c : Option Expr) → IsFramed (holds p (calls p k) c)
+  holds_framed : (c : Option Expr) → IsFramed (for_condition p (calls p k) c)
   holds_framed None = pure_framed true
   holds_framed (Some e) = on_framed (expr_framed e) (λ v. pure_framed _)
 
-  stepped_framed : (step : Option Simple) → IsFramed (stepped p (calls p k) step)
+  stepped_framed : (step : Option Simple) → IsFramed (optional_step p (calls p k) step)
   stepped_framed None = pure_framed None
   stepped_framed (Some i) = then_framed (simple_framed i) (pure_framed None)
 
@@ -119,7 +119,7 @@ module _ (p : Program) (k : ℕ) where
   test_framed (tree.For start c step a) = holds_framed c
   test_framed st = pure_framed false
 
-  pub behind_framed : (st : Stmt) → IsFramed (behind_of p (calls p k) st)
+  pub behind_framed : (st : Stmt) → IsFramed (turn_end_of p (calls p k) st)
   behind_framed (tree.DoWhile a c) = on_framed (expr_framed c) (λ v. pure_framed _)
   behind_framed (tree.For start c step a) = stepped_framed step
   behind_framed st = pure_framed None

@@ -6,7 +6,7 @@ use Rattle.syntax.specs.Tree.{Program, Stmt, Stmts, Expr, Start}
 use Rattle.syntax.specs.Numbers.{is_zero}
 use Rattle.syntax.specs.declared.numbers.Value.{Value}
 use Rattle.syntax.specs.Actions.{State, Answer, Gives, Stops, Action, pure, go_on, tick, ◌>>=◌, ◌>>◌}
-use Rattle.syntax.specs.Meaning.{Caller, Completion, Next, expr, stmt, stmts, in_scope, after_body, after_turn, turns, loop, holds, stepped, start_with}
+use Rattle.syntax.specs.Meaning.{Caller, Completion, Next, expr, stmt, stmts, in_scope, after_body, after_turn, turns, loop, for_condition, optional_step, start_with}
 use Rattle.meaning.specs.inner.Does.{if_of, loop_condition}
 use Rattle.meaning.specs.inner.Going.{Ends, Goes, Nests, follows, drop_names, apart_begun, otherwise, either_begun, for_begun, turn_of, turn_begun, turns_begun, body_left, follow_turn}
 use Rattle.meaning.proofs.Sequences.{twice}
@@ -86,9 +86,9 @@ module _ (p : Program) (call : Caller) where
   turn_is : (st : Stmt) (n : ℕ) (s : State) → go_on (turn_of p call st s) (after_turn (turns n (turn_of p call st))) ≡ go_on (turn_begun p call st n s) follows
   turn_is (tree.While c a) n s =
       let rest = turns n (turn_of p call (tree.While c a)) in
-      ap (λ r. go_on r (after_turn rest)) (while_is (in_scope (stmt p call a)) (expr p call c s)) ∙ tested_turn (in_scope (stmt p call a)) (pure None) rest (holds p call (Some c) s)
+      ap (λ r. go_on r (after_turn rest)) (while_is (in_scope (stmt p call a)) (expr p call c s)) ∙ tested_turn (in_scope (stmt p call a)) (pure None) rest (for_condition p call (Some c) s)
   turn_is (tree.DoWhile a c) n s = tested_turn (in_scope (stmt p call a)) (loop_condition p call c) (turns n (turn_of p call (tree.DoWhile a c))) (Gives true s)
-  turn_is (tree.For start c step a) n s = tested_turn (in_scope (stmt p call a)) (stepped p call step) (turns n (turn_of p call (tree.For start c step a))) (holds p call c s)
+  turn_is (tree.For start c step a) n s = tested_turn (in_scope (stmt p call a)) (optional_step p call step) (turns n (turn_of p call (tree.For start c step a))) (for_condition p call c s)
   turn_is st n s = refl
 
   pub turns_is : (st : Stmt) (n : ℕ) (s : State) → turns n (turn_of p call st) s ≡ go_on (turns_begun p call st n s) follows

@@ -6,7 +6,7 @@ use Rattle.syntax.specs.declared.tree.UnaryOp.{UnaryOp}
 use Rattle.syntax.specs.declared.tree.BinaryOp.{BinaryOp}
 use Rattle.syntax.specs.declared.tree.LogicalOp.{LogicalOp}
 use Rattle.syntax.specs.declared.tree.Mode.{Mode}
-use Rattle.syntax.specs.declared.tree.Kind.{Kind}
+use Rattle.syntax.specs.declared.tree.TransactionKind.{TransactionKind}
 use Rattle.syntax.specs.declared.tree.Name as N
 use Rattle.syntax.specs.declared.tree.Expr as E
 use Rattle.syntax.specs.declared.tree.Declaration as D
@@ -86,5 +86,5 @@ module _ {A : Type 0} where
   pub return_is : (s : S.Stmt A) (e : Option (E.Expr A)) (at : Span) → s ≡ S.Return e at → stmt_of s ≡ Tree.Return (option_map expr_of e) at
   return_is s e at is = ap stmt_of is ∙ stmt_of_return e at
 
-  pub transaction_is : (s : S.Stmt A) (kind : Kind) (ss ss' : List (S.Stmt A)) (at : Span) → s ≡ S.Transaction kind ss at → ss' ≡ ss → stmt_of s ≡ Tree.Transaction kind (stmts_of ss') at
+  pub transaction_is : (s : S.Stmt A) (kind : TransactionKind) (ss ss' : List (S.Stmt A)) (at : Span) → s ≡ S.Transaction kind ss at → ss' ≡ ss → stmt_of s ≡ Tree.Transaction kind (stmts_of ss') at
   transaction_is s kind ss ss' at is a = ap stmt_of is ∙ stmt_of_transaction kind ss at ∙ ap (λ y. Tree.Transaction kind (stmts_of y) at) (sym a)

@@ -7,7 +7,7 @@ use Rattle.syntax.specs.declared.tree.Function.{Function as OwnFunction}
 use Rattle.syntax.specs.Tree.{Item, Defines, Shares, Function, Stmts}
 use Rattle.syntax.specs.Views.{item_of, function_of, stmts_of}
 use Rattle.syntax.specs.Names.{definition_or, definition_of}
-use Rattle.name_tables.specs.Named.{first, declared}
+use Rattle.name_tables.specs.Named.{first, with_declaration}
 use Rattle.name_tables.proofs.Firsts.{first_declared}
 use Rattle.meaning.specs.inner.Tables.{number_from}
 
@@ -23,7 +23,7 @@ number_step false b i o r h = absurd cc
 
 -- one more definition
 pub number_more : {A : Type 0} (rest : List Item) (f : OwnFunction A) (i : ℕ) (old new : List (List ℕ × ℕ)) (name x : List ℕ) →
-    new ≡ declared old name i → name ≡ f.name.text → is_some f.body ≡ true → option_or (first new x) (number_from (i + 1) rest x) ≡ option_or (first old x) (number_from i (Defines (function_of f) ∷ rest) x)
+    new ≡ with_declaration old name i → name ≡ f.name.text → is_some f.body ≡ true → option_or (first new x) (number_from (i + 1) rest x) ≡ option_or (first old x) (number_from i (Defines (function_of f) ∷ rest) x)
 number_more rest f i old new name x more same body =
     ap (λ es. option_or (first es x) (number_from (i + 1) rest x)) more
     ∙ ap (λ o. option_or o (number_from (i + 1) rest x)) (first_declared old name i x)

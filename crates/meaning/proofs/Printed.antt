@@ -5,9 +5,9 @@ use Rattle.syntax.specs.Tree.{Scalar}
 use Rattle.syntax.specs.declared.numbers.Value.{Value}
 use Rattle.syntax.specs.declared.numbers.Halt.{Halt}
 use Rattle.syntax.specs.Actions.{State, Answer, Gives, Stops, go_on, tick, write, ◌>>◌}
-use Rattle.syntax.specs.Formats.{Piece, Literal, Figure, literal, pieces}
+use Rattle.syntax.specs.Formats.{Piece, Literal, Specifier, literal, pieces}
 use Rattle.syntax.specs.Meaning.{print_pieces}
-use Rattle.meaning.specs.inner.Printing.{push_byte, figure, print_from}
+use Rattle.meaning.specs.inner.Printing.{push_byte, specifier, print_from}
 
 -- what was written joins what is written behind it
 wrote : (s : State) (c : ℕ) (cs : List ℕ) → record s { text = s.text ++ c ∷ cs } ≡ record s { text = (s.text ++ c ∷ []) ++ cs }
@@ -24,12 +24,12 @@ pushed_continued true c (Literal cs ∷ ps) vs s = ap (print_pieces ps vs) (wrot
 pushed_continued false c (Literal cs ∷ ps) vs s = ticked ps vs c cs (tick s)
 pushed_continued begun c ps vs s = refl
 
--- a figure, with the first of the values
-figure_continued : (begun : Bool) (t : Scalar) (ps : List Piece) (vs : List Value) (s : State) → print_from begun (Figure t ∷ ps) vs s ≡ go_on (figure t vs s) (λ u. print_pieces ps (drop 1 vs))
-figure_continued true t ps [] s = refl
-figure_continued true t ps (v ∷ vs) s = refl
-figure_continued false t ps [] s = refl
-figure_continued false t ps (v ∷ vs) s = refl
+-- a specifier, with the first of the values
+specifier_continued : (begun : Bool) (t : Scalar) (ps : List Piece) (vs : List Value) (s : State) → print_from begun (Specifier t ∷ ps) vs s ≡ go_on (specifier t vs s) (λ u. print_pieces ps (drop 1 vs))
+specifier_continued true t ps [] s = refl
+specifier_continued true t ps (v ∷ vs) s = refl
+specifier_continued false t ps [] s = refl
+specifier_continued false t ps (v ∷ vs) s = refl
 
 -- from one unit of a format on
 module _ (format : List ℕ) (values : List Value) (begun : Bool) (i k : ℕ) (s : State) (whole : Answer (Unit {0})) where
@@ -44,9 +44,9 @@ module _ (format : List ℕ) (values : List Value) (begun : Bool) (i k : ℕ) (s
       sym inv ∙ ap (λ ps. print_from begun ps (drop k values) s) is ∙ pushed_continued begun c (pieces (drop next format)) (drop k values) s
       ∙ ap (λ r. go_on r (λ u. print_from true (pieces (drop next format)) (drop k values))) d
 
-  pub figure_goes : (t : Scalar) (next : ℕ) (now : State) → print_from begun (pieces (drop i format)) (drop k values) s ≡ whole → pieces (drop i format) ≡ Figure t ∷ pieces (drop next format) → figure t (drop k values) s ≡ Gives tt now →
+  pub specifier_goes : (t : Scalar) (next : ℕ) (now : State) → print_from begun (pieces (drop i format)) (drop k values) s ≡ whole → pieces (drop i format) ≡ Specifier t ∷ pieces (drop next format) → specifier t (drop k values) s ≡ Gives tt now →
       print_from false (pieces (drop next format)) (drop (k + 1) values) now ≡ whole
-  figure_goes t next now inv is d =
+  specifier_goes t next now inv is d =
       ap (λ vs. print_pieces (pieces (drop next format)) vs now) (sym (drop-drop 1 k values))
       ∙ sym (ap (λ r. go_on r (λ u. print_pieces (pieces (drop next format)) (drop 1 (drop k values)))) d)
-      ∙ sym (figure_continued begun t (pieces (drop next format)) (drop k values) s) ∙ ap (λ ps. print_from begun ps (drop k values) s) (sym is) ∙ inv
+      ∙ sym (specifier_continued begun t (pieces (drop next format)) (drop k values) s) ∙ ap (λ ps. print_from begun ps (drop k values) s) (sym is) ∙ inv

@@ -9,8 +9,8 @@ use Rattle.syntax.specs.declared.tree.BinaryOp.{BinaryOp}
 use Rattle.syntax.specs.declared.tree.IncDec.{IncDec}
 use Rattle.syntax.specs.declared.tree.Mode.{Mode}
 use Rattle.syntax.specs.declared.tree.Mode.TheVariants.{Atomic, Relaxed}
-use Rattle.syntax.specs.declared.tree.Kind.{Kind}
-use Rattle.syntax.specs.declared.tree.Kind.TheVariants.{Plain, Outer}
+use Rattle.syntax.specs.declared.tree.TransactionKind.{TransactionKind}
+use Rattle.syntax.specs.declared.tree.TransactionKind.TheVariants.{Plain, Outer}
 use Rattle.std.specs.Prelude.{Bool, if◌then◌else◌}
 use Rattle.syntax.specs.Numbers.{value_in_type, is_zero, binary}
 use Rattle.syntax.specs.Types.{common_of, type_of, running_scope}
@@ -20,7 +20,7 @@ use Rattle.syntax.specs.Names.{Local, definition_of}
 use Rattle.syntax.specs.Behaviours.{Memory}
 use Rattle.syntax.specs.Formats.{pieces}
 use Rattle.syntax.specs.Actions.{Context, Outside, Inside, State, Answer, Gives, Stops, Action, pure, go_on, or_trap, or_astray, locals, put_locals, tick, may_print, ◌>>=◌, ◌>>◌}
-use Rattle.syntax.specs.Meaning.{Caller, Spot, fetch, assign, spot, changed, op_of, int_one, Completion, Next, Breaks, Continues, Returns, Cancels, CancelsOuter, mode_of, in_scope, loop, simple, declare, return_value, expr, stmt, stmts, exprs, print_pieces, transaction, begin_value, value_at, value_transaction, enter, leave, left_by, leave_inner, close, close_inner, call_locals, invoke, calls, result_of}
+use Rattle.syntax.specs.Meaning.{Caller, Lvalue, fetch, assign, lvalue, assign_by_operator, op_of, int_one, Completion, Next, Breaks, Continues, Returns, Cancels, CancelsOuter, mode_of, in_scope, loop, simple, declare, return_value, expr, stmt, stmts, exprs, print_pieces, transaction, begin_value, value_at, value_transaction, enter, leave, left_by, leave_inner, close, close_inner, call_locals, invoke, calls, result_of}
 use Rattle.meaning.specs.inner.Calls.{Begins, begin_call}
 use Rattle.meaning.specs.Outcomes.{memories_in}
 use Rattle.meaning.specs.inner.Does.{is_forbidden, while_turn, do_turn, for_all}
@@ -71,25 +71,25 @@ conditional_gives p call c a b at s0 s1 s2 v w r test branch last =
     ∙ last
 
 -- an old value that is changed, up to what an operator gives
-rewritten : (p : Program) (call : Caller) (at : Spot) (by : Action Value) (op : BinaryOp) (s1 s2 s3 : State) (old v : Value) (r : Answer Completion) →
-    fetch at s1 ≡ Gives old s2 → by s2 ≡ Gives v s3 → go_on (go_on (or_trap (binary op old v) s3) (assign at)) (λ _. pure Next) ≡ r → go_on (changed p call at by op s1) (λ _. pure Next) ≡ r
+rewritten : (p : Program) (call : Caller) (at : Lvalue) (by : Action Value) (op : BinaryOp) (s1 s2 s3 : State) (old v : Value) (r : Answer Completion) →
+    fetch at s1 ≡ Gives old s2 → by s2 ≡ Gives v s3 → go_on (go_on (or_trap (binary op old v) s3) (assign at)) (λ _. pure Next) ≡ r → go_on (assign_by_operator p call at by op s1) (λ _. pure Next) ≡ r
 rewritten p call at by op s1 s2 s3 old v r f d last =
     ap (λ q. go_on (go_on q (λ x. by >>= (λ y. or_trap (binary op x y) >>= assign at))) (λ _. pure Next)) f
     ∙ ap (λ q. go_on (go_on q (λ y. or_trap (binary op old y) >>= assign at)) (λ _. pure Next)) d
     ∙ last
 
-pub changed_gives : (p : Program) (call : Caller) (to e : Expr) (op : BinaryOp) (s0 s1 s2 s3 : State) (at : Spot) (old v : Value) (r : Answer Completion) →
-    spot p call to s0 ≡ Gives at s1 → fetch at s1 ≡ Gives old s2 → expr p call e s2 ≡ Gives v s3 → go_on (go_on (or_trap (binary op old v) s3) (assign at)) (λ _. pure Next) ≡ r →
+pub changed_gives : (p : Program) (call : Caller) (to e : Expr) (op : BinaryOp) (s0 s1 s2 s3 : State) (at : Lvalue) (old v : Value) (r : Answer Completion) →
+    lvalue p call to s0 ≡ Gives at s1 → fetch at s1 ≡ Gives old s2 → expr p call e s2 ≡ Gives v s3 → go_on (go_on (or_trap (binary op old v) s3) (assign at)) (λ _. pure Next) ≡ r →
     simple p call (tree.Assign to (Some op) e) s0 ≡ r
 changed_gives p call to e op s0 s1 s2 s3 at old v r there f d last =
-    after (spot p call to s0) (λ a. changed p call a (expr p call e) op >> pure Next) at s1 there
+    after (lvalue p call to s0) (λ a. assign_by_operator p call a (expr p call e) op >> pure Next) at s1 there
     ∙ rewritten p call at (expr p call e) op s1 s2 s3 old v r f d last
 
-pub adjusted_gives : (p : Program) (call : Caller) (to : Expr) (by : IncDec) (op : BinaryOp) (one : Value) (s0 s1 s2 : State) (at : Spot) (old : Value) (r : Answer Completion) →
-    op ≡ op_of by → one ≡ int_one → spot p call to s0 ≡ Gives at s1 → fetch at s1 ≡ Gives old s2 → go_on (go_on (or_trap (binary op old one) s2) (assign at)) (λ _. pure Next) ≡ r →
+pub adjusted_gives : (p : Program) (call : Caller) (to : Expr) (by : IncDec) (op : BinaryOp) (one : Value) (s0 s1 s2 : State) (at : Lvalue) (old : Value) (r : Answer Completion) →
+    op ≡ op_of by → one ≡ int_one → lvalue p call to s0 ≡ Gives at s1 → fetch at s1 ≡ Gives old s2 → go_on (go_on (or_trap (binary op old one) s2) (assign at)) (λ _. pure Next) ≡ r →
     simple p call (tree.Adjust to by) s0 ≡ r
 adjusted_gives p call to by op one s0 s1 s2 at old r is same there f last =
-    after (spot p call to s0) (λ a. changed p call a (pure int_one) (op_of by) >> pure Next) at s1 there
+    after (lvalue p call to s0) (λ a. assign_by_operator p call a (pure int_one) (op_of by) >> pure Next) at s1 there
     ∙ rewritten p call at (pure int_one) (op_of by) s1 s2 s2 old int_one r f refl
     (ap (λ o. go_on (go_on (or_trap (binary o old int_one) s2) (assign at)) (λ _. pure Next)) (sym is) ∙ ap (λ w. go_on (go_on (or_trap (binary op old w) s2) (assign at)) (λ _. pure Next)) (sym same) ∙ last)
 
@@ -134,13 +134,13 @@ module _ (p : Program) (n k : ℕ) (x : List ℕ) (vs : List Value) (s0 s1 : Sta
   call_stops s2 why h = call_begun ∙ halts _ (λ end. put_locals outer >> result_of b.ty end) why s2 h
 
 -- transactions
-pub transaction_at : (kind : Kind) (run : Action Completion) (s : State) (before : Context) (r : Answer Completion) → s.context ≡ before → enter before kind run (record s { context = before }) ≡ r → transaction kind run s ≡ r
+pub transaction_at : (kind : TransactionKind) (run : Action Completion) (s : State) (before : Context) (r : Answer Completion) → s.context ≡ before → enter before kind run (record s { context = before }) ≡ r → transaction kind run s ≡ r
 transaction_at kind run s before r is d = ap (λ k. enter k kind run (record s { context = k })) is ∙ d
 
-pub outermost_none : (kind : Kind) (founds lefts : List Memory) (run : Action Completion) (s : State) (r : Answer Completion) → founds ≡ [] → enter (Outside [] lefts) kind run s ≡ r → enter (Outside founds lefts) kind run s ≡ r
+pub outermost_none : (kind : TransactionKind) (founds lefts : List Memory) (run : Action Completion) (s : State) (r : Answer Completion) → founds ≡ [] → enter (Outside [] lefts) kind run s ≡ r → enter (Outside founds lefts) kind run s ≡ r
 outermost_none kind founds lefts run s r none d = ap (λ ms. enter (Outside ms lefts) kind run s) none ∙ d
 
-module _ (kind : Kind) (mode : Mode) (all founds lefts : List Memory) (found memory : Memory) (run : Action Completion) (s now : State) (runs : mode ≡ mode_of kind) (is : all ≡ found ∷ founds) (copied : memory ≡ found) where
+module _ (kind : TransactionKind) (mode : Mode) (all founds lefts : List Memory) (found memory : Memory) (run : Action Completion) (s now : State) (runs : mode ≡ mode_of kind) (is : all ≡ found ∷ founds) (copied : memory ≡ found) where
   pub outermost_gives : (mine : List Local) (e : Completion) (r : Answer Completion) → mine ≡ s.locals → run (record s { context = Inside mode memory }) ≡ Gives e now → leave founds lefts (left_by kind mine found e now) now ≡ r → enter (Outside all lefts) kind run s ≡ r
   outermost_gives mine e r same h d =
       ap (λ ms. enter (Outside ms lefts) kind run s) is
@@ -158,13 +158,13 @@ module _ (kind : Kind) (mode : Mode) (all founds lefts : List Memory) (found mem
 false_is_true : false ≡ true → ⊥
 false_is_true e = cc
 
-pub nested_astray : (outer : Mode) (kind : Kind) (found : Memory) (run : Action Completion) (s : State) → is_forbidden outer (mode_of kind) ≡ true → enter (Inside outer found) kind run s ≡ Stops Astray s
+pub nested_astray : (outer : Mode) (kind : TransactionKind) (found : Memory) (run : Action Completion) (s : State) → is_forbidden outer (mode_of kind) ≡ true → enter (Inside outer found) kind run s ≡ Stops Astray s
 nested_astray Atomic (Plain Relaxed) found run s h = refl
 nested_astray Atomic (Plain Atomic) found run s h = absurd (false_is_true h)
 nested_astray Atomic Outer found run s h = absurd (false_is_true h)
 nested_astray Relaxed kind found run s h = absurd (false_is_true h)
 
-inner_is : (outer : Mode) (kind : Kind) (found memory : Memory) (run : Action Completion) (s : State) → is_forbidden outer (mode_of kind) ≡ false → memory ≡ found →
+inner_is : (outer : Mode) (kind : TransactionKind) (found memory : Memory) (run : Action Completion) (s : State) → is_forbidden outer (mode_of kind) ≡ false → memory ≡ found →
     enter (Inside outer found) kind run s ≡ close_inner outer kind s.locals found (run (record s { context = Inside (mode_of kind) memory }))
 inner_is Atomic (Plain Relaxed) found memory run s h c = absurd (false_is_true (sym h))
 inner_is Atomic (Plain Atomic) found memory run s h c = ap (λ m. close_inner Atomic (Plain Atomic) s.locals found (run (record s { context = Inside Atomic m }))) (sym c)
@@ -172,7 +172,7 @@ inner_is Atomic Outer found memory run s h c = ap (λ m. close_inner Atomic Oute
 inner_is Relaxed kind found memory run s h c = ap (λ m. close_inner Relaxed kind s.locals found (run (record s { context = Inside (mode_of kind) m }))) (sym c)
 
 -- as this mode, which is that of the kind
-module _ (outer : Mode) (kind : Kind) (mode : Mode) (found memory : Memory) (run : Action Completion) (s now : State) (runs : mode ≡ mode_of kind) (may : is_forbidden outer mode ≡ false) (copied : memory ≡ found) where
+module _ (outer : Mode) (kind : TransactionKind) (mode : Mode) (found memory : Memory) (run : Action Completion) (s now : State) (runs : mode ≡ mode_of kind) (may : is_forbidden outer mode ≡ false) (copied : memory ≡ found) where
   within_is : enter (Inside outer found) kind run s ≡ close_inner outer kind s.locals found (run (record s { context = Inside mode memory }))
   within_is =
       inner_is outer kind found memory run s (ap (is_forbidden outer) (sym runs) ∙ may) copied

@@ -1,7 +1,7 @@
 -- What the table of declared names says, as it is made.
 use Rattle.std.proofs.Common.{◌≡◌, ℕ, List, Option, Some, None, Bool, true, false, refl, ap, ◌∙◌, bytes_eq, if◌then◌else◌}
 use Rattle.std.specs.Option.{option_or}
-use Rattle.name_tables.specs.Named.{first, declared}
+use Rattle.name_tables.specs.Named.{first, with_declaration}
 use Rattle.name_tables.proofs.Firsts.{first_declared}
 use Rattle.syntax.specs.Types.{Known}
 use Rattle.meaning.specs.declared.names.Symbol.{Symbol}
@@ -14,7 +14,7 @@ module _ {A : Type 0} where
   put_last b s (Some r) rest = refl
 
   -- one more declaration
-  pub symbol_more : (old new : List (List ℕ × Symbol A)) (name : List ℕ) (s : Symbol A) → new ≡ declared old name s →
+  pub symbol_more : (old new : List (List ℕ × Symbol A)) (name : List ℕ) (s : Symbol A) → new ≡ with_declaration old name s →
       (x : List ℕ) (rest : Known) → known_or (first new x) rest ≡ known_or (first old x) (if bytes_eq name x then known_of s else rest)
   symbol_more old new name s more x rest =
       ap (λ es. known_or (first es x) rest) more

@@ -11,7 +11,7 @@ use Rattle.syntax.specs.Threads.{first_state, thread, worker_run}
 use Rattle.meaning.specs.declared.outcome.SourceOutcome.{SourceOutcome}
 use Rattle.meaning.specs.declared.orders.Standing.{Standing}
 use Rattle.meaning.specs.declared.standing.Thread.{Thread}
-use Rattle.meaning.specs.declared.standing.Stop.{Stop}
+use Rattle.meaning.specs.declared.standing.StoppedThread.{StoppedThread}
 use Rattle.meaning.specs.Outcomes.{memories_in, thread_end_in}
 use Rattle.meaning.specs.InOrder.{IsInOrder, report_in, text_and_end}
 use Rattle.meaning.specs.declared.program.ProgramTables.{ProgramTables}
@@ -102,7 +102,7 @@ module _ {A : Type 0} (source : ProgramTables A) (ticks : ℕ) where
       inr (sym (ap (λ o. o.end) known.seen) ∙ wants, left ∙ (λ i. last_left m (drop (length (known.seen i).lefts) (then_.seen i).lefts)), more)
 
   -- what is known of a thread that goes no further
-  pub known_by : (t : ℕ) (r : Standing A) (stop : Stop A) → ((further : List Memory) → rest source r.thread further ≡ worker_run (program_in source) t (first_state (memories_in r.founds.items ++ further) ticks)) →
+  pub known_by : (t : ℕ) (r : Standing A) (stop : StoppedThread A) → ((further : List Memory) → rest source r.thread further ≡ worker_run (program_in source) t (first_state (memories_in r.founds.items ++ further) ticks)) →
       IsStop source r.thread stop → r.further ≡ stop.shown → thread_end_in r.end ≡ end_by stop.why → IsKnown source ticks t r
   unfolding does_in
   known_by t r stop stands stops further end = record {

@@ -8,7 +8,7 @@ ghost use Rattle.syntax.specs.Depth.{block_depth, program_depth};
 ghost use Rattle.meaning.specs.inner.Calls.{begin_call, begun_in};
 ghost use Rattle.syntax.specs.Tree as tree;
 ghost use Rattle.syntax.specs.Tree.{Int};
-ghost use Rattle.meaning.specs.inner.Does.{called};
+ghost use Rattle.meaning.specs.inner.Does.{caller_in};
 ghost use Rattle.meaning.specs.inner.Machine.{end_of, MeansAs, MeansWord, MeansWords, items_in, program_in, state_in};
 
 use crate::arithmetic::convert;
@@ -128,7 +128,7 @@ pub(crate) fn call<'p, A: Allocator + Copy>(
     m: &mut Machine<'p, '_, A>,
 ) -> Result<Word, Halted>
     ensures { (at : Span)
-        → MeansWord result (meaning.expr (program_in source.now) (called source.now frames)
+        → MeansWord result (meaning.expr (program_in source.now) (caller_in source.now frames)
         (tree.Call (name_of f.now) (exprs_of args.now) at) (state_in m.old)) m.new }
 {
     let values = values(source, frames, args, m)?;
@@ -145,7 +145,8 @@ pub(crate) fn values<'p, A: Allocator + Copy>(
     m: &mut Machine<'p, '_, A>,
 ) -> Result<Vec<Value, A>, Halted>
     ensures { MeansWords result
-        (meaning.exprs (program_in source.now) (called source.now frames) (exprs_of args.now) (state_in m.old)) m.new }
+        (meaning.exprs (program_in source.now) (caller_in source.now frames) (exprs_of args.now) (state_in m.old))
+        m.new }
 {
     let mut values = Vec::new(source.alloc);
     'arguments: for e in args {
@@ -167,7 +168,7 @@ pub(crate) fn enter_function<'p, A: Allocator + Copy>(
     values: &[Value],
     m: &mut Machine<'p, '_, A>,
 ) -> Result<Word, Halted>
-    ensures { MeansWord result (called source.now frames f.now values.now (state_in m.old)) m.new }
+    ensures { MeansWord result (caller_in source.now frames f.now values.now (state_in m.old)) m.new }
 {
     if frames == 0 {
         return trap(m, Trap::Frames);

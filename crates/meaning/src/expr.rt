@@ -5,12 +5,12 @@ ghost use Rattle.syntax.specs.Views.{expr_of};
 ghost use Rattle.syntax.specs.Tree as tree;
 ghost use Rattle.syntax.specs.Actions as act;
 ghost use Rattle.syntax.specs.Meaning as meaning;
-ghost use Rattle.meaning.specs.inner.Machine.{MeansSpot, MeansWord, program_in, state_in};
-ghost use Rattle.meaning.specs.inner.Does.{called, does_expr};
+ghost use Rattle.meaning.specs.inner.Machine.{MeansLvalue, MeansWord, program_in, state_in};
+ghost use Rattle.meaning.specs.inner.Does.{caller_in, does_expr};
 
 use crate::calls::call;
-use crate::machine::{Halted, Machine, Spot, fetch, operate, operate_unary};
-use crate::places::{common_value, element_cell, variable};
+use crate::lvalues::{common_value, element_cell, variable};
+use crate::machine::{Halted, Lvalue, Machine, fetch, operate, operate_unary};
 use crate::program::ProgramTables;
 use crate::transactions::value_transaction;
 use crate::word::{Word, constant, convert_word, flag, is_zero};
@@ -66,7 +66,7 @@ fn logical<'p, A: Allocator + Copy>(
     m: &mut Machine<'p, '_, A>,
 ) -> Result<Word, Halted>
     ensures { (at : Span)
-        → MeansWord result (meaning.expr (program_in source.now) (called source.now frames)
+        → MeansWord result (meaning.expr (program_in source.now) (caller_in source.now frames)
         (tree.Logical op (expr_of a.now) (expr_of b.now) at) (state_in m.old)) m.new }
 {
     let v = eval(source, frames, a, m)?;
@@ -100,7 +100,7 @@ fn conditional<'p, A: Allocator + Copy>(
     m: &mut Machine<'p, '_, A>,
 ) -> Result<Word, Halted>
     ensures { (at : Span)
-        → MeansWord result (meaning.expr (program_in source.now) (called source.now frames)
+        → MeansWord result (meaning.expr (program_in source.now) (caller_in source.now frames)
         (tree.Conditional (expr_of c.now) (expr_of a.now) (expr_of b.now) at) (state_in m.old)) m.new }
 {
     let v = eval(source, frames, c, m)?;
@@ -120,10 +120,10 @@ pub(crate) fn element<'p, A: Allocator + Copy>(
     x: &Name<A>,
     i: &'p Expr<A>,
     m: &mut Machine<'p, '_, A>,
-) -> Result<Spot, Halted>
-    ensures { MeansSpot result
+) -> Result<Lvalue, Halted>
+    ensures { MeansLvalue result
         (act.go_on (does_expr source.now frames i.now (state_in m.old))
-        (λ k. meaning.element (program_in source.now) (called source.now frames) x.now.text k)) m.new }
+        (λ k. meaning.element (program_in source.now) (caller_in source.now frames) x.now.text k)) m.new }
 {
     let k = eval(source, frames, i, m)?;
     element_cell(source, x, k, m)

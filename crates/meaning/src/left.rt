@@ -11,11 +11,11 @@ ghost use Rattle.meaning.specs.inner.Going.{call_left};
 ghost use Rattle.meaning.specs.inner.Left as lefts;
 ghost use Rattle.meaning.specs.inner.Left.{MeansStepped, follow_of};
 ghost use Rattle.meaning.specs.inner.Machine.{Means, MeansEnd, MeansTurn, end_of, local_in, program_in, state_in};
-ghost use Rattle.meaning.specs.inner.Does.{called, does_turn};
+ghost use Rattle.meaning.specs.inner.Does.{caller_in, does_turn};
 
 use crate::calls::{Begun, begin as begin_body, result_of, values};
 use crate::expr::eval;
-use crate::loops::{Loop, for_start, for_step, holds, left_by_body, loop_test};
+use crate::loops::{Loop, for_condition, for_start, for_step, left_by_body, loop_test};
 use crate::machine::{Halted, Local, Machine, StmtCompletion, tick};
 use crate::program::ProgramTables;
 use crate::stmt::stmt;
@@ -104,7 +104,7 @@ fn loop_of<'p, A: Allocator + Copy>(s: &'p Stmt<A>) -> Option<Loop<'p, A>>
 /// The first of statements, and then the others.
 fn begin_apart<'p, A: Allocator>(frames: u64, ss: &'p [Stmt<A>]) -> Stepped<'p, A>
     ensures { (source : ProgramTables A) → follow_of source result
-        ≡ going.apart_begun (program_in source) (called source frames) (stmts_of ss.now) }
+        ≡ going.apart_begun (program_in source) (caller_in source frames) (stmts_of ss.now) }
 {
     match ss {
         [s, rest @ ..] => Stepped::Nests(
@@ -125,7 +125,7 @@ fn begin_either<'p, A: Allocator + Copy>(
     m: &mut Machine<'p, '_, A>,
 ) -> Result<Stepped<'p, A>, Halted>
     ensures { MeansStepped source.now result
-        (going.either_begun (program_in source.now) (called source.now frames) (expr_of c.now) (stmt_of a.now)
+        (going.either_begun (program_in source.now) (caller_in source.now frames) (expr_of c.now) (stmt_of a.now)
         (option_map stmt_of b.now) (state_in m.old)) m.new }
 {
     let v = eval(source, frames, c, m)?;
@@ -147,8 +147,8 @@ fn begin_for<'p, A: Allocator + Copy>(
     m: &mut Machine<'p, '_, A>,
 ) -> Result<Stepped<'p, A>, Halted>
     ensures { MeansStepped source.now result
-        (going.for_begun (program_in source.now) (called source.now frames) (start_of start.now)
-        (going.turn_of (program_in source.now) (called source.now frames) (stmt_of s.now)) (state_in m.old)) m.new }
+        (going.for_begun (program_in source.now) (caller_in source.now frames) (start_of start.now)
+        (going.turn_of (program_in source.now) (caller_in source.now frames) (stmt_of s.now)) (state_in m.old)) m.new }
 {
     let outer = m.locals.len();
     for_start(source, frames, start, m)?;
@@ -168,7 +168,8 @@ fn begin_loop<'p, A: Allocator + Copy>(
 ) -> Result<Stepped<'p, A>, Halted>
     ensures { MeansStepped source.now result
         (lefts.loop_opened source.now frames
-        (going.turn_of (program_in source.now) (called source.now frames) (stmt_of s.now)) which.now (state_in m.old))
+        (going.turn_of (program_in source.now) (caller_in source.now frames) (stmt_of s.now)) which.now
+        (state_in m.old))
         m.new }
 {
     match which {
@@ -187,7 +188,8 @@ pub(crate) fn open<'p, A: Allocator + Copy>(
     parts: &Parts<'p, A>,
     m: &mut Machine<'p, '_, A>,
 ) -> Result<Stepped<'p, A>, Halted>
-    ensures { MeansStepped source.now result (lefts.opened source.now frames (stmt_of s.now) parts.now (state_in m.old))
+    ensures { MeansStepped source.now result
+        (lefts.first_step source.now frames (stmt_of s.now) parts.now (state_in m.old))
         m.new }
 {
     tick(m)?;
@@ -282,7 +284,8 @@ fn goes<'p, A: Allocator + Copy>(
     which: &Loop<'p, A>,
     m: &mut Machine<'p, '_, A>,
 ) -> Result<bool, Halted>
-    ensures { Means result (going.test_of (program_in source.now) (called source.now frames) (lefts.loop_in which.now)
+    ensures { Means result (going.test_of (program_in source.now) (caller_in source.now frames)
+        (lefts.loop_in which.now)
         (state_in m.old)) m.new }
 {
     match which {
@@ -291,7 +294,7 @@ fn goes<'p, A: Allocator + Copy>(
             Ok(!is_zero(v))
         }
         Loop::DoWhile(_, _) => Ok(true),
-        Loop::For(head, _) => holds(source, frames, &head.condition, m),
+        Loop::For(head, _) => for_condition(source, frames, &head.condition, m),
     }
 }
 
@@ -315,7 +318,7 @@ fn begin_turns<'p, A: Allocator + Copy>(
     m: &mut Machine<'p, '_, A>,
 ) -> Result<Stepped<'p, A>, Halted>
     ensures { MeansStepped source.now result
-        (going.turns_begun (program_in source.now) (called source.now frames) (stmt_of s.now) turns (state_in m.old))
+        (going.turns_begun (program_in source.now) (caller_in source.now frames) (stmt_of s.now) turns (state_in m.old))
         m.new }
 {
     let Some(which) = loop_of(s) else {
@@ -338,14 +341,15 @@ fn begin_turns<'p, A: Allocator + Copy>(
 }
 
 /// What follows the body of a turn where the loop goes on.
-fn behind<'p, A: Allocator + Copy>(
+fn turn_end<'p, A: Allocator + Copy>(
     source: &ProgramTables<'p, A>,
     frames: u64,
     which: &Loop<'p, A>,
     m: &mut Machine<'p, '_, A>,
 ) -> Result<Option<StmtCompletion>, Halted>
     ensures { MeansTurn result
-        (going.behind_of (program_in source.now) (called source.now frames) (lefts.loop_in which.now) (state_in m.old))
+        (going.turn_end_of (program_in source.now) (caller_in source.now frames) (lefts.loop_in which.now)
+        (state_in m.old))
         m.new }
 {
     match which {
@@ -364,7 +368,7 @@ fn after_body<'p, A: Allocator + Copy>(
     m: &mut Machine<'p, '_, A>,
 ) -> Result<Option<StmtCompletion>, Halted>
     ensures { MeansTurn result
-        (meaning.after_body (going.behind_of (program_in source.now) (called source.now frames) (stmt_of s.now))
+        (meaning.after_body (going.turn_end_of (program_in source.now) (caller_in source.now frames) (stmt_of s.now))
         (end_of end) (state_in m.old)) m.new }
 {
     if let Some(end) = left_by_body(end) {
@@ -374,7 +378,7 @@ fn after_body<'p, A: Allocator + Copy>(
         m.why = None; // never so: turns are those of a loop
         return Err(Halted {});
     };
-    behind(source, frames, &which, m)
+    turn_end(source, frames, &which, m)
 }
 
 /// What comes behind a loop's body, by its end.
@@ -444,7 +448,7 @@ fn begin<'p, A: Allocator + Copy>(
     task: &Task<'p, A>,
     m: &mut Machine<'p, '_, A>,
 ) -> Result<Stepped<'p, A>, Halted>
-    ensures { MeansStepped source.now result (lefts.begun source.now task.now (state_in m.old)) m.new }
+    ensures { MeansStepped source.now result (lefts.first_step_of source.now task.now (state_in m.old)) m.new }
 {
     match task {
         Task::Apart(frames, ss) => Ok(begin_apart(*frames, ss)),

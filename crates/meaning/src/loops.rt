@@ -6,7 +6,7 @@ ghost use Rattle.syntax.specs.Actions as act;
 ghost use Rattle.syntax.specs.Actions.{State};
 ghost use Rattle.syntax.specs.Meaning as meaning;
 ghost use Rattle.meaning.specs.inner.Machine.{Means, MeansEnd, MeansTurn, end_of, program_in, state_in};
-ghost use Rattle.meaning.specs.inner.Does.{called, does_turn, do_turn, for_all, for_turn, left_or};
+ghost use Rattle.meaning.specs.inner.Does.{caller_in, does_turn, do_turn, for_all, for_turn, left_or};
 ghost use Rattle.meaning.specs.inner.Does.{loop_condition as tested_due, while_turn};
 
 use crate::expr::eval;
@@ -88,7 +88,8 @@ fn turn_while<'p, A: Allocator + Copy>(
     m: &mut Machine<'p, '_, A>,
 ) -> Result<Option<StmtCompletion>, Halted>
     ensures { MeansTurn result
-        (while_turn (program_in source.now) (called source.now frames) (expr_of c.now) (stmt_of a.now) (state_in m.old))
+        (while_turn (program_in source.now) (caller_in source.now frames) (expr_of c.now) (stmt_of a.now)
+        (state_in m.old))
         m.new }
 {
     if let Some(end) = loop_test(source, frames, c, m)? {
@@ -107,7 +108,7 @@ pub(crate) fn loop_test<'p, A: Allocator + Copy>(
     m: &mut Machine<'p, '_, A>,
 ) -> Result<Option<StmtCompletion>, Halted>
     ensures { MeansTurn result
-        (tested_due (program_in source.now) (called source.now frames) (expr_of c.now) (state_in m.old)) m.new }
+        (tested_due (program_in source.now) (caller_in source.now frames) (expr_of c.now) (state_in m.old)) m.new }
 {
     let v = eval(source, frames, c, m)?;
     if is_zero(v) {
@@ -126,7 +127,7 @@ fn turn_do<'p, A: Allocator + Copy>(
     m: &mut Machine<'p, '_, A>,
 ) -> Result<Option<StmtCompletion>, Halted>
     ensures { MeansTurn result
-        (do_turn (program_in source.now) (called source.now frames) (stmt_of a.now) (expr_of c.now) (state_in m.old))
+        (do_turn (program_in source.now) (caller_in source.now frames) (stmt_of a.now) (expr_of c.now) (state_in m.old))
         m.new }
 {
     let end = scoped_stmt(source, frames, a, m)?;
@@ -146,10 +147,10 @@ fn turn_for<'p, A: Allocator + Copy>(
     m: &mut Machine<'p, '_, A>,
 ) -> Result<Option<StmtCompletion>, Halted>
     ensures { MeansTurn result
-        (for_turn (program_in source.now) (called source.now frames) (option_map expr_of head.now.condition)
+        (for_turn (program_in source.now) (caller_in source.now frames) (option_map expr_of head.now.condition)
         (option_map simple_of head.now.step) (stmt_of a.now) (state_in m.old)) m.new }
 {
-    let more = holds(source, frames, &head.condition, m)?;
+    let more = for_condition(source, frames, &head.condition, m)?;
     if !more {
         return Ok(Some(StmtCompletion::Next));
     }
@@ -162,13 +163,14 @@ fn turn_for<'p, A: Allocator + Copy>(
 
 /// Whether a condition holds: a missing one does.
 #[cycle(run)]
-pub(crate) fn holds<'p, A: Allocator + Copy>(
+pub(crate) fn for_condition<'p, A: Allocator + Copy>(
     source: &ProgramTables<'p, A>,
     frames: u64,
     c: &'p Option<Expr<A>>,
     m: &mut Machine<'p, '_, A>,
 ) -> Result<bool, Halted>
-    ensures { Means result (meaning.holds (program_in source.now) (called source.now frames) (option_map expr_of c.now)
+    ensures { Means result (meaning.for_condition (program_in source.now) (caller_in source.now frames)
+        (option_map expr_of c.now)
         (state_in m.old)) m.new }
 {
     match c {
@@ -189,7 +191,7 @@ pub(crate) fn for_step<'p, A: Allocator + Copy>(
     m: &mut Machine<'p, '_, A>,
 ) -> Result<Option<StmtCompletion>, Halted>
     ensures { MeansTurn result
-        (meaning.stepped (program_in source.now) (called source.now frames) (option_map simple_of step.now)
+        (meaning.optional_step (program_in source.now) (caller_in source.now frames) (option_map simple_of step.now)
         (state_in m.old)) m.new }
 {
     match step {
@@ -212,7 +214,7 @@ pub(crate) fn for_scoped<'p, A: Allocator + Copy>(
     m: &mut Machine<'p, '_, A>,
 ) -> Result<StmtCompletion, Halted>
     ensures { MeansEnd result
-        (meaning.in_scope (for_all (program_in source.now) (called source.now frames) (start_of head.now.start)
+        (meaning.in_scope (for_all (program_in source.now) (caller_in source.now frames) (start_of head.now.start)
         (option_map expr_of head.now.condition) (option_map simple_of head.now.step) (stmt_of a.now)) (state_in m.old))
         m.new }
 {
@@ -232,7 +234,7 @@ fn for_run<'p, A: Allocator + Copy>(
     m: &mut Machine<'p, '_, A>,
 ) -> Result<StmtCompletion, Halted>
     ensures { MeansEnd result
-        (for_all (program_in source.now) (called source.now frames) (start_of head.now.start)
+        (for_all (program_in source.now) (caller_in source.now frames) (start_of head.now.start)
         (option_map expr_of head.now.condition) (option_map simple_of head.now.step) (stmt_of a.now) (state_in m.old))
         m.new }
 {
@@ -249,7 +251,7 @@ pub(crate) fn for_start<'p, A: Allocator + Copy>(
     m: &mut Machine<'p, '_, A>,
 ) -> Result<StmtCompletion, Halted>
     ensures { MeansEnd result
-        (meaning.start_with (program_in source.now) (called source.now frames) (start_of start.now) (state_in m.old))
+        (meaning.start_with (program_in source.now) (caller_in source.now frames) (start_of start.now) (state_in m.old))
         m.new }
 {
     match start {

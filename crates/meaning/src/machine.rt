@@ -7,7 +7,7 @@ ghost use Rattle.syntax.specs.Meaning as meaning;
 ghost use Rattle.syntax.specs.Numbers.{binary, unary, value_in_type};
 ghost use Rattle.syntax.specs.declared.numbers.Value.{Value};
 ghost use Rattle.meaning.specs.inner.Word.{value_of};
-ghost use Rattle.meaning.specs.inner.Machine.{Means, MeansSpot, MeansWord, state_in, local_in, spot_of};
+ghost use Rattle.meaning.specs.inner.Machine.{Means, MeansLvalue, MeansWord, state_in, local_in, lvalue_of};
 
 use crate::arithmetic::{apply, apply_unary, convert};
 use crate::word::{Word, pack, pack_value, unpack};
@@ -60,7 +60,7 @@ pub(crate) enum StmtCompletion {
 
 /// Where a value stands.
 #[derive(Clone, Copy)]
-pub(crate) enum Spot {
+pub(crate) enum Lvalue {
     InLocal(usize, Scalar),
     InCell(usize, Scalar),
 }
@@ -92,8 +92,8 @@ pub(crate) fn trap<A: Allocator>(m: &mut Machine<A>, why: Trap) -> Result<Word, 
 /// A trap where a place is due.
 #[cold]
 #[inline(never)]
-pub(crate) fn spot_trap<A: Allocator>(m: &mut Machine<A>, why: Trap) -> Result<Spot, Halted>
-    ensures { MeansSpot result (trap_due {A = meaning.Spot} why (state_in m.old)) m.new }
+pub(crate) fn lvalue_trap<A: Allocator>(m: &mut Machine<A>, why: Trap) -> Result<Lvalue, Halted>
+    ensures { MeansLvalue result (trap_due {A = meaning.Lvalue} why (state_in m.old)) m.new }
 {
     tick(m)?;
     m.why = Some(Halt::Trapped(why));
@@ -145,15 +145,15 @@ pub(crate) fn newest(locals: &[Local], name: &str) -> Option<(usize, Scalar)>
 }
 
 /// Reads what stands there.
-pub(crate) fn fetch<A: Allocator>(m: &mut Machine<A>, at: Spot) -> Result<Word, Halted>
-    ensures { MeansWord result (meaning.fetch (spot_of at) (state_in m.old)) m.new }
+pub(crate) fn fetch<A: Allocator>(m: &mut Machine<A>, at: Lvalue) -> Result<Word, Halted>
+    ensures { MeansWord result (meaning.fetch (lvalue_of at) (state_in m.old)) m.new }
 {
     match at {
-        Spot::InLocal(i, ty) => match m.locals.get(i) {
+        Lvalue::InLocal(i, ty) => match m.locals.get(i) {
             Some(l) => Ok(pack(ty, l.word)),
             None => Ok(pack(ty, 0)),
         },
-        Spot::InCell(c, ty) => match &m.context {
+        Lvalue::InCell(c, ty) => match &m.context {
             Context::Inside(_, memory) => match memory.get(c) {
                 Some(word) => Ok(pack(ty, *word)),
                 None => Ok(pack(ty, 0)),
@@ -185,15 +185,15 @@ fn assign_local(locals: &mut [Local], i: usize, word: u64)
 }
 
 /// Writes a value there, converted to its type.
-pub(crate) fn assign<A: Allocator>(m: &mut Machine<A>, at: Spot, w: Word) -> Result<(), Halted>
-    ensures { Means result (meaning.assign (spot_of at) (value_of w) (state_in m.old)) m.new }
+pub(crate) fn assign<A: Allocator>(m: &mut Machine<A>, at: Lvalue, w: Word) -> Result<(), Halted>
+    ensures { Means result (meaning.assign (lvalue_of at) (value_of w) (state_in m.old)) m.new }
 {
     match at {
-        Spot::InLocal(i, ty) => {
+        Lvalue::InLocal(i, ty) => {
             assign_local(m.locals.as_mut_slice(), i, word_as(ty, w));
             Ok(())
         }
-        Spot::InCell(c, ty) => match &mut m.context {
+        Lvalue::InCell(c, ty) => match &mut m.context {
             Context::Inside(_, memory) => {
                 if c < memory.len() {
                     memory[c] = word_as(ty, w);

@@ -7,7 +7,7 @@ ghost use Rattle.syntax.specs.Formats.{pieces};
 ghost use Rattle.syntax.specs.Meaning as meaning;
 ghost use Rattle.syntax.specs.Numbers as numbers;
 ghost use Rattle.meaning.specs.inner.Machine.{Means, state_in};
-ghost use Rattle.meaning.specs.inner.Printing.{push_byte, figure};
+ghost use Rattle.meaning.specs.inner.Printing.{push_byte, specifier};
 
 use crate::machine::{Context, Halted, Machine, tick};
 use itoa::Buffer;
@@ -48,7 +48,7 @@ fn put_byte<A: Allocator>(m: &mut Machine<A>, begun: bool, c: u8) -> Result<(), 
     Ok(())
 }
 
-/// The number that a figure prints, as a piece of its own.
+/// The number that a specifier prints, as a piece of its own.
 fn put_number<A: Allocator>(m: &mut Machine<A>, ty: Scalar, v: Value) -> Result<(), Halted>
     ensures { Means result (act.print_piece (signed_decimal (numbers.number ty v.word)) (state_in m.old)) m.new }
 {
@@ -62,14 +62,14 @@ fn put_number<A: Allocator>(m: &mut Machine<A>, ty: Scalar, v: Value) -> Result<
     Ok(())
 }
 
-/// The next value of a figure.
-fn put_figure<A: Allocator>(
+/// The next value of a specifier.
+fn put_specifier<A: Allocator>(
     m: &mut Machine<A>,
     ty: Scalar,
     values: &[Value],
     k: usize,
 ) -> Result<(), Halted>
-    ensures { Means result (figure ty (drop k values.now) (state_in m.old)) m.new }
+    ensures { Means result (specifier ty (drop k values.now) (state_in m.old)) m.new }
 {
     match values.get(k) {
         Some(v) => put_number(m, ty, *v),
@@ -80,7 +80,7 @@ fn put_figure<A: Allocator>(
     }
 }
 
-/// The pieces of a format, with these values for its figures.
+/// The pieces of a format, with these values for its specifiers.
 pub(crate) fn print_pieces<A: Allocator>(
     m: &mut Machine<A>,
     format: &[u8],
@@ -99,8 +99,8 @@ pub(crate) fn print_pieces<A: Allocator>(
                 i = next;
                 continue;
             }
-            FormatUnit::Figure(ty, next) => {
-                put_figure(m, ty, values, k)?;
+            FormatUnit::Specifier(ty, next) => {
+                put_specifier(m, ty, values, k)?;
                 begun = false;
                 k += 1;
                 i = next;

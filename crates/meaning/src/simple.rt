@@ -6,13 +6,13 @@ ghost use Rattle.syntax.specs.Tree as tree;
 ghost use Rattle.syntax.specs.Actions as act;
 ghost use Rattle.syntax.specs.Meaning as meaning;
 ghost use Rattle.syntax.specs.Numbers.{binary};
-ghost use Rattle.meaning.specs.inner.Machine.{Means, MeansEnd, MeansSpot, program_in, spot_of, state_in};
+ghost use Rattle.meaning.specs.inner.Machine.{Means, MeansEnd, MeansLvalue, program_in, lvalue_of, state_in};
 ghost use Rattle.meaning.specs.inner.Word.{value_of};
-ghost use Rattle.meaning.specs.inner.Does.{called, declared_one};
+ghost use Rattle.meaning.specs.inner.Does.{caller_in, declared_one};
 
 use crate::expr::{element, eval};
-use crate::machine::{Halted, Local, Machine, Spot, StmtCompletion, assign, fetch, operate};
-use crate::places::name_place;
+use crate::lvalues::name_lvalue;
+use crate::machine::{Halted, Local, Lvalue, Machine, StmtCompletion, assign, fetch, operate};
 use crate::program::ProgramTables;
 use crate::word::{Word, flag};
 use lex::token::Scalar;
@@ -23,14 +23,14 @@ use syntax::tree::{BinaryOp, Declarator, Expr, Simple};
 /// Writes what an operator gives of an old value and another one in the old one's place.
 fn rewrite<A: Allocator>(
     m: &mut Machine<A>,
-    at: Spot,
+    at: Lvalue,
     op: BinaryOp,
     old: Word,
     by: Word,
 ) -> Result<StmtCompletion, Halted>
     ensures { MeansEnd result
         (act.go_on (act.go_on (act.or_trap (binary op (value_of old) (value_of by)) (state_in m.old))
-        (meaning.assign (spot_of at))) (λ _. act.pure meaning.Next)) m.new }
+        (meaning.assign (lvalue_of at))) (λ _. act.pure meaning.Next)) m.new }
 {
     let new = operate(m, op, old, by)?;
     assign(m, at, new)?;
@@ -44,12 +44,12 @@ fn target<'p, A: Allocator + Copy>(
     frames: u64,
     e: &'p Expr<A>,
     m: &mut Machine<'p, '_, A>,
-) -> Result<Spot, Halted>
-    ensures { MeansSpot result
-        (meaning.spot (program_in source.now) (called source.now frames) (expr_of e.now) (state_in m.old)) m.new }
+) -> Result<Lvalue, Halted>
+    ensures { MeansLvalue result
+        (meaning.lvalue (program_in source.now) (caller_in source.now frames) (expr_of e.now) (state_in m.old)) m.new }
 {
     match e {
-        Expr::Variable(x) => name_place(source, x, m),
+        Expr::Variable(x) => name_lvalue(source, x, m),
         Expr::Element(x, i, _) => element(source, frames, x, i.get(), m),
         _ => {
             m.why = Some(Halt::Astray);
@@ -68,7 +68,7 @@ fn simple_assignment<'p, A: Allocator + Copy>(
     m: &mut Machine<'p, '_, A>,
 ) -> Result<StmtCompletion, Halted>
     ensures { MeansEnd result
-        (meaning.simple (program_in source.now) (called source.now frames)
+        (meaning.simple (program_in source.now) (caller_in source.now frames)
         (tree.Assign (expr_of to.now) None (expr_of e.now)) (state_in m.old)) m.new }
 {
     let at = target(source, frames, to, m)?;
@@ -88,7 +88,7 @@ fn compound_assignment<'p, A: Allocator + Copy>(
     m: &mut Machine<'p, '_, A>,
 ) -> Result<StmtCompletion, Halted>
     ensures { MeansEnd result
-        (meaning.simple (program_in source.now) (called source.now frames)
+        (meaning.simple (program_in source.now) (caller_in source.now frames)
         (tree.Assign (expr_of to.now) (Some op) (expr_of e.now)) (state_in m.old)) m.new }
 {
     let at = target(source, frames, to, m)?;
@@ -106,7 +106,8 @@ pub(crate) fn simple<'p, A: Allocator + Copy>(
     m: &mut Machine<'p, '_, A>,
 ) -> Result<StmtCompletion, Halted>
     ensures { MeansEnd result
-        (meaning.simple (program_in source.now) (called source.now frames) (simple_of s.now) (state_in m.old)) m.new }
+        (meaning.simple (program_in source.now) (caller_in source.now frames) (simple_of s.now) (state_in m.old))
+        m.new }
 {
     match s {
         Simple::Evaluate(e) => {
@@ -135,7 +136,7 @@ pub(crate) fn declare<'p, A: Allocator + Copy>(
     m: &mut Machine<'p, '_, A>,
 ) -> Result<StmtCompletion, Halted>
     ensures { MeansEnd result
-        (meaning.declare (program_in source.now) (called source.now frames) ty (map declarator_of ds.now)
+        (meaning.declare (program_in source.now) (caller_in source.now frames) ty (map declarator_of ds.now)
         (state_in m.old)) m.new }
 {
     'declarators: for d in ds {
@@ -153,7 +154,7 @@ fn declare_one<'p, A: Allocator + Copy>(
     d: &'p Declarator<A>,
     m: &mut Machine<'p, '_, A>,
 ) -> Result<(), Halted>
-    ensures { Means result (declared_one (program_in source.now) (called source.now frames) ty (declarator_of d.now)
+    ensures { Means result (declared_one (program_in source.now) (caller_in source.now frames) ty (declarator_of d.now)
         (state_in m.old)) m.new }
 {
     let place = m.locals.len();
@@ -170,7 +171,7 @@ fn declare_one<'p, A: Allocator + Copy>(
         None => Ok(()),
         Some(e) => {
             let v = eval(source, frames, e, m)?;
-            assign(m, Spot::InLocal(place, ty), v)
+            assign(m, Lvalue::InLocal(place, ty), v)
         }
     }
 }

@@ -11,7 +11,7 @@ ghost use Rattle.meaning.specs.declared.left.Left.TheVariants as lefts;
 ghost use Rattle.meaning.specs.declared.left.Task.TheVariants as tasks;
 ghost use Rattle.meaning.specs.declared.left.Direction.TheVariants as ways;
 ghost use Rattle.meaning.specs.inner.Going.{Follow, IsStep, call_begun, follows};
-ghost use Rattle.meaning.specs.inner.Left.{follow_of, left_gone_on, opened, resumed, step_of};
+ghost use Rattle.meaning.specs.inner.Left.{follow_of, left_gone_on, first_step, continue_with, step_of};
 ghost use Rattle.meaning.specs.inner.Machine.{Happened, end_of, halt_of, program_in, state_in};
 ghost use Rattle.meaning.specs.inner.Standing.{IsGone, IsStop, bare, rest};
 
@@ -55,7 +55,7 @@ pub(crate) struct Thread<'p, A: Allocator> {
 /// A thread that goes no further than its point: why, if it has not come to its end, and what it has shown behind the
 /// point.
 #[derive(Drop)]
-pub(crate) struct Stop<A: Allocator> {
+pub(crate) struct StoppedThread<A: Allocator> {
     pub why: Option<Halt>,
     pub shown: Shown<A>,
 }
@@ -173,7 +173,7 @@ fn go_open<'p, A: Allocator + Copy>(
     at: &Point<'p, A>,
 ) -> Result<Gone<'p, A>, AllocError>
     ensures { IfOk result
-        (λ g. IsGone source.now g (opened source.now frames (stmt_of s.now) parts.now (bare at.now))) }
+        (λ g. IsGone source.now g (first_step source.now frames (stmt_of s.now) parts.now (bare at.now))) }
 {
     let mut m = machine(source.alloc, at)?;
     match open(source, frames, s, parts, &mut m) {
@@ -269,7 +269,7 @@ fn try_step<'p, A: Allocator + Copy>(
     end: StmtCompletion,
     at: &Point<'p, A>,
 ) -> Result<Gone<'p, A>, AllocError>
-    ensures { IfOk result (λ g. (run : act.Action Follow) × IsStep (resumed source.now left.now) (end_of end) run
+    ensures { IfOk result (λ g. (run : act.Action Follow) × IsStep (continue_with source.now left.now) (end_of end) run
         × IsGone source.now g (run (bare at.now))) }
 {
     let gone = go(source, left, end, at)?;
@@ -293,7 +293,7 @@ fn try_step<'p, A: Allocator + Copy>(
 }
 
 /// The tick of a thread's end.
-fn at_end<A: Allocator + Copy>(alloc: A, ticks: u64) -> Stop<A>
+fn at_end<A: Allocator + Copy>(alloc: A, ticks: u64) -> StoppedThread<A>
     ensures { (source : ProgramTables A) (thread : Thread A) → thread.at.ticks ≡ ticks → thread.left.items ≡ []
         → IsStop source thread result }
 {
@@ -302,14 +302,14 @@ fn at_end<A: Allocator + Copy>(alloc: A, ticks: u64) -> Stop<A>
         lefts: Vec::new(alloc),
         text: Vec::new(alloc),
     };
-    Stop { why, shown }
+    StoppedThread { why, shown }
 }
 
 /// One step of a thread, or why it goes no further.
 fn advance<'p, A: Allocator + Copy>(
     source: &ProgramTables<'p, A>,
     thread: &mut Thread<'p, A>,
-) -> Result<Option<Stop<A>>, AllocError>
+) -> Result<Option<StoppedThread<A>>, AllocError>
     ensures same { OnOk result ((founds : List Memory)
         → rest source.now thread.new founds ≡ rest source.now thread.old founds) }
     ensures stops { IfOk result (λ o. IfSome o (λ s. IsStop source.now thread.new s)) }
@@ -324,7 +324,7 @@ fn advance<'p, A: Allocator + Copy>(
         }
         Gone::Stopped(why, shown) => {
             thread.left.push(left)?;
-            Ok(Some(Stop {
+            Ok(Some(StoppedThread {
                 why: Some(why),
                 shown,
             }))
@@ -336,7 +336,7 @@ fn advance<'p, A: Allocator + Copy>(
 pub(crate) fn run<'p, A: Allocator + Copy>(
     source: &ProgramTables<'p, A>,
     thread: &mut Thread<'p, A>,
-) -> Result<Stop<A>, AllocError>
+) -> Result<StoppedThread<A>, AllocError>
     ensures same { OnOk result ((founds : List Memory)
         → rest source.now thread.new founds ≡ rest source.now thread.old founds) }
     ensures stops { IfOk result (λ s. IsStop source.now thread.new s) }

@@ -7,7 +7,7 @@ ghost use Rattle.syntax.specs.Tree as tree;
 ghost use Rattle.syntax.specs.Actions as act;
 ghost use Rattle.syntax.specs.Meaning as meaning;
 ghost use Rattle.meaning.specs.inner.Machine.{MeansEnd, program_in, state_in};
-ghost use Rattle.meaning.specs.inner.Does.{called, does_stmt, does_stmts, if_of};
+ghost use Rattle.meaning.specs.inner.Does.{caller_in, does_stmt, does_stmts, if_of};
 
 use crate::calls::values;
 use crate::expr::eval;
@@ -124,7 +124,7 @@ fn print_output<'p, A: Allocator + Copy>(
     m: &mut Machine<'p, '_, A>,
 ) -> Result<StmtCompletion, Halted>
     ensures { (at format_at : Span) (begun : act.State) → act.tick begun ≡ act.Gives tt (state_in m.old)
-        → MeansEnd result (meaning.stmt (program_in source.now) (called source.now frames)
+        → MeansEnd result (meaning.stmt (program_in source.now) (caller_in source.now frames)
         (tree.Print at format.now format_at (exprs_of args.now)) begun) m.new }
 {
     may_print(m)?;
@@ -144,7 +144,7 @@ fn either<'p, A: Allocator + Copy>(
     m: &mut Machine<'p, '_, A>,
 ) -> Result<StmtCompletion, Halted>
     ensures { (begun : act.State) → act.tick begun ≡ act.Gives tt (state_in m.old)
-        → MeansEnd result (meaning.stmt (program_in source.now) (called source.now frames)
+        → MeansEnd result (meaning.stmt (program_in source.now) (caller_in source.now frames)
         (if_of (expr_of c.now) (stmt_of a.now) (option_map stmt_of b.now)) begun) m.new }
 {
     let v = eval(source, frames, c, m)?;
@@ -166,7 +166,7 @@ fn return_end<'p, A: Allocator + Copy>(
     m: &mut Machine<'p, '_, A>,
 ) -> Result<StmtCompletion, Halted>
     ensures { (at : Span) (begun : act.State) → act.tick begun ≡ act.Gives tt (state_in m.old)
-        → MeansEnd result (meaning.stmt (program_in source.now) (called source.now frames)
+        → MeansEnd result (meaning.stmt (program_in source.now) (caller_in source.now frames)
         (tree.Return (option_map expr_of e.now) at) begun) m.new }
 {
     match e {

@@ -18,7 +18,7 @@ use crate::word::Word;
 use std::alloc::{AllocError, Allocator};
 use std::mem;
 use syntax::numbers::Halt;
-use syntax::tree::{Expr, Kind, Mode, Stmt};
+use syntax::tree::{Expr, Mode, Stmt, TransactionKind};
 
 /// What a transaction does: its statements, or its operand where it is an expression.
 #[derive(Drop)]
@@ -78,24 +78,24 @@ fn memory_of<A: Allocator + Copy>(alloc: A, context: Context<A>) -> Vec<u64, A>
 }
 
 /// How a transaction of this kind runs.
-fn mode_of(kind: Kind) -> Mode
+fn mode_of(kind: TransactionKind) -> Mode
     ensures { result ≡ meaning.mode_of kind }
 {
     match kind {
-        Kind::Plain(mode) => mode,
-        Kind::Outer => Mode::Atomic,
+        TransactionKind::Plain(mode) => mode,
+        TransactionKind::Outer => Mode::Atomic,
     }
 }
 
 /// Whether a transaction of this kind is undone where its body ends so: an outer cancel undoes an outer one alone.
-fn is_undone(end: StmtCompletion, kind: Kind) -> bool
+fn is_undone(end: StmtCompletion, kind: TransactionKind) -> bool
     ensures { result ≡ meaning.undoes (end_of end) kind }
 {
     match end {
         StmtCompletion::Cancels => true,
         StmtCompletion::CancelsOuter => match kind {
-            Kind::Outer => true,
-            Kind::Plain(_) => false,
+            TransactionKind::Outer => true,
+            TransactionKind::Plain(_) => false,
         },
         _ => false,
     }
@@ -105,7 +105,7 @@ fn is_undone(end: StmtCompletion, kind: Kind) -> bool
 fn leave_inner<'p, A: Allocator + Copy>(
     alloc: A,
     outer: Mode,
-    kind: Kind,
+    kind: TransactionKind,
     before: Vec<Local<'p>, A>,
     found: Vec<u64, A>,
     end: StmtCompletion,
@@ -128,7 +128,7 @@ fn leave_inner<'p, A: Allocator + Copy>(
 /// What an outermost transaction does at its end.
 fn leave<'p, 'f, A: Allocator + Copy>(
     alloc: A,
-    kind: Kind,
+    kind: TransactionKind,
     founds: &'f [Vec<u64, A>],
     lefts: Vec<Vec<u64, A>, A>,
     mine: Vec<Local<'p>, A>,
@@ -188,7 +188,7 @@ fn close_stopped<'p, 'f, A: Allocator + Copy>(
     m: &mut Machine<'p, 'f, A>,
 )
     ensures known { Happened m.new.why → Happened m.old.why }
-    ensures value { Happened m.new.why → (kind : Kind) (mine : List Names.Local) →
+    ensures value { Happened m.new.why → (kind : TransactionKind) (mine : List Names.Local) →
         meaning.close kind (memories_in founds.now) (memories_in lefts.items) mine found.now
         (act.Stops (halt_of m.old.why) (state_in m.old)) ≡ act.Stops (halt_of m.new.why) (state_in m.new) }
 {
@@ -251,7 +251,13 @@ pub(crate) fn value_transaction<'p, A: Allocator + Copy>(
         m.new }
 {
     begin_value(m)?;
-    let end = transaction(source, frames, Kind::Plain(mode), &Body::Value(e), m)?;
+    let end = transaction(
+        source,
+        frames,
+        TransactionKind::Plain(mode),
+        &Body::Value(e),
+        m,
+    )?;
     value_at(m, end)
 }
 
@@ -261,7 +267,7 @@ pub(crate) fn value_transaction<'p, A: Allocator + Copy>(
 pub(crate) fn transaction<'p, A: Allocator + Copy>(
     source: &ProgramTables<'p, A>,
     frames: u64,
-    kind: Kind,
+    kind: TransactionKind,
     body: &Body<'p, A>,
     m: &mut Machine<'p, '_, A>,
 ) -> Result<StmtCompletion, Halted>
@@ -282,7 +288,7 @@ pub(crate) fn transaction<'p, A: Allocator + Copy>(
 fn outermost<'p, 'f, A: Allocator + Copy>(
     source: &ProgramTables<'p, A>,
     frames: u64,
-    kind: Kind,
+    kind: TransactionKind,
     founds: &'f [Vec<u64, A>],
     lefts: Vec<Vec<u64, A>, A>,
     body: &Body<'p, A>,
@@ -332,7 +338,7 @@ fn nested_transaction<'p, A: Allocator + Copy>(
     frames: u64,
     outer: Mode,
     found: Vec<u64, A>,
-    kind: Kind,
+    kind: TransactionKind,
     body: &Body<'p, A>,
     m: &mut Machine<'p, '_, A>,
 ) -> Result<StmtCompletion, Halted>

@@ -6,7 +6,7 @@ use Rattle.std.specs.List.{position_or_len}
 use Rattle.std.proofs.lemmas.Slice.Eq.{bytes_eq-Decides}
 use Rattle.std.specs.Option.{option_or}
 use Rattle.std.specs.Map.{lookup, keys_of}
-use Rattle.name_tables.specs.Named.{first, place, declared}
+use Rattle.name_tables.specs.Named.{first, first_index, with_declaration}
 use Rattle.name_tables.specs.Known.{entry_of}
 
 module _ {V : Type 0} where
@@ -20,7 +20,7 @@ module _ {V : Type 0} where
       by false h = h
 
   -- and the place too
-  pub places : (es : List (Bor (List ℕ) × V)) (x : List ℕ) → position (λ k. bytes_eq x k.now) (keys_of es) ≡ place (map entry_of es) x
+  pub places : (es : List (Bor (List ℕ) × V)) (x : List ℕ) → position (λ k. bytes_eq x k.now) (keys_of es) ≡ first_index (map entry_of es) x
   places es x = ap (λ n. cond (nat_lt n (length (keys_of es))) (Some n) None) (lens es) ∙ ap (λ n. cond (nat_lt (position_or_len (bytes_eq x) (map (λ e. e.0) (map entry_of es))) n) (Some (position_or_len (bytes_eq x) (map (λ e. e.0) (map entry_of es)))) None) (sizes es)
     where
       lens : (es : List (Bor (List ℕ) × V)) → position_or_len (λ k. bytes_eq x k.now) (keys_of es) ≡ position_or_len (bytes_eq x) (map (λ e. e.0) (map entry_of es))
@@ -32,10 +32,10 @@ module _ {V : Type 0} where
       sizes (e ∷ es) = ap suc (sizes es)
 
   -- a name that is there, and one that is new
-  pub kept : (es : List (List ℕ × V)) (x : List ℕ) (v : V) → is_some (first es x) ≡ true → es ≡ declared es x v
+  pub kept : (es : List (List ℕ × V)) (x : List ℕ) (v : V) → is_some (first es x) ≡ true → es ≡ with_declaration es x v
   kept es x v h = sym (ap (λ b. if b then es else es ++ (x, v) ∷ []) h)
 
-  pub added : (es : List (List ℕ × V)) (x : List ℕ) (v : V) → is_some (first es x) ≡ false → es ++ (x, v) ∷ [] ≡ declared es x v
+  pub added : (es : List (List ℕ × V)) (x : List ℕ) (v : V) → is_some (first es x) ≡ false → es ++ (x, v) ∷ [] ≡ with_declaration es x v
   added es x v h = sym (ap (λ b. if b then es else es ++ (x, v) ∷ []) h)
 
   pub absent : (o : Option V) → is_some o ≡ false → o ≡ None
@@ -60,7 +60,7 @@ module _ {V : Type 0} where
   nothing (Some v) = refl
 
   -- after a declaration a look-up finds what it found before, and else this one
-  pub first_declared : (es : List (List ℕ × V)) (n : List ℕ) (v : V) (x : List ℕ) → first (declared es n v) x ≡ option_or (first es x) (if bytes_eq n x then Some v else None)
+  pub first_declared : (es : List (List ℕ × V)) (n : List ℕ) (v : V) (x : List ℕ) → first (with_declaration es n v) x ≡ option_or (first es x) (if bytes_eq n x then Some v else None)
   first_declared es n v x = by (is_some (first es n)) refl
     where
       there : is_some (first es n) ≡ true → (b : Bool) → bytes_eq n x ≡ b → first es x ≡ option_or (first es x) (if b then Some v else None)

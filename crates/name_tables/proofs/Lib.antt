@@ -3,6 +3,6 @@ pub mod Firsts
 -- the newest declaration of a name, after one more
 pub mod Newest
 -- what a scope's numbers say
-mod Numbered
+pub mod Numbered
 -- names with what they stand for
 pub mod Examples

@@ -11,12 +11,12 @@ module _ {V : Type 0} where
   first (e ∷ es) x = if bytes_eq e.0 x then Some e.1 else first es x
 
   -- the place of its first declaration, from 0
-  abbrev pub place : List (List ℕ × V) → List ℕ → Option ℕ
-  place es x = position (λ n. bytes_eq x n) (map (λ e. e.0) es)
+  abbrev pub first_index : List (List ℕ × V) → List ℕ → Option ℕ
+  first_index es x = position (λ n. bytes_eq x n) (map (λ e. e.0) es)
 
   -- one declaration more: a name keeps what it was first declared as, and a new one goes last
-  abbrev pub declared : List (List ℕ × V) → List ℕ → V → List (List ℕ × V)
-  declared es x v = if is_some (first es x) then es else es ++ (x, v) ∷ []
+  abbrev pub with_declaration : List (List ℕ × V) → List ℕ → V → List (List ℕ × V)
+  with_declaration es x v = if is_some (first es x) then es else es ++ (x, v) ∷ []
 
   -- the newest declaration of a name, by its place and its value: a later one hides an earlier one (C11 6.2.1)
   abbrev pub newest_from : ℕ → List (List ℕ × V) → List ℕ → Option (ℕ × V)

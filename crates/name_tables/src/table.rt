@@ -2,7 +2,7 @@
 
 ghost use Rattle.std.specs.Prelude.{◌≡◌, [], length, not, is_some, IfOk, OnOk, OnErr};
 ghost use Rattle.std.specs.Option.{option_copied};
-ghost use Rattle.name_tables.specs.Named.{first, place, declared};
+ghost use Rattle.name_tables.specs.Named.{first, first_index, with_declaration};
 ghost use Rattle.name_tables.specs.Known.{entries_in};
 
 use crate::entries::Table;
@@ -36,8 +36,8 @@ impl<'a, V: Drop, A: Allocator + Copy> Table<'a, V, A> {
 
     /// The place of a name, from 0, in the order in which names were first declared; none for a name that was not
     /// declared.
-    pub fn place_of(&self, name: &str) -> Option<usize>
-        ensures { result ≡ place (entries_in self.now) name.now }
+    pub fn index_of(&self, name: &str) -> Option<usize>
+        ensures { result ≡ first_index (entries_in self.now) name.now }
     {
         self.map.get_index_of(name)
     }
@@ -46,7 +46,7 @@ impl<'a, V: Drop, A: Allocator + Copy> Table<'a, V, A> {
     /// memory for a new name; where that is refused, nothing changes.
     pub fn declare(&mut self, name: &'a str, value: V) -> Result<bool, AllocError>
         ensures new { IfOk result (λ new. new ≡ not (is_some (first (entries_in self.old) name.now))) }
-        ensures ok { OnOk result (entries_in self.new ≡ declared (entries_in self.old) name.now value) }
+        ensures ok { OnOk result (entries_in self.new ≡ with_declaration (entries_in self.old) name.now value) }
         ensures err { OnErr result (entries_in self.new ≡ entries_in self.old) }
     {
         if self.map.contains_key(name) {

@@ -4,13 +4,13 @@ use Rattle.std.specs.Prelude.{◌≡◌, ◌≤◌, ℕ, Bool, List, [], ◌∷�
 use Rattle.nesting.specs.Begins.{Saved, Checkpoint}
 
 -- the begins that are open
-pub record Begins : Type 0 where
+pub record OpenBegins : Type 0 where
   pub saved : Saved  -- at the outermost one
   pub inner : List (Checkpoint Saved)  -- the inner ones, the innermost first
 
 -- an attempt, and for how many inner begins, reads and writes there is room
 pub record Nest : Type 0 where
-  pub begins : Begins
+  pub begins : OpenBegins
   pub aside : Saved  -- what the next begin saves, or what the last cancel or abort goes back to
   pub reads : List (ℕ × ℕ)  -- the read log
   pub writes : List (ℕ × ℕ)  -- the write log

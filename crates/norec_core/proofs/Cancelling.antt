@@ -1,7 +1,7 @@
 -- A cancel of several levels, as the code of a step makes it.
 use Rattle.std.proofs.Common.{◌≡◌, ◌<◌, ℕ, Bool, List, [], ◌∷◌, Some, refl, ◌∙◌, ap, length, arith}
 use Rattle.nesting.specs.Begins.{Saved}
-use Rattle.nesting.specs.Nests.{Begins, Nest, IsCancelled}
+use Rattle.nesting.specs.Nests.{OpenBegins, Nest, IsCancelled}
 use Rattle.norec_core.specs.declared.step.Outcome.TheVariants as outcome
 use Rattle.norec_core.specs.declared.step.Phase.{Phase}
 use Rattle.norec_core.specs.Attempts.{Attempt, Checkpoint}
@@ -9,7 +9,7 @@ use Rattle.norec_core.specs.Phases.{core_cancel}
 use Rattle.norec_core.specs.inner.Runs.{Run, IsStep, attempt_by, attempt_of}
 
 module _ (old new : Nest) (first snapshot : ℕ) (q : Phase) (r : Run) where
-  abbrev at : List (ℕ × ℕ) → List (ℕ × ℕ) → Begins → Bool → Attempt Saved
+  abbrev at : List (ℕ × ℕ) → List (ℕ × ℕ) → OpenBegins → Bool → Attempt Saved
   at reads writes b kept = record { saved = b.saved; first = first; snapshot = snapshot; reads = reads; writes = writes; inner = b.inner; kept = kept; phase = q }
 
   -- back at an inner begin

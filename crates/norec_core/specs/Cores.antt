@@ -43,8 +43,8 @@ abbrev pub IsUnlocked : {S : Type 0} → Attempt S → Type 0
 IsUnlocked a = (a.phase ≡ AtOperation) × (a.kept ≡ false)
 
 -- a commit makes no access: that of an inner transaction, or of one that wrote nothing; the lock is not had
-abbrev pub CommitsAtOnce : {S : Type 0} → Attempt S → Type 0
-CommitsAtOnce a =
+abbrev pub CommitsLocally : {S : Type 0} → Attempt S → Type 0
+CommitsLocally a =
     (a.phase ≡ AtOperation) × (a.kept ≡ false) × (commit_access a a.inner a.kept a.writes ≡ Local)
 
 -- a commit stores the pair at this index of the write log next, or past the last pair the lock
@@ -56,7 +56,7 @@ abbrev pub stepped_twice : CoreState → Op → (first second : Answer) → Core
 stepped_twice c op first second = core_step c.saved (core_step c.saved c.attempt op first).attempt op second
 
 -- a step without an access, in which the operation is done with this outcome, and after which nothing is gone back to
-pub record IsDoneAtOnce (c : CoreState) (op : Op) (result : Outcome) (d : CoreState) : Type 0 where
+pub record IsDoneLocally (c : CoreState) (op : Op) (result : Outcome) (d : CoreState) : Type 0 where
   pub access : core_access c.attempt op ≡ Local
   pub attempt : d.attempt ≡ (core_step c.saved c.attempt op Done).attempt
   pub outcome : (core_step c.saved c.attempt op Done).outcome ≡ result
@@ -68,14 +68,14 @@ is_kept None = false
 is_kept (Some a) = a.kept
 
 -- whether the lock is had: it is kept, or a commit stores
-abbrev pub holds : (kept : Bool) → Phase → Bool
-holds kept (Stores i) = true
-holds kept _ = kept
+abbrev pub holds_lock : (kept : Bool) → Phase → Bool
+holds_lock kept (Stores i) = true
+holds_lock kept _ = kept
 
 -- whether an attempt is under way that has the lock
 abbrev pub has_lock : Option (Attempt Saved) → Bool
 has_lock None = false
-has_lock (Some a) = holds a.kept a.phase
+has_lock (Some a) = holds_lock a.kept a.phase
 
 -- validation loads the lock next, until it is even
 abbrev pub IsWaiting : {S : Type 0} → Attempt S → Type 0

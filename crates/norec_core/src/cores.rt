@@ -4,8 +4,8 @@ ghost use Rattle.std.specs.Prelude.{◌≡◌, ◌≢◌, ◌↔◌, ◌+◌, �
 ghost use Rattle.std.specs.Prelude.{IsSomeAnd, IfNone, IfOk, IfSome, OnOk, OnErr, OnSome, length};
 ghost use Rattle.norec_core.specs.Accesses.{stops};
 ghost use Rattle.norec_core.specs.Phases.{core_access, core_step};
-ghost use Rattle.norec_core.specs.Cores.{CommitsAtOnce, ComparesWith, IsAnswered, IsAskedAgain, IsComparing};
-ghost use Rattle.norec_core.specs.Cores.{IsDoneAtOnce, IsDropped, IsStoring, IsUnlocked, IsWaiting, LoadsBoth};
+ghost use Rattle.norec_core.specs.Cores.{CommitsLocally, ComparesWith, IsAnswered, IsAskedAgain, IsComparing};
+ghost use Rattle.norec_core.specs.Cores.{IsDoneLocally, IsDropped, IsStoring, IsUnlocked, IsWaiting, LoadsBoth};
 ghost use Rattle.norec_core.specs.Cores.{core_step_with};
 ghost use Rattle.norec_core.specs.Cores.{stepped_twice, is_kept, has_lock};
 ghost use Rattle.norec_core.specs.declared.step.Answer.{Answer as Reply};
@@ -133,7 +133,7 @@ impl<A: Allocator + Copy> Core<A> {
     #[inline(always)]
     pub fn read(&mut self, cell: u32) -> ReadStep
         ensures written { (word : ℕ) → result ≡ ReadStep.Written word
-            → IsDoneAtOnce self.old (Op.Read cell) (Outcome.Read word) self.new }
+            → IsDoneLocally self.old (Op.Read cell) (Outcome.Read word) self.new }
         ensures loads { result ≡ ReadStep.Loads → IsSomeAnd self.old.attempt (λ a. LoadsBoth a cell) }
         ensures room { result ≡ ReadStep.Loads → 0 < self.new.read_room }
         ensures full { result ≡ ReadStep.Other → IsSomeAnd self.old.attempt (λ a. IsUnlocked a)
@@ -168,7 +168,7 @@ impl<A: Allocator + Copy> Core<A> {
     /// that the write needs; where that is refused nothing changes.
     #[inline(always)]
     pub fn write(&mut self, cell: u32, word: u64) -> bool
-        ensures done { result ≡ true → IsDoneAtOnce self.old (Op.Write cell word) Outcome.Done self.new }
+        ensures done { result ≡ true → IsDoneLocally self.old (Op.Write cell word) Outcome.Done self.new }
         ensures not_done { result ≡ false → self.new.attempt ≡ self.old.attempt }
         ensures full { result ≡ false → IsSomeAnd self.old.attempt (λ a. IsUnlocked a) → self.old.write_room ≡ 0 }
     {
@@ -184,11 +184,11 @@ impl<A: Allocator + Copy> Core<A> {
     /// that wrote nothing: whether it did. It takes no memory.
     #[inline(always)]
     pub fn commit(&mut self) -> bool
-        ensures done { result ≡ true → IsDoneAtOnce self.old Op.Commit Outcome.Done self.new }
+        ensures done { result ≡ true → IsDoneLocally self.old Op.Commit Outcome.Done self.new }
         ensures not_done { result ≡ false → self.new.attempt ≡ self.old.attempt }
-        ensures at_once { result ≡ false → IsSomeAnd self.old.attempt (λ a. CommitsAtOnce a) → ⊥ }
+        ensures locally { result ≡ false → IsSomeAnd self.old.attempt (λ a. CommitsLocally a) → ⊥ }
     {
-        if !self.steps.is_plain() || !self.steps.commits_at_once() {
+        if !self.steps.is_plain() || !self.steps.commits_locally() {
             return false;
         }
         self.is_asked = false;

@@ -7,7 +7,7 @@ ghost use Rattle.norec_core.specs.Accesses.{stops};
 ghost use Rattle.norec_core.specs.Phases.{core_access, core_step, core_phase, core_operation, core_read, core_commit};
 ghost use Rattle.norec_core.specs.Phases.{core_cancel, core_store, core_swap, core_check, core_time, core_compare};
 ghost use Rattle.norec_core.specs.Phases.{operation_access, commit_access, entry_access, store_access};
-ghost use Rattle.norec_core.specs.Cores.{LoadsBoth, holds};
+ghost use Rattle.norec_core.specs.Cores.{LoadsBoth, holds_lock};
 ghost use Rattle.norec_core.specs.declared.step.Answer.TheVariants.{Value};
 ghost use Rattle.norec_core.specs.declared.step.Phase.TheVariants.{ReadsLock};
 ghost use Rattle.norec_core.specs.inner.Runs.{attempt_of, IsStep, IsWritten, GainsRoom, HasRoom, IsPlain, CanRelease};
@@ -103,7 +103,7 @@ impl<A: Allocator + Copy> CoreSteps<A> {
     }
 
     pub(crate) fn has_lock(&self) -> bool
-        ensures { result ≡ holds self.now.attempt.kept self.now.attempt.phase }
+        ensures { result ≡ holds_lock self.now.attempt.kept self.now.attempt.phase }
     {
         match self.phase {
             Phase::Stores(_) => true,
@@ -206,7 +206,7 @@ impl<A: Allocator + Copy> CoreSteps<A> {
 
     /// Whether a commit makes no access.
     #[inline(always)]
-    pub(crate) fn commits_at_once(&self) -> bool
+    pub(crate) fn commits_locally(&self) -> bool
         requires { self.now.attempt.phase ≡ Phase.AtOperation }
         ensures local { result ≡ true
             → commit_access self.now.attempt self.now.attempt.inner self.now.attempt.kept self.now.attempt.writes
@@ -587,7 +587,7 @@ impl<A: Allocator + Copy> CoreSteps<A> {
     fn told_store(&mut self, index: usize) -> Outcome
         requires begun { self.old.begun ≡ true }
         requires lock { CanRelease self.old.attempt.snapshot }
-        requires has { holds self.old.attempt.kept self.old.attempt.phase ≡ true }
+        requires has { holds_lock self.old.attempt.kept self.old.attempt.phase ≡ true }
         ensures { IsStep (core_store self.old.attempt index (slice_get self.old.attempt.writes index)) result self.new }
     {
         if self.logs.write_at(index).is_some() {

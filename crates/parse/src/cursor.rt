@@ -5,7 +5,7 @@ ghost use Rattle.lex.specs.Tokens.{terminal, toks};
 ghost use Rattle.syntax.specs.Phrases.{is_fixed};
 ghost use Rattle.syntax.specs.Views.{name_of};
 ghost use Rattle.syntax.specs.Grammar.{the_name};
-ghost use Rattle.parse.specs.inner.Reading.{Gives, GivesBefore, GivesBehind, expect, spot, take, is_next, head};
+ghost use Rattle.parse.specs.inner.Reading.{Gives, GivesBefore, GivesBehind, expect, expect_span, take, is_next, head};
 
 use crate::fault::Failure;
 use containers::Text;
@@ -87,20 +87,20 @@ pub fn closed_at<'t, 'a, T: Drop>(
     fixed: Fixed,
 ) -> Result<((T, Span), &'t [Token<'a>]), Failure<'t, 'a>>
     ensures value { IfOk result (λ x. x.0.0 ≡ read) }
-    ensures rest { Gives (λ x. (x.0.1, toks x.1.now)) result (spot fixed (toks tokens.now)) }
+    ensures rest { Gives (λ x. (x.0.1, toks x.1.now)) result (expect_span fixed (toks tokens.now)) }
 {
-    match spot(tokens, fixed) {
-        Ok((at, rest)) => Ok(((read, at), rest)),
+    match expect_span(tokens, fixed) {
+        Ok((span, rest)) => Ok(((read, span), rest)),
         Err(failure) => Err(failure),
     }
 }
 
 /// A keyword or punctuator at the front, and where it stands.
-pub fn spot<'t, 'a>(
+pub fn expect_span<'t, 'a>(
     tokens: &'t [Token<'a>],
     fixed: Fixed,
 ) -> Result<(Span, &'t [Token<'a>]), Failure<'t, 'a>>
-    ensures { Gives (λ x. (x.0, toks x.1.now)) result (spot fixed (toks tokens.now)) }
+    ensures { Gives (λ x. (x.0, toks x.1.now)) result (expect_span fixed (toks tokens.now)) }
 {
     match tokens {
         [first, rest @ ..] => match first.kind {

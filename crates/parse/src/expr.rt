@@ -11,11 +11,13 @@ ghost use Rattle.syntax.specs.Views.{expr_of, exprs_of};
 ghost use Rattle.parse.specs.inner.Reading.{Fails, Gives, GivesOp, behind, head, is_other, many_until, map_parser};
 ghost use Rattle.parse.specs.inner.Reading.{next_op};
 ghost use Rattle.parse.specs.inner.Reading.{too_deep_at, take};
-ghost use Rattle.parse.specs.inner.Expressions.{arguments, conditional_at, expr_at, named, opened, operand, operators};
-ghost use Rattle.parse.specs.inner.Expressions.{outcomes, prefixed, starts_expr, the_constant, the_prefix, transaction};
+ghost use Rattle.parse.specs.inner.Expressions.{arguments, conditional_at, expr_at, name_or_call, cast_or_group_expr};
+ghost use Rattle.parse.specs.inner.Expressions.{operand, operators};
+ghost use Rattle.parse.specs.inner.Expressions.{outcomes, prefix_expr, starts_expr, the_constant, the_prefix};
+ghost use Rattle.parse.specs.inner.Expressions.{transaction};
 ghost use Rattle.parse.specs.inner.Expressions.{whole_at};
 
-use crate::cursor::{closed_at, count_tokens, eat, expect, is_next, name, spot};
+use crate::cursor::{closed_at, count_tokens, eat, expect, expect_span, is_next, name};
 use crate::fault::Failure;
 use crate::lead::{Infix, Operand, infix_of, mode_keyword, operand_at, precedence};
 use crate::node;
@@ -116,13 +118,13 @@ fn prefix_operation<'t, 'a, A: Allocator + Copy>(
 ) -> Result<Found<'t, 'a, A>, Failure<'t, 'a>>
     requires { depth < 2 ^ 32 }
     ensures value { Gives (λ x. (expr_of x.0, toks x.2.now)) result
-        (prefixed (whole_at depth) (expr_at depth 11) (toks tokens.now)) }
+        (prefix_expr (whole_at depth) (expr_at depth 11) (toks tokens.now)) }
     ensures deep { IfOk result (λ x. x.1 ≡ expr_depth (expr_of x.0)) }
     ensures within { IfOk result (λ x. x.1 ≤ depth + 1) }
 {
-    let ((op, at), rest) = prefix(tokens)?;
+    let ((op, span), rest) = prefix(tokens)?;
     let (inner, deep, rest) = climb(alloc, rest, depth, 11)?;
-    Ok((node::unary(alloc, at, op, inner)?, deep + 1, rest))
+    Ok((node::unary(alloc, span, op, inner)?, deep + 1, rest))
 }
 
 /// `( type ) operand` or `( expr )`
@@ -134,20 +136,20 @@ fn cast_or_group<'t, 'a, A: Allocator + Copy>(
 ) -> Result<Found<'t, 'a, A>, Failure<'t, 'a>>
     requires { depth < 2 ^ 32 }
     ensures value { Gives (λ x. (expr_of x.0, toks x.2.now)) result
-        (opened (whole_at depth) (expr_at depth 11) (toks tokens.now)) }
+        (cast_or_group_expr (whole_at depth) (expr_at depth 11) (toks tokens.now)) }
     ensures deep { IfOk result (λ x. x.1 ≡ expr_depth (expr_of x.0)) }
     ensures within { IfOk result (λ x. x.1 ≤ depth + 1) }
 {
-    let (at, rest) = spot(tokens, Fixed::Punctuator(Punctuator::OpenParen))?;
+    let (span, rest) = expect_span(tokens, Fixed::Punctuator(Punctuator::OpenParen))?;
     if starts_type(rest) {
         let (to, rest) = scalar(rest)?;
         let rest = expect(rest, Fixed::Punctuator(Punctuator::CloseParen))?;
         let (inner, deep, rest) = climb(alloc, rest, depth, 11)?;
-        return Ok((node::cast(alloc, at, to, inner)?, deep + 1, rest));
+        return Ok((node::cast(alloc, span, to, inner)?, deep + 1, rest));
     }
     let (inner, deep, rest) = whole(alloc, rest, depth)?;
     let ((inner, last), rest) = closed_at(inner, rest, Fixed::Punctuator(Punctuator::CloseParen))?;
-    Ok((node::group(alloc, at, inner, last)?, deep + 1, rest))
+    Ok((node::group(alloc, span, inner, last)?, deep + 1, rest))
 }
 
 /// `mode ( expr )`
@@ -164,11 +166,11 @@ fn transaction<'t, 'a, A: Allocator + Copy>(
     ensures deep { IfOk result (λ x. x.1 ≡ expr_depth (expr_of x.0)) }
     ensures within { IfOk result (λ x. x.1 ≤ depth + 1) }
 {
-    let (at, rest) = spot(tokens, mode_keyword(mode))?;
+    let (span, rest) = expect_span(tokens, mode_keyword(mode))?;
     let (inner, deep, rest) = behind(alloc, rest, Fixed::Punctuator(Punctuator::OpenParen), depth)?;
     let ((inner, last), rest) = closed_at(inner, rest, Fixed::Punctuator(Punctuator::CloseParen))?;
     Ok((
-        node::transaction(alloc, mode, at, inner, last)?,
+        node::transaction(alloc, mode, span, inner, last)?,
         deep + 1,
         rest,
     ))
@@ -260,7 +262,7 @@ fn name_expr<'t, 'a, A: Allocator + Copy>(
 ) -> Result<Found<'t, 'a, A>, Failure<'t, 'a>>
     requires { depth < 2 ^ 32 }
     ensures value { Gives (λ x. (expr_of x.0, toks x.2.now)) result
-        (named (whole_at depth) (expr_at depth 11) (toks tokens.now)) }
+        (name_or_call (whole_at depth) (expr_at depth 11) (toks tokens.now)) }
     ensures deep { IfOk result (λ x. x.1 ≡ expr_depth (expr_of x.0)) }
     ensures within { IfOk result (λ x. x.1 ≤ depth + 1) }
 {

@@ -9,33 +9,33 @@ ghost use Rattle.syntax.specs.Tree as Tree;
 ghost use Rattle.syntax.specs.Views.{name_of, global_of, item_of};
 ghost use Rattle.syntax.specs.Grammar.{the_length};
 ghost use Rattle.parse.specs.inner.Reading.{Gives, take, before, behind};
-ghost use Rattle.parse.specs.inner.Items.{the_placed_value, initialiser, first_value, first_values, global_tail};
+ghost use Rattle.parse.specs.inner.Items.{value_with_span, initialiser, first_value, first_values, global_tail};
 ghost use Rattle.parse.specs.inner.Items.{global};
 ghost use Rattle.parse.specs.inner.Items.{value_list, several, globals_from};
 
-use crate::cursor::{eat, expect, expect_close, is_next, name, spot};
+use crate::cursor::{eat, expect, expect_close, expect_span, is_next, name};
 use crate::fault::Failure;
 use crate::list::{Element, further, one};
 use containers::Items;
 use lex::token::{Fixed, Kind, Punctuator, Scalar, Span, Token};
 use std::alloc::Allocator;
-use syntax::tree::{Global, Initializer, Item, Name};
+use syntax::tree::{Global, Initialiser, Item, Name};
 
 /// A constant's value and type, where it stands, and the tokens after it.
 type Placed<'t, 'a> = (((u64, Scalar), Span), &'t [Token<'a>]);
 
 /// First values, and the tokens after them.
-type Firsts<'t, 'a, A> = (Items<Initializer, A>, &'t [Token<'a>]);
+type Firsts<'t, 'a, A> = (Items<Initialiser, A>, &'t [Token<'a>]);
 
 /// An array's length or none, first values, and the tokens after them.
 type Sized<'t, 'a, A> = (
-    (Option<(u64, Span)>, Items<Initializer, A>),
+    (Option<(u64, Span)>, Items<Initialiser, A>),
     &'t [Token<'a>],
 );
 
 /// A constant, with its type and its place.
 fn constant<'t, 'a>(tokens: &'t [Token<'a>]) -> Result<Placed<'t, 'a>, Failure<'t, 'a>>
-    ensures { Gives (λ x. (x.0, toks x.1.now)) result (take the_placed_value (toks tokens.now)) }
+    ensures { Gives (λ x. (x.0, toks x.1.now)) result (take value_with_span (toks tokens.now)) }
 {
     match tokens {
         [first, rest @ ..] => match first.kind {
@@ -76,12 +76,12 @@ fn array_length<'t, 'a>(
 /// `[-] constant`
 fn initialiser<'t, 'a>(
     tokens: &'t [Token<'a>],
-) -> Result<(Initializer, &'t [Token<'a>]), Failure<'t, 'a>>
+) -> Result<(Initialiser, &'t [Token<'a>]), Failure<'t, 'a>>
     ensures { Gives (λ x. (x.0, toks x.1.now)) result (initialiser (toks tokens.now)) }
 {
     if !is_next(tokens, Fixed::Punctuator(Punctuator::Minus)) {
         let (((value, ty), span), rest) = constant(tokens)?;
-        let first = Initializer {
+        let first = Initialiser {
             negative: false,
             value,
             ty,
@@ -89,15 +89,15 @@ fn initialiser<'t, 'a>(
         };
         return Ok((first, rest));
     }
-    let (minus, rest) = spot(tokens, Fixed::Punctuator(Punctuator::Minus))?;
-    let (((value, ty), at), rest) = constant(rest)?;
-    let first = Initializer {
+    let (minus, rest) = expect_span(tokens, Fixed::Punctuator(Punctuator::Minus))?;
+    let (((value, ty), span), rest) = constant(rest)?;
+    let first = Initialiser {
         negative: true,
         value,
         ty,
         span: Span {
             start: minus.start,
-            end: at.end,
+            end: span.end,
         },
     };
     Ok((first, rest))

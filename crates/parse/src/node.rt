@@ -29,16 +29,16 @@ pub fn span_of<A: Allocator>(e: &Expr<A>) -> Span
 {
     match e {
         Expr::Variable(name) => name.span,
-        Expr::Constant(_, _, at)
-        | Expr::Element(_, _, at)
-        | Expr::Call(_, _, at)
-        | Expr::Parenthesized(_, at)
-        | Expr::Cast(_, _, at)
-        | Expr::Unary(_, _, at)
-        | Expr::Binary(_, _, _, at)
-        | Expr::Logical(_, _, _, at)
-        | Expr::Conditional(_, _, _, at)
-        | Expr::InTransaction(_, _, _, at) => *at,
+        Expr::Constant(_, _, span)
+        | Expr::Element(_, _, span)
+        | Expr::Call(_, _, span)
+        | Expr::Parenthesized(_, span)
+        | Expr::Cast(_, _, span)
+        | Expr::Unary(_, _, span)
+        | Expr::Binary(_, _, _, span)
+        | Expr::Logical(_, _, _, span)
+        | Expr::Conditional(_, _, _, span)
+        | Expr::InTransaction(_, _, _, span) => *span,
     }
 }
 
@@ -51,16 +51,16 @@ pub fn element<A: Allocator + Copy>(
 ) -> Result<Expr<A>, AllocError>
     ensures { IfOk result (λ e. expr_of e ≡ Element (name_of name) (expr_of index) (across name.span last)) }
 {
-    let at = across(name.span, last);
-    Ok(Expr::Element(name, Boxed::new(alloc, index)?, at))
+    let span = across(name.span, last);
+    Ok(Expr::Element(name, Boxed::new(alloc, index)?, span))
 }
 
 /// A call, up to the place of its closing parenthesis.
 pub fn call<A: Allocator>(name: Name<A>, args: Items<Expr<A>, A>, last: Span) -> Expr<A>
     ensures { expr_of result ≡ Call (name_of name) (exprs_of args) (across name.span last) }
 {
-    let at = across(name.span, last);
-    Expr::Call(name, args, at)
+    let span = across(name.span, last);
+    Expr::Call(name, args, span)
 }
 
 /// An expression in parentheses, which stand at these places.
@@ -72,8 +72,8 @@ pub fn group<A: Allocator + Copy>(
 ) -> Result<Expr<A>, AllocError>
     ensures { IfOk result (λ e. expr_of e ≡ Parenthesized (expr_of inner) (across first last)) }
 {
-    let at = across(first, last);
-    Ok(Expr::Parenthesized(Boxed::new(alloc, inner)?, at))
+    let span = across(first, last);
+    Ok(Expr::Parenthesized(Boxed::new(alloc, inner)?, span))
 }
 
 /// An expression that is a transaction: its keyword, which stands at a place, and its operand, up to the place of its
@@ -87,8 +87,8 @@ pub fn transaction<A: Allocator + Copy>(
 ) -> Result<Expr<A>, AllocError>
     ensures { IfOk result (λ e. expr_of e ≡ InTransaction mode first (expr_of inner) (across first last)) }
 {
-    let at = across(first, last);
-    Ok(Expr::InTransaction(mode, first, Boxed::new(alloc, inner)?, at))
+    let span = across(first, last);
+    Ok(Expr::InTransaction(mode, first, Boxed::new(alloc, inner)?, span))
 }
 
 /// A cast of an operand, from the place of its opening parenthesis.
@@ -100,8 +100,8 @@ pub fn cast<A: Allocator + Copy>(
 ) -> Result<Expr<A>, AllocError>
     ensures { IfOk result (λ e. expr_of e ≡ Cast ty (expr_of inner) (across first (span_of (expr_of inner)))) }
 {
-    let at = across(first, span_of(&inner));
-    Ok(Expr::Cast(ty, Boxed::new(alloc, inner)?, at))
+    let span = across(first, span_of(&inner));
+    Ok(Expr::Cast(ty, Boxed::new(alloc, inner)?, span))
 }
 
 /// An operator, which stands at a place, and its operand.
@@ -113,8 +113,8 @@ pub fn unary<A: Allocator + Copy>(
 ) -> Result<Expr<A>, AllocError>
     ensures { IfOk result (λ e. expr_of e ≡ Unary op (expr_of inner) (across first (span_of (expr_of inner)))) }
 {
-    let at = across(first, span_of(&inner));
-    Ok(Expr::Unary(op, Boxed::new(alloc, inner)?, at))
+    let span = across(first, span_of(&inner));
+    Ok(Expr::Unary(op, Boxed::new(alloc, inner)?, span))
 }
 
 /// Two values in boxes. Where memory ends, what is left is dropped here, whatever its type: the drop of an expression,
@@ -157,11 +157,11 @@ pub fn infix<A: Allocator + Copy>(
 ) -> Result<Expr<A>, AllocError>
     ensures { IfOk result (λ e. expr_of e ≡ infix_node op (expr_of left) (expr_of right)) }
 {
-    let at = across(span_of(&left), span_of(&right));
+    let span = across(span_of(&left), span_of(&right));
     let (left, right) = two_boxed(alloc, left, right)?;
     match op {
-        Infix::Computing(op) => Ok(Expr::Binary(op, left, right, at)),
-        Infix::Choosing(op) => Ok(Expr::Logical(op, left, right, at)),
+        Infix::Computing(op) => Ok(Expr::Binary(op, left, right, span)),
+        Infix::Choosing(op) => Ok(Expr::Logical(op, left, right, span)),
     }
 }
 
@@ -177,7 +177,7 @@ pub fn conditional<A: Allocator + Copy>(
         ≡ Conditional (expr_of condition) (expr_of then) (expr_of other)
         (across (span_of (expr_of condition)) (span_of (expr_of other)))) }
 {
-    let at = across(span_of(&condition), span_of(&other));
+    let span = across(span_of(&condition), span_of(&other));
     let (condition, then, other) = three_boxed(alloc, condition, then, other)?;
-    Ok(Expr::Conditional(condition, then, other, at))
+    Ok(Expr::Conditional(condition, then, other, span))
 }

@@ -8,10 +8,10 @@ ghost use Rattle.lex.specs.Tokens.{toks};
 ghost use Rattle.syntax.specs.Tree.{Empty, Do, Break, Continue};
 ghost use Rattle.syntax.specs.Views.{expr_of, stmt_of};
 ghost use Rattle.syntax.specs.Grammar.{the_text};
-ghost use Rattle.parse.specs.inner.Reading.{Gives, take, map_parser, before, expect, spot};
-ghost use Rattle.parse.specs.inner.Statements.{simple_at, printed, print_stmt, cancel_stmt, return_stmt};
+ghost use Rattle.parse.specs.inner.Reading.{Gives, take, map_parser, before, expect, expect_span};
+ghost use Rattle.parse.specs.inner.Statements.{simple_at, print_arguments, print_stmt, cancel_stmt, return_stmt};
 
-use crate::cursor::{expect, expect_close, spot};
+use crate::cursor::{expect, expect_close, expect_span};
 use crate::expr::further;
 use crate::fault::Failure;
 use crate::outer::has_outer_mark;
@@ -76,7 +76,7 @@ fn print_tail<'t, 'a, A: Allocator + Copy>(
     depth: usize,
 ) -> Result<(Items<Expr<A>, A>, &'t [Token<'a>]), Failure<'t, 'a>>
     requires { depth < 2 ^ 32 }
-    ensures { Gives (λ x. (map expr_of x.0, toks x.1.now)) result (printed depth (toks tokens.now)) }
+    ensures { Gives (λ x. (map expr_of x.0, toks x.1.now)) result (print_arguments depth (toks tokens.now)) }
 {
     expect_close(
         expect_close(
@@ -96,11 +96,11 @@ pub fn print_stmt<'t, 'a, A: Allocator + Copy>(
     requires { depth < 2 ^ 32 }
     ensures { Gives (λ x. (stmt_of x.0, toks x.1.now)) result (print_stmt depth (toks tokens.now)) }
 {
-    let (at, rest) = spot(tokens, Fixed::Keyword(Keyword::Printf))?;
+    let (span, rest) = expect_span(tokens, Fixed::Keyword(Keyword::Printf))?;
     let rest = expect(rest, Fixed::Punctuator(Punctuator::OpenParen))?;
-    let ((format, format_at), rest) = text(alloc, rest)?;
+    let ((format, format_span), rest) = text(alloc, rest)?;
     let (arguments, rest) = print_tail(alloc, rest, depth)?;
-    Ok((Stmt::Print(at, format, format_at, arguments), rest))
+    Ok((Stmt::Print(span, format, format_span, arguments), rest))
 }
 
 /// `keyword ;`, and where the keyword stands.
@@ -109,10 +109,10 @@ fn alone<'t, 'a>(
     fixed: Fixed,
 ) -> Result<(Span, &'t [Token<'a>]), Failure<'t, 'a>>
     ensures { Gives (λ x. (x.0, toks x.1.now)) result
-        (before (token.Punctuator punct.Semicolon) (spot fixed) (toks tokens.now)) }
+        (before (token.Punctuator punct.Semicolon) (expect_span fixed) (toks tokens.now)) }
 {
     expect_close(
-        spot(tokens, fixed),
+        expect_span(tokens, fixed),
         Fixed::Punctuator(Punctuator::Semicolon),
     )
 }
@@ -122,11 +122,11 @@ pub fn break_stmt<'t, 'a, A: Allocator + Copy>(
     tokens: &'t [Token<'a>],
 ) -> Result<(Stmt<A>, &'t [Token<'a>]), Failure<'t, 'a>>
     ensures { Gives (λ x. (stmt_of x.0, toks x.1.now)) result
-        (map_parser Break (before (token.Punctuator punct.Semicolon) (spot (token.Keyword key.Break)))
+        (map_parser Break (before (token.Punctuator punct.Semicolon) (expect_span (token.Keyword key.Break)))
         (toks tokens.now)) }
 {
-    let (at, rest) = alone(tokens, Fixed::Keyword(Keyword::Break))?;
-    Ok((Stmt::Break(at), rest))
+    let (span, rest) = alone(tokens, Fixed::Keyword(Keyword::Break))?;
+    Ok((Stmt::Break(span), rest))
 }
 
 /// `continue ;`
@@ -134,11 +134,11 @@ pub fn continue_stmt<'t, 'a, A: Allocator + Copy>(
     tokens: &'t [Token<'a>],
 ) -> Result<(Stmt<A>, &'t [Token<'a>]), Failure<'t, 'a>>
     ensures { Gives (λ x. (stmt_of x.0, toks x.1.now)) result
-        (map_parser Continue (before (token.Punctuator punct.Semicolon) (spot (token.Keyword key.Continue)))
+        (map_parser Continue (before (token.Punctuator punct.Semicolon) (expect_span (token.Keyword key.Continue)))
         (toks tokens.now)) }
 {
-    let (at, rest) = alone(tokens, Fixed::Keyword(Keyword::Continue))?;
-    Ok((Stmt::Continue(at), rest))
+    let (span, rest) = alone(tokens, Fixed::Keyword(Keyword::Continue))?;
+    Ok((Stmt::Continue(span), rest))
 }
 
 /// `__transaction_cancel [outer] ;`
@@ -147,13 +147,13 @@ pub fn cancel_stmt<'t, 'a, A: Allocator + Copy>(
 ) -> Result<(Stmt<A>, &'t [Token<'a>]), Failure<'t, 'a>>
     ensures { Gives (λ x. (stmt_of x.0, toks x.1.now)) result (cancel_stmt (toks tokens.now)) }
 {
-    let (at, rest) = spot(tokens, Fixed::Keyword(Keyword::Cancel))?;
+    let (span, rest) = expect_span(tokens, Fixed::Keyword(Keyword::Cancel))?;
     let (outer, rest) = has_outer_mark(rest)?;
     let rest = expect(rest, Fixed::Punctuator(Punctuator::Semicolon))?;
     if outer {
-        Ok((Stmt::CancelOuter(at), rest))
+        Ok((Stmt::CancelOuter(span), rest))
     } else {
-        Ok((Stmt::Cancel(at), rest))
+        Ok((Stmt::Cancel(span), rest))
     }
 }
 
@@ -166,7 +166,7 @@ pub fn return_stmt<'t, 'a, A: Allocator + Copy>(
     requires { depth < 2 ^ 32 }
     ensures { Gives (λ x. (stmt_of x.0, toks x.1.now)) result (return_stmt depth (toks tokens.now)) }
 {
-    let (at, rest) = spot(tokens, Fixed::Keyword(Keyword::Return))?;
+    let (span, rest) = expect_span(tokens, Fixed::Keyword(Keyword::Return))?;
     let (value, rest) = last_expression(alloc, rest, depth)?;
-    Ok((Stmt::Return(value, at), rest))
+    Ok((Stmt::Return(value, span), rest))
 }

@@ -14,7 +14,7 @@ ghost use Rattle.parse.specs.inner.Statements.{in_parens, entry, branches, if_tr
 ghost use Rattle.parse.specs.inner.Statements.{end_of_do, rest_of_head, head_of_for, for_stmt, kind, transaction_stmt};
 ghost use Rattle.parse.specs.inner.Statements.{starts_stmt, stmt_at, block_at};
 
-use crate::cursor::{eat, expect, expect_close, is_next, spot};
+use crate::cursor::{eat, expect, expect_close, expect_span, is_next};
 use crate::expr::expression;
 use crate::fault::Failure;
 use crate::lead::{Lead, lead_at, mode_keyword};
@@ -27,7 +27,7 @@ use crate::simple::{declaration, last_expression, last_simple, start, starts_sim
 use containers::{Boxed, Items};
 use lex::token::{Fixed, Keyword, Punctuator, Token};
 use std::alloc::Allocator;
-use syntax::tree::{Expr, ForHead, Kind, Mode, Simple, Stmt};
+use syntax::tree::{Expr, ForHead, Mode, Simple, Stmt, TransactionKind};
 
 /// What an `if` chooses from.
 #[derive(Drop)]
@@ -367,17 +367,17 @@ fn for_stmt<'t, 'a, A: Allocator + Copy>(
 fn kind<'t, 'a>(
     tokens: &'t [Token<'a>],
     mode: Mode,
-) -> Result<(Kind, &'t [Token<'a>]), Failure<'t, 'a>>
+) -> Result<(TransactionKind, &'t [Token<'a>]), Failure<'t, 'a>>
     ensures { Gives (λ x. (x.0, toks x.1.now)) result (kind mode (toks tokens.now)) }
 {
     match mode {
-        Mode::Relaxed => Ok((Kind::Plain(Mode::Relaxed), tokens)),
+        Mode::Relaxed => Ok((TransactionKind::Plain(Mode::Relaxed), tokens)),
         Mode::Atomic => {
             let (outer, rest) = has_outer_mark(tokens)?;
             if outer {
-                Ok((Kind::Outer, rest))
+                Ok((TransactionKind::Outer, rest))
             } else {
-                Ok((Kind::Plain(Mode::Atomic), rest))
+                Ok((TransactionKind::Plain(Mode::Atomic), rest))
             }
         }
     }
@@ -395,7 +395,7 @@ fn transaction_stmt<'t, 'a, A: Allocator + Copy>(
     ensures { Gives (λ x. (stmt_of x.0, toks x.1.now)) result
         (transaction_stmt depth (stmt_at depth) (block_at depth) mode (toks tokens.now)) }
 {
-    let (at, rest) = spot(tokens, mode_keyword(mode))?;
+    let (span, rest) = expect_span(tokens, mode_keyword(mode))?;
     if is_next(rest, Fixed::Punctuator(Punctuator::OpenParen)) {
         if depth == 0 {
             return Err(Failure::Deep(rest));
@@ -404,7 +404,7 @@ fn transaction_stmt<'t, 'a, A: Allocator + Copy>(
     }
     let (kind, rest) = kind(rest, mode)?;
     let (body, rest) = block(alloc, rest, depth)?;
-    Ok((Stmt::Transaction(kind, body, at), rest))
+    Ok((Stmt::Transaction(kind, body, span), rest))
 }
 
 /// `declaration | stmt`

@@ -5,7 +5,7 @@ use Rattle.std.specs.List.{fold}
 use Rattle.std.specs.Prelude.{flat_map}
 use Rattle.std.proofs.lemmas.List.{map-append}
 use Rattle.std.proofs.lemmas.List.Folds.{flat_map-map}
-use Rattle.picture.specs.Arrows.{Moment, arrow_title, arrows_behind}
+use Rattle.picture.specs.Arrows.{ArrowStep, arrow_title, arrows_behind}
 use Rattle.picture.specs.Glyphs.{AreTitled, IsPicture, glyph_text}
 
 -- from an element on: the element, and what follows it
@@ -53,7 +53,7 @@ next_fold f moment xs i x found now whole e h was new =
     rw new at_here
 
 -- the titles of one more arrow
-pub next_arrows : {X : Type 0} (moment : X → Moment) (xs : List X) (i : ℕ) (x : X) (before now whole : List (List ℕ)) → x ≡ get_or xs i x → i < length xs → before ++ arrows_behind (map moment (take i xs)) (map moment (drop i xs)) ≡ whole → now ≡ before ++ arrow_title (map moment (take i xs)) (moment x) → now ++ arrows_behind (map moment (take (i + 1) xs)) (map moment (drop (i + 1) xs)) ≡ whole
+pub next_arrows : {X : Type 0} (moment : X → ArrowStep) (xs : List X) (i : ℕ) (x : X) (before now whole : List (List ℕ)) → x ≡ get_or xs i x → i < length xs → before ++ arrows_behind (map moment (take i xs)) (map moment (drop i xs)) ≡ whole → now ≡ before ++ arrow_title (map moment (take i xs)) (moment x) → now ++ arrows_behind (map moment (take (i + 1) xs)) (map moment (drop (i + 1) xs)) ≡ whole
 next_arrows moment xs i x before now whole e h was new =
     let here = drop_here xs i x e h in
     let taken : map moment (take (i + 1) xs) ≡ map moment (take i xs) ++ moment x ∷ [] = ap (map moment) (rw (add-one, take-suc xs i x h, sym e) refl) ∙ map-append moment (take i xs) (x ∷ []) in

@@ -3,8 +3,8 @@ use Rattle.std.specs.Prelude.{ℕ, ◌≡◌, ◌==◌, List, [], ◌∷◌, ◌
 use Rattle.std.specs.Prelude.{map, if◌then◌else◌}
 use Rattle.norec_core.specs.declared.step.Access.{Access}
 use Rattle.norec_core.specs.declared.step.Access.TheVariants.{Local, LoadLock, LoadWord, Swap, StoreWord, StoreLock}
-use Rattle.picture.specs.declared.step.Deed.{Deed}
-use Rattle.picture.specs.declared.step.Deed.TheVariants.{Begin, Commit, Print, Other}
+use Rattle.picture.specs.declared.step.LocalAction.{LocalAction}
+use Rattle.picture.specs.declared.step.LocalAction.TheVariants.{Begin, Commit, Print, Other}
 use Rattle.machine.specs.declared.event.Event.{Event}
 use Rattle.machine.specs.declared.event.Event.TheVariants.{Quiet, Commit as Committed, Abort, Cancel, Trap}
 
@@ -27,26 +27,26 @@ is_access (Swap _) = true
 is_access (StoreWord _ _) = true
 is_access (StoreLock _) = true
 
-abbrev pub is_told : Event → Bool
-is_told Quiet = false
-is_told Committed = true
-is_told Abort = true
-is_told Cancel = true
-is_told (Trap _) = true
+abbrev pub is_eventful : Event → Bool
+is_eventful Quiet = false
+is_eventful Committed = true
+is_eventful Abort = true
+is_eventful Cancel = true
+is_eventful (Trap _) = true
 
-abbrev pub has_glyph_alone : Deed → Bool
+abbrev pub has_glyph_alone : LocalAction → Bool
 has_glyph_alone Begin = true
 has_glyph_alone Commit = true
 has_glyph_alone Print = true
 has_glyph_alone Other = false
 
 -- a step has a glyph where it is an access, where something happens in it, and where it begins, ends or prints
-abbrev pub is_noted : Access → Event → Deed → Bool
-is_noted access happening deed = is_access access || is_told happening || has_glyph_alone deed
+abbrev pub is_noted : Access → Event → LocalAction → Bool
+is_noted access happening action = is_access access || is_eventful happening || has_glyph_alone action
 
 -- a step is drawn where it has a glyph and is made up to the 400th access
-abbrev pub is_drawn : ℕ → Access → Event → Deed → Bool
-is_drawn accesses access happening deed = nat_le accesses 400 && is_noted access happening deed
+abbrev pub is_drawn : ℕ → Access → Event → LocalAction → Bool
+is_drawn accesses access happening action = nat_le accesses 400 && is_noted access happening action
 
 -- the title of a step's glyph, if it is drawn: its line
 abbrev pub title_of : Bool → List ℕ → List (List ℕ)

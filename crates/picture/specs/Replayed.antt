@@ -6,28 +6,28 @@ use Rattle.syntax.specs.declared.numbers.Status.TheVariants.{Running}
 use Rattle.bytecode.specs.Code.{Code, Instr}
 use Rattle.machine.specs.declared.event.StepShown.{StepShown}
 use Rattle.report.specs.Timeline.{step_words}
-use Rattle.picture.specs.declared.step.Deed.{Deed}
-use Rattle.picture.specs.declared.step.Deed.TheVariants as deed
+use Rattle.picture.specs.declared.step.LocalAction.{LocalAction}
+use Rattle.picture.specs.declared.step.LocalAction.TheVariants as action
 use Rattle.picture.specs.Arrows.{arrow_titles}
 use Rattle.picture.specs.Glyphs.{IsPicture, is_drawn, title_of}
 
 -- what an instruction does, where a local step of it has a glyph
-abbrev pub deed_of : Option Instr → Deed
-deed_of (Some (Instr.Begin to)) = deed.Begin
-deed_of (Some Instr.Commit) = deed.Commit
-deed_of (Some (Instr.PrintText k)) = deed.Print
-deed_of (Some (Instr.PrintNumber t a)) = deed.Print
-deed_of _ = deed.Other
+abbrev pub action_of : Option Instr → LocalAction
+action_of (Some (Instr.Begin to)) = action.Begin
+action_of (Some Instr.Commit) = action.Commit
+action_of (Some (Instr.PrintText k)) = action.Print
+action_of (Some (Instr.PrintNumber t a)) = action.Print
+action_of _ = action.Other
 
 -- what the instruction at a thread's place does; a thread that is over does nothing
-abbrev pub deed_at : Code → Status → ℕ → Deed
-deed_at code Running place = deed_of (slice_get code.instructions place)
-deed_at code _ place = deed.Other
+abbrev pub action_at : Code → Status → ℕ → LocalAction
+action_at code Running place = action_of (slice_get code.instructions place)
+action_at code _ place = action.Other
 
 -- the title of a step's glyph, if it is drawn: its line in the timeline
 abbrev pub step_title : Code → ℕ × ℕ × StepShown → List (List ℕ)
 step_title code s =
-    title_of (is_drawn s.0 s.2.access s.2.event (deed_at code s.2.status s.2.place)) (step_words code s)
+    title_of (is_drawn s.0 s.2.access s.2.event (action_at code s.2.status s.2.place)) (step_words code s)
 
 -- the titles of the glyphs of these steps, in their order
 abbrev pub titles : Code → List (ℕ × ℕ × StepShown) → List (List ℕ)

@@ -253,7 +253,7 @@ impl<'p, A: Allocator + Copy> Sheet<'p, A> {
         store: Store,
     ) -> Result<(), AllocError> {
         push_pieces(
-            &mut self.told,
+            &mut self.drop_sentences,
             &[
                 Piece::Plain(b" Access "),
                 Piece::Number(step.accesses),
@@ -262,13 +262,13 @@ impl<'p, A: Allocator + Copy> Sheet<'p, A> {
                 Piece::Plain(b" is dropped; "),
             ],
         )?;
-        put_name(&mut self.told, self.cells, cell)?;
-        self.told.extend_from_slice(b" was ")?;
-        put_value(&mut self.told, self.cells, cell, read.word)?;
-        self.told.extend_from_slice(b" and is ")?;
-        put_value(&mut self.told, self.cells, cell, word)?;
+        put_name(&mut self.drop_sentences, self.cells, cell)?;
+        self.drop_sentences.extend_from_slice(b" was ")?;
+        put_value(&mut self.drop_sentences, self.cells, cell, read.word)?;
+        self.drop_sentences.extend_from_slice(b" and is ")?;
+        put_value(&mut self.drop_sentences, self.cells, cell, word)?;
         push_pieces(
-            &mut self.told,
+            &mut self.drop_sentences,
             &[
                 Piece::Plain(b", stored by thread "),
                 Piece::Number(u64::from(store.thread)),

@@ -2,12 +2,12 @@
 
 ghost use Rattle.std.specs.Prelude.{◌≡◌, ◌∷◌, ◌++◌, [], IfOk, IfSome, OnSome, flat_map, map, slice_get};
 ghost use Rattle.replay.specs.Replays.{simulation_after, timeline_of};
-ghost use Rattle.picture.specs.Arrows.{Moment, arrow_titles};
+ghost use Rattle.picture.specs.Arrows.{ArrowStep, arrow_titles};
 ghost use Rattle.picture.specs.Glyphs.{IsPicture, is_drawn, title_of};
-ghost use Rattle.picture.specs.Replayed.{IsDrawn, deed_at, deed_of, step_title, titles};
+ghost use Rattle.picture.specs.Replayed.{IsDrawn, action_at, action_of, step_title, titles};
 
 use crate::cells::cells_of;
-use crate::step::{Deed, Step};
+use crate::step::{LocalAction, Step};
 use crate::svg::picture;
 use bytecode::{Code, InstrView};
 use machine::StepShown;
@@ -19,24 +19,24 @@ use syntax::tree::Unit;
 use world::World;
 
 /// What an instruction does, where a local step of it has a glyph.
-fn deed_of<A: Allocator>(code: &Code<A>, place: u32) -> Deed
-    ensures { result ≡ deed_of (slice_get code.now.instructions place) }
+fn action_of<A: Allocator>(code: &Code<A>, place: u32) -> LocalAction
+    ensures { result ≡ action_of (slice_get code.now.instructions place) }
 {
     match code.instr(place as usize) {
-        Some(InstrView::Begin(_)) => Deed::Begin,
-        Some(InstrView::Commit) => Deed::Commit,
-        Some(InstrView::PrintText(_) | InstrView::PrintNumber(_, _)) => Deed::Print,
-        _ => Deed::Other,
+        Some(InstrView::Begin(_)) => LocalAction::Begin,
+        Some(InstrView::Commit) => LocalAction::Commit,
+        Some(InstrView::PrintText(_) | InstrView::PrintNumber(_, _)) => LocalAction::Print,
+        _ => LocalAction::Other,
     }
 }
 
 /// What the instruction at a thread's place does; a thread that is over does nothing.
-fn deed_at<A: Allocator>(code: &Code<A>, status: Status, place: u32) -> Deed
-    ensures { result ≡ deed_at code.now status place }
+fn action_at<A: Allocator>(code: &Code<A>, status: Status, place: u32) -> LocalAction
+    ensures { result ≡ action_at code.now status place }
 {
     match status {
-        Status::Running => deed_of(code, place),
-        Status::Ended | Status::Trapped(_) => Deed::Other,
+        Status::Running => action_of(code, place),
+        Status::Ended | Status::Trapped(_) => LocalAction::Other,
     }
 }
 
@@ -57,7 +57,7 @@ fn drawn_step<A: Allocator + Copy>(
     shown: &StepShown,
     printed: Vec<u8, A>,
 ) -> Result<Step<A>, AllocError>
-    ensures title { IfOk result (λ s. title_of (is_drawn s.accesses s.access s.event s.deed) s.line.items
+    ensures title { IfOk result (λ s. title_of (is_drawn s.accesses s.access s.event s.action) s.line.items
         ≡ step_title code.now (accesses, thread, shown.now)) }
     ensures moment { IfOk result (λ s. (s.accesses ≡ accesses) × (s.access ≡ shown.now.access)
         × (s.event ≡ shown.now.event)) }
@@ -66,7 +66,7 @@ fn drawn_step<A: Allocator + Copy>(
         accesses,
         thread,
         line: step_text(alloc, code, accesses, thread, shown)?,
-        deed: deed_at(code, shown.status, shown.place),
+        action: action_at(code, shown.status, shown.place),
         levels: levels_at(code, shown.place),
         access: shown.access,
         answer: shown.answer,
@@ -107,11 +107,11 @@ fn add_step<A: Allocator + Copy>(
     shown: &StepShown,
 ) -> Option<()>
     ensures titles { OnSome result
-        (flat_map (λ s. title_of (is_drawn s.accesses s.access s.event s.deed) s.line.items) steps.new.items
-        ≡ flat_map (λ s. title_of (is_drawn s.accesses s.access s.event s.deed) s.line.items) steps.old.items
+        (flat_map (λ s. title_of (is_drawn s.accesses s.access s.event s.action) s.line.items) steps.new.items
+        ≡ flat_map (λ s. title_of (is_drawn s.accesses s.access s.event s.action) s.line.items) steps.old.items
         ++ step_title code.now (accesses, thread, shown.now)) }
-    ensures moments { OnSome result (map {B = Moment} (λ s. (s.accesses, s.access, s.event)) steps.new.items
-        ≡ map {B = Moment} (λ s. (s.accesses, s.access, s.event)) steps.old.items
+    ensures arrow_steps { OnSome result (map {B = ArrowStep} (λ s. (s.accesses, s.access, s.event)) steps.new.items
+        ≡ map {B = ArrowStep} (λ s. (s.accesses, s.access, s.event)) steps.old.items
         ++ (accesses, shown.now.access, shown.now.event) ∷ []) }
 {
     let printed = printed_by(alloc, world, thread)?;
@@ -132,10 +132,10 @@ fn drawn_steps<A: Allocator + Copy>(
     shown: &[(u64, u32, StepShown)],
 ) -> Option<Vec<Step<A>, A>>
     ensures titles { IfSome result
-        (λ v. flat_map (λ s. title_of (is_drawn s.accesses s.access s.event s.deed) s.line.items) v.items
+        (λ v. flat_map (λ s. title_of (is_drawn s.accesses s.access s.event s.action) s.line.items) v.items
         ≡ titles code.now shown.now) }
-    ensures moments { IfSome result (λ v. map {B = Moment} (λ s. (s.accesses, s.access, s.event)) v.items
-        ≡ map {B = Moment} (λ s. (s.0, s.2.access, s.2.event)) shown.now) }
+    ensures arrow_steps { IfSome result (λ v. map {B = ArrowStep} (λ s. (s.accesses, s.access, s.event)) v.items
+        ≡ map {B = ArrowStep} (λ s. (s.0, s.2.access, s.2.event)) shown.now) }
 {
     let mut steps = Vec::new(alloc);
     'shown: for (accesses, thread, step) in shown {
@@ -162,8 +162,8 @@ fn draw_steps<A: Allocator + Copy>(
     file: &[u8],
 ) -> Result<Vec<u8, A>, AllocError>
     ensures { IfOk result
-        (λ v. IsPicture (arrow_titles (map {B = Moment} (λ s. (s.accesses, s.access, s.event)) steps.now))
-        (flat_map (λ s. title_of (is_drawn s.accesses s.access s.event s.deed) s.line.items) steps.now) v.items) }
+        (λ v. IsPicture (arrow_titles (map {B = ArrowStep} (λ s. (s.accesses, s.access, s.event)) steps.now))
+        (flat_map (λ s. title_of (is_drawn s.accesses s.access s.event s.action) s.line.items) steps.now) v.items) }
 {
     let cells = cells_of(alloc, unit)?;
     let ends = ends_of(alloc, world)?;

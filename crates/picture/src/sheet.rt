@@ -79,7 +79,7 @@ pub(crate) struct Sheet<'p, A: Allocator = Global> {
     /// Numbers of accesses, and brackets.
     pub lines: Vec<u8, A>,
     /// A sentence for each drop.
-    pub told: Vec<u8, A>,
+    pub drop_sentences: Vec<u8, A>,
 }
 
 impl<'p, A: Allocator + Copy> Sheet<'p, A> {
@@ -107,7 +107,7 @@ impl<'p, A: Allocator + Copy> Sheet<'p, A> {
             boxes: Vec::new(alloc),
             lock: Vec::new(alloc),
             lines: Vec::new(alloc),
-            told: Vec::new(alloc),
+            drop_sentences: Vec::new(alloc),
         })
     }
 

@@ -19,7 +19,7 @@ pub(crate) const MOST_ACCESSES: u64 = 400;
 
 /// What the instruction of a local step does, where that has a glyph.
 #[derive(Clone, Copy, PartialEq, Eq)]
-pub enum Deed {
+pub enum LocalAction {
     /// It begins a transaction.
     Begin,
     /// It ends one.
@@ -37,7 +37,7 @@ pub struct Step<A: Allocator = Global> {
     pub thread: u32,
     /// Its line of the timeline, without the LF.
     pub line: Vec<u8, A>,
-    pub deed: Deed,
+    pub action: LocalAction,
     /// How many transactions a cancel in it takes away.
     pub levels: u32,
     pub access: Access,
@@ -50,9 +50,11 @@ pub struct Step<A: Allocator = Global> {
 impl<A: Allocator> Step<A> {
     /// Whether the step has a glyph: it is an access, something happens in it, or it begins, ends or prints.
     pub fn is_noted(&self) -> bool
-        ensures { result ≡ is_noted self.now.access self.now.event self.now.deed }
+        ensures { result ≡ is_noted self.now.access self.now.event self.now.action }
     {
-        self.access != Access::Local || self.event != Event::Quiet || self.deed != Deed::Other
+        self.access != Access::Local
+            || self.event != Event::Quiet
+            || self.action != LocalAction::Other
     }
 }
 
@@ -219,12 +221,12 @@ impl<'p, A: Allocator + Copy> Sheet<'p, A> {
         if step.access != Access::Local {
             return self.make(alloc, to, step);
         }
-        match (step.event, step.deed) {
+        match (step.event, step.action) {
             (Event::Trap(trap), _) => self.trap(alloc, to, step, u64::from(trap.number())),
             (Event::Cancel, _) => self.cancel(alloc, to, step),
-            (_, Deed::Begin) => self.begin_inner(to, step.thread),
-            (_, Deed::Commit) => self.commit(alloc, to, step),
-            (_, Deed::Print) => self.print(alloc, to, step),
+            (_, LocalAction::Begin) => self.begin_inner(to, step.thread),
+            (_, LocalAction::Commit) => self.commit(alloc, to, step),
+            (_, LocalAction::Print) => self.print(alloc, to, step),
             _ => Ok(()),
         }
     }

@@ -18,7 +18,7 @@ use syntax::numbers::Status;
 
 /// Whether a step is drawn: it has a glyph, and is made up to the last access that is drawn.
 fn is_drawn<A: Allocator>(step: &Step<A>) -> bool
-    ensures { result ≡ is_drawn step.now.accesses step.now.access step.now.event step.now.deed }
+    ensures { result ≡ is_drawn step.now.accesses step.now.access step.now.event step.now.action }
 {
     step.accesses <= MOST_ACCESSES && step.is_noted()
 }
@@ -46,7 +46,7 @@ fn add_glyph<A: Allocator + Copy>(
     step: &Step<A>,
 ) -> Result<(), AllocError>
     ensures { OnOk result (map (λ m. m.title.items) glyphs.new.items ≡ map (λ m. m.title.items) glyphs.old.items
-        ++ title_of (is_drawn step.now.accesses step.now.access step.now.event step.now.deed) step.now.line.items) }
+        ++ title_of (is_drawn step.now.accesses step.now.access step.now.event step.now.action) step.now.line.items) }
 {
     if is_drawn(step) {
         glyphs.push(glyph_of(alloc, sheet, step)?)?;
@@ -62,7 +62,7 @@ fn glyphs<A: Allocator + Copy>(
     arrows: &mut Vec<Glyph<A>, A>,
 ) -> Result<Vec<Glyph<A>, A>, AllocError>
     ensures glyphs { IfOk result (λ ms. map (λ m. m.title.items) ms.items
-        ≡ flat_map (λ s. title_of (is_drawn s.accesses s.access s.event s.deed) s.line.items) steps.now) }
+        ≡ flat_map (λ s. title_of (is_drawn s.accesses s.access s.event s.action) s.line.items) steps.now) }
     ensures arrows { OnOk result (map (λ m. m.title.items) arrows.new.items
         ≡ map (λ m. m.title.items) arrows.old.items ++ arrow_titles
         (map (λ s. (s.accesses, s.access, s.event)) steps.now)) }
@@ -301,7 +301,7 @@ fn put_front<'x, A: Allocator>(
             Piece::Plain(b" transactions took effect, "),
             Piece::Number(sheet.dropped),
             Piece::Plain(b" attempts were dropped."),
-            Piece::Words(sheet.told.as_slice()),
+            Piece::Words(sheet.drop_sentences.as_slice()),
             Piece::Plain(b"</desc>\n"),
             Piece::Plain(STYLE),
             Piece::Plain(b"<rect width=\""),
@@ -435,7 +435,7 @@ pub fn picture<A: Allocator + Copy>(
 ) -> Result<Vec<u8, A>, AllocError>
     ensures glyphs { IfOk result
         (λ v. IsPicture (arrow_titles (map (λ s. (s.accesses, s.access, s.event)) steps.now))
-        (flat_map (λ s. title_of (is_drawn s.accesses s.access s.event s.deed) s.line.items) steps.now) v.items) }
+        (flat_map (λ s. title_of (is_drawn s.accesses s.access s.event s.action) s.line.items) steps.now) v.items) }
 {
     let threads = ends.len().min(64) as u32;
     let mut sheet = Sheet::new(alloc, cells, threads)?;

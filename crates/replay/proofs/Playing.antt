@@ -14,7 +14,7 @@ use Rattle.world.specs.Stops.{StopsFor}
 use Rattle.world.proofs.Stepping.{further_more, further_none, next_accesses, next_world, parts_count}
 use Rattle.replay.specs.declared.line.Line.{Line}
 use Rattle.replay.specs.declared.line.TheConstants.{MOST_STEPS}
-use Rattle.replay.specs.Replays.{IsReplay, events_in, events_of, first_world, is_done, is_over, is_cut_off, is_quiet, line_after, lines_left, simulation_after, steps_of, steps_with, told_event}
+use Rattle.replay.specs.Replays.{IsReplay, events_in, events_of, first_world, is_done, is_over, is_cut_off, is_quiet, line_after, lines_left, simulation_after, steps_of, steps_with, shown_event}
 use Rattle.replay.specs.declared.play.ReplayHalt.{ReplayHalt}
 use Rattle.replay.specs.declared.play.ReplayHalt.TheVariants.{Stopped, Refused}
 use Rattle.replay.specs.inner.Playing.{ComesTo, Going, HaltsAt, HaltsIn, HasPlayed, IsCut, Plays}
@@ -44,19 +44,19 @@ module _ (code : Code) where
 
   -- the events with those of one step more
   events_more : (ts : List ℕ) (t : ℕ) (w : World Configuration) (n : ℕ) → events_in code (ts ++ t ∷ []) w n
-      ≡ events_in code ts w n ++ told_event (n + accesses_in code ts w + cost_next code (slice_get (run (effect code) ts w).parts t)) t (event_next code (run (effect code) ts w) (slice_get (run (effect code) ts w).parts t))
-  events_more [] t w n = append-nil _ ∙ ap (λ (m : ℕ). told_event (m + cost_next code (slice_get w.parts t)) t (event_next code w (slice_get w.parts t))) (let e : n ≡ n + 0 = omega arith in e)
+      ≡ events_in code ts w n ++ shown_event (n + accesses_in code ts w + cost_next code (slice_get (run (effect code) ts w).parts t)) t (event_next code (run (effect code) ts w) (slice_get (run (effect code) ts w).parts t))
+  events_more [] t w n = append-nil _ ∙ ap (λ (m : ℕ). shown_event (m + cost_next code (slice_get w.parts t)) t (event_next code w (slice_get w.parts t))) (let e : n ≡ n + 0 = omega arith in e)
   events_more (u ∷ ts) t w n =
       let m : ℕ = n + cost_next code (slice_get w.parts u) in
       let k : m + accesses_in code ts (step (effect code) w u) ≡ n + (cost_next code (slice_get w.parts u) + accesses_in code ts (step (effect code) w u)) = omega arith in
-      ap (λ (l : List (ℕ × ℕ × Event)). told_event m u (event_next code w (slice_get w.parts u)) ++ l) (events_more ts t (step (effect code) w u) m)
-      ∙ sym (append_assoc (told_event m u (event_next code w (slice_get w.parts u))) _ _)
-      ∙ ap (λ (j : ℕ). (told_event m u (event_next code w (slice_get w.parts u)) ++ events_in code ts (step (effect code) w u) m) ++ told_event (j + cost_next code (slice_get (run (effect code) (u ∷ ts) w).parts t)) t (event_next code (run (effect code) (u ∷ ts) w) (slice_get (run (effect code) (u ∷ ts) w).parts t))) k
+      ap (λ (l : List (ℕ × ℕ × Event)). shown_event m u (event_next code w (slice_get w.parts u)) ++ l) (events_more ts t (step (effect code) w u) m)
+      ∙ sym (append_assoc (shown_event m u (event_next code w (slice_get w.parts u))) _ _)
+      ∙ ap (λ (j : ℕ). (shown_event m u (event_next code w (slice_get w.parts u)) ++ events_in code ts (step (effect code) w u) m) ++ shown_event (j + cost_next code (slice_get (run (effect code) (u ∷ ts) w).parts t)) t (event_next code (run (effect code) (u ∷ ts) w) (slice_get (run (effect code) (u ∷ ts) w).parts t))) k
 
-pub next_events : (s z : Simulation) (t : ℕ) → z ≡ further s (t ∷ []) → events_of z ≡ events_of s ++ told_event (accesses_of z) t (event_at s t)
+pub next_events : (s z : Simulation) (t : ℕ) → z ≡ further s (t ∷ []) → events_of z ≡ events_of s ++ shown_event (accesses_of z) t (event_at s t)
 next_events s z t e =
     ap events_of e ∙ events_more s.code s.trace t (first_world s.code s.threads) 0
-    ∙ ap (λ (n : ℕ). events_of s ++ told_event n t (event_at s t)) (let f = next_accesses s t in let g : 0 + accesses_of s + cost_at s t ≡ accesses_of s + cost_at s t = omega arith in g ∙ sym f ∙ ap accesses_of (sym e))
+    ∙ ap (λ (n : ℕ). events_of s ++ shown_event n t (event_at s t)) (let f = next_accesses s t in let g : 0 + accesses_of s + cost_at s t ≡ accesses_of s + cost_at s t = omega arith in g ∙ sym f ∙ ap accesses_of (sym e))
 
 module _ (line : Line) (room : ℕ) where
   pub goes_first : (s : Simulation) → Going line room line.count room s s
@@ -206,11 +206,11 @@ one_step s z t a b e f g = g ∙ ap accesses_of e ∙ next_accesses s t ∙ ap (
 
 pub quiet_events : (s z : Simulation) (t : ℕ) (e : Event) → z ≡ further s (t ∷ []) → e ≡ event_at s t → is_quiet e ≡ true → events_of s ≡ events_of z
 quiet_events s z t e is at quiet =
-    sym (next_events s z t is ∙ ap (λ (v : Event). events_of s ++ told_event (accesses_of z) t v) (sym at) ∙ ap (λ (b : Bool). events_of s ++ (if b then [] else (accesses_of z, t, e) ∷ [])) quiet ∙ append-nil (events_of s))
+    sym (next_events s z t is ∙ ap (λ (v : Event). events_of s ++ shown_event (accesses_of z) t v) (sym at) ∙ ap (λ (b : Bool). events_of s ++ (if b then [] else (accesses_of z, t, e) ∷ [])) quiet ∙ append-nil (events_of s))
 
 pub loud_events : (s z : Simulation) (t n : ℕ) (e : Event) → z ≡ further s (t ∷ []) → e ≡ event_at s t → is_quiet e ≡ false → n ≡ accesses_of z → events_of s ++ (n, t, e) ∷ [] ≡ events_of z
 loud_events s z t n e is at quiet count =
-    sym (next_events s z t is ∙ ap (λ (v : Event). events_of s ++ told_event (accesses_of z) t v) (sym at) ∙ ap (λ (b : Bool). events_of s ++ (if b then [] else (accesses_of z, t, e) ∷ [])) quiet ∙ ap (λ m. events_of s ++ (m, t, e) ∷ []) (sym count))
+    sym (next_events s z t is ∙ ap (λ (v : Event). events_of s ++ shown_event (accesses_of z) t v) (sym at) ∙ ap (λ (b : Bool). events_of s ++ (if b then [] else (accesses_of z, t, e) ∷ [])) quiet ∙ ap (λ m. events_of s ++ (m, t, e) ∷ []) (sym count))
 
 -- the lines that are left
 pub drop_get : (xs : List Line) (i : ℕ) (x : Line) → slice_get xs i ≡ Some x → drop i xs ≡ x ∷ drop (i + 1) xs

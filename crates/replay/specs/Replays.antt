@@ -63,14 +63,14 @@ is_quiet event.Cancel = false
 is_quiet (event.Trap cause) = false
 
 -- one event, if it is told: with the accesses that all threads had made, and the thread
-abbrev pub told_event : ℕ → ℕ → Event → List (ℕ × ℕ × Event)
-told_event accesses t e = if is_quiet e then [] else (accesses, t, e) ∷ []
+abbrev pub shown_event : ℕ → ℕ → Event → List (ℕ × ℕ × Event)
+shown_event accesses t e = if is_quiet e then [] else (accesses, t, e) ∷ []
 
 -- the events of these steps from a world on, before which so many accesses were made
 abbrev pub events_in : Code → List ℕ → World Configuration → ℕ → List (ℕ × ℕ × Event)
 events_in code [] w n = []
 events_in code (t ∷ ts) w n =
-    told_event (n + cost_next code (slice_get w.parts t)) t (event_next code w (slice_get w.parts t))
+    shown_event (n + cost_next code (slice_get w.parts t)) t (event_next code w (slice_get w.parts t))
     ++ events_in code ts (step (effect code) w t) (n + cost_next code (slice_get w.parts t))
 
 -- the world after these steps

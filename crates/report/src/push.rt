@@ -83,7 +83,7 @@ pub(crate) fn push_lines<A: Allocator>(
 }
 
 /// Adds the accesses made so far and the thread, behind which it is told what happened.
-pub(crate) fn push_told<A: Allocator>(
+pub(crate) fn push_time_and_thread<A: Allocator>(
     report: &mut Vec<u8, A>,
     accesses: u64,
     thread: u32,
@@ -125,7 +125,7 @@ pub(crate) fn push_event<A: Allocator>(
     if event == Event::Quiet {
         return Ok(());
     }
-    push_told(report, accesses, thread)?;
+    push_time_and_thread(report, accesses, thread)?;
     push_happened(report, event)?;
     push_bytes(report, b"\n")
 }

@@ -6,7 +6,7 @@ ghost use Rattle.report.specs.Timeline.{step_line, step_words};
 ghost use Rattle.report.specs.Timeline as spec;
 
 use crate::printed::End;
-use crate::push::{push_bytes, push_end, push_happened, push_number, push_told};
+use crate::push::{push_bytes, push_end, push_happened, push_number, push_time_and_thread};
 use bytecode::{Code, instruction_text};
 use machine::{Event, StepShown};
 use norec_core::{Access, Answer};
@@ -87,7 +87,7 @@ fn push_answer<A: Allocator>(report: &mut Vec<u8, A>, answer: Answer) -> Result<
 }
 
 /// Adds what happened, where that is told.
-fn push_told_event<A: Allocator>(report: &mut Vec<u8, A>, event: Event) -> Result<(), AllocError>
+fn push_event_words<A: Allocator>(report: &mut Vec<u8, A>, event: Event) -> Result<(), AllocError>
     ensures { OnOk result (report.new.items ≡ report.old.items ++ happened_words event) }
 {
     if event == Event::Quiet {
@@ -109,7 +109,7 @@ fn push_shown<A: Allocator + Copy>(
     push_place(alloc, report, code, shown.status, shown.place)?;
     push_access(report, shown.access)?;
     push_answer(report, shown.answer)?;
-    push_told_event(report, shown.event)
+    push_event_words(report, shown.event)
 }
 
 /// Adds what the line of a step says.
@@ -123,7 +123,7 @@ fn push_step<A: Allocator + Copy>(
 ) -> Result<(), AllocError>
     ensures { OnOk result (report.new.items ≡ report.old.items ++ step_words code.now (accesses, thread, shown.now)) }
 {
-    push_told(report, accesses, thread)?;
+    push_time_and_thread(report, accesses, thread)?;
     push_shown(alloc, report, code, shown)
 }
 

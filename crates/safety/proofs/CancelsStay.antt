@@ -2,7 +2,7 @@
 use Rattle.std.proofs.Common.{◌≡◌, ◌≢◌, refl, sym, ap, subst, ℕ, List, [], ◌∷◌, ◌++◌, arith, Option, Some, None, Bool, true, false, IsTrue}
 use Rattle.std.specs.Prelude.{if◌then◌else◌, bytes_eq, Contains, unwrap_or}
 use Rattle.std.proofs.lemmas.List.Elements.{All-contains, Contains-append_left, Contains-append_right}
-use Rattle.syntax.specs.declared.tree.{Mode.TheVariants.Atomic, Mode.TheVariants.Relaxed, Kind.TheVariants.Plain, Kind.TheVariants.Outer}
+use Rattle.syntax.specs.declared.tree.{Mode.TheVariants.Atomic, Mode.TheVariants.Relaxed, TransactionKind.TheVariants.Plain, TransactionKind.TheVariants.Outer}
 use Rattle.syntax.specs.Tree as Tree
 use Rattle.syntax.specs.Tree.{Stmt, Stmts, Empty, Declare, Do, Block, Print, If, IfElse, While, DoWhile, For, Break, Continue, Return, Transaction, Cancel, CancelOuter, Function, Defines, Shares, Program}
 use Rattle.syntax.specs.Names.{definition_or, definition_of}
@@ -100,8 +100,8 @@ mutual
   cancels_fit (Transaction Outer ss at) a h =
       let a' = in_transaction Outer a in
       all_cancels_fit ss a' (back (kind_site Outer a at) (stmts_sites ss a') h)
-  cancels_fit (Cancel at) a h = h.each (record { construct = Cancels; at = at; atomic = a.atomic; outer = a.outer; in_any = a.in_any }) (0, omega arith, refl) refl
-  cancels_fit (CancelOuter at) a h = h.outer (record { construct = CancelsOuter; at = at; atomic = a.atomic; outer = a.outer; in_any = a.in_any }) (0, omega arith, refl) refl
+  cancels_fit (Cancel at) a h = h.each (record { construct = Cancels; span = at; atomic = a.atomic; outer = a.outer; in_any = a.in_any }) (0, omega arith, refl) refl
+  cancels_fit (CancelOuter at) a h = h.outer (record { construct = CancelsOuter; span = at; atomic = a.atomic; outer = a.outer; in_any = a.in_any }) (0, omega arith, refl) refl
 
   all_cancels_fit : (ss : Stmts) (a : Around) → CancelsInside (stmts_sites ss a) → AllJumpsFit ss true a.atomic a.outer
   all_cancels_fit Tree.[] a h = tt

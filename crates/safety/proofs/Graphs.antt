@@ -7,7 +7,7 @@ use Rattle.std.proofs.lemmas.Bool.{cases_eq}
 use Rattle.std.proofs.Math.Seq.{take-append_seam}
 use Rattle.std.proofs.lemmas.Slice.Eq.{bytes_eq-Decides}
 use Rattle.std.specs.Option.{option_or}
-use Rattle.name_tables.specs.Named.{first, declared}
+use Rattle.name_tables.specs.Named.{first, with_declaration}
 use Rattle.name_tables.proofs.Firsts.{first_declared}
 use Rattle.safety.specs.Links.{Link}
 use Rattle.safety.specs.inner.Graphs.{IsNumbered, IsNumber, IsEdge, callers_at, HasLinks, ExtendsMap}
@@ -81,7 +81,7 @@ module _ (old new : List ℕ → Option ℕ) (callers : List (List ℕ)) (name :
   })
 
 -- what a name that is new stands for
-pub put_number : (old new : List (List ℕ × ℕ)) (name : List ℕ) (k : ℕ) → first old name ≡ None → new ≡ declared old name k → (x : List ℕ) → first new x ≡ cond (bytes_eq name x) (Some k) (first old x)
+pub put_number : (old new : List (List ℕ × ℕ)) (name : List ℕ) (k : ℕ) → first old name ≡ None → new ≡ with_declaration old name k → (x : List ℕ) → first new x ≡ cond (bytes_eq name x) (Some k) (first old x)
 put_number old new name k none is x = ap (λ es. first es x) is ∙ first_declared old name k x ∙ by (bytes_eq name x) refl
   where
     nothing : (o : Option ℕ) → option_or o None ≡ o

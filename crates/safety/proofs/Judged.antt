@@ -38,16 +38,16 @@ Keeps p s = KeepsAs p s s.construct
 
 module _ (p : Program) (safe outer : FunctionSet) (tells : TellsSafe p safe) (leads : TellsOuter p outer) where
   kept_by : (s : Site) (c : Construct) → AreMet (demands_at safe outer s c) → KeepsAs p s c
-  kept_by s Prints h = ((no_and s.atomic (is_met 40 s.at (not s.atomic) h), λ e. absurd cc), (λ e o. o, λ e. absurd cc))
-  kept_by s Relaxes h = ((no_and s.atomic (is_met 41 s.at (not s.atomic) h), λ e. absurd cc), (λ e o. o, λ e. absurd cc))
-  kept_by s OpensOuter h = ((λ e. tt, λ e. absurd cc), (λ e o. no_and s.atomic (is_met 44 s.at (not s.atomic) h) e, λ e. absurd cc))
-  kept_by s Cancels h = ((λ e. tt, λ e. is_met 42 s.at s.atomic h), (λ e o. o, λ e. absurd cc))
-  kept_by s CancelsOuter h = ((λ e. tt, λ e. absurd cc), (λ e o. o, λ e. is_met 45 s.at s.outer h))
+  kept_by s Prints h = ((no_and s.atomic (is_met 40 s.span (not s.atomic) h), λ e. absurd cc), (λ e o. o, λ e. absurd cc))
+  kept_by s Relaxes h = ((no_and s.atomic (is_met 41 s.span (not s.atomic) h), λ e. absurd cc), (λ e o. o, λ e. absurd cc))
+  kept_by s OpensOuter h = ((λ e. tt, λ e. absurd cc), (λ e o. no_and s.atomic (is_met 44 s.span (not s.atomic) h) e, λ e. absurd cc))
+  kept_by s Cancels h = ((λ e. tt, λ e. is_met 42 s.span s.atomic h), (λ e o. o, λ e. absurd cc))
+  kept_by s CancelsOuter h = ((λ e. tt, λ e. absurd cc), (λ e o. o, λ e. is_met 45 s.span s.outer h))
   kept_by s (Calls f) h =
-      let first = demand 40 s.at (not s.atomic || safe f) in
-      let second = demand 44 s.at (not s.atomic || not (outer f)) in (
-        (λ e. (tells f).0 (or_right s.atomic (safe f) (is_met 40 s.at (not s.atomic || safe f) (met_before first second h)) e), λ e. absurd cc),
-        (λ e o. no_and (outer f) (or_right s.atomic (not (outer f)) (is_met 44 s.at (not s.atomic || not (outer f)) (met_behind first second h)) e) ((leads f).1 o), λ e. absurd cc),
+      let first = demand 40 s.span (not s.atomic || safe f) in
+      let second = demand 44 s.span (not s.atomic || not (outer f)) in (
+        (λ e. (tells f).0 (or_right s.atomic (safe f) (is_met 40 s.span (not s.atomic || safe f) (met_before first second h)) e), λ e. absurd cc),
+        (λ e o. no_and (outer f) (or_right s.atomic (not (outer f)) (is_met 44 s.span (not s.atomic || not (outer f)) (met_behind first second h)) e) ((leads f).1 o), λ e. absurd cc),
       )
   kept_by s (Uses x) h = ((λ e. tt, λ e. absurd cc), (λ e o. o, λ e. absurd cc))
 
@@ -67,7 +67,7 @@ module _ (p : Program) (safe outer : FunctionSet) (tells : TellsSafe p safe) (le
   items_keep (Shares gs ∷ items) f h = items_keep items f h
   items_keep (Defines g ∷ items) f h =
       let own = body_sites g.parameters g.body in
-      let claim = demand 43 g.name.at (is_none g.body || not (says_safe (attributes_of p g.name.text)) || safe g.name.text) in
+      let claim = demand 43 g.name.span (is_none g.body || not (says_safe (attributes_of p g.name.text)) || safe g.name.text) in
       let here = met_before (function_demands p safe outer g) (flat_map (item_demands p safe outer) items) h in
       All-append (Keeps p) (if bytes_eq g.name.text f then own else []) (sites_of items f)
       (if_own (bytes_eq g.name.text f) own (sites_keep own (met_behind claim (flat_map (λ s. demands_at safe outer s s.construct) own) here)))
@@ -86,8 +86,8 @@ module _ (p : Program) (safe outer : FunctionSet) (tells : TellsSafe p safe) (le
     where
       met : IsTrue (is_none g.body || not (says_safe (attributes_of p g.name.text)) || safe g.name.text)
       met =
-          let claim = demand 43 g.name.at (is_none g.body || not (says_safe (attributes_of p g.name.text)) || safe g.name.text) in
-          is_met 43 g.name.at (is_none g.body || not (says_safe (attributes_of p g.name.text)) || safe g.name.text)
+          let claim = demand 43 g.name.span (is_none g.body || not (says_safe (attributes_of p g.name.text)) || safe g.name.text) in
+          is_met 43 g.name.span (is_none g.body || not (says_safe (attributes_of p g.name.text)) || safe g.name.text)
           (met_before claim (flat_map (λ s. demands_at safe outer s s.construct) (body_sites g.parameters g.body)) (met_before (function_demands p safe outer g) (flat_map (item_demands p safe outer) items) h))
 
       own : (b : Stmts) → g.body ≡ Some b → g.name.text ≡ f → IsTrue (safe f)
@@ -118,9 +118,9 @@ module _ (p : Program) where
       let typed = met_before (IsTypedFunction earlier g) (AreTypedItems (earlier ++ Defines g ∷ []) items) t in
       let unknown = is_unknown (file_scope earlier g.name.text) in
       let has = is_some (definition_of p g.name.text) in
-      let own = demand 29 g.name.at (not unknown || has) in
+      let own = demand 29 g.name.span (not unknown || has) in
       let here : has ≡ true = own_defined (not unknown) has (first_prototype p earlier g (none_unmet (IsTypedFunction earlier g) typed) all)
-      (is_met 29 g.name.at (not unknown || has) (met_before own (AreDefined p (earlier ++ Defines g ∷ []) items) d)) in
+      (is_met 29 g.name.span (not unknown || has) (met_before own (AreDefined p (earlier ++ Defines g ∷ []) items) d)) in
       elim (by_name g.name.text f g.attributes (attributes_of items f) Safe c) [
         | inl e ↦ subst (λ x. is_some (definition_of p x) ≡ true) e.0 here
         | inr e ↦ declared_defined (earlier ++ Defines g ∷ []) items f (all_defined_function p earlier g here all)

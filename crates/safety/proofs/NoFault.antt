@@ -14,9 +14,10 @@ use Rattle.safety.specs.Sites.{Construct, Prints, Relaxes, OpensOuter, Cancels, 
 use Rattle.safety.specs.Safe.{FunctionSet, TellsSafe, TellsOuter, IsSafeConstruct, IsSafe, Opens, LeadsToOuter, KeepsAtomic, KeepsOuter, IsSafeProgram}
 use Rattle.safety.specs.Faults.{demands_at, says_safe, function_demands, item_demands, safety_demands}
 use Rattle.safety.specs.Laws.{SafeHasNoFault}
+use Rattle.safety.proofs.Unsafe.{contains_safe}
 
 one_met : (n : ℕ) (at : Span) (b : Bool) → IsTrue b → AreMet (demand n at b)
-one_met n at b h = All-cons (λ d. IsTrue d.met) (record { number = n; at = at; met = b }) [] h (All-nil (λ d. IsTrue d.met))
+one_met n at b h = All-cons (λ d. IsTrue d.met) (record { number = n; span = at; met = b }) [] h (All-nil (λ d. IsTrue d.met))
 
 -- what is not so where the one holds
 never : (b : Bool) → (b ≡ true → ⊥) → IsTrue (not b)
@@ -33,15 +34,15 @@ Keeps p s = KeepsAtomic p s × KeepsOuter p s
 
 module _ (p : Program) (safe outer : FunctionSet) (tells : TellsSafe p safe) (leads : TellsOuter p outer) where
   site_met : (s : Site) (c : Construct) → (s.atomic ≡ true → IsSafeConstruct (IsSafe p) c) → (c ≡ Cancels → s.atomic ≡ true) → (s.atomic ≡ true → Opens (LeadsToOuter p) c → ⊥) → (c ≡ CancelsOuter → s.outer ≡ true) → AreMet (demands_at safe outer s c)
-  site_met s Prints h cancel o far = one_met 40 s.at (not s.atomic) (never s.atomic h)
-  site_met s Relaxes h cancel o far = one_met 41 s.at (not s.atomic) (never s.atomic h)
-  site_met s OpensOuter h cancel o far = one_met 44 s.at (not s.atomic) (never s.atomic (λ e. o e tt))
-  site_met s Cancels h cancel o far = one_met 42 s.at s.atomic (cancel refl)
-  site_met s CancelsOuter h cancel o far = one_met 45 s.at s.outer (far refl)
+  site_met s Prints h cancel o far = one_met 40 s.span (not s.atomic) (never s.atomic h)
+  site_met s Relaxes h cancel o far = one_met 41 s.span (not s.atomic) (never s.atomic h)
+  site_met s OpensOuter h cancel o far = one_met 44 s.span (not s.atomic) (never s.atomic (λ e. o e tt))
+  site_met s Cancels h cancel o far = one_met 42 s.span s.atomic (cancel refl)
+  site_met s CancelsOuter h cancel o far = one_met 45 s.span s.outer (far refl)
   site_met s (Calls f) h cancel o far =
-      All-append (λ d. IsTrue d.met) (demand 40 s.at (not s.atomic || safe f)) (demand 44 s.at (not s.atomic || not (outer f)))
-      (one_met 40 s.at (not s.atomic || safe f) (or_else s.atomic (safe f) (λ e. (tells f).1 (h e))))
-      (one_met 44 s.at (not s.atomic || not (outer f)) (or_else s.atomic (not (outer f)) (λ e. never (outer f) (λ t. o e ((leads f).0 t)))))
+      All-append (λ d. IsTrue d.met) (demand 40 s.span (not s.atomic || safe f)) (demand 44 s.span (not s.atomic || not (outer f)))
+      (one_met 40 s.span (not s.atomic || safe f) (or_else s.atomic (safe f) (λ e. (tells f).1 (h e))))
+      (one_met 44 s.span (not s.atomic || not (outer f)) (or_else s.atomic (not (outer f)) (λ e. never (outer f) (λ t. o e ((leads f).0 t)))))
   site_met s (Uses x) h cancel o far = All-nil (λ d. IsTrue d.met)
 
   sites_met : (ss : List Site) → All (Keeps p) ss → AreMet (flat_map (λ s. demands_at safe outer s s.construct) ss)
@@ -70,12 +71,6 @@ own_sites : (b : Bool) (here : List Site) (P : Site → Type 0) → b ≡ true �
 own_sites true here P e h = h
 own_sites false here P e h = absurd cc
 
-says_contains : (all : List Attribute) → says_safe all ≡ true → Contains all Safe
-says_contains [] h = absurd cc
-says_contains (Safe ∷ rest) h = (0, omega arith, refl)
-says_contains (Unsafe ∷ rest) h = Contains-append_right (Unsafe ∷ []) rest Safe (says_contains rest h)
-says_contains (Callable ∷ rest) h = Contains-append_right (Callable ∷ []) rest Safe (says_contains rest h)
-
 promised : (none says is : Bool) → (says ≡ true → IsTrue is) → IsTrue (none || not says || is)
 promised true says is h = refl
 promised false true is h = h refl
@@ -91,9 +86,9 @@ module _ (p : Program) (safe outer : FunctionSet) (tells : TellsSafe p safe) (le
       let split : All (Keeps p) (sites_of earlier name ++ sites_of (Defines f ∷ items) name) = subst (All (Keeps p)) (sites_append earlier (Defines f ∷ items) name) all in
       let behind = All-behind (Keeps p) (sites_of earlier name) (sites_of (Defines f ∷ items) name) split in
       let sites = own_sites (bytes_eq name name) own (Keeps p) is (All-before (Keeps p) (if bytes_eq name name then own else []) (sites_of items name) behind) in
-      let promise = promised (is_none f.body) (says_safe (attributes_of p name)) (safe name) (λ e. (tells name).1 (kept.declared name (says_contains (attributes_of p name) e))) in
-      All-append (λ d. IsTrue d.met) (demand 43 f.name.at (is_none f.body || not (says_safe (attributes_of p name)) || safe name)) (flat_map (λ s. demands_at safe outer s s.construct) own)
-      (one_met 43 f.name.at (is_none f.body || not (says_safe (attributes_of p name)) || safe name) promise) (sites_met p safe outer tells leads own sites)
+      let promise = promised (is_none f.body) (says_safe (attributes_of p name)) (safe name) (λ e. (tells name).1 (kept.declared name (contains_safe (attributes_of p name) e))) in
+      All-append (λ d. IsTrue d.met) (demand 43 f.name.span (is_none f.body || not (says_safe (attributes_of p name)) || safe name)) (flat_map (λ s. demands_at safe outer s s.construct) own)
+      (one_met 43 f.name.span (is_none f.body || not (says_safe (attributes_of p name)) || safe name) promise) (sites_met p safe outer tells leads own sites)
 
   items_met : (earlier items : List Item) → p ≡ earlier ++ items → AreMet (flat_map (item_demands p safe outer) items)
   items_met earlier [] whole = All-nil (λ d. IsTrue d.met)

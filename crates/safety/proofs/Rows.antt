@@ -3,7 +3,7 @@ use Rattle.std.proofs.Common.{◌≡◌, refl, ℕ, ◌+◌, List, [], ◌∷◌
 use Rattle.std.specs.Prelude.{codes, bytes_eq, not}
 use Rattle.lex.specs.declared.token.Span.{Span}
 use Rattle.syntax.specs.declared.tree.Mode.TheVariants.{Relaxed}
-use Rattle.syntax.specs.declared.tree.Kind.TheVariants.{Plain}
+use Rattle.syntax.specs.declared.tree.TransactionKind.TheVariants.{Plain}
 use Rattle.syntax.specs.declared.tree.Attribute.TheVariants.{Safe}
 use Rattle.syntax.specs.Tree as Tree
 use Rattle.syntax.specs.Tree.{Evaluate, Call, Stmts, Do, Print, Transaction, Cancel, Item, Defines, Program}
@@ -15,7 +15,7 @@ use Rattle.safety.specs.Safe.{FunctionSet}
 use Rattle.safety.specs.Faults.{safety_demands}
 
 abbrev site : Construct → Bool → Bool → Site
-site c atomic in_any = record { construct = c; at = here; atomic = atomic; outer = false; in_any = in_any }
+site c atomic in_any = record { construct = c; span = here; atomic = atomic; outer = false; in_any = in_any }
 
 -- all functions but this one
 abbrev but : List ℕ → FunctionSet
@@ -51,7 +51,7 @@ cancel_outside_atomic = refl
 -- safe void f(void) { cancel; printf(""); } W{ atomic { f(); } }: a promise comes before the function's own sites, and
 -- a function before those after it
 abbrev safe_function : Stmts → Item
-safe_function body = Defines (record { attributes = Safe ∷ []; result = None; name = record { text = codes "f"; at = at 1 }; parameters = []; body = Some body })
+safe_function body = Defines (record { attributes = Safe ∷ []; result = None; name = record { text = codes "f"; span = at 1 }; parameters = []; body = Some body })
 
 abbrev promises : Program
 promises =

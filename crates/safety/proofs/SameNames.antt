@@ -3,7 +3,7 @@ use Rattle.std.proofs.Common.{◌≡◌, refl, ap, sym, ◌∙◌, ℕ, List, []
 use Rattle.std.specs.Prelude.{if◌then◌else◌, bytes_eq}
 use Rattle.std.proofs.lemmas.List.Folds.{list_any-append}
 use Rattle.syntax.specs.Tree.{Name, Expr, Exprs, Variable, Constant, Element, Call, Parenthesized, Cast, Unary, Binary, Logical, Conditional, InTransaction, Simple, Evaluate, Assign, Adjust, Declarator, Start, Nothing, Declares, Does, Stmt, Stmts, Empty, Declare, Do, Block, Print, If, IfElse, While, DoWhile, For, Break, Continue, Return, Transaction, Cancel, CancelOuter}
-use Rattle.syntax.specs.declared.tree.{Mode.TheVariants.Atomic, Mode.TheVariants.Relaxed, Kind.TheVariants.Plain, Kind.TheVariants.Outer}
+use Rattle.syntax.specs.declared.tree.{Mode.TheVariants.Atomic, Mode.TheVariants.Relaxed, TransactionKind.TheVariants.Plain, TransactionKind.TheVariants.Outer}
 use Rattle.syntax.specs.Typing.{has_name, names_of}
 use Rattle.safety.specs.Sites.{Prints, Relaxes, OpensOuter, Calls, Uses, Site, Around, site, in_transaction, uses, expr_sites, exprs_sites, sites_if_any, simple_sites, declarator_sites, start_sites, names_of_start, stmt_sites, stmts_sites}
 
@@ -42,14 +42,14 @@ both : (us vs xs ys : List Site) → us ≡ vs → xs ≡ ys → us ++ xs ≡ vs
 both us vs xs ys h k = (λ i. h i ++ k i)
 
 uses_same : (x : Name) (w : Around) (xs ys : Names) → Same xs ys → uses x (within xs w) ≡ uses x (within ys w)
-uses_same x w xs ys h = ap (λ b. if b then [] else site w (Uses x.text) x.at) (h x.text)
+uses_same x w xs ys h = ap (λ b. if b then [] else site w (Uses x.text) x.span) (h x.text)
 
 mutual
   expr_same : (e : Expr) (w : Around) (xs ys : Names) → Same xs ys → expr_sites e (within xs w) ≡ expr_sites e (within ys w)
   expr_same (Variable x) w xs ys h = uses_same x w xs ys h
   expr_same (Constant n t at) w xs ys h = refl
   expr_same (Element x e at) w xs ys h = both _ _ _ _ (uses_same x w xs ys h) (expr_same e w xs ys h)
-  expr_same (Call f es at) w xs ys h = ap (λ ss. site w (Calls f.text) f.at ++ ss) (exprs_same es w xs ys h)
+  expr_same (Call f es at) w xs ys h = ap (λ ss. site w (Calls f.text) f.span ++ ss) (exprs_same es w xs ys h)
   expr_same (Parenthesized e at) w xs ys h = expr_same e w xs ys h
   expr_same (Cast t e at) w xs ys h = expr_same e w xs ys h
   expr_same (Unary op e at) w xs ys h = expr_same e w xs ys h

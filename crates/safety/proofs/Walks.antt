@@ -18,7 +18,7 @@ use Rattle.syntax.specs.declared.tree.{UnaryOp.UnaryOp, BinaryOp.BinaryOp, Logic
 use Rattle.syntax.proofs.Seen.{expr_of_variable, expr_of_element, expr_of_call, expr_of_parenthesized, expr_of_cast, expr_of_unary, expr_of_binary, expr_of_logical, expr_of_conditional, expr_of_in_transaction, stmt_of_declare, stmt_of_block, stmt_of_print, stmt_of_while, stmt_of_do_while, stmt_of_for, stmt_of_return, stmt_of_transaction}
 use Rattle.syntax.specs.Tree as Tree
 use Rattle.syntax.specs.Tree.{Span}
-use Rattle.syntax.specs.declared.tree.{Mode.Mode, Mode.TheVariants.Atomic, Mode.TheVariants.Relaxed, Kind.Kind, Kind.TheVariants.Plain, Kind.TheVariants.Outer}
+use Rattle.syntax.specs.declared.tree.{Mode.Mode, Mode.TheVariants.Atomic, Mode.TheVariants.Relaxed, TransactionKind.TransactionKind, TransactionKind.TheVariants.Plain, TransactionKind.TheVariants.Outer}
 use Rattle.syntax.specs.Views.{name_of, expr_of, exprs_of, declarator_of, declaration_of, start_of, simple_of, stmt_step, stmt_of, stmts_of, parameter_of}
 use Rattle.syntax.specs.Typing.{names_of, parameter_names}
 use Rattle.safety.specs.declared.site.Site.{Site as OwnSite}
@@ -38,9 +38,9 @@ pub same : (o n : List OwnSite) (a all : List Site) → all ≡ a → Appends o 
 same o n a all is h = h ∙ ap (λ xs. sites_of_own o ++ xs) (sym is)
 
 -- what holds anyway
-pub held : {T E P : Type 0} (r : Result T E) → P → OnOk r P
-held (Ok x) h = h
-held (Err e) h = tt
+pub where_ok : {T E P : Type 0} (r : Result T E) → P → OnOk r P
+where_ok (Ok x) h = h
+where_ok (Err e) h = tt
 
 -- one step of a loop
 pub next : (o m n : List OwnSite) (a rest now all : List Site) → now ≡ a ++ rest → Appends m n a → sites_of_own m ++ now ≡ sites_of_own o ++ all → sites_of_own n ++ rest ≡ sites_of_own o ++ all
@@ -118,7 +118,7 @@ module _ {A : Type 0} (w : Around) where
   pub print_sites : (s : S.Stmt A) (at : Span) (text : List ℕ) (text_at : Span) (es fs : List (E.Expr A)) → s ≡ S.Print at text text_at es → fs ≡ es → stmt_sites (stmt_of s) w ≡ site w Prints at ++ exprs_sites (exprs_of fs) w
   print_sites s at text text_at es fs is h = ap (λ t. stmt_sites t w) (ap stmt_of is ∙ stmt_of_print at text text_at es) ∙ ap (λ us. site w Prints at ++ exprs_sites (exprs_of us) w) (sym h)
 
-  pub transaction_sites : (s : S.Stmt A) (kind : Kind) (ss ts : List (S.Stmt A)) (at : Span) → s ≡ S.Transaction kind ss at → ts ≡ ss → stmt_sites (stmt_of s) w ≡ kind_site kind w at ++ stmts_sites (stmts_of ts) (in_transaction kind w)
+  pub transaction_sites : (s : S.Stmt A) (kind : TransactionKind) (ss ts : List (S.Stmt A)) (at : Span) → s ≡ S.Transaction kind ss at → ts ≡ ss → stmt_sites (stmt_of s) w ≡ kind_site kind w at ++ stmts_sites (stmts_of ts) (in_transaction kind w)
   transaction_sites s kind ss ts at is h = ap (λ t. stmt_sites t w) (ap stmt_of is ∙ stmt_of_transaction kind ss at) ∙ ap (λ us. kind_site kind w at ++ stmts_sites (stmts_of us) (in_transaction kind w)) (sym h)
 
   pub for_sites : (s : S.Stmt A) (head head' : H.ForHead A) (a a' : S.Stmt A) → s ≡ S.For head a → head' ≡ head → a' ≡ a → stmt_sites (stmt_of s) w ≡ head_sites (start_of head'.start) (option_map expr_of head'.condition) (option_map simple_of head'.step) w ++ stmt_sites (stmt_of a') (with_names (names_of_start (start_of head'.start)) w)
@@ -127,35 +127,35 @@ module _ {A : Type 0} (w : Around) where
       ∙ (λ i. head_sites (start_of (sym h i).start) (option_map expr_of (sym h i).condition) (option_map simple_of (sym h i).step) w ++ stmt_sites (stmt_of (sym k i)) (with_names (names_of_start (start_of (sym h i).start)) w))
 
 -- names that are declared in order
-module _ (place : TransactionsAround) where
-  pub first_sites : (e : Option Tree.Expr) (old new names : List (List ℕ)) → new ≡ old ++ names → sites_if_any expr_sites e (with_names names (around old place)) ≡ sites_if_any expr_sites e (around new place)
-  first_sites e old new names is = expr_if_any_same e (around old place) (names ++ old) new (behind old new names is)
+module _ (surroundings : TransactionsAround) where
+  pub first_sites : (e : Option Tree.Expr) (old new names : List (List ℕ)) → new ≡ old ++ names → sites_if_any expr_sites e (with_names names (around old surroundings)) ≡ sites_if_any expr_sites e (around new surroundings)
+  first_sites e old new names is = expr_if_any_same e (around old surroundings) (names ++ old) new (behind old new names is)
 
-  pub step_sites : (e : Option Tree.Simple) (old new names : List (List ℕ)) → new ≡ old ++ names → sites_if_any simple_sites e (with_names names (around old place)) ≡ sites_if_any simple_sites e (around new place)
-  step_sites e old new names is = simple_if_any_same e (around old place) (names ++ old) new (behind old new names is)
+  pub step_sites : (e : Option Tree.Simple) (old new names : List (List ℕ)) → new ≡ old ++ names → sites_if_any simple_sites e (with_names names (around old surroundings)) ≡ sites_if_any simple_sites e (around new surroundings)
+  step_sites e old new names is = simple_if_any_same e (around old surroundings) (names ++ old) new (behind old new names is)
 
-  pub body_behind : (s : Tree.Stmt) (old new names : List (List ℕ)) → new ≡ old ++ names → stmt_sites s (with_names names (around old place)) ≡ stmt_sites s (around new place)
-  body_behind s old new names is = stmt_same s (around old place) (names ++ old) new (behind old new names is)
+  pub body_behind : (s : Tree.Stmt) (old new names : List (List ℕ)) → new ≡ old ++ names → stmt_sites s (with_names names (around old surroundings)) ≡ stmt_sites s (around new surroundings)
+  body_behind s old new names is = stmt_same s (around old surroundings) (names ++ old) new (behind old new names is)
 
-  pub kind_anywhere : (kind : Kind) (at : Span) (names : List (List ℕ)) → kind_site kind (around names place) at ≡ kind_site kind (around [] place) at
+  pub kind_anywhere : (kind : TransactionKind) (at : Span) (names : List (List ℕ)) → kind_site kind (around names surroundings) at ≡ kind_site kind (around [] surroundings) at
   kind_anywhere (Plain Atomic) at names = refl
   kind_anywhere (Plain Relaxed) at names = refl
   kind_anywhere Outer at names = refl
 
-module _ {A : Type 0} (place : TransactionsAround) where
-  pub declarators_more : (ds : List (R.Declarator A)) (i : ℕ) (d : R.Declarator A) (old new : List (List ℕ)) → d ≡ get_or ds i d → i < length ds → new ≡ old ++ d.name.text ∷ [] → declarator_sites (map declarator_of (drop i ds)) (around old place) ≡ sites_if_any expr_sites (option_map expr_of d.first) (with_names (d.name.text ∷ []) (around old place)) ++ declarator_sites (map declarator_of (drop (i + 1) ds)) (around new place)
+module _ {A : Type 0} (surroundings : TransactionsAround) where
+  pub declarators_more : (ds : List (R.Declarator A)) (i : ℕ) (d : R.Declarator A) (old new : List (List ℕ)) → d ≡ get_or ds i d → i < length ds → new ≡ old ++ d.name.text ∷ [] → declarator_sites (map declarator_of (drop i ds)) (around old surroundings) ≡ sites_if_any expr_sites (option_map expr_of d.first) (with_names (d.name.text ∷ []) (around old surroundings)) ++ declarator_sites (map declarator_of (drop (i + 1) ds)) (around new surroundings)
   declarators_more ds i d old new is h names =
       let rest = map declarator_of (drop (i + 1) ds) in
-      at_drop_more (λ es. declarator_sites (map declarator_of es) (around old place)) ds i d h
-      ∙ ap (λ e. sites_if_any expr_sites (option_map expr_of e.first) (with_names (e.name.text ∷ []) (around old place)) ++ declarator_sites rest (with_names (e.name.text ∷ []) (around old place))) (sym is)
-      ∙ ap (λ ss. sites_if_any expr_sites (option_map expr_of d.first) (with_names (d.name.text ∷ []) (around old place)) ++ ss) (declarators_same rest (around old place) (d.name.text ∷ old) new (behind old new (d.name.text ∷ []) names))
+      at_drop_more (λ es. declarator_sites (map declarator_of es) (around old surroundings)) ds i d h
+      ∙ ap (λ e. sites_if_any expr_sites (option_map expr_of e.first) (with_names (e.name.text ∷ []) (around old surroundings)) ++ declarator_sites rest (with_names (e.name.text ∷ []) (around old surroundings))) (sym is)
+      ∙ ap (λ ss. sites_if_any expr_sites (option_map expr_of d.first) (with_names (d.name.text ∷ []) (around old surroundings)) ++ ss) (declarators_same rest (around old surroundings) (d.name.text ∷ old) new (behind old new (d.name.text ∷ []) names))
 
-  pub stmts_more : (ss : List (S.Stmt A)) (i : ℕ) (s : S.Stmt A) (old new : List (List ℕ)) → s ≡ get_or ss i s → i < length ss → new ≡ old ++ names_of (stmt_of s) → stmts_sites (stmts_of (drop i ss)) (around old place) ≡ stmt_sites (stmt_of s) (around old place) ++ stmts_sites (stmts_of (drop (i + 1) ss)) (around new place)
+  pub stmts_more : (ss : List (S.Stmt A)) (i : ℕ) (s : S.Stmt A) (old new : List (List ℕ)) → s ≡ get_or ss i s → i < length ss → new ≡ old ++ names_of (stmt_of s) → stmts_sites (stmts_of (drop i ss)) (around old surroundings) ≡ stmt_sites (stmt_of s) (around old surroundings) ++ stmts_sites (stmts_of (drop (i + 1) ss)) (around new surroundings)
   stmts_more ss i s old new is h names =
       let rest = stmts_of (drop (i + 1) ss) in
-      at_drop_more (λ ts. stmts_sites (stmts_of ts) (around old place)) ss i s h
-      ∙ ap (λ t. stmt_sites (stmt_of t) (around old place) ++ stmts_sites rest (with_names (names_of (stmt_of t)) (around old place))) (sym is)
-      ∙ ap (λ xs. stmt_sites (stmt_of s) (around old place) ++ xs) (stmts_same rest (around old place) (names_of (stmt_of s) ++ old) new (behind old new (names_of (stmt_of s)) names))
+      at_drop_more (λ ts. stmts_sites (stmts_of ts) (around old surroundings)) ss i s h
+      ∙ ap (λ t. stmt_sites (stmt_of t) (around old surroundings) ++ stmts_sites rest (with_names (names_of (stmt_of t)) (around old surroundings))) (sym is)
+      ∙ ap (λ xs. stmt_sites (stmt_of s) (around old surroundings) ++ xs) (stmts_same rest (around old surroundings) (names_of (stmt_of s) ++ old) new (behind old new (names_of (stmt_of s)) names))
 
 parameters_split : (q : Tree.Parameter) (qs : List Tree.Parameter) (o : Option Tree.Name) → unwrap_or (option_map (λ x. x.text ∷ parameter_names qs) o) (parameter_names qs) ≡ unwrap_or (option_map (λ x. x.text ∷ []) o) [] ++ parameter_names qs
 parameters_split q qs None = refl

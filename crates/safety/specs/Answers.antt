@@ -44,7 +44,7 @@ module _ {A : Type 0} where
 
   -- the check of a typed program: it is safe, or this is its first fault; without memory nothing is said.
   -- The program is kept, or handed back.
-  abbrev pub Checks : Typed A → Result (Safe A) (SafetyFault A) → Type 0
-  Checks t (Ok s) = (s.typed ≡ t) × IsSafeProgram (program_of t.unit)
-  Checks t (Err (fault.OutOfMemory u)) = u ≡ t
-  Checks t (Err (fault.Unsafe u b)) = (u ≡ t) × IsSafetyFault (number_in b) (span_in b) (program_of t.unit)
+  abbrev pub ChecksSafety : Typed A → Result (Safe A) (SafetyFault A) → Type 0
+  ChecksSafety t (Ok s) = (s.typed ≡ t) × IsSafeProgram (program_of t.unit)
+  ChecksSafety t (Err (fault.OutOfMemory u)) = u ≡ t
+  ChecksSafety t (Err (fault.Unsafe u b)) = (u ≡ t) × IsSafetyFault (number_in b) (span_in b) (program_of t.unit)

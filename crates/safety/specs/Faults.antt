@@ -12,13 +12,13 @@ use Rattle.safety.specs.Safe.{FunctionSet, TellsSafe, TellsOuter}
 -- 41: no relaxed transaction inside an atomic one; 40: nothing else unsafe there; 42: a cancel nowhere else
 -- 44: no outer transaction inside an atomic one, where these functions lead to one; 45: an outer cancel in an outer one
 abbrev pub demands_at : (safe outer : FunctionSet) → Site → Construct → List Demand
-demands_at safe outer s Prints = demand 40 s.at (not s.atomic)
-demands_at safe outer s Relaxes = demand 41 s.at (not s.atomic)
-demands_at safe outer s OpensOuter = demand 44 s.at (not s.atomic)
-demands_at safe outer s Cancels = demand 42 s.at s.atomic
-demands_at safe outer s CancelsOuter = demand 45 s.at s.outer
+demands_at safe outer s Prints = demand 40 s.span (not s.atomic)
+demands_at safe outer s Relaxes = demand 41 s.span (not s.atomic)
+demands_at safe outer s OpensOuter = demand 44 s.span (not s.atomic)
+demands_at safe outer s Cancels = demand 42 s.span s.atomic
+demands_at safe outer s CancelsOuter = demand 45 s.span s.outer
 demands_at safe outer s (Calls f) =
-    demand 40 s.at (not s.atomic || safe f) ++ demand 44 s.at (not s.atomic || not (outer f))
+    demand 40 s.span (not s.atomic || safe f) ++ demand 44 s.span (not s.atomic || not (outer f))
 demands_at safe outer s (Uses x) = []
 
 abbrev pub says_safe : List Attribute → Bool
@@ -29,7 +29,7 @@ says_safe (other ∷ rest) = says_safe rest
 -- 43: a definition of a function that is declared safe is safe; and then the sites of its body
 abbrev pub function_demands : Program → (safe outer : FunctionSet) → Function → List Demand
 function_demands p safe outer f =
-    demand 43 f.name.at (is_none f.body || not (says_safe (attributes_of p f.name.text)) || safe f.name.text)
+    demand 43 f.name.span (is_none f.body || not (says_safe (attributes_of p f.name.text)) || safe f.name.text)
     ++ flat_map (λ s. demands_at safe outer s s.construct) (body_sites f.parameters f.body)
 
 abbrev pub item_demands : Program → (safe outer : FunctionSet) → Item → List Demand

@@ -1,8 +1,10 @@
 -- The sites of a function's body: where the constructs stand of which the rules on transactions speak
 -- (the C++ draft on transactions 1.1), in the order of the text.
 use Rattle.std.specs.Prelude.{ℕ, List, [], ◌∷◌, ◌++◌, Option, Some, None, Bool, true, false, if◌then◌else◌, bytes_eq}
-use Rattle.syntax.specs.declared.tree.{Mode.TheVariants.Atomic, Mode.TheVariants.Relaxed, Kind.Kind}
-use Rattle.syntax.specs.declared.tree.{Kind.TheVariants.Plain, Kind.TheVariants.Outer, Attribute.Attribute}
+use Rattle.syntax.specs.declared.tree.{Mode.TheVariants.Atomic, Mode.TheVariants.Relaxed}
+use Rattle.syntax.specs.declared.tree.{TransactionKind.TransactionKind}
+use Rattle.syntax.specs.declared.tree.{TransactionKind.TheVariants.Plain, TransactionKind.TheVariants.Outer}
+use Rattle.syntax.specs.declared.tree.{Attribute.Attribute}
 use Rattle.syntax.specs.Tree.{Span, Name, Expr, Exprs, Variable, Constant, Element, Call, Parenthesized, Cast, Unary}
 use Rattle.syntax.specs.Tree.{Binary, Logical, Conditional, InTransaction, Simple, Evaluate, Assign, Adjust, Declarator}
 use Rattle.syntax.specs.Tree.{Start, Nothing, Declares, Does, Stmt, Stmts, Declare, Do, Block, Print, If, IfElse, While}
@@ -20,7 +22,7 @@ pub data Construct : Type 0 where
 -- where a construct stands: inside an atomic transaction of its function, inside an outer one, and inside any
 pub record Site : Type 0 where
   pub construct : Construct
-  pub at : Span
+  pub span : Span
   pub atomic : Bool
   pub outer : Bool
   pub in_any : Bool
@@ -34,24 +36,24 @@ pub record Around : Type 0 where
 
 -- a construct in these surroundings
 abbrev pub site : Around → Construct → Span → List Site
-site w c at = record { construct = c; at = at; atomic = w.atomic; outer = w.outer; in_any = w.in_any } ∷ []
+site w c at = record { construct = c; span = at; atomic = w.atomic; outer = w.outer; in_any = w.in_any } ∷ []
 
 abbrev pub with_names : List (List ℕ) → Around → Around
 with_names xs w = record w { locals = xs ++ w.locals }
 
-abbrev pub in_transaction : Kind → Around → Around
+abbrev pub in_transaction : TransactionKind → Around → Around
 in_transaction (Plain Atomic) w = record w { atomic = true; in_any = true }
 in_transaction (Plain Relaxed) w = record w { in_any = true }
 in_transaction Outer w = record w { atomic = true; outer = true; in_any = true }
 
-abbrev pub kind_site : Kind → Around → Span → List Site
+abbrev pub kind_site : TransactionKind → Around → Span → List Site
 kind_site (Plain Atomic) w at = []
 kind_site (Plain Relaxed) w at = site w Relaxes at
 kind_site Outer w at = site w OpensOuter at
 
 -- a name that is no local's is a global's
 abbrev pub uses : Name → Around → List Site
-uses x w = if has_name w.locals x.text then [] else site w (Uses x.text) x.at
+uses x w = if has_name w.locals x.text then [] else site w (Uses x.text) x.span
 
 -- the sites of an expression, in the order of the text
 abbrev mutual
@@ -59,7 +61,7 @@ abbrev mutual
   expr_sites (Variable x) w = uses x w
   expr_sites (Constant n t at) w = []
   expr_sites (Element x i at) w = uses x w ++ expr_sites i w
-  expr_sites (Call f es at) w = site w (Calls f.text) f.at ++ exprs_sites es w
+  expr_sites (Call f es at) w = site w (Calls f.text) f.span ++ exprs_sites es w
   expr_sites (Parenthesized e at) w = expr_sites e w
   expr_sites (Cast t e at) w = expr_sites e w
   expr_sites (Unary op e at) w = expr_sites e w

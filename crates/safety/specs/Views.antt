@@ -16,7 +16,13 @@ construct_of (own.Uses x) = Uses x.now
 
 abbrev pub site_of : OwnSite → Site
 site_of s =
-    record { construct = construct_of s.construct; at = s.span; atomic = s.atomic; outer = s.outer; in_any = s.in_any }
+    record {
+      construct = construct_of s.construct;
+      span = s.span;
+      atomic = s.atomic;
+      outer = s.outer;
+      in_any = s.in_any;
+    }
 
 abbrev pub sites_of_own : List OwnSite → List Site
 sites_of_own ss = map site_of ss

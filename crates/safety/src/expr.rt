@@ -13,12 +13,12 @@ use crate::site::{Construct, Site, TransactionsAround};
 use containers::Items;
 use lex::token::Span;
 use std::alloc::{AllocError, Allocator};
-use syntax::tree::{Expr, Kind, Mode, Name, Simple};
+use syntax::tree::{Expr, Mode, Name, Simple, TransactionKind};
 
 /// One site more.
 pub(crate) fn add<'a, A: Allocator + Copy>(
     sites: &mut Items<Site<'a>, A>,
-    place: TransactionsAround,
+    surroundings: TransactionsAround,
     construct: Construct<'a>,
     span: Span,
 ) -> Result<(), AllocError>
@@ -26,18 +26,18 @@ pub(crate) fn add<'a, A: Allocator + Copy>(
         (Appends sites.old sites.new
         (record {
           construct = construct_of construct.entry;
-          at = span;
-          atomic = place.atomic;
-          outer = place.outer;
-          in_any = place.in_any;
+          span = span;
+          atomic = surroundings.atomic;
+          outer = surroundings.outer;
+          in_any = surroundings.in_any;
         } ∷ [])) }
 {
     sites.push(Site {
         construct,
         span,
-        atomic: place.atomic,
-        outer: place.outer,
-        in_any: place.in_any,
+        atomic: surroundings.atomic,
+        outer: surroundings.outer,
+        in_any: surroundings.in_any,
     })?;
     Ok(())
 }
@@ -45,41 +45,41 @@ pub(crate) fn add<'a, A: Allocator + Copy>(
 /// A relaxed transaction is a site itself, and so is an outer one.
 pub(crate) fn add_kind<'a, A: Allocator + Copy>(
     sites: &mut Items<Site<'a>, A>,
-    place: TransactionsAround,
-    kind: Kind,
-    at: Span,
+    surroundings: TransactionsAround,
+    kind: TransactionKind,
+    span: Span,
 ) -> Result<(), AllocError>
-    ensures { OnOk result (Appends sites.old sites.new (kind_site kind (around [] place) at)) }
+    ensures { OnOk result (Appends sites.old sites.new (kind_site kind (around [] surroundings) span)) }
 {
     match kind {
-        Kind::Plain(Mode::Atomic) => Ok(()),
-        Kind::Plain(Mode::Relaxed) => {
-            add(sites, place, Construct::Relaxes, at)?;
+        TransactionKind::Plain(Mode::Atomic) => Ok(()),
+        TransactionKind::Plain(Mode::Relaxed) => {
+            add(sites, surroundings, Construct::Relaxes, span)?;
             Ok(())
         }
-        Kind::Outer => {
-            add(sites, place, Construct::OpensOuter, at)?;
+        TransactionKind::Outer => {
+            add(sites, surroundings, Construct::OpensOuter, span)?;
             Ok(())
         }
     }
 }
 
-/// The place inside a transaction that stands at a place.
-pub(crate) fn inside(kind: Kind, place: TransactionsAround) -> TransactionsAround
-    ensures { (names : List (List ℕ)) → around names result ≡ in_transaction kind (around names place) }
+/// What is round the places inside a transaction that has these surroundings.
+pub(crate) fn inside(kind: TransactionKind, surroundings: TransactionsAround) -> TransactionsAround
+    ensures { (names : List (List ℕ)) → around names result ≡ in_transaction kind (around names surroundings) }
 {
     match kind {
-        Kind::Plain(Mode::Atomic) => TransactionsAround {
+        TransactionKind::Plain(Mode::Atomic) => TransactionsAround {
             atomic: true,
-            outer: place.outer,
+            outer: surroundings.outer,
             in_any: true,
         },
-        Kind::Plain(Mode::Relaxed) => TransactionsAround {
-            atomic: place.atomic,
-            outer: place.outer,
+        TransactionKind::Plain(Mode::Relaxed) => TransactionsAround {
+            atomic: surroundings.atomic,
+            outer: surroundings.outer,
             in_any: true,
         },
-        Kind::Outer => TransactionsAround {
+        TransactionKind::Outer => TransactionsAround {
             atomic: true,
             outer: true,
             in_any: true,
@@ -91,15 +91,20 @@ pub(crate) fn inside(kind: Kind, place: TransactionsAround) -> TransactionsAroun
 fn add_use<'a, A: Allocator + Copy>(
     locals: &Locals<'a, A>,
     sites: &mut Items<Site<'a>, A>,
-    place: TransactionsAround,
+    surroundings: TransactionsAround,
     x: &'a Name<A>,
 ) -> Result<(), AllocError>
-    ensures { OnOk result (Appends sites.old sites.new (uses (name_of x.now) (around_in locals.now place))) }
+    ensures { OnOk result (Appends sites.old sites.new (uses (name_of x.now) (around_in locals.now surroundings))) }
 {
     if locals.has(x.text.as_str()) {
         return Ok(());
     }
-    add(sites, place, Construct::Uses(x.text.as_str()), x.span)?;
+    add(
+        sites,
+        surroundings,
+        Construct::Uses(x.text.as_str()),
+        x.span,
+    )?;
     Ok(())
 }
 
@@ -108,42 +113,48 @@ fn add_use<'a, A: Allocator + Copy>(
 pub(crate) fn add_expr<'a, A: Allocator + Copy>(
     locals: &Locals<'a, A>,
     sites: &mut Items<Site<'a>, A>,
-    place: TransactionsAround,
+    surroundings: TransactionsAround,
     e: &'a Expr<A>,
 ) -> Result<(), AllocError>
-    ensures { OnOk result (Appends sites.old sites.new (expr_sites (expr_of e.now) (around_in locals.now place))) }
+    ensures { OnOk result
+        (Appends sites.old sites.new (expr_sites (expr_of e.now) (around_in locals.now surroundings))) }
 {
     match e {
-        Expr::Variable(x) => add_use(locals, sites, place, x),
+        Expr::Variable(x) => add_use(locals, sites, surroundings, x),
         Expr::Constant(_, _, _) => Ok(()),
         Expr::Element(x, index, _) => {
-            add_use(locals, sites, place, x)?;
-            add_expr(locals, sites, place, index.get())
+            add_use(locals, sites, surroundings, x)?;
+            add_expr(locals, sites, surroundings, index.get())
         }
         Expr::Call(f, args, _) => {
-            add(sites, place, Construct::Calls(f.text.as_str()), f.span)?;
-            add_exprs(locals, sites, place, args.as_slice())
+            add(
+                sites,
+                surroundings,
+                Construct::Calls(f.text.as_str()),
+                f.span,
+            )?;
+            add_exprs(locals, sites, surroundings, args.as_slice())
         }
-        Expr::Parenthesized(e, _) => add_expr(locals, sites, place, e.get()),
-        Expr::Cast(_, e, _) => add_expr(locals, sites, place, e.get()),
-        Expr::Unary(_, e, _) => add_expr(locals, sites, place, e.get()),
+        Expr::Parenthesized(e, _) => add_expr(locals, sites, surroundings, e.get()),
+        Expr::Cast(_, e, _) => add_expr(locals, sites, surroundings, e.get()),
+        Expr::Unary(_, e, _) => add_expr(locals, sites, surroundings, e.get()),
         Expr::Binary(_, a, b, _) => {
-            add_expr(locals, sites, place, a.get())?;
-            add_expr(locals, sites, place, b.get())
+            add_expr(locals, sites, surroundings, a.get())?;
+            add_expr(locals, sites, surroundings, b.get())
         }
         Expr::Logical(_, a, b, _) => {
-            add_expr(locals, sites, place, a.get())?;
-            add_expr(locals, sites, place, b.get())
+            add_expr(locals, sites, surroundings, a.get())?;
+            add_expr(locals, sites, surroundings, b.get())
         }
         Expr::Conditional(c, a, b, _) => {
-            add_expr(locals, sites, place, c.get())?;
-            add_expr(locals, sites, place, a.get())?;
-            add_expr(locals, sites, place, b.get())
+            add_expr(locals, sites, surroundings, c.get())?;
+            add_expr(locals, sites, surroundings, a.get())?;
+            add_expr(locals, sites, surroundings, b.get())
         }
         Expr::InTransaction(mode, keyword, e, _) => {
-            let kind = Kind::Plain(*mode);
-            add_kind(sites, place, kind, *keyword)?;
-            add_expr(locals, sites, inside(kind, place), e.get())
+            let kind = TransactionKind::Plain(*mode);
+            add_kind(sites, surroundings, kind, *keyword)?;
+            add_expr(locals, sites, inside(kind, surroundings), e.get())
         }
     }
 }
@@ -153,13 +164,14 @@ pub(crate) fn add_expr<'a, A: Allocator + Copy>(
 pub(crate) fn add_exprs<'a, A: Allocator + Copy>(
     locals: &Locals<'a, A>,
     sites: &mut Items<Site<'a>, A>,
-    place: TransactionsAround,
+    surroundings: TransactionsAround,
     all: &'a [Expr<A>],
 ) -> Result<(), AllocError>
-    ensures { OnOk result (Appends sites.old sites.new (exprs_sites (exprs_of all.now) (around_in locals.now place))) }
+    ensures { OnOk result
+        (Appends sites.old sites.new (exprs_sites (exprs_of all.now) (around_in locals.now surroundings))) }
 {
     'each: for one in all {
-        add_expr(locals, sites, place, one)?;
+        add_expr(locals, sites, surroundings, one)?;
     }
     Ok(())
 }
@@ -168,15 +180,15 @@ pub(crate) fn add_exprs<'a, A: Allocator + Copy>(
 pub(crate) fn add_expr_if_any<'a, A: Allocator + Copy>(
     locals: &Locals<'a, A>,
     sites: &mut Items<Site<'a>, A>,
-    place: TransactionsAround,
+    surroundings: TransactionsAround,
     e: &'a Option<Expr<A>>,
 ) -> Result<(), AllocError>
     ensures { OnOk result
         (Appends sites.old sites.new
-        (sites_if_any expr_sites (option_map expr_of e.now) (around_in locals.now place))) }
+        (sites_if_any expr_sites (option_map expr_of e.now) (around_in locals.now surroundings))) }
 {
     match e {
-        Some(e) => add_expr(locals, sites, place, e),
+        Some(e) => add_expr(locals, sites, surroundings, e),
         None => Ok(()),
     }
 }
@@ -185,18 +197,19 @@ pub(crate) fn add_expr_if_any<'a, A: Allocator + Copy>(
 pub(crate) fn add_simple<'a, A: Allocator + Copy>(
     locals: &Locals<'a, A>,
     sites: &mut Items<Site<'a>, A>,
-    place: TransactionsAround,
+    surroundings: TransactionsAround,
     s: &'a Simple<A>,
 ) -> Result<(), AllocError>
-    ensures { OnOk result (Appends sites.old sites.new (simple_sites (simple_of s.now) (around_in locals.now place))) }
+    ensures { OnOk result
+        (Appends sites.old sites.new (simple_sites (simple_of s.now) (around_in locals.now surroundings))) }
 {
     match s {
-        Simple::Evaluate(e) => add_expr(locals, sites, place, e),
+        Simple::Evaluate(e) => add_expr(locals, sites, surroundings, e),
         Simple::Assign(to, _, e) => {
-            add_expr(locals, sites, place, to)?;
-            add_expr(locals, sites, place, e)
+            add_expr(locals, sites, surroundings, to)?;
+            add_expr(locals, sites, surroundings, e)
         }
-        Simple::Adjust(to, _) => add_expr(locals, sites, place, to),
+        Simple::Adjust(to, _) => add_expr(locals, sites, surroundings, to),
     }
 }
 
@@ -204,15 +217,15 @@ pub(crate) fn add_simple<'a, A: Allocator + Copy>(
 pub(crate) fn add_simple_if_any<'a, A: Allocator + Copy>(
     locals: &Locals<'a, A>,
     sites: &mut Items<Site<'a>, A>,
-    place: TransactionsAround,
+    surroundings: TransactionsAround,
     s: &'a Option<Simple<A>>,
 ) -> Result<(), AllocError>
     ensures { OnOk result
         (Appends sites.old sites.new
-        (sites_if_any simple_sites (option_map simple_of s.now) (around_in locals.now place))) }
+        (sites_if_any simple_sites (option_map simple_of s.now) (around_in locals.now surroundings))) }
 {
     match s {
-        Some(s) => add_simple(locals, sites, place, s),
+        Some(s) => add_simple(locals, sites, surroundings, s),
         None => Ok(()),
     }
 }

@@ -48,7 +48,7 @@ impl Violation {
         }
     }
 
-    /// The place in the source.
+    /// The span in the source.
     pub fn span(self) -> Span
         ensures { result ≡ span_in self }
     {

@@ -1,6 +1,6 @@
 //! Which programs are safe.
 
-ghost use Rattle.safety.specs.Answers.{Checks};
+ghost use Rattle.safety.specs.Answers.{ChecksSafety};
 
 use crate::checked::Safe;
 use crate::demands::fault_of;
@@ -12,7 +12,7 @@ use types::Typed;
 /// what is given, or comes back in the fault. Takes memory for the sites of one body at a time, for the calls of the
 /// program and for a number of each function; the time is that of the text, and of finding each called name by a map.
 pub fn safe<A: Allocator + Copy>(alloc: A, typed: Typed<A>) -> Result<Safe<A>, SafetyFault<A>>
-    ensures { Checks typed result }
+    ensures { ChecksSafety typed result }
 {
     let unit = typed.unit();
     match fault_of(alloc, unit.key, unit.items.as_slice()) {

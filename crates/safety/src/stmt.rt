@@ -24,17 +24,17 @@ use types::as_declaration;
 fn add_declarator<'a, A: Allocator + Copy>(
     locals: &mut Locals<'a, A>,
     sites: &mut Items<Site<'a>, A>,
-    place: TransactionsAround,
+    surroundings: TransactionsAround,
     one: &'a Declarator<A>,
 ) -> Result<(), AllocError>
     ensures sites { OnOk result
         (Appends sites.old sites.new
         (sites_if_any expr_sites (option_map expr_of one.now.first)
-        (with_names (one.now.name.text ∷ []) (around_in locals.old place)))) }
+        (with_names (one.now.name.text ∷ []) (around_in locals.old surroundings)))) }
     ensures names { OnOk result (names_in locals.new ≡ names_in locals.old ++ one.now.name.text ∷ []) }
 {
     locals.declare(one.name.text.as_str())?;
-    add_expr_if_any(locals, sites, place, &one.first)?;
+    add_expr_if_any(locals, sites, surroundings, &one.first)?;
     Ok(())
 }
 
@@ -42,16 +42,17 @@ fn add_declarator<'a, A: Allocator + Copy>(
 fn add_declarators<'a, A: Allocator + Copy>(
     locals: &mut Locals<'a, A>,
     sites: &mut Items<Site<'a>, A>,
-    place: TransactionsAround,
+    surroundings: TransactionsAround,
     all: &'a [Declarator<A>],
 ) -> Result<(), AllocError>
     ensures sites { OnOk result
-        (Appends sites.old sites.new (declarator_sites (map declarator_of all.now) (around_in locals.old place))) }
+        (Appends sites.old sites.new
+        (declarator_sites (map declarator_of all.now) (around_in locals.old surroundings))) }
     ensures names { OnOk result
         (names_in locals.new ≡ names_in locals.old ++ map (λ d. d.name.text) (map declarator_of all.now)) }
 {
     'each: for one in all {
-        add_declarator(locals, sites, place, one)?;
+        add_declarator(locals, sites, surroundings, one)?;
     }
     Ok(())
 }
@@ -60,21 +61,21 @@ fn add_declarators<'a, A: Allocator + Copy>(
 fn add_start<'a, A: Allocator + Copy>(
     locals: &mut Locals<'a, A>,
     sites: &mut Items<Site<'a>, A>,
-    place: TransactionsAround,
+    surroundings: TransactionsAround,
     start: &'a Start<A>,
 ) -> Result<(), AllocError>
     ensures sites { OnOk result
-        (Appends sites.old sites.new (start_sites (start_of start.now) (around_in locals.old place))) }
+        (Appends sites.old sites.new (start_sites (start_of start.now) (around_in locals.old surroundings))) }
     ensures names { OnOk result (names_in locals.new ≡ names_in locals.old ++ names_of_start (start_of start.now)) }
 {
     match start {
         Start::Nothing => Ok(()),
         Start::Declare(one) => {
-            add_declarators(locals, sites, place, one.declarators.as_slice())?;
+            add_declarators(locals, sites, surroundings, one.declarators.as_slice())?;
             Ok(())
         }
         Start::Do(s) => {
-            add_simple(locals, sites, place, s)?;
+            add_simple(locals, sites, surroundings, s)?;
             Ok(())
         }
     }
@@ -84,19 +85,19 @@ fn add_start<'a, A: Allocator + Copy>(
 fn add_head<'a, A: Allocator + Copy>(
     locals: &mut Locals<'a, A>,
     sites: &mut Items<Site<'a>, A>,
-    place: TransactionsAround,
+    surroundings: TransactionsAround,
     head: &'a ForHead<A>,
 ) -> Result<(), AllocError>
     ensures sites { OnOk result
         (Appends sites.old sites.new
         (head_sites (start_of head.now.start) (option_map expr_of head.now.condition)
-        (option_map simple_of head.now.step) (around_in locals.old place))) }
+        (option_map simple_of head.now.step) (around_in locals.old surroundings))) }
     ensures names { OnOk result
         (names_in locals.new ≡ names_in locals.old ++ names_of_start (start_of head.now.start)) }
 {
-    add_start(locals, sites, place, &head.start)?;
-    add_expr_if_any(locals, sites, place, &head.condition)?;
-    add_simple_if_any(locals, sites, place, &head.step)?;
+    add_start(locals, sites, surroundings, &head.start)?;
+    add_expr_if_any(locals, sites, surroundings, &head.condition)?;
+    add_simple_if_any(locals, sites, surroundings, &head.step)?;
     Ok(())
 }
 
@@ -104,16 +105,16 @@ fn add_head<'a, A: Allocator + Copy>(
 fn add_lone_declaration<'a, A: Allocator + Copy>(
     locals: &mut Locals<'a, A>,
     sites: &mut Items<Site<'a>, A>,
-    place: TransactionsAround,
+    surroundings: TransactionsAround,
     one: &'a Declaration<A>,
 ) -> Result<(), AllocError>
     ensures sites { OnOk result
         (Appends sites.old sites.new
-        (declarator_sites (map declarator_of one.now.declarators) (around_in locals.old place))) }
+        (declarator_sites (map declarator_of one.now.declarators) (around_in locals.old surroundings))) }
     ensures names { OnOk result (names_in locals.new ≡ names_in locals.old) }
 {
     let outer = locals.len();
-    add_declarators(locals, sites, place, one.declarators.as_slice())?;
+    add_declarators(locals, sites, surroundings, one.declarators.as_slice())?;
     locals.leave(outer);
     Ok(())
 }
@@ -123,55 +124,55 @@ fn add_lone_declaration<'a, A: Allocator + Copy>(
 fn add_stmt<'a, A: Allocator + Copy>(
     locals: &mut Locals<'a, A>,
     sites: &mut Items<Site<'a>, A>,
-    place: TransactionsAround,
+    surroundings: TransactionsAround,
     stmt: &'a Stmt<A>,
 ) -> Result<(), AllocError>
     ensures sites { OnOk result
-        (Appends sites.old sites.new (stmt_sites (stmt_of stmt.now) (around_in locals.old place))) }
+        (Appends sites.old sites.new (stmt_sites (stmt_of stmt.now) (around_in locals.old surroundings))) }
     ensures names { OnOk result (names_in locals.new ≡ names_in locals.old) }
 {
     match stmt {
         Stmt::Empty | Stmt::Break(_) | Stmt::Continue(_) => Ok(()),
-        Stmt::Declare(one) => add_lone_declaration(locals, sites, place, one),
-        Stmt::Do(s) => add_simple(locals, sites, place, s),
-        Stmt::Block(body) => add_block(locals, sites, place, body.as_slice()),
-        Stmt::Print(at, _, _, args) => {
-            add(sites, place, Construct::Prints, *at)?;
-            add_exprs(locals, sites, place, args.as_slice())
+        Stmt::Declare(one) => add_lone_declaration(locals, sites, surroundings, one),
+        Stmt::Do(s) => add_simple(locals, sites, surroundings, s),
+        Stmt::Block(body) => add_block(locals, sites, surroundings, body.as_slice()),
+        Stmt::Print(span, _, _, args) => {
+            add(sites, surroundings, Construct::Prints, *span)?;
+            add_exprs(locals, sites, surroundings, args.as_slice())
         }
         Stmt::If(c, a, b) => {
-            add_expr(locals, sites, place, c)?;
-            add_stmt(locals, sites, place, a.get())?;
+            add_expr(locals, sites, surroundings, c)?;
+            add_stmt(locals, sites, surroundings, a.get())?;
             match b {
                 Some(b) => {
-                    add_stmt(locals, sites, place, b.get())?;
+                    add_stmt(locals, sites, surroundings, b.get())?;
                     Ok(())
                 }
                 None => Ok(()),
             }
         }
         Stmt::While(c, body) => {
-            add_expr(locals, sites, place, c)?;
-            add_stmt(locals, sites, place, body.get())
+            add_expr(locals, sites, surroundings, c)?;
+            add_stmt(locals, sites, surroundings, body.get())
         }
         Stmt::DoWhile(body, c) => {
-            add_stmt(locals, sites, place, body.get())?;
-            add_expr(locals, sites, place, c)
+            add_stmt(locals, sites, surroundings, body.get())?;
+            add_expr(locals, sites, surroundings, c)
         }
         Stmt::For(head, body) => {
             let outer = locals.len();
-            add_head(locals, sites, place, head.get())?;
-            add_stmt(locals, sites, place, body.get())?;
+            add_head(locals, sites, surroundings, head.get())?;
+            add_stmt(locals, sites, surroundings, body.get())?;
             locals.leave(outer);
             Ok(())
         }
-        Stmt::Return(e, _) => add_expr_if_any(locals, sites, place, e),
-        Stmt::Transaction(kind, body, at) => {
-            add_kind(sites, place, *kind, *at)?;
-            add_block(locals, sites, inside(*kind, place), body.as_slice())
+        Stmt::Return(e, _) => add_expr_if_any(locals, sites, surroundings, e),
+        Stmt::Transaction(kind, body, span) => {
+            add_kind(sites, surroundings, *kind, *span)?;
+            add_block(locals, sites, inside(*kind, surroundings), body.as_slice())
         }
-        Stmt::Cancel(at) => add(sites, place, Construct::Cancels, *at),
-        Stmt::CancelOuter(at) => add(sites, place, Construct::CancelsOuter, *at),
+        Stmt::Cancel(span) => add(sites, surroundings, Construct::Cancels, *span),
+        Stmt::CancelOuter(span) => add(sites, surroundings, Construct::CancelsOuter, *span),
     }
 }
 
@@ -180,20 +181,20 @@ fn add_stmt<'a, A: Allocator + Copy>(
 fn add_block_item<'a, A: Allocator + Copy>(
     locals: &mut Locals<'a, A>,
     sites: &mut Items<Site<'a>, A>,
-    place: TransactionsAround,
+    surroundings: TransactionsAround,
     stmt: &'a Stmt<A>,
 ) -> Result<(), AllocError>
     ensures sites { OnOk result
-        (Appends sites.old sites.new (stmt_sites (stmt_of stmt.now) (around_in locals.old place))) }
+        (Appends sites.old sites.new (stmt_sites (stmt_of stmt.now) (around_in locals.old surroundings))) }
     ensures names { OnOk result (names_in locals.new ≡ names_in locals.old ++ names_of (stmt_of stmt.now)) }
 {
     match as_declaration(stmt) {
         Some(one) => {
-            add_declarators(locals, sites, place, one.declarators.as_slice())?;
+            add_declarators(locals, sites, surroundings, one.declarators.as_slice())?;
             Ok(())
         }
         None => {
-            add_stmt(locals, sites, place, stmt)?;
+            add_stmt(locals, sites, surroundings, stmt)?;
             Ok(())
         }
     }
@@ -204,16 +205,16 @@ fn add_block_item<'a, A: Allocator + Copy>(
 fn add_block<'a, A: Allocator + Copy>(
     locals: &mut Locals<'a, A>,
     sites: &mut Items<Site<'a>, A>,
-    place: TransactionsAround,
+    surroundings: TransactionsAround,
     all: &'a [Stmt<A>],
 ) -> Result<(), AllocError>
     ensures sites { OnOk result
-        (Appends sites.old sites.new (stmts_sites (stmts_of all.now) (around_in locals.old place))) }
+        (Appends sites.old sites.new (stmts_sites (stmts_of all.now) (around_in locals.old surroundings))) }
     ensures names { OnOk result (names_in locals.new ≡ names_in locals.old) }
 {
     let outer = locals.len();
     'each: for one in all {
-        add_block_item(locals, sites, place, one)?;
+        add_block_item(locals, sites, surroundings, one)?;
     }
     locals.leave(outer);
     Ok(())
@@ -264,12 +265,12 @@ pub fn body_sites<'a, A: Allocator + Copy>(
         Some(body) => {
             let mut locals = Locals::new(alloc, key);
             add_parameters(&mut locals, f.parameters.as_slice())?;
-            let place = TransactionsAround {
+            let surroundings = TransactionsAround {
                 atomic: false,
                 outer: false,
                 in_any: false,
             };
-            add_block(&mut locals, &mut sites, place, body.as_slice())?;
+            add_block(&mut locals, &mut sites, surroundings, body.as_slice())?;
             Ok(sites)
         }
         None => Ok(sites),

@@ -2,7 +2,7 @@
 use Rattle.std.proofs.Common.{add-one, take, drop, ◌≡◌, ◌≤◌, ℕ, zero, suc, ◌+◌, List, [], ◌∷◌, ◌++◌, length, sym, ap, ◌∙◌, subst, refl, arith}
 use Rattle.seats.specs.Setup.{Setup}
 use Rattle.seats.specs.Views.{Views}
-use Rattle.seats.specs.Rule.{IsRuled, Leaves, SeatView}
+use Rattle.seats.specs.Rule.{IsRuled, LeavesCells, SeatView}
 use mathlib.Core.Option.{some, some-ne-none, some-injective}
 use lib.ListN.{get_elem?}
 
@@ -32,7 +32,7 @@ cells_are n lock words rest cells e h is =
     let len : length words ≡ suc (length rest) = ap length e in
     sym (is ∙ (ap (λ (l : List ℕ). take n (drop 1 l)) e ∙ take_whole n rest (omega arith)))
 
-pub leaves : (key : Setup) (id : ℕ) (m : SeatView) (n : ℕ) (words : List ℕ) (views : Views) (cells : List ℕ) → IsRuled key words views → get_elem? views id ≡ some m.0 → length words ≤ n + 1 → cells ≡ take n (drop 1 words) → Leaves key id m cells
+pub leaves : (key : Setup) (id : ℕ) (m : SeatView) (n : ℕ) (words : List ℕ) (views : Views) (cells : List ℕ) → IsRuled key words views → get_elem? views id ≡ some m.0 → length words ≤ n + 1 → cells ≡ take n (drop 1 words) → LeavesCells key id m cells
 leaves key id m n words views cells rule at long is =
     let rest : rule.world.words ≡ cells = cells_are n rule.world.lock words rule.world.words cells rule.words_are long is in
     (rule.world.lock, views, subst (λ (ws : List ℕ). IsRuled key ws views) (rule.words_are ∙ ap (λ (cs : List ℕ). rule.world.lock ∷ cs) rest) rule, at)

@@ -1,7 +1,7 @@
 -- Two seats meet: one speaks for both threads while the lock is loaded, once for each.
 use Rattle.std.proofs.Common.{◌≡◌, inl, inr, ℕ, [], ◌∷◌, ◌++◌, refl, sym, ap, ◌∙◌, subst, arith}
 use Rattle.seats.specs.Views.{Among, ViewPart, all_floored, first_of, with_floor, without_first}
-use Rattle.seats.specs.Rule.{Floored, SeatView, Settles}
+use Rattle.seats.specs.Rule.{Floored, SeatView, MayBeFloor}
 
 module _ (m o m1 m2 m3 m4 o1 o2 w t : SeatView) (k n : ℕ) (e1 : o1 ≡ ([], o.1)) (e2 : w ≡ (o.0, [])) (e3 : m1 ≡ (m.0 ++ w.0, m.1)) (e4 : Floored m1 k m2) (e5 : Floored m2 n m3) (e6 : m4 ≡ (first_of m3.0, m3.1)) (e7 : t ≡ (without_first m3.0, [])) (e8 : o2 ≡ (o1.0 ++ t.0, o1.1))
     (p q : ViewPart) (mine : m ≡ (p ∷ [], [])) (theirs : o ≡ (q ∷ [], [])) where
@@ -21,14 +21,14 @@ module _ (m o m1 m2 m3 m4 o1 o2 w t : SeatView) (k n : ℕ) (e1 : o1 ≡ ([], o.
   o2_is = e8 ∙ (λ i. ((e1 i).0 ++ (ap (λ (x : SeatView). x.0) e7 ∙ ap without_first second) i, (ap (λ (x : SeatView). x.1) e1 ∙ ap (λ (x : SeatView). x.1) theirs) i))
 
   -- the second load is not below the first, nor that below the old floor
-  settled : (r : ViewPart) → Settles k r → Settles n (with_floor k r) → Settles n r
-  settled r f g = let a = f.2 in let b = g.2 in (g.0, g.1, omega arith)
+  may_be_floor : (r : ViewPart) → MayBeFloor k r → MayBeFloor n (with_floor k r) → MayBeFloor n r
+  may_be_floor r f g = let a = f.2 in let b = g.2 in (g.0, g.1, omega arith)
 
-  settles_mine : Settles n p
-  settles_mine = settled p (e4.2 p (subst (Among p) (sym both) (inl refl))) (e5.2 (with_floor k p) (subst (Among (with_floor k p)) (sym first) (inl refl)))
+  mine_may_be : MayBeFloor n p
+  mine_may_be = may_be_floor p (e4.2 p (subst (Among p) (sym both) (inl refl))) (e5.2 (with_floor k p) (subst (Among (with_floor k p)) (sym first) (inl refl)))
 
-  settles_theirs : Settles n q
-  settles_theirs = settled q (e4.2 q (subst (Among q) (sym both) (inr (inl refl)))) (e5.2 (with_floor k q) (subst (Among (with_floor k q)) (sym first) (inr (inl refl))))
+  theirs_may_be : MayBeFloor n q
+  theirs_may_be = may_be_floor q (e4.2 q (subst (Among q) (sym both) (inr (inl refl)))) (e5.2 (with_floor k q) (subst (Among (with_floor k q)) (sym first) (inr (inl refl))))
 
-  pub meets_both : ((m4 ≡ (with_floor n p ∷ [], [])) × Settles n p) × ((o2 ≡ (with_floor n q ∷ [], [])) × Settles n q)
-  meets_both = ((m4_is, settles_mine), (o2_is, settles_theirs))
+  pub meets_both : ((m4 ≡ (with_floor n p ∷ [], [])) × MayBeFloor n p) × ((o2 ≡ (with_floor n q ∷ [], [])) × MayBeFloor n q)
+  meets_both = ((m4_is, mine_may_be), (o2_is, theirs_may_be))

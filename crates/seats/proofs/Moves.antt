@@ -11,7 +11,7 @@ use Rattle.bytecode.proofs.Fits.{fits_cells}
 use Rattle.seats.proofs.Codes.{initial_fits}
 use Rattle.seats.specs.Setup.{Setup}
 use Rattle.seats.specs.Views.{Among, ViewPart, all_floored, first_of, with_floor, parts_of, without_first}
-use Rattle.seats.specs.Rule.{Fits, Floored, IsRuled, Settles}
+use Rattle.seats.specs.Rule.{Fits, Floored, IsRuled, MayBeFloor}
 use Rattle.seats.proofs.Parts.{parts_in-set, parts_in-append, parts_of-append, among_append, none_since}
 use Rattle.machine.proofs.answers.Holding.{answers_ok, numbers_below}
 use Rattle.bytecode.specs.Code.{effect}
@@ -127,6 +127,6 @@ module _ (key : Setup) where
               let f = rule.fits id me.0 p at a in
               let ok = answers_ok (effect key.code) (beginning key.code) (bounds_of key.code) (initial_of key.code) (initial_fits key.code) (fits_cells key.code rule.valid) key.threads rule.world rule.heard rule.answered p.number p.part p.heard f.part f.answers in
               let below = numbers_below (effect key.code) (beginning key.code) (bounds_of key.code) (initial_of key.code) (initial_fits key.code) (fits_cells key.code rule.valid) key.threads rule.world rule.heard rule.answered p.number p.part f.part in
-              subst (λ (l : ℕ). Settles l p) (sym is) (ok.bounded, below, f.floor),
+              subst (λ (l : ℕ). MayBeFloor l p) (sym is) (ok.bounded, below, f.floor),
         ),
       )

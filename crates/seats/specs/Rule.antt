@@ -57,8 +57,8 @@ abbrev pub more_heard : List Heard → Access → Answer → List Heard
 more_heard hs x a = hs ++ record { access = x; answer = a } ∷ []
 
 -- the part and its answers after an access of the thread, which by then had come to the part now
-abbrev pub part_told : ViewPart → List ℕ → Part Configuration → Access → Answer → ViewPart
-part_told p words now x a = record p {
+abbrev pub part_after_access : ViewPart → List ℕ → Part Configuration → Access → Answer → ViewPart
+part_after_access p words now x a = record p {
   part = part_after words now (step_with (effect p.setup.code) now.thread a);
   heard = more_heard p.heard x a;
 }
@@ -67,11 +67,11 @@ part_told p words now x a = record p {
 pub record TookAs (p : ViewPart) (now : Part Configuration) (x : Access) (a : Answer) (after : List ViewPart)
     : Type 0 where
   pub words : List ℕ
-  pub leaves : after ≡ part_told p words now x a ∷ []
+  pub leaves : after ≡ part_after_access p words now x a ∷ []
   pub answers : IsAnswerTo x a
   pub word : IsWordOf p.setup.code x a
   pub since : LocksFrom p.floor (drop p.floor_at (more_heard p.heard x a))
-  pub stands : IsPart p.setup p.number (part_told p words now x a).part (more_heard p.heard x a)
+  pub stands : IsPart p.setup p.number (part_after_access p words now x a).part (more_heard p.heard x a)
 
 -- an access, which found n, of a thread that had made local steps since the seat's last one
 abbrev pub Took : SeatView → ℕ → SeatView → Type 0
@@ -112,19 +112,19 @@ IsMakeable cells (StoreLock n) = Unit {0}
 
 -- a lock value n is at least all that was answered so far, above the number of each record that took the lock, and not
 -- below the floor
-abbrev pub Settles : ℕ → ViewPart → Type 0
-Settles n p = LocksTo n p.heard × NumbersBelow n p.part.records × (p.floor ≤ n)
+abbrev pub MayBeFloor : ℕ → ViewPart → Type 0
+MayBeFloor n p = LocksTo n p.heard × NumbersBelow n p.part.records × (p.floor ≤ n)
 
 -- a load of the lock, which found n, is the floor of all threads that the seat speaks for
 abbrev pub Floored : SeatView → ℕ → SeatView → Type 0
-Floored m n w = (w.1 ≡ m.1) × (w.0 ≡ all_floored n m.0) × ((p : ViewPart) → Among p m.0 → Settles n p)
+Floored m n w = (w.1 ≡ m.1) × (w.0 ≡ all_floored n m.0) × ((p : ViewPart) → Among p m.0 → MayBeFloor n p)
 
 -- two seats that speak for one thread each, before and after they met at the lock value n
 abbrev pub MeetsBoth : ℕ → SeatView → SeatView → SeatView → SeatView → Type 0
 MeetsBoth n m o m' o' = (p q : ViewPart) → m ≡ (p ∷ [], []) → o ≡ (q ∷ [], []) →
-    ((m' ≡ (with_floor n p ∷ [], [])) × Settles n p) × ((o' ≡ (with_floor n q ∷ [], [])) × Settles n q)
+    ((m' ≡ (with_floor n p ∷ [], [])) × MayBeFloor n p) × ((o' ≡ (with_floor n q ∷ [], [])) × MayBeFloor n q)
 
 -- the table's cells when it is closed, by a seat that knows this
-abbrev pub Leaves : Setup → ℕ → SeatView → List ℕ → Type 0
-Leaves key id m cells =
+abbrev pub LeavesCells : Setup → ℕ → SeatView → List ℕ → Type 0
+LeavesCells key id m cells =
     (lock : ℕ) × (views : Views) × IsRuled key (lock ∷ cells) views × (get_elem? views id ≡ some m.0)

@@ -7,7 +7,7 @@ ghost use Rattle.norec_core.specs.Accesses.{stops};
 ghost use Rattle.norec_core.specs.declared.step.Access.TheVariants.{LoadLock, LoadWord, Swap, StoreWord, StoreLock};
 ghost use Rattle.seats.specs.Rule.{IsMakeable, IsNext, IsSeatStep, Took};
 
-use crate::rule::{Ruled, Setup, Told, View};
+use crate::rule::{Accessed, Ruled, Setup, View};
 use atomic_table::{Seat, Shared};
 use norec_core::{Access, Answer};
 use std::alloc::Allocator;
@@ -23,7 +23,7 @@ pub fn load_lock<A: Allocator>(words: &Words<A>, seat: &mut Seat<(), View>) -> u
     ensures seat { (seat.new.table_id ≡ seat.old.table_id) × (seat.new.id ≡ seat.old.id) }
     ensures took { Took seat.old.me result seat.new.me }
 {
-    words.load::<Told>(seat, 0)
+    words.load::<Accessed>(seat, 0)
 }
 
 /// A load of a cell's word.
@@ -35,7 +35,7 @@ pub fn load_word<A: Allocator>(words: &Words<A>, seat: &mut Seat<(), View>, cell
     ensures seat { (seat.new.table_id ≡ seat.old.table_id) × (seat.new.id ≡ seat.old.id) }
     ensures took { Took seat.old.me result seat.new.me }
 {
-    words.load::<Told>(seat, cell + 1)
+    words.load::<Accessed>(seat, cell + 1)
 }
 
 #[inline(always)]
@@ -47,7 +47,7 @@ fn swap<A: Allocator>(words: &Words<A>, seat: &mut Seat<(), View>, from: u64) ->
     ensures seat { (seat.new.table_id ≡ seat.old.table_id) × (seat.new.id ≡ seat.old.id) }
     ensures took { Took seat.old.me result seat.new.me }
 {
-    words.compare_exchange::<Told>(seat, 0, from, from + 1)
+    words.compare_exchange::<Accessed>(seat, 0, from, from + 1)
 }
 
 #[inline(always)]
@@ -58,7 +58,7 @@ fn store_word<A: Allocator>(words: &Words<A>, seat: &mut Seat<(), View>, cell: u
     ensures seat { (seat.new.table_id ≡ seat.old.table_id) × (seat.new.id ≡ seat.old.id) }
     ensures took { Took seat.old.me value seat.new.me }
 {
-    words.store::<Told>(seat, cell + 1, value);
+    words.store::<Accessed>(seat, cell + 1, value);
 }
 
 #[inline(always)]
@@ -68,7 +68,7 @@ fn store_lock<A: Allocator>(words: &Words<A>, seat: &mut Seat<(), View>, value: 
     ensures seat { (seat.new.table_id ≡ seat.old.table_id) × (seat.new.id ≡ seat.old.id) }
     ensures took { Took seat.old.me value seat.new.me }
 {
-    words.store::<Told>(seat, 0, value);
+    words.store::<Accessed>(seat, 0, value);
 }
 
 /// Makes the next access of the one thread that the seat speaks for, by one atomic step, and gives its answer. A local

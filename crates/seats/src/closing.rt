@@ -3,7 +3,7 @@
 ghost use Rattle.std.specs.Prelude.{◌≡◌, ◌+◌, ◌≤◌, []};
 ghost use Rattle.std.specs.Vec.{vec_capacity};
 ghost use Rattle.bytecode.specs.Valid.{cells_of};
-ghost use Rattle.seats.specs.Rule.{Leaves};
+ghost use Rattle.seats.specs.Rule.{LeavesCells};
 
 use crate::opening::WordsTable;
 use crate::rule::View;
@@ -20,7 +20,7 @@ pub fn close<A: Allocator>(
     requires words { table.shared.table_id.words ≡ cells_of table.shared.key.code + 1 }
     requires slots { table.shared.table_id.slots ≡ 0 }
     requires room { (cells.items ≡ []) × (cells_of table.shared.key.code ≤ vec_capacity cells) }
-    ensures { Leaves table.shared.key seat.id seat.me result.items }
+    ensures { LeavesCells table.shared.key seat.id seat.me result.items }
 {
     let count = table.word_count() - 1;
     let closed = table.close_with(seat);

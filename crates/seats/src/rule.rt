@@ -74,9 +74,9 @@ impl<A: Allocator> TableRule<(), View, Setup<A>> for Ruled {
 }
 
 /// An access of the thread, with the local steps before it.
-pub(crate) struct Told;
+pub(crate) struct Accessed;
 
-impl Play<(), View> for Told {
+impl Play<(), View> for Accessed {
     ghost use Rattle.seats.specs.Rule.{Took};
 
     ghost then = { λ st m n w. Took m n w };

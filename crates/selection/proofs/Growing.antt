@@ -10,10 +10,10 @@ use Rattle.bytecode.specs.declared.instr.Instr.{Instr}
 use Rattle.bytecode.specs.declared.instr.Instr.TheVariants as own
 use Rattle.lower_spec.specs.Expressions.{LocalScope, types_left, argument_order}
 use Rattle.selection.specs.declared.locations.ValueRegister.{ValueRegister}
-use Rattle.selection.specs.Lists.{Lists, with_register, holding}
+use Rattle.selection.specs.Lists.{Lists, with_register, with_registers}
 use Rattle.selection.specs.Names.{Callee, callee_of}
 use Rattle.selection.specs.Conditions.{Condition, zero_test, zero_tested}
-use Rattle.selection.specs.Expressions.{Emitted, AllEmitted, above, then_one, logical_negation, value_into, converting, constant_ready, ready_or, converted_by, in_type, in_first_type, variable, element, call_code, condition_of, where_same, taken_types, emitted_type, emitted, due, operand, own_condition, condition, all_emitted}
+use Rattle.selection.specs.Expressions.{Emitted, AllEmitted, above, then_one, logical_negation, value_into, converting, preloaded_constant, preloaded_or, converted_by, in_type, in_first_type, variable, element, call_code, condition_of, where_same, taken_types, emitted_type, emit, as_type, operand, own_condition, condition, emit_all}
 
 max_left : (a b : ℕ) → a ≤ max a b
 max_left a b = grind arith
@@ -21,7 +21,7 @@ max_left a b = grind arith
 pub used_more : (r : ℕ) (l : Lists) → l.registers ≤ (with_register r l).registers
 used_more r l = max_left l.registers (suc r)
 
-pub holding_more : (n : ℕ) (l : Lists) → l.registers ≤ (holding n l).registers
+pub holding_more : (n : ℕ) (l : Lists) → l.registers ≤ (with_registers n l).registers
 holding_more n l = max_left l.registers n
 
 variable_more : (x : Option (ℕ × Scalar)) (g : Option GlobalCells) (from into : ℕ) (l : Lists) → l.registers ≤ (variable x g from into l).lists.registers
@@ -41,8 +41,8 @@ called_more (Some f) args from into l h =
     let b = max_left (max args.lists.registers n) (suc into) in
     omega (arith, h, a, b)
 
-pub settled_more : (r : ℕ) (e : Emitted) → e.lists.registers ≤ (value_into r e).lists.registers
-settled_more r e = by (e.location.register == r)
+pub into_more : (r : ℕ) (e : Emitted) → e.lists.registers ≤ (value_into r e).lists.registers
+into_more r e = by (e.location.register == r)
   where
     by : (b : Bool) → e.lists.registers ≤ (if b then e else then_one e (own.Move r e.location.register) r e.location.ty).lists.registers
     by true = omega arith
@@ -54,9 +54,9 @@ compared_more e into free =
     let b = used_more into (with_register (above free e.location.register) e.lists) in
     omega (arith, a, b)
 
-pub ready_more : (o : Option ValueRegister) (l : Lists) (e : Emitted) → l.registers ≤ e.lists.registers → l.registers ≤ (ready_or o l e).lists.registers
+pub ready_more : (o : Option ValueRegister) (l : Lists) (e : Emitted) → l.registers ≤ e.lists.registers → l.registers ≤ (preloaded_or o l e).lists.registers
 ready_more None l e h = h
-ready_more (Some held) l e h = omega arith
+ready_more (Some location) l e h = omega arith
 
 pub converted_more : (o : Option (ℕ → ℕ → Instr)) (u : Scalar) (e : Emitted) (into : ℕ) → e.lists.registers ≤ (converted_by o u e into).lists.registers
 converted_more None u e into = omega arith
@@ -87,39 +87,39 @@ same_more None l o h = h
 same_more (Some i) l o h = tt
 
 module _ (p : Program) (scope : LocalScope) where
-  by_parts : (e : Expr) (from free : ℕ) (l : Lists) → IfSome (own_condition p scope e from free l) (HasMore l) → l.registers ≤ (emitted p scope e from free free l).lists.registers → l.registers ≤ (condition p scope e from free l).lists.registers
-  by_parts e from free l h k = tested_more l (own_condition p scope e from free l) (emitted p scope e from free free l) h k
+  by_parts : (e : Expr) (from free : ℕ) (l : Lists) → IfSome (own_condition p scope e from free l) (HasMore l) → l.registers ≤ (emit p scope e from free free l).lists.registers → l.registers ≤ (condition p scope e from free l).lists.registers
+  by_parts e from free l h k = tested_more l (own_condition p scope e from free l) (emit p scope e from free free l) h k
 
   mutual
-    pub emitted_more : (e : Expr) (from into free : ℕ) (l : Lists) → l.registers ≤ (emitted p scope e from into free l).lists.registers
+    pub emitted_more : (e : Expr) (from into free : ℕ) (l : Lists) → l.registers ≤ (emit p scope e from into free l).lists.registers
     emitted_more (Variable x) from into free l = variable_more (newest scope x.text) (global_of p x.text) from into l
     emitted_more (Constant n t at) from into free l = used_more into l
-    emitted_more (Element x i at) from into free l = element_more (global_of p x.text) (emitted p scope i from free free l) from into l (emitted_more i from free free l)
-    emitted_more (Call f es at) from into free l = called_more (callee_of p f.text) (all_emitted p scope (taken_types (callee_of p f.text)) es from free l) from into l (all_more (taken_types (callee_of p f.text)) es from free l)
+    emitted_more (Element x i at) from into free l = element_more (global_of p x.text) (emit p scope i from free free l) from into l (emitted_more i from free free l)
+    emitted_more (Call f es at) from into free l = called_more (callee_of p f.text) (emit_all p scope (taken_types (callee_of p f.text)) es from free l) from into l (all_more (taken_types (callee_of p f.text)) es from free l)
     emitted_more (Parenthesized e at) from into free l = emitted_more e from into free l
-    emitted_more (Cast t e at) from into free l = in_type_more (emitted_type p scope e) t e (emitted p scope e from into free l) from into l (emitted_more e from into free l)
+    emitted_more (Cast t e at) from into free l = in_type_more (emitted_type p scope e) t e (emit p scope e from into free l) from into l (emitted_more e from into free l)
     emitted_more (Unary Negate e at) from into free l =
-        let a = emitted_more e from free free l in let b = used_more into (emitted p scope e from free free l).lists in omega (arith, a, b)
+        let a = emitted_more e from free free l in let b = used_more into (emit p scope e from free free l).lists in omega (arith, a, b)
     emitted_more (Unary Keep e at) from into free l = emitted_more e from into free l
     emitted_more (Unary Not e at) from into free l =
-        let made = emitted p scope e from free free l in
+        let made = emit p scope e from free free l in
         let a = emitted_more e from free free l in
         let b = used_more (above free made.location.register) made.lists in
         let c = used_more into (with_register (above free made.location.register) made.lists) in
         omega (arith, a, b, c)
     emitted_more (Unary Complement e at) from into free l =
-        let a = emitted_more e from free free l in let b = used_more into (emitted p scope e from free free l).lists in omega (arith, a, b)
+        let a = emitted_more e from free free l in let b = used_more into (emit p scope e from free free l).lists in omega (arith, a, b)
     emitted_more (Binary op a b at) from into free l =
         let t = operand_type op (emitted_type p scope a) (emitted_type p scope b) in
         let u = operand_type op (emitted_type p scope b) (emitted_type p scope a) in
-        let left = due p scope t a from free free l in
+        let left = as_type p scope t a from free free l in
         let later = above free left.location.register in
-        let x = in_type_more (emitted_type p scope a) t a (emitted p scope a from free free l) from free l (emitted_more a from free free l) in
-        let found = constant_ready left.lists.layout u b left.location.to in
-        let made = emitted p scope b left.location.to later later left.lists in
+        let x = in_type_more (emitted_type p scope a) t a (emit p scope a from free free l) from free l (emitted_more a from free free l) in
+        let found = preloaded_constant left.lists.layout u b left.location.to in
+        let made = emit p scope b left.location.to later later left.lists in
         let computed = in_type (emitted_type p scope b) u b made left.location.to later left.lists in
         let y = ready_more found left.lists computed (in_type_more (emitted_type p scope b) u b made left.location.to later left.lists (emitted_more b left.location.to later later left.lists)) in
-        let z = used_more into (ready_or found left.lists computed).lists in
+        let z = used_more into (preloaded_or found left.lists computed).lists in
         omega (arith, x, y, z)
     emitted_more (Logical op a b at) from into free l =
         let first = condition p scope a from free l in
@@ -131,16 +131,16 @@ module _ (p : Program) (scope : LocalScope) where
     emitted_more (Conditional c a b at) from into free l =
         let test = condition p scope c from free l in
         let t = common (emitted_type p scope a) (emitted_type p scope b) in
-        let made = emitted p scope a (test.to + 1) into free test.lists in
-        let first = due p scope t a (test.to + 1) into free test.lists in
+        let made = emit p scope a (test.to + 1) into free test.lists in
+        let first = as_type p scope t a (test.to + 1) into free test.lists in
         let next = (value_into into first).location.to + 1 in
-        let other = emitted p scope b next into free (value_into into first).lists in
-        let second = due p scope t b next into free (value_into into first).lists in
+        let other = emit p scope b next into free (value_into into first).lists in
+        let second = as_type p scope t b next into free (value_into into first).lists in
         let u = by_parts c from free l (own_more c from free l) (emitted_more c from free free l) in
         let v = in_type_more (emitted_type p scope a) t a made (test.to + 1) into test.lists (emitted_more a (test.to + 1) into free test.lists) in
-        let w = settled_more into first in
+        let w = into_more into first in
         let x = in_type_more (emitted_type p scope b) t b other next into (value_into into first).lists (emitted_more b next into free (value_into into first).lists) in
-        let y = settled_more into second in
+        let y = into_more into second in
         omega (arith, u, v, w, x, y)
     emitted_more (InTransaction mode keyword e at) from into free l = emitted_more e (from + 1) into free l
 
@@ -157,20 +157,20 @@ module _ (p : Program) (scope : LocalScope) where
         omega (arith, x, y)
     own_more e from free l = tt
 
-    pub all_more : (ts : List Scalar) (es : Exprs) (from free : ℕ) (l : Lists) → l.registers ≤ (all_emitted p scope ts es from free l).lists.registers
+    pub all_more : (ts : List Scalar) (es : Exprs) (from free : ℕ) (l : Lists) → l.registers ≤ (emit_all p scope ts es from free l).lists.registers
     all_more ts Exprs.[] from free l = omega arith
     all_more ts (Exprs.◌∷◌ e es) from free l =
-        let made = emitted p scope e from free free l in
+        let made = emit p scope e from free free l in
         let first = in_first_type (emitted_type p scope e) ts e made from free l in
         let a = in_first_more (emitted_type p scope e) ts e made from free l (emitted_more e from free free l) in
         let b = all_more (types_left ts) es first.location.to (above free first.location.register) first.lists in
         omega (arith, a, b)
 
-  pub due_more : (u : Scalar) (e : Expr) (from into free : ℕ) (l : Lists) → l.registers ≤ (due p scope u e from into free l).lists.registers
-  due_more u e from into free l = in_type_more (emitted_type p scope e) u e (emitted p scope e from into free l) from into l (emitted_more e from into free l)
+  pub due_more : (u : Scalar) (e : Expr) (from into free : ℕ) (l : Lists) → l.registers ≤ (as_type p scope u e from into free l).lists.registers
+  due_more u e from into free l = in_type_more (emitted_type p scope e) u e (emit p scope e from into free l) from into l (emitted_more e from into free l)
 
   pub operand_more : (u : Scalar) (e : Expr) (from free : ℕ) (l : Lists) → l.registers ≤ (operand p scope u e from free l).lists.registers
-  operand_more u e from free l = ready_more (constant_ready l.layout u e from) l (due p scope u e from free free l) (due_more u e from free free l)
+  operand_more u e from free l = ready_more (preloaded_constant l.layout u e from) l (as_type p scope u e from free free l) (due_more u e from free free l)
 
   pub condition_more : (e : Expr) (from free : ℕ) (l : Lists) → l.registers ≤ (condition p scope e from free l).lists.registers
   condition_more e from free l = by_parts e from free l (own_more e from free l) (emitted_more e from free free l)

@@ -1,5 +1,5 @@
--- A body that finds constants ready needs no more registers than the body as it stands: of its expressions. One run
--- finds nothing ready, and the other one anything; their places differ.
+-- A body that finds constants preloaded needs no more registers than the body as it stands: of its expressions. One run
+-- finds nothing preloaded, and the other one anything; their places differ.
 use Rattle.std.proofs.Common.{◌≡◌, ℕ, suc, ◌+◌, ◌≤◌, List, [], ◌∷◌, length, max, Option, Some, None, Bool, true, false, if◌then◌else◌, ◌==◌, refl, sym, ap, ◌∙◌, subst, arith}
 use Rattle.lex.specs.declared.token.Scalar.{Scalar}
 use Rattle.syntax.specs.declared.tree.UnaryOp.TheVariants.{Negate, Keep, Not, Complement}
@@ -13,7 +13,7 @@ use Rattle.selection.specs.declared.locations.ValueRegister.{ValueRegister}
 use Rattle.selection.specs.Lists.{Lists, with_register}
 use Rattle.selection.specs.Names.{Callee, callee_of}
 use Rattle.selection.specs.Conditions.{Condition, zero_test, zero_tested}
-use Rattle.selection.specs.Expressions.{Emitted, AllEmitted, above, then_one, logical_negation, value_into, variable, element, call_code, condition_of, where_same, converting, ready, constant_ready, ready_or, converted_by, in_type, in_first_type, taken_types, emitted_type, emitted, due, own_condition, condition, operand, all_emitted}
+use Rattle.selection.specs.Expressions.{Emitted, AllEmitted, above, then_one, logical_negation, value_into, variable, element, call_code, condition_of, where_same, converting, preloaded, preloaded_constant, preloaded_or, converted_by, in_type, in_first_type, taken_types, emitted_type, emit, as_type, own_condition, condition, operand, emit_all}
 use Rattle.selection.proofs.Growing.{due_more}
 
 -- nothing is preloaded in the first run, and the second one needs no more registers
@@ -36,19 +36,19 @@ used_both : (r s : ℕ) (l m : Lists) → r ≡ s → IsLeaner l m → IsLeaner 
 used_both r s l m e h = subst (λ (x : ℕ). IsLeaner (with_register r l) (with_register x m)) e (used_leaner r l m h)
 
 -- a right side
-pub none_ready : (layout : Layout) (w : ℕ) (t : Scalar) (from : ℕ) → layout.constants ≡ [] → ready layout w t from ≡ None
-none_ready layout w t from e = ap (λ (ws : List ℕ). ready (record { writable = layout.writable; constants = ws }) w t from) e
+pub none_ready : (layout : Layout) (w : ℕ) (t : Scalar) (from : ℕ) → layout.constants ≡ [] → preloaded layout w t from ≡ None
+none_ready layout w t from e = ap (λ (ws : List ℕ). preloaded (record { writable = layout.writable; constants = ws }) w t from) e
 
-pub no_constant_ready : (layout : Layout) (u : Scalar) (e : Expr) (from : ℕ) → layout.constants ≡ [] → constant_ready layout u e from ≡ None
+pub no_constant_ready : (layout : Layout) (u : Scalar) (e : Expr) (from : ℕ) → layout.constants ≡ [] → preloaded_constant layout u e from ≡ None
 no_constant_ready layout u (Constant n t at) from h = none_ready layout (constant_in u t n) u from h
 no_constant_ready layout u e from h = refl
 
-pub right_leaner : (o o' : Option ValueRegister) (l m : Lists) (e e' : Emitted) → o ≡ None → IsLeaner l m → IsLeaner e.lists e'.lists → l.registers ≤ e.lists.registers → IsLeaner (ready_or o l e).lists (ready_or o' m e').lists
-right_leaner o o' l m e e' none h k more = subst (λ (x : Option ValueRegister). IsLeaner (ready_or x l e).lists (ready_or o' m e').lists) (sym none) (by o')
+pub right_leaner : (o o' : Option ValueRegister) (l m : Lists) (e e' : Emitted) → o ≡ None → IsLeaner l m → IsLeaner e.lists e'.lists → l.registers ≤ e.lists.registers → IsLeaner (preloaded_or o l e).lists (preloaded_or o' m e').lists
+right_leaner o o' l m e e' none h k more = subst (λ (x : Option ValueRegister). IsLeaner (preloaded_or x l e).lists (preloaded_or o' m e').lists) (sym none) (by o')
   where
-    by : (x : Option ValueRegister) → IsLeaner e.lists (ready_or x m e').lists
+    by : (x : Option ValueRegister) → IsLeaner e.lists (preloaded_or x m e').lists
     by None = k
-    by (Some held) = let a = h.registers in record { registers = omega (arith, a, more); nothing = k.nothing }
+    by (Some location) = let a = h.registers in record { registers = omega (arith, a, more); nothing = k.nothing }
 
 -- values of other kinds
 variable_leaner : (x : Option (ℕ × Scalar)) (g : Option GlobalCells) (from to into : ℕ) (l m : Lists) → IsLeaner l m → IsLeaner (variable x g from into l).lists (variable x g to into m).lists
@@ -85,8 +85,8 @@ called_register : (f : Option Callee) (args others : AllEmitted) (from to into :
 called_register None args others from to into l m = refl
 called_register (Some f) args others from to into l m = refl
 
-settled_leaner : (r : ℕ) (e d : Emitted) → e.location.register ≡ d.location.register → IsLeaner e.lists d.lists → IsLeaner (value_into r e).lists (value_into r d).lists
-settled_leaner r e d same h =
+into_leaner : (r : ℕ) (e d : Emitted) → e.location.register ≡ d.location.register → IsLeaner e.lists d.lists → IsLeaner (value_into r e).lists (value_into r d).lists
+into_leaner r e d same h =
     subst (λ (x : ℕ). IsLeaner (value_into r e).lists (if x == r then d else then_one d (own.Move r d.location.register) r d.location.ty).lists) same (by (e.location.register == r))
   where
     by : (b : Bool) → IsLeaner (if b then e else then_one e (own.Move r e.location.register) r e.location.ty).lists (if b then d else then_one d (own.Move r d.location.register) r d.location.ty).lists
@@ -139,13 +139,13 @@ same_leaner (Some i) o o' h = tt
 
 module _ (p : Program) (scope : LocalScope) where
   -- a value lies in the same register, whatever the place and the lists
-  pub same_register : (e : Expr) (from to into free : ℕ) (l m : Lists) → (emitted p scope e from into free l).location.register ≡ (emitted p scope e to into free m).location.register
+  pub same_register : (e : Expr) (from to into free : ℕ) (l m : Lists) → (emit p scope e from into free l).location.register ≡ (emit p scope e to into free m).location.register
   same_register (Variable x) from to into free l m = variable_register (newest scope x.text) (global_of p x.text) from to into l m
   same_register (Constant n t at) from to into free l m = refl
-  same_register (Element x i at) from to into free l m = element_register (global_of p x.text) (emitted p scope i from free free l) (emitted p scope i to free free m) from to into l m
-  same_register (Call f es at) from to into free l m = called_register (callee_of p f.text) (all_emitted p scope (taken_types (callee_of p f.text)) es from free l) (all_emitted p scope (taken_types (callee_of p f.text)) es to free m) from to into l m
+  same_register (Element x i at) from to into free l m = element_register (global_of p x.text) (emit p scope i from free free l) (emit p scope i to free free m) from to into l m
+  same_register (Call f es at) from to into free l m = called_register (callee_of p f.text) (emit_all p scope (taken_types (callee_of p f.text)) es from free l) (emit_all p scope (taken_types (callee_of p f.text)) es to free m) from to into l m
   same_register (Parenthesized e at) from to into free l m = same_register e from to into free l m
-  same_register (Cast t e at) from to into free l m = in_type_register (emitted_type p scope e) t e (emitted p scope e from into free l) (emitted p scope e to into free m) from to into l m (same_register e from to into free l m)
+  same_register (Cast t e at) from to into free l m = in_type_register (emitted_type p scope e) t e (emit p scope e from into free l) (emit p scope e to into free m) from to into l m (same_register e from to into free l m)
   same_register (Unary Negate e at) from to into free l m = refl
   same_register (Unary Keep e at) from to into free l m = same_register e from to into free l m
   same_register (Unary Not e at) from to into free l m = refl
@@ -155,53 +155,53 @@ module _ (p : Program) (scope : LocalScope) where
   same_register (Conditional c a b at) from to into free l m = refl
   same_register (InTransaction mode keyword e at) from to into free l m = same_register e (from + 1) (to + 1) into free l m
 
-  pub due_register : (u : Scalar) (e : Expr) (from to into free : ℕ) (l m : Lists) → (due p scope u e from into free l).location.register ≡ (due p scope u e to into free m).location.register
-  due_register u e from to into free l m = in_type_register (emitted_type p scope e) u e (emitted p scope e from into free l) (emitted p scope e to into free m) from to into l m (same_register e from to into free l m)
+  pub due_register : (u : Scalar) (e : Expr) (from to into free : ℕ) (l m : Lists) → (as_type p scope u e from into free l).location.register ≡ (as_type p scope u e to into free m).location.register
+  due_register u e from to into free l m = in_type_register (emitted_type p scope e) u e (emit p scope e from into free l) (emit p scope e to into free m) from to into l m (same_register e from to into free l m)
 
-  pub same_registers : (ts : List Scalar) (es : Exprs) (from to free : ℕ) (l m : Lists) → (all_emitted p scope ts es from free l).registers ≡ (all_emitted p scope ts es to free m).registers
+  pub same_registers : (ts : List Scalar) (es : Exprs) (from to free : ℕ) (l m : Lists) → (emit_all p scope ts es from free l).registers ≡ (emit_all p scope ts es to free m).registers
   same_registers ts Exprs.[] from to free l m = refl
   same_registers ts (Exprs.◌∷◌ e es) from to free l m =
-      let made = emitted p scope e from free free l in
-      let made' = emitted p scope e to free free m in
+      let made = emit p scope e from free free l in
+      let made' = emit p scope e to free free m in
       let first = in_first_type (emitted_type p scope e) ts e made from free l in
       let other = in_first_type (emitted_type p scope e) ts e made' to free m in
       let rest = same_registers (types_left ts) es first.location.to other.location.to (above free first.location.register) first.lists other.lists in
       ap (λ rs. first.location.register ∷ rs) rest
-      ∙ ap (λ r. r ∷ (all_emitted p scope (types_left ts) es other.location.to (above free r) other.lists).registers) (in_first_register (emitted_type p scope e) ts e made made' from to free l m (same_register e from to free free l m))
+      ∙ ap (λ r. r ∷ (emit_all p scope (types_left ts) es other.location.to (above free r) other.lists).registers) (in_first_register (emitted_type p scope e) ts e made made' from to free l m (same_register e from to free free l m))
 
-  by_parts : (e : Expr) (from to free : ℕ) (l m : Lists) → BothLeaner (own_condition p scope e from free l) (own_condition p scope e to free m) → IsLeaner (emitted p scope e from free free l).lists (emitted p scope e to free free m).lists → IsLeaner (condition p scope e from free l).lists (condition p scope e to free m).lists
-  by_parts e from to free l m h k = tested_leaner (own_condition p scope e from free l) (own_condition p scope e to free m) (emitted p scope e from free free l) (emitted p scope e to free free m) h k
+  by_parts : (e : Expr) (from to free : ℕ) (l m : Lists) → BothLeaner (own_condition p scope e from free l) (own_condition p scope e to free m) → IsLeaner (emit p scope e from free free l).lists (emit p scope e to free free m).lists → IsLeaner (condition p scope e from free l).lists (condition p scope e to free m).lists
+  by_parts e from to free l m h k = tested_leaner (own_condition p scope e from free l) (own_condition p scope e to free m) (emit p scope e from free free l) (emit p scope e to free free m) h k
 
   mutual
-    pub emitted_leaner : (e : Expr) (from to into free : ℕ) (l m : Lists) → IsLeaner l m → IsLeaner (emitted p scope e from into free l).lists (emitted p scope e to into free m).lists
+    pub emitted_leaner : (e : Expr) (from to into free : ℕ) (l m : Lists) → IsLeaner l m → IsLeaner (emit p scope e from into free l).lists (emit p scope e to into free m).lists
     emitted_leaner (Variable x) from to into free l m h = variable_leaner (newest scope x.text) (global_of p x.text) from to into l m h
     emitted_leaner (Constant n t at) from to into free l m h = used_leaner into l m h
     emitted_leaner (Element x i at) from to into free l m h =
-        element_leaner (global_of p x.text) (emitted p scope i from free free l) (emitted p scope i to free free m) from to into l m h (emitted_leaner i from to free free l m h)
+        element_leaner (global_of p x.text) (emit p scope i from free free l) (emit p scope i to free free m) from to into l m h (emitted_leaner i from to free free l m h)
     emitted_leaner (Call f es at) from to into free l m h =
         let ts = taken_types (callee_of p f.text) in
-        called_leaner (callee_of p f.text) (all_emitted p scope ts es from free l) (all_emitted p scope ts es to free m) from to into l m (same_registers ts es from to free l m) h (all_leaner ts es from to free l m h)
+        called_leaner (callee_of p f.text) (emit_all p scope ts es from free l) (emit_all p scope ts es to free m) from to into l m (same_registers ts es from to free l m) h (all_leaner ts es from to free l m h)
     emitted_leaner (Parenthesized e at) from to into free l m h = emitted_leaner e from to into free l m h
-    emitted_leaner (Cast t e at) from to into free l m h = in_type_leaner (emitted_type p scope e) t e (emitted p scope e from into free l) (emitted p scope e to into free m) from to into l m h (emitted_leaner e from to into free l m h)
+    emitted_leaner (Cast t e at) from to into free l m h = in_type_leaner (emitted_type p scope e) t e (emit p scope e from into free l) (emit p scope e to into free m) from to into l m h (emitted_leaner e from to into free l m h)
     emitted_leaner (Unary Negate e at) from to into free l m h =
-        used_leaner into (emitted p scope e from free free l).lists (emitted p scope e to free free m).lists (emitted_leaner e from to free free l m h)
+        used_leaner into (emit p scope e from free free l).lists (emit p scope e to free free m).lists (emitted_leaner e from to free free l m h)
     emitted_leaner (Unary Keep e at) from to into free l m h = emitted_leaner e from to into free l m h
     emitted_leaner (Unary Not e at) from to into free l m h =
-        compared_leaner (emitted p scope e from free free l) (emitted p scope e to free free m) into free (same_register e from to free free l m) (emitted_leaner e from to free free l m h)
+        compared_leaner (emit p scope e from free free l) (emit p scope e to free free m) into free (same_register e from to free free l m) (emitted_leaner e from to free free l m h)
     emitted_leaner (Unary Complement e at) from to into free l m h =
-        used_leaner into (emitted p scope e from free free l).lists (emitted p scope e to free free m).lists (emitted_leaner e from to free free l m h)
+        used_leaner into (emit p scope e from free free l).lists (emit p scope e to free free m).lists (emitted_leaner e from to free free l m h)
     emitted_leaner (Binary op a b at) from to into free l m h =
         let t = operand_type op (emitted_type p scope a) (emitted_type p scope b) in
         let v = operand_type op (emitted_type p scope b) (emitted_type p scope a) in
-        let left = due p scope t a from free free l in
-        let other = due p scope t a to free free m in
+        let left = as_type p scope t a from free free l in
+        let other = as_type p scope t a to free free m in
         let later = above free left.location.register in
-        let x = in_type_leaner (emitted_type p scope a) t a (emitted p scope a from free free l) (emitted p scope a to free free m) from to free l m h (emitted_leaner a from to free free l m h) in
-        let y = in_type_leaner (emitted_type p scope b) v b (emitted p scope b left.location.to later later left.lists) (emitted p scope b other.location.to later later other.lists) left.location.to other.location.to later left.lists other.lists x (emitted_leaner b left.location.to other.location.to later later left.lists other.lists x) in
+        let x = in_type_leaner (emitted_type p scope a) t a (emit p scope a from free free l) (emit p scope a to free free m) from to free l m h (emitted_leaner a from to free free l m h) in
+        let y = in_type_leaner (emitted_type p scope b) v b (emit p scope b left.location.to later later left.lists) (emit p scope b other.location.to later later other.lists) left.location.to other.location.to later left.lists other.lists x (emitted_leaner b left.location.to other.location.to later later left.lists other.lists x) in
         used_leaner into (operand p scope v b left.location.to later left.lists).lists (operand p scope v b other.location.to (above free other.location.register) other.lists).lists
         (subst (λ (r : ℕ). IsLeaner (operand p scope v b left.location.to later left.lists).lists (operand p scope v b other.location.to (above free r) other.lists).lists) (due_register t a from to free free l m)
-        (right_leaner (constant_ready left.lists.layout v b left.location.to) (constant_ready other.lists.layout v b other.location.to) left.lists other.lists
-        (due p scope v b left.location.to later later left.lists) (due p scope v b other.location.to later later other.lists)
+        (right_leaner (preloaded_constant left.lists.layout v b left.location.to) (preloaded_constant other.lists.layout v b other.location.to) left.lists other.lists
+        (as_type p scope v b left.location.to later later left.lists) (as_type p scope v b other.location.to later later other.lists)
         (no_constant_ready left.lists.layout v b left.location.to x.nothing) x y (due_more p scope v b left.location.to later later left.lists)))
     emitted_leaner (Logical op a b at) from to into free l m h =
         let first = condition p scope a from free l in
@@ -213,15 +213,15 @@ module _ (p : Program) (scope : LocalScope) where
         let test = condition p scope c from free l in
         let other = condition p scope c to free m in
         let t = common (emitted_type p scope a) (emitted_type p scope b) in
-        let first = due p scope t a (test.to + 1) into free test.lists in
-        let first' = due p scope t a (other.to + 1) into free other.lists in
+        let first = as_type p scope t a (test.to + 1) into free test.lists in
+        let first' = as_type p scope t a (other.to + 1) into free other.lists in
         let u = (value_into into first).location.to + 1 in
         let u' = (value_into into first').location.to + 1 in
         let x = by_parts c from to free l m (own_leaner c from to free l m h) (emitted_leaner c from to free free l m h) in
-        let y = in_type_leaner (emitted_type p scope a) t a (emitted p scope a (test.to + 1) into free test.lists) (emitted p scope a (other.to + 1) into free other.lists) (test.to + 1) (other.to + 1) into test.lists other.lists x (emitted_leaner a (test.to + 1) (other.to + 1) into free test.lists other.lists x) in
-        let z = settled_leaner into first first' (due_register t a (test.to + 1) (other.to + 1) into free test.lists other.lists) y in
-        let w = in_type_leaner (emitted_type p scope b) t b (emitted p scope b u into free (value_into into first).lists) (emitted p scope b u' into free (value_into into first').lists) u u' into (value_into into first).lists (value_into into first').lists z (emitted_leaner b u u' into free (value_into into first).lists (value_into into first').lists z) in
-        settled_leaner into (due p scope t b u into free (value_into into first).lists) (due p scope t b u' into free (value_into into first').lists)
+        let y = in_type_leaner (emitted_type p scope a) t a (emit p scope a (test.to + 1) into free test.lists) (emit p scope a (other.to + 1) into free other.lists) (test.to + 1) (other.to + 1) into test.lists other.lists x (emitted_leaner a (test.to + 1) (other.to + 1) into free test.lists other.lists x) in
+        let z = into_leaner into first first' (due_register t a (test.to + 1) (other.to + 1) into free test.lists other.lists) y in
+        let w = in_type_leaner (emitted_type p scope b) t b (emit p scope b u into free (value_into into first).lists) (emit p scope b u' into free (value_into into first').lists) u u' into (value_into into first).lists (value_into into first').lists z (emitted_leaner b u u' into free (value_into into first).lists (value_into into first').lists z) in
+        into_leaner into (as_type p scope t b u into free (value_into into first).lists) (as_type p scope t b u' into free (value_into into first').lists)
         (due_register t b u u' into free (value_into into first).lists (value_into into first').lists) w
     emitted_leaner (InTransaction mode keyword e at) from to into free l m h = emitted_leaner e (from + 1) (to + 1) into free l m h
 
@@ -241,24 +241,24 @@ module _ (p : Program) (scope : LocalScope) where
         (emitted_leaner b (first.to + 1) (other.to + 1) free free first.lists other.lists x)
     own_leaner e from to free l m h = tt
 
-    pub all_leaner : (ts : List Scalar) (es : Exprs) (from to free : ℕ) (l m : Lists) → IsLeaner l m → IsLeaner (all_emitted p scope ts es from free l).lists (all_emitted p scope ts es to free m).lists
+    pub all_leaner : (ts : List Scalar) (es : Exprs) (from to free : ℕ) (l m : Lists) → IsLeaner l m → IsLeaner (emit_all p scope ts es from free l).lists (emit_all p scope ts es to free m).lists
     all_leaner ts Exprs.[] from to free l m h = h
     all_leaner ts (Exprs.◌∷◌ e es) from to free l m h =
-        let made = emitted p scope e from free free l in
-        let made' = emitted p scope e to free free m in
+        let made = emit p scope e from free free l in
+        let made' = emit p scope e to free free m in
         let first = in_first_type (emitted_type p scope e) ts e made from free l in
         let other = in_first_type (emitted_type p scope e) ts e made' to free m in
         let x = in_first_leaner (emitted_type p scope e) ts e made made' from to free l m h (emitted_leaner e from to free free l m h) in
-        subst (λ (r : ℕ). IsLeaner (all_emitted p scope (types_left ts) es first.location.to (above free first.location.register) first.lists).lists (all_emitted p scope (types_left ts) es other.location.to (above free r) other.lists).lists) (in_first_register (emitted_type p scope e) ts e made made' from to free l m (same_register e from to free free l m))
+        subst (λ (r : ℕ). IsLeaner (emit_all p scope (types_left ts) es first.location.to (above free first.location.register) first.lists).lists (emit_all p scope (types_left ts) es other.location.to (above free r) other.lists).lists) (in_first_register (emitted_type p scope e) ts e made made' from to free l m (same_register e from to free free l m))
         (all_leaner (types_left ts) es first.location.to other.location.to (above free first.location.register) first.lists other.lists x)
 
   pub condition_leaner : (e : Expr) (from to free : ℕ) (l m : Lists) → IsLeaner l m → IsLeaner (condition p scope e from free l).lists (condition p scope e to free m).lists
   condition_leaner e from to free l m h = by_parts e from to free l m (own_leaner e from to free l m h) (emitted_leaner e from to free free l m h)
 
-  pub due_leaner : (u : Scalar) (e : Expr) (from to into free : ℕ) (l m : Lists) → IsLeaner l m → IsLeaner (due p scope u e from into free l).lists (due p scope u e to into free m).lists
-  due_leaner u e from to into free l m h = in_type_leaner (emitted_type p scope e) u e (emitted p scope e from into free l) (emitted p scope e to into free m) from to into l m h (emitted_leaner e from to into free l m h)
+  pub due_leaner : (u : Scalar) (e : Expr) (from to into free : ℕ) (l m : Lists) → IsLeaner l m → IsLeaner (as_type p scope u e from into free l).lists (as_type p scope u e to into free m).lists
+  due_leaner u e from to into free l m h = in_type_leaner (emitted_type p scope e) u e (emit p scope e from into free l) (emit p scope e to into free m) from to into l m h (emitted_leaner e from to into free l m h)
 
   pub operand_leaner : (u : Scalar) (e : Expr) (from to free : ℕ) (l m : Lists) → IsLeaner l m → IsLeaner (operand p scope u e from free l).lists (operand p scope u e to free m).lists
   operand_leaner u e from to free l m h =
-      right_leaner (constant_ready l.layout u e from) (constant_ready m.layout u e to) l m (due p scope u e from free free l) (due p scope u e to free free m)
+      right_leaner (preloaded_constant l.layout u e from) (preloaded_constant m.layout u e to) l m (as_type p scope u e from free free l) (as_type p scope u e to free free m)
       (no_constant_ready l.layout u e from h.nothing) h (due_leaner u e from to free free l m h) (due_more p scope u e from free free l)

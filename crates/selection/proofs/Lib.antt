@@ -3,7 +3,7 @@ mod Drafted
 -- what follows needs no fewer registers
 pub mod Growing
 pub mod GrowingStmts
--- a body that finds constants ready needs no more registers
+-- a body that finds constants preloaded needs no more registers
 mod LeanerExprs
 pub mod Leaner
 -- what follows makes the lists longer

@@ -7,26 +7,26 @@ use Rattle.syntax.specs.declared.tree.UnaryOp.TheVariants.{Not}
 use Rattle.lex.specs.declared.token.Scalar.TheVariants.{Int, LongLong}
 use Rattle.syntax.specs.declared.tree.LogicalOp.TheVariants.{AndThen}
 use Rattle.syntax.specs.declared.tree.Mode.TheVariants.{Atomic, Relaxed}
-use Rattle.syntax.specs.declared.tree.Kind.TheVariants.{Plain, Outer}
+use Rattle.syntax.specs.declared.tree.TransactionKind.TheVariants.{Plain, Outer}
 use Rattle.syntax.specs.declared.tree.IncDec.TheVariants.{Increment}
 use Rattle.syntax.specs.Tree.{Expr, Exprs, Print, If, While, For, Declares, Break, Name, Variable, Constant, Element, Call, Unary, Parenthesized, Binary, Logical, InTransaction, Assign, Adjust, Stmts, Do, Transaction, CancelOuter, Return, Function, Global, Defines, Shares, Cast, Program}
 use Rattle.bytecode.specs.Code.{Code, Instr}
 use Rattle.selection.specs.Lists.{Lists}
-use Rattle.selection.specs.Expressions.{emitted}
+use Rattle.selection.specs.Expressions.{emit}
 use Rattle.bytecode.specs.declared.instr.Instr.{Instr as Own}
 use Rattle.bytecode.specs.declared.instr.Instr.TheVariants as own
 use Rattle.lower_spec.specs.Expressions.{LocalScope}
-use Rattle.selection.specs.Statements.{written}
-use Rattle.selection.specs.Programs.{no_exits, nothing_ready, picked_code}
+use Rattle.selection.specs.Statements.{stmt_code}
+use Rattle.selection.specs.Programs.{no_exits, nothing_preloaded, picked_code}
 
 abbrev no_lists : Lists
-no_lists = record { arguments = []; texts = []; registers = 0; layout = nothing_ready }
+no_lists = record { arguments = []; texts = []; registers = 0; layout = nothing_preloaded }
 
 abbrev no_span : Span
 no_span = record { start = 0; end = 0 }
 
 abbrev named : List ℕ → Name
-named text = record { text = text; at = no_span }
+named text = record { text = text; span = no_span }
 
 abbrev var : List ℕ → Expr
 var x = Variable (named x)
@@ -49,7 +49,7 @@ first_code : (picked_code (Shares (x ∷ []) ∷ Defines (body (Stmts.◌∷◌ 
 first_code = refl
 
 -- x + __transaction_relaxed(x + x), to be had in register 1
-in_its_own : (emitted (Shares (x ∷ []) ∷ []) [] (Binary Add (var (codes "x")) (InTransaction Relaxed no_span (Binary Add (var (codes "x")) (var (codes "x")) no_span) no_span) no_span) 7 1 1 no_lists).code ≡
+in_its_own : (emit (Shares (x ∷ []) ∷ []) [] (Binary Add (var (codes "x")) (InTransaction Relaxed no_span (Binary Add (var (codes "x")) (var (codes "x")) no_span) no_span) no_span) 7 1 1 no_lists).code ≡
     own.Read 1 0 ∷ own.Begin 13 ∷ own.Read 2 0 ∷ own.Read 3 0 ∷ own.AddSigned 2 2 3 ∷ own.Commit ∷ own.AddSigned 1 1 2 ∷ []
 in_its_own = refl
 
@@ -74,7 +74,7 @@ abbrev ones : ℕ → Expr
 ones zero = num 1
 ones (suc n) = Binary Add (ones n) (num 1) no_span
 
-four_registers : (emitted [] [] (ones 89) 0 2 2 (record { arguments = []; texts = []; registers = 2; layout = nothing_ready })).lists.registers ≡ 4
+four_registers : (emit [] [] (ones 89) 0 2 2 (record { arguments = []; texts = []; registers = 2; layout = nothing_preloaded })).lists.registers ≡ 4
 four_registers = refl
 
 -- int a[4]; int f(int n) { if (n > 1 && n) return f(n); return 0; }
@@ -111,7 +111,7 @@ of_worker : List Instr
 of_worker =
     -- 9: 3 and 1, with which the loop computes
     Instr.Constant 4 3 ∷ Instr.Constant 5 1
-    -- 11: i = 0, and then pads
+    -- 11: i = 0, and then the loop's jumps
     ∷ Instr.Constant 1 0 ∷ Instr.Constant 1 0 ∷ Instr.Jump 29 ∷ Instr.Jump 31 ∷ Instr.Jump 28
     -- 16: a[i] += f(i)
     ∷ Instr.Begin 28 ∷ Instr.ReadAt 2 0 4 1 ∷ Instr.Call 0 3 (1 ∷ []) ∷ Instr.Compute Add Int 2 2 3 ∷ Instr.WriteAt 0 4 1 2
@@ -127,7 +127,7 @@ unfolding of_f of_worker
 second_code = refl
 
 -- while (!(v != 0)) v = 5;
-waiting : (written [] (While (Unary Not (Parenthesized (Binary NotEqual (var (codes "v")) (num 0) no_span) no_span) no_span) (Do (Assign (var (codes "v")) None (num 5)))) (no_exits None) (record { name = codes "v"; ty = Int; word = 0 } ∷ []) 7 no_lists).code ≡
+waiting : (stmt_code [] (While (Unary Not (Parenthesized (Binary NotEqual (var (codes "v")) (num 0) no_span) no_span) no_span) (Do (Assign (var (codes "v")) None (num 5)))) (no_exits None) (record { name = codes "v"; ty = Int; word = 0 } ∷ []) 7 no_lists).code ≡
     own.Jump 10 ∷ own.Jump 11 ∷ own.Constant 0 5 ∷ own.JumpZero 0 9 ∷ []
 waiting = refl
 
@@ -139,7 +139,7 @@ abbrev locals : LocalScope
 locals = record { name = codes "v"; ty = LongLong; word = 0 } ∷ record { name = codes "i"; ty = Int; word = 0 } ∷ []
 
 abbrev assigned : List ℕ → Expr → List Own
-assigned to e = (written wide (Do (Assign (var to) None e)) (no_exits None) locals 7 no_lists).code
+assigned to e = (stmt_code wide (Do (Assign (var to) None e)) (no_exits None) locals 7 no_lists).code
 
 -- v = v + 1; v = 1 + v; v = i + v; v = v << i;
 adds_to_v : assigned (codes "v") (Binary Add (var (codes "v")) (num 1) no_span) ≡ own.Constant 2 1 ∷ own.AddLong 0 0 2 ∷ []
@@ -178,8 +178,8 @@ sets_lower_half : assigned (codes "x") (Constant 4294967297 LongLong no_span) �
 sets_lower_half = refl
 
 -- i += v; and a condition (int)v
-changes : (written wide (Do (Assign (var (codes "i")) (Some Add) (var (codes "v")))) (no_exits None) locals 7 no_lists).code ≡ own.Extend 2 1 ∷ own.AddLong 1 2 0 ∷ own.Low 1 1 ∷ []
+changes : (stmt_code wide (Do (Assign (var (codes "i")) (Some Add) (var (codes "v")))) (no_exits None) locals 7 no_lists).code ≡ own.Extend 2 1 ∷ own.AddLong 1 2 0 ∷ own.Low 1 1 ∷ []
 changes = refl
 
-asks : (written wide (If (Cast Int (var (codes "v")) no_span) (Do (Assign (var (codes "i")) None (num 1)))) (no_exits None) locals 7 no_lists).code ≡ own.Low 2 0 ∷ own.JumpZero 2 10 ∷ own.Constant 1 1 ∷ []
+asks : (stmt_code wide (If (Cast Int (var (codes "v")) no_span) (Do (Assign (var (codes "i")) None (num 1)))) (no_exits None) locals 7 no_lists).code ≡ own.Low 2 0 ∷ own.JumpZero 2 10 ∷ own.Constant 1 1 ∷ []
 asks = refl

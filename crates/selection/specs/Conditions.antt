@@ -49,13 +49,13 @@ opposite_draft (draft.ToMet at_zero r) = draft.ToUnmet at_zero r
 opposite_draft (draft.ToUnmet at_zero r) = draft.ToMet at_zero r
 
 -- of the first condition of `&&` and `||`, where it is known where the second one begins
-abbrev pub led_on : LogicalOp → ℕ → Draft → Draft
-led_on AndThen next (draft.Whole i) = draft.Whole i
-led_on AndThen next (draft.ToMet at_zero r) = draft.Whole (jump_if at_zero r next)
-led_on AndThen next (draft.ToUnmet at_zero r) = draft.ToUnmet at_zero r
-led_on OrElse next (draft.Whole i) = draft.Whole i
-led_on OrElse next (draft.ToMet at_zero r) = draft.ToMet at_zero r
-led_on OrElse next (draft.ToUnmet at_zero r) = draft.Whole (jump_if at_zero r next)
+abbrev pub with_second_at : LogicalOp → ℕ → Draft → Draft
+with_second_at AndThen next (draft.Whole i) = draft.Whole i
+with_second_at AndThen next (draft.ToMet at_zero r) = draft.Whole (jump_if at_zero r next)
+with_second_at AndThen next (draft.ToUnmet at_zero r) = draft.ToUnmet at_zero r
+with_second_at OrElse next (draft.Whole i) = draft.Whole i
+with_second_at OrElse next (draft.ToMet at_zero r) = draft.ToMet at_zero r
+with_second_at OrElse next (draft.ToUnmet at_zero r) = draft.Whole (jump_if at_zero r next)
 
 -- its jump past the second one
 abbrev pub short_jump : LogicalOp → ConditionRegister → Draft
@@ -69,17 +69,13 @@ going_on code t unmet = map (instruction_of_draft (t.to + 1) unmet) code ++ jump
 abbrev pub going_back : List Draft → ConditionRegister → (met : ℕ) → List Instr
 going_back code t met = map (instruction_of_draft met (t.to + 1)) code ++ jump_if t.at_zero t.register met ∷ []
 
--- the test of a value
-abbrev pub tested_by : ValueRegister → ConditionRegister
-tested_by h = record { register = h.register; at_zero = false; to = h.to }
-
 abbrev pub by_value : List Instr → Lists → ValueRegister → Condition
-by_value code l held = record {
+by_value code l location = record {
   code = map draft.Whole code;
   lists = l;
-  register = held.register;
+  register = location.register;
   at_zero = false;
-  to = held.to;
+  to = location.to;
 }
 
 abbrev pub opposite : Condition → Condition
@@ -87,19 +83,19 @@ opposite c = record c { code = map opposite_draft c.code; at_zero = not c.at_zer
 
 -- a first condition and its jump
 abbrev pub first_of : LogicalOp → Condition → List Draft
-first_of op a = map (led_on op (a.to + 1)) a.code ++ short_jump op (test_in a) ∷ []
+first_of op a = map (with_second_at op (a.to + 1)) a.code ++ short_jump op (test_in a) ∷ []
 
 abbrev pub logical_condition : LogicalOp → (a b : Condition) → Condition
 logical_condition op a b = record b { code = first_of op a ++ b.code }
 
-abbrev pub is_nought : Expr → Bool
-is_nought (Constant zero t at) = true
-is_nought e = false
+abbrev pub is_zero_constant : Expr → Bool
+is_zero_constant (Constant zero t at) = true
+is_zero_constant e = false
 
 -- a comparison with 0: whether it holds where the other side is 0
 abbrev pub zero_test : BinaryOp → Expr → Option Bool
-zero_test Equal b = if is_nought b then Some true else None
-zero_test NotEqual b = if is_nought b then Some false else None
+zero_test Equal b = if is_zero_constant b then Some true else None
+zero_test NotEqual b = if is_zero_constant b then Some false else None
 zero_test op b = None
 
 abbrev pub zero_tested : Option Bool → Condition → Option Condition

@@ -20,7 +20,7 @@ use Rattle.bytecode.specs.declared.instr.Instr.TheVariants as own
 use Rattle.bytecode.specs.declared.limits.TheConstants.{MOST_REGISTERS}
 use Rattle.lower_spec.specs.Expressions.{LocalScope, Layout, constant_in, types_left, argument_order}
 use Rattle.selection.specs.declared.locations.ValueRegister.{ValueRegister}
-use Rattle.selection.specs.Lists.{Lists, with_register, holding}
+use Rattle.selection.specs.Lists.{Lists, with_register, with_registers}
 use Rattle.selection.specs.Names.{Callee, callee_of}
 use Rattle.selection.specs.Conditions.{Condition, test_in, going_on, by_value, opposite, logical_condition, zero_test}
 use Rattle.selection.specs.Conditions.{zero_tested}
@@ -117,25 +117,26 @@ then_one e i r t = record {
 abbrev pub constant : ℕ → Scalar → (from into : ℕ) → Lists → Emitted
 constant n t from into l = one (own.Constant into n) from into t l
 
--- the register in which a word is preloaded, where these words do from this register on, as far as registers have
+-- the register in which a word is preloaded, where these words are from this register on, as far as registers have
 -- numbers
-abbrev pub ready_from : ℕ → List ℕ → ℕ → Option ℕ
-ready_from r [] w = None
-ready_from r (x ∷ xs) w = if x == w then Some r else if r == MOST_REGISTERS then None else ready_from (suc r) xs w
+abbrev pub preloaded_from : ℕ → List ℕ → ℕ → Option ℕ
+preloaded_from r [] w = None
+preloaded_from r (x ∷ xs) w = if x == w then Some r else if r == MOST_REGISTERS then None
+    else preloaded_from (suc r) xs w
 
-abbrev pub ready : Layout → (w : ℕ) → Scalar → (from : ℕ) → Option ValueRegister
-ready layout w t from =
-    option_map (λ r. record { register = r; ty = t; to = from }) (ready_from layout.writable layout.constants w)
+abbrev pub preloaded : Layout → (w : ℕ) → Scalar → (from : ℕ) → Option ValueRegister
+preloaded layout w t from =
+    option_map (λ r. record { register = r; ty = t; to = from }) (preloaded_from layout.writable layout.constants w)
 
 -- a constant that is preloaded in the type that is due, as the right side of an operator
-abbrev pub constant_ready : Layout → Scalar → Expr → ℕ → Option ValueRegister
-constant_ready layout u (Constant n t at) from = ready layout (constant_in u t n) u from
-constant_ready layout u e from = None
+abbrev pub preloaded_constant : Layout → Scalar → Expr → ℕ → Option ValueRegister
+preloaded_constant layout u (Constant n t at) from = preloaded layout (constant_in u t n) u from
+preloaded_constant layout u e from = None
 
 -- a value that is preloaded, or else one that is computed
-abbrev pub ready_or : Option ValueRegister → Lists → Emitted → Emitted
-ready_or None l e = e
-ready_or (Some held) l e = record { code = []; lists = l; location = held }
+abbrev pub preloaded_or : Option ValueRegister → Lists → Emitted → Emitted
+preloaded_or None l e = e
+preloaded_or (Some location) l e = record { code = []; lists = l; location = location }
 
 -- a local's own register
 abbrev pub in_local : ℕ → Scalar → ℕ → Lists → Emitted
@@ -262,10 +263,12 @@ abbrev pub call_code : Option Callee → AllEmitted → (from into : ℕ) → Li
 call_code None args from into l = constant 0 Int from into l
 call_code (Some f) args from into l =
     let made = args.lists.arguments in
-    let handed = argument_order f.parameters args.registers in
+    let in_order = argument_order f.parameters args.registers in
     record {
-      code = args.code ++ own.Call into (length handed) f.number (length made) ∷ [];
-      lists = with_register into (holding (length handed) (record args.lists { arguments = made ++ handed }));
+      code = args.code ++ own.Call into (length in_order) f.number (length made) ∷ [];
+      lists =
+          with_register into
+          (with_registers (length in_order) (record args.lists { arguments = made ++ in_order }));
       location = record { register = into; ty = f.ty; to = args.to + 1 };
     }
 
@@ -308,42 +311,43 @@ module _ (p : Program) (scope : LocalScope) where
   emitted_type (InTransaction mode keyword e at) = emitted_type e
 
   abbrev mutual
-    pub emitted : Expr → (from into free : ℕ) → Lists → Emitted
-    emitted (Variable x) from into free l = variable (newest scope x.text) (global_of p x.text) from into l
-    emitted (Constant n t at) from into free l = constant (word_of t (pos n)) t from into l
-    emitted (Element x i at) from into free l =
-        element (global_of p x.text) (emitted i from free free l) from into l
-    emitted (Call f es at) from into free l =
-        call_code (callee_of p f.text) (all_emitted (taken_types (callee_of p f.text)) es from free l) from into l
-    emitted (Parenthesized e at) from into free l = emitted e from into free l
-    emitted (Cast t e at) from into free l = in_type (emitted_type e) t e (emitted e from into free l) from into l
-    emitted (Unary Negate e at) from into free l = negation (emitted e from free free l) into
-    emitted (Unary Keep e at) from into free l = emitted e from into free l
-    emitted (Unary Not e at) from into free l = logical_negation (emitted e from free free l) into free
-    emitted (Unary Complement e at) from into free l = complement (emitted e from free free l) into
-    emitted (Binary op a b at) from into free l =
+    pub emit : Expr → (from into free : ℕ) → Lists → Emitted
+    emit (Variable x) from into free l = variable (newest scope x.text) (global_of p x.text) from into l
+    emit (Constant n t at) from into free l = constant (word_of t (pos n)) t from into l
+    emit (Element x i at) from into free l =
+        element (global_of p x.text) (emit i from free free l) from into l
+    emit (Call f es at) from into free l =
+        call_code (callee_of p f.text) (emit_all (taken_types (callee_of p f.text)) es from free l) from into l
+    emit (Parenthesized e at) from into free l = emit e from into free l
+    emit (Cast t e at) from into free l = in_type (emitted_type e) t e (emit e from into free l) from into l
+    emit (Unary Negate e at) from into free l = negation (emit e from free free l) into
+    emit (Unary Keep e at) from into free l = emit e from into free l
+    emit (Unary Not e at) from into free l = logical_negation (emit e from free free l) into free
+    emit (Unary Complement e at) from into free l = complement (emit e from free free l) into
+    emit (Binary op a b at) from into free l =
         let t = operand_type op (emitted_type a) (emitted_type b) in
         let u = operand_type op (emitted_type b) (emitted_type a) in
-        let left = in_type (emitted_type a) t a (emitted a from free free l) from free l in
+        let left = in_type (emitted_type a) t a (emit a from free free l) from free l in
         let later = above free left.location.register in
-        let y = emitted b left.location.to later later left.lists in
+        let y = emit b left.location.to later later left.lists in
         let computed = in_type (emitted_type b) u b y left.location.to later left.lists in
-        both op t left (ready_or (constant_ready left.lists.layout u b left.location.to) left.lists computed) into
-    emitted (Logical op a b at) from into free l =
-        condition_value
-        (joining op (λ to m. condition_of (own_condition a to free m) (emitted a to free free m))
-        (λ to m. condition_of (own_condition b to free m) (emitted b to free free m)) from l)
+        both op t left (preloaded_or (preloaded_constant left.lists.layout u b left.location.to) left.lists computed)
         into
-    emitted (Conditional c a b at) from into free l =
-        let test = condition_of (own_condition c from free l) (emitted c from free free l) in
+    emit (Logical op a b at) from into free l =
+        condition_value
+        (joining op (λ to m. condition_of (own_condition a to free m) (emit a to free free m))
+        (λ to m. condition_of (own_condition b to free m) (emit b to free free m)) from l)
+        into
+    emit (Conditional c a b at) from into free l =
+        let test = condition_of (own_condition c from free l) (emit c from free free l) in
         let t = common (emitted_type a) (emitted_type b) in
-        let x = emitted a (test.to + 1) into free test.lists in
+        let x = emit a (test.to + 1) into free test.lists in
         let first = value_into into (in_type (emitted_type a) t a x (test.to + 1) into test.lists) in
-        let y = emitted b (first.location.to + 1) into free first.lists in
+        let y = emit b (first.location.to + 1) into free first.lists in
         let second = value_into into (in_type (emitted_type b) t b y (first.location.to + 1) into first.lists) in
         conditional_value t test first second into
-    emitted (InTransaction mode keyword e at) from into free l =
-        in_own_transaction (emitted e (from + 1) into free l)
+    emit (InTransaction mode keyword e at) from into free l =
+        in_own_transaction (emit e (from + 1) into free l)
 
     -- a condition whose operator says how it is tested
     pub own_condition : Expr → (from free : ℕ) → Lists → Option Condition
@@ -351,36 +355,36 @@ module _ (p : Program) (scope : LocalScope) where
     own_condition (Cast t e at) from free l = where_same (converting (emitted_type e) t) (own_condition e from free l)
     own_condition (Unary Keep e at) from free l = own_condition e from free l
     own_condition (Unary Not e at) from free l =
-        Some (opposite (condition_of (own_condition e from free l) (emitted e from free free l)))
+        Some (opposite (condition_of (own_condition e from free l) (emit e from free free l)))
     own_condition (Binary op a b at) from free l =
-        zero_tested (zero_test op b) (condition_of (own_condition a from free l) (emitted a from free free l))
+        zero_tested (zero_test op b) (condition_of (own_condition a from free l) (emit a from free free l))
     own_condition (Logical op a b at) from free l = Some
-        (joining op (λ to m. condition_of (own_condition a to free m) (emitted a to free free m))
-        (λ to m. condition_of (own_condition b to free m) (emitted b to free free m)) from l)
+        (joining op (λ to m. condition_of (own_condition a to free m) (emit a to free free m))
+        (λ to m. condition_of (own_condition b to free m) (emit b to free free m)) from l)
     own_condition e from free l = None
 
     -- values from left to right, which are due in these types, each in a register of its own
-    pub all_emitted : List Scalar → Exprs → (from free : ℕ) → Lists → AllEmitted
-    all_emitted ts Exprs.[] from free l = none_emitted from l
-    all_emitted ts (Exprs.◌∷◌ e es) from free l =
-        let first = in_first_type (emitted_type e) ts e (emitted e from free free l) from free l in
+    pub emit_all : List Scalar → Exprs → (from free : ℕ) → Lists → AllEmitted
+    emit_all ts Exprs.[] from free l = none_emitted from l
+    emit_all ts (Exprs.◌∷◌ e es) from free l =
+        let first = in_first_type (emitted_type e) ts e (emit e from free free l) from free l in
         with_argument first
-        (all_emitted (types_left ts) es first.location.to (above free first.location.register) first.lists)
+        (emit_all (types_left ts) es first.location.to (above free first.location.register) first.lists)
 
   -- an expression's value in this type, in a register of its own or another one
-  abbrev pub due : Scalar → Expr → (from into free : ℕ) → Lists → Emitted
-  due u e from into free l = in_type (emitted_type e) u e (emitted e from into free l) from into l
+  abbrev pub as_type : Scalar → Expr → (from into free : ℕ) → Lists → Emitted
+  as_type u e from into free l = in_type (emitted_type e) u e (emit e from into free l) from into l
 
   -- one of several values, which are due in these types from it on
-  abbrev pub handed : List Scalar → Expr → (from free : ℕ) → Lists → Emitted
-  handed ts e from free l = in_first_type (emitted_type e) ts e (emitted e from free free l) from free l
+  abbrev pub argument_value : List Scalar → Expr → (from free : ℕ) → Lists → Emitted
+  argument_value ts e from free l = in_first_type (emitted_type e) ts e (emit e from free free l) from free l
 
   -- the right side of an operator
   abbrev pub operand : Scalar → Expr → (from free : ℕ) → Lists → Emitted
-  operand u e from free l = ready_or (constant_ready l.layout u e from) l (due u e from free free l)
+  operand u e from free l = preloaded_or (preloaded_constant l.layout u e from) l (as_type u e from free free l)
 
   abbrev pub condition : Expr → (from free : ℕ) → Lists → Condition
-  condition e from free l = condition_of (own_condition e from free l) (emitted e from free free l)
+  condition e from free l = condition_of (own_condition e from free l) (emit e from free free l)
 
   -- both conditions of `&&` and `||`
   abbrev pub both_conditions : LogicalOp → (a b : Expr) → (from free : ℕ) → Lists → Condition
@@ -392,5 +396,5 @@ module _ (p : Program) (scope : LocalScope) where
   conditional c a b from into free l =
       let test = condition c from free l in
       let t = common (emitted_type a) (emitted_type b) in
-      let first = value_into into (due t a (test.to + 1) into free test.lists) in
-      conditional_value t test first (value_into into (due t b (first.location.to + 1) into free first.lists)) into
+      let first = value_into into (as_type t a (test.to + 1) into free test.lists) in
+      conditional_value t test first (value_into into (as_type t b (first.location.to + 1) into free first.lists)) into

@@ -15,5 +15,5 @@ abbrev pub with_register : ℕ → Lists → Lists
 with_register r l = record l { registers = max l.registers (suc r) }
 
 -- so many registers are used
-abbrev pub holding : ℕ → Lists → Lists
-holding n l = record l { registers = max l.registers n }
+abbrev pub with_registers : ℕ → Lists → Lists
+with_registers n l = record l { registers = max l.registers n }

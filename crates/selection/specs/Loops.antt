@@ -28,8 +28,8 @@ has_word [] w = false
 has_word (x ∷ xs) w = x == w || has_word xs w
 
 -- the most constants that are preloaded in a function
-abbrev pub MOST_READY : ℕ
-MOST_READY = 16
+abbrev pub MOST_PRELOADED : ℕ
+MOST_PRELOADED = 16
 
 -- a constant in a register, at a place in front of other instructions: it is one more, where the next one computes with
 -- it and a jump leads back to it or past it
@@ -37,21 +37,21 @@ abbrev pub is_more : (at r w : ℕ) → Looped → Bool
 is_more at r w looped =
     is_operand looped.operands r
     && nat_le looped.lowest at
-    && nat_lt (length looped.constants) MOST_READY
+    && nat_lt (length looped.constants) MOST_PRELOADED
     && not (has_word looped.constants w)
 
 abbrev pub one_more : (at r w : ℕ) → Looped → Looped
 one_more at r w looped =
     if is_more at r w looped then record looped { constants = looped.constants ++ w ∷ [] } else looped
 
-abbrev pub led_back : ℕ → Looped → Looped
-led_back to looped = record looped { lowest = min to looped.lowest }
+abbrev pub with_jump_to : ℕ → Looped → Looped
+with_jump_to to looped = record looped { lowest = min to looped.lowest }
 
 abbrev pub looped_by : Instr → ℕ → Looped → Looped
 looped_by (own.Constant r w) at looped = one_more at r w looped
-looped_by (own.Jump to) at looped = led_back to looped
-looped_by (own.JumpZero r to) at looped = led_back to looped
-looped_by (own.JumpNonzero r to) at looped = led_back to looped
+looped_by (own.Jump to) at looped = with_jump_to to looped
+looped_by (own.JumpZero r to) at looped = with_jump_to to looped
+looped_by (own.JumpNonzero r to) at looped = with_jump_to to looped
 looped_by i at looped = looped
 
 -- one more instruction in front of others

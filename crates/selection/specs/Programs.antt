@@ -16,7 +16,7 @@ use Rattle.lower_spec.specs.Expressions.{Layout}
 use Rattle.lower_spec.specs.Programs.{parameter_locals}
 use Rattle.selection.specs.Simples.{Written}
 use Rattle.selection.specs.Loops.{in_loops}
-use Rattle.selection.specs.Statements.{all_written}
+use Rattle.selection.specs.Statements.{stmts_code}
 
 abbrev pub no_exits : Option Scalar → Exits
 no_exits result = record {
@@ -32,20 +32,20 @@ no_exits result = record {
 abbrev pub body_with : Layout → Program → Function → Stmts → ℕ → Lists → Written
 body_with layout p f body from l =
     let first = record l { registers = length f.parameters; layout = layout } in
-    let made = all_written p body (no_exits f.result) (parameter_locals f.parameters) from first in
+    let made = stmts_code p body (no_exits f.result) (parameter_locals f.parameters) from first in
     record { code = made.code ++ own.Return ∷ []; lists = made.lists; to = made.to + 1 }
 
-abbrev pub nothing_ready : Layout
-nothing_ready = record { writable = 0; constants = [] }
+abbrev pub nothing_preloaded : Layout
+nothing_preloaded = record { writable = 0; constants = [] }
 
 -- words are set in registers from one on
 abbrev pub all_set : ℕ → List ℕ → List Instr
 all_set r [] = []
 all_set r (w ∷ ws) = own.Constant r w ∷ all_set (suc r) ws
 
--- a body that finds these constants ready, and in front of it the instructions that set them
-abbrev pub body_ready : Layout → Program → Function → Stmts → ℕ → Lists → Written
-body_ready layout p f body from l =
+-- a body that finds these constants preloaded, and in front of it the instructions that set them
+abbrev pub body_preloaded : Layout → Program → Function → Stmts → ℕ → Lists → Written
+body_preloaded layout p f body from l =
     let made = body_with layout p f body (from + length layout.constants) l in
     record {
       code = all_set layout.writable layout.constants ++ made.code;
@@ -54,17 +54,17 @@ body_ready layout p f body from l =
     }
 
 -- a body as it stands, where its loops compute with no constants or a function may not have so many registers; or else
--- one that finds them ready, in registers behind all those of the body as it stands
+-- one that finds them preloaded, in registers behind all those of the body as it stands
 abbrev pub body_better : Program → Function → Stmts → ℕ → Lists → (plain : Written) → (constants : List ℕ) → Written
 body_better p f body from l plain [] = plain
 body_better p f body from l plain (w ∷ ws) =
     if nat_le (plain.lists.registers + length (w ∷ ws)) MOST_REGISTERS
-    then body_ready (record { writable = plain.lists.registers; constants = w ∷ ws }) p f body from l
+    then body_preloaded (record { writable = plain.lists.registers; constants = w ∷ ws }) p f body from l
     else plain
 
 abbrev pub body_written : Program → Function → Stmts → ℕ → Lists → Written
 body_written p f body from l =
-    let plain = body_with nothing_ready p f body from l in
+    let plain = body_with nothing_preloaded p f body from l in
     body_better p f body from l plain (in_loops from plain.code)
 
 -- the codes of functions, and the lists after them
@@ -99,7 +99,7 @@ all_made p (Defines f ∷ items) from l = made_first p f f.body (all_made p item
 
 -- the codes of the functions that these first items of a program define
 abbrev pub made_for : Program → Program → FunctionCodes
-made_for p items = all_made p items 0 (record { arguments = []; texts = []; registers = 0; layout = nothing_ready })
+made_for p items = all_made p items 0 (record { arguments = []; texts = []; registers = 0; layout = nothing_preloaded })
 
 abbrev pub made_of : Program → FunctionCodes
 made_of p = made_for p p

@@ -16,9 +16,9 @@ use Rattle.selection.specs.declared.locations.AssignmentTarget.TheVariants as ta
 use Rattle.selection.specs.Lists.{Lists, with_register}
 use Rattle.lower_spec.specs.Expressions.{LocalScope, constant_in}
 use Rattle.lower_spec.specs.Statements.{with_local}
-use Rattle.selection.specs.Expressions.{Emitted, above, one, constant, ready, ready_or, in_local, converting}
+use Rattle.selection.specs.Expressions.{Emitted, above, one, constant, preloaded, preloaded_or, in_local, converting}
 use Rattle.selection.specs.Expressions.{converted_by}
-use Rattle.selection.specs.Expressions.{both, emitted_type, emitted, operand}
+use Rattle.selection.specs.Expressions.{both, emitted_type, emit, operand}
 
 -- instructions, the lists after them, and the place behind them
 pub record Written : Type 0 where
@@ -132,15 +132,15 @@ behind t w = record { code = t.code ++ w.code; lists = w.lists; to = w.to }
 
 -- the 1 that is added or subtracted
 abbrev pub emitted_one : Scalar → (from free : ℕ) → Lists → Emitted
-emitted_one u from free l = ready_or (ready l.layout 1 u from) l (constant 1 u from free l)
+emitted_one u from free l = preloaded_or (preloaded l.layout 1 u from) l (constant 1 u from free l)
 
 module _ (p : Program) (scope : LocalScope) where
   -- where an assignment goes, with the test of an index or without it
-  abbrev pub aimed : Bool → Expr → (from free : ℕ) → Lists → Aimed
-  aimed check (Variable x) from free l = variable_target (newest scope x.text) (global_of p x.text) from l
-  aimed check (Element x i at) from free l =
-      element_target check (global_of p x.text) (emitted p scope i from free free l) from l
-  aimed check e from free l = aimed_at target.Nowhere from l
+  abbrev pub target_code : Bool → Expr → (from free : ℕ) → Lists → Aimed
+  target_code check (Variable x) from free l = variable_target (newest scope x.text) (global_of p x.text) from l
+  target_code check (Element x i at) from free l =
+      element_target check (global_of p x.text) (emit p scope i from free free l) from l
+  target_code check e from free l = aimed_at target.Nowhere from l
 
   -- the right side of an operator in the type that is due: a value, or else 1
   abbrev pub value_or_one : Scalar → Option Expr → (from free : ℕ) → Lists → Emitted
@@ -153,19 +153,19 @@ module _ (p : Program) (scope : LocalScope) where
   type_or_int (Some e) = emitted_type p scope e
 
   -- an expression's value on its way to a target
-  abbrev pub placed : AssignmentTarget → Expr → (from home free : ℕ) → Lists → Emitted
-  placed t e from home free l =
-      expr_fitting t (emitted_type p scope e) e (emitted p scope e from home free l) from home l
+  abbrev pub stored_value : AssignmentTarget → Expr → (from home free : ℕ) → Lists → Emitted
+  stored_value t e from home free l =
+      expr_fitting t (emitted_type p scope e) e (emit p scope e from home free l) from home l
 
-  abbrev pub assigned : Expr → Expr → (from free : ℕ) → Lists → Written
-  assigned lhs e from free l =
-      let t = aimed true lhs from free l in
+  abbrev pub assignment_code : Expr → Expr → (from free : ℕ) → Lists → Written
+  assignment_code lhs e from free l =
+      let t = target_code true lhs from free l in
       let later = above_target t.target free in
-      behind t (then_stored t.target (placed t.target e t.to (home_or t.target later) later t.lists))
+      behind t (then_stored t.target (stored_value t.target e t.to (home_or t.target later) later t.lists))
 
   -- the old value, another one, and the operator on both, as it goes into the old one's place
-  abbrev pub changed : BinaryOp → Option Expr → AssignmentTarget → (from free : ℕ) → Lists → Emitted
-  changed op by t from free l =
+  abbrev pub compound_value : BinaryOp → Option Expr → AssignmentTarget → (from free : ℕ) → Lists → Emitted
+  compound_value op by t from free l =
       let s = type_at t in
       let u = operand_type op s (type_or_int by) in
       let old = converted_by (converting s u) u (target_value t from free l) free in
@@ -174,22 +174,22 @@ module _ (p : Program) (scope : LocalScope) where
       let home = home_or t free in
       fitting t (result_type op u) (both op u old other home) home
 
-  abbrev pub adjusted : BinaryOp → Expr → Option Expr → (from free : ℕ) → Lists → Written
-  adjusted op lhs by from free l =
-      let t = aimed false lhs from free l in
-      behind t (then_stored t.target (changed op by t.target t.to (above_target t.target free) t.lists))
+  abbrev pub compound_code : BinaryOp → Expr → Option Expr → (from free : ℕ) → Lists → Written
+  compound_code op lhs by from free l =
+      let t = target_code false lhs from free l in
+      behind t (then_stored t.target (compound_value op by t.target t.to (above_target t.target free) t.lists))
 
   abbrev pub simple_written : Simple → (from free : ℕ) → Lists → Written
-  simple_written (Evaluate e) from free l = code_of_value (emitted p scope e from free free l)
-  simple_written (Assign lhs None e) from free l = assigned lhs e from free l
-  simple_written (Assign lhs (Some op) e) from free l = adjusted op lhs (Some e) from free l
-  simple_written (Adjust lhs by) from free l = adjusted (op_of by) lhs None from free l
+  simple_written (Evaluate e) from free l = code_of_value (emit p scope e from free free l)
+  simple_written (Assign lhs None e) from free l = assignment_code lhs e from free l
+  simple_written (Assign lhs (Some op) e) from free l = compound_code op lhs (Some e) from free l
+  simple_written (Adjust lhs by) from free l = compound_code (op_of by) lhs None from free l
 
 -- the first value of the local in this register, behind which the registers are free
 abbrev pub first_written : Program → LocalScope → ℕ → Scalar → Option Expr → ℕ → Lists → Written
 first_written p scope i t None from l = nothing_written from l
 first_written p scope i t (Some e) from l =
-    then_stored (target.Local i t) (placed p scope (target.Local i t) e from i (suc i) l)
+    then_stored (target.Local i t) (stored_value p scope (target.Local i t) e from i (suc i) l)
 
 -- a declared local is 0 and then has its first value
 abbrev pub declarator_written : Program → Scalar → Declarator → LocalScope → ℕ → Lists → Written

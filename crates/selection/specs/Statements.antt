@@ -1,20 +1,20 @@
 -- The instructions that are picked for statements. A loop is tested at its bottom. In front of it stand a jump and
--- pads: places that are known before the body is made, from which a break and a continue go on.
+-- jumps: places that are known before the body is made, from which a break and a continue go on.
 use Rattle.std.specs.Prelude.{ℕ, zero, suc, ◌+◌, List, [], ◌∷◌, ◌++◌, length, replicate, Option, Some, None}
 use Rattle.lex.specs.declared.token.Scalar.{Scalar}
 use Rattle.lex.specs.declared.token.Scalar.TheVariants.{Int, Unsigned, LongLong}
-use Rattle.syntax.specs.declared.tree.Kind.{Kind}
-use Rattle.syntax.specs.declared.tree.Kind.TheVariants.{Plain, Outer}
+use Rattle.syntax.specs.declared.tree.TransactionKind.{TransactionKind}
+use Rattle.syntax.specs.declared.tree.TransactionKind.TheVariants.{Plain, Outer}
 use Rattle.syntax.specs.Tree.{Expr, Simple, Stmt, Stmts, Empty, Declare, Do, Block, Print, If, IfElse, While, DoWhile}
 use Rattle.syntax.specs.Tree.{For, Break, Continue, Return, Transaction, Cancel, CancelOuter, Program}
-use Rattle.syntax.specs.Formats.{Piece, Literal, Figure, pieces}
+use Rattle.syntax.specs.Formats.{Piece, Literal, Specifier, pieces}
 use Rattle.bytecode.specs.declared.instr.Instr.{Instr}
 use Rattle.bytecode.specs.declared.instr.Instr.TheVariants as own
 use Rattle.lower_spec.specs.Expressions.{LocalScope}
 use Rattle.lower_spec.specs.Statements.{locals_of_start, locals_after}
 use Rattle.selection.specs.declared.locations.Exits.{Exits}
 use Rattle.selection.specs.Lists.{Lists}
-use Rattle.selection.specs.Expressions.{Emitted, AllEmitted, due, all_emitted, condition}
+use Rattle.selection.specs.Expressions.{Emitted, AllEmitted, as_type, emit_all, condition}
 use Rattle.selection.specs.Conditions.{Condition, test_in, going_on, going_back}
 use Rattle.selection.specs.Simples.{Written, nothing_written, one_written, and_then, code_of_value, simple_written}
 use Rattle.selection.specs.Simples.{declared_written, start_written}
@@ -24,12 +24,12 @@ abbrev pub left_by : ℕ → Instr → ℕ → Lists → Written
 left_by n i from l = record { code = replicate n own.Commit ++ i ∷ []; lists = l; to = from + n + 1 }
 
 -- how many transactions are open from the innermost outer one on, it too; 0 where there is none
-abbrev pub level_in : Kind → ℕ → ℕ
+abbrev pub level_in : TransactionKind → ℕ → ℕ
 level_in Outer n = 1
 level_in (Plain mode) zero = 0
 level_in (Plain mode) (suc n) = suc (suc n)
 
-abbrev pub in_transaction : Kind → Exits → Exits
+abbrev pub in_transaction : TransactionKind → Exits → Exits
 in_transaction kind x = record x {
   in_loop = x.in_loop + 1;
   in_function = x.in_function + 1;
@@ -59,12 +59,12 @@ branched_twice c a b = record {
 abbrev pub tested_back : Condition → ℕ → Written
 tested_back c to = record { code = going_back c.code (test_in c) to; lists = c.lists; to = c.to + 1 }
 
--- a jump to the test, which is a continue's pad too, a pad for breaks, the body, and the test
+-- a jump to the test, which is a continue's jump too, a jump for breaks, the body, and the test
 abbrev pub while_written : Written → Written → Written
 while_written a test =
     record { code = own.Jump a.to ∷ own.Jump test.to ∷ a.code ++ test.code; lists = test.lists; to = test.to }
 
--- a jump to the body, pads for breaks and continues, the body, and the test
+-- a jump to the body, jumps for breaks and continues, the body, and the test
 abbrev pub do_written : ℕ → Written → Written → Written
 do_written body_at a test = record {
   code = own.Jump body_at ∷ own.Jump test.to ∷ own.Jump a.to ∷ a.code ++ test.code;
@@ -72,7 +72,7 @@ do_written body_at a test = record {
   to = test.to;
 }
 
--- the start, a jump to the test, pads for breaks and continues, the body, the step, and the test
+-- the start, a jump to the test, jumps for breaks and continues, the body, the step, and the test
 abbrev pub for_written : (start body step test : Written) → Written
 for_written start a step test = record {
   code =
@@ -99,14 +99,14 @@ printing LongLong r = own.PrintLong r
 abbrev pub and_one : Instr → Written → Written
 and_one i a = record { code = i ∷ a.code; lists = a.lists; to = a.to }
 
--- the pieces of a format, with these registers for its figures
+-- the pieces of a format, with these registers for its specifiers
 abbrev pub pieces_written : List Piece → List ℕ → ℕ → Lists → Written
 pieces_written [] rs from l = nothing_written from l
 pieces_written (Literal text ∷ ps) rs from l =
     and_one (own.PrintText (length l.texts))
     (pieces_written ps rs (from + 1) (record l { texts = l.texts ++ text ∷ [] }))
-pieces_written (Figure t ∷ ps) [] from l = nothing_written from l
-pieces_written (Figure t ∷ ps) (r ∷ rs) from l = and_one (printing t r) (pieces_written ps rs (from + 1) l)
+pieces_written (Specifier t ∷ ps) [] from l = nothing_written from l
+pieces_written (Specifier t ∷ ps) (r ∷ rs) from l = and_one (printing t r) (pieces_written ps rs (from + 1) l)
 
 abbrev pub print_written : AllEmitted → List Piece → Written
 print_written args ps =
@@ -126,47 +126,47 @@ module _ (p : Program) where
   abbrev pub return_written : LocalScope → Option Expr → Exits → ℕ → Lists → Written
   return_written scope None x from l = left_by x.in_function own.Return from l
   return_written scope (Some e) x from l =
-      return_code x.in_function (due p scope x.gives e from (length scope) (length scope) l)
+      return_code x.in_function (as_type p scope x.gives e from (length scope) (length scope) l)
 
   abbrev mutual
-    pub written : Stmt → Exits → LocalScope → ℕ → Lists → Written
-    written Empty x scope from l = nothing_written from l
-    written (Declare d) x scope from l = declared_written p d.ty d.declarators scope from l
-    written (Do s) x scope from l = simple_written p scope s from (length scope) l
-    written (Block ss) x scope from l = all_written ss x scope from l
-    written (Print at format format_at es) x scope from l =
-        print_written (all_emitted p scope [] es (from + 1) (length scope) l) (pieces format)
-    written (If c a) x scope from l =
+    pub stmt_code : Stmt → Exits → LocalScope → ℕ → Lists → Written
+    stmt_code Empty x scope from l = nothing_written from l
+    stmt_code (Declare d) x scope from l = declared_written p d.ty d.declarators scope from l
+    stmt_code (Do s) x scope from l = simple_written p scope s from (length scope) l
+    stmt_code (Block ss) x scope from l = stmts_code ss x scope from l
+    stmt_code (Print at format format_at es) x scope from l =
+        print_written (emit_all p scope [] es (from + 1) (length scope) l) (pieces format)
+    stmt_code (If c a) x scope from l =
         let test = condition p scope c from (length scope) l in
-        if_code test (written a x scope (test.to + 1) test.lists)
-    written (IfElse c a b) x scope from l =
+        if_code test (stmt_code a x scope (test.to + 1) test.lists)
+    stmt_code (IfElse c a b) x scope from l =
         let test = condition p scope c from (length scope) l in
-        let first = written a x scope (test.to + 1) test.lists in
-        branched_twice test first (written b x scope (first.to + 1) first.lists)
-    written (While c a) x scope from l =
-        let body = written a (looping x (from + 1) from) scope (from + 2) l in
+        let first = stmt_code a x scope (test.to + 1) test.lists in
+        branched_twice test first (stmt_code b x scope (first.to + 1) first.lists)
+    stmt_code (While c a) x scope from l =
+        let body = stmt_code a (looping x (from + 1) from) scope (from + 2) l in
         while_written body (tested_back (condition p scope c body.to (length scope) body.lists) (from + 2))
-    written (DoWhile a c) x scope from l =
-        let body = written a (looping x (from + 1) (from + 2)) scope (from + 3) l in
+    stmt_code (DoWhile a c) x scope from l =
+        let body = stmt_code a (looping x (from + 1) (from + 2)) scope (from + 3) l in
         do_written (from + 3) body
         (tested_back (condition p scope c body.to (length scope) body.lists) (from + 3))
-    written (For start c step a) x scope from l =
+    stmt_code (For start c step a) x scope from l =
         let inner = locals_of_start start scope in
         let first = start_written p start scope from l in
-        let pads = first.to in
-        let body = written a (looping x (pads + 1) (pads + 2)) inner (pads + 3) first.lists in
+        let jumps_at = first.to in
+        let body = stmt_code a (looping x (jumps_at + 1) (jumps_at + 2)) inner (jumps_at + 3) first.lists in
         let next = for_step inner step body.to body.lists in
-        for_written first body next (for_test inner c (pads + 3) next.to next.lists)
-    written (Break at) x scope from l = left_by x.in_loop (own.Jump x.break_to) from l
-    written (Continue at) x scope from l = left_by x.in_loop (own.Jump x.continue_to) from l
-    written (Return e at) x scope from l = return_written scope e x from l
-    written (Transaction kind ss at) x scope from l =
-        transaction_code (all_written ss (in_transaction kind x) scope (from + 1) l)
-    written (Cancel at) x scope from l = one_written own.Cancel from l
-    written (CancelOuter at) x scope from l = one_written (cancelling x.to_outer) from l
+        for_written first body next (for_test inner c (jumps_at + 3) next.to next.lists)
+    stmt_code (Break at) x scope from l = left_by x.in_loop (own.Jump x.break_to) from l
+    stmt_code (Continue at) x scope from l = left_by x.in_loop (own.Jump x.continue_to) from l
+    stmt_code (Return e at) x scope from l = return_written scope e x from l
+    stmt_code (Transaction kind ss at) x scope from l =
+        transaction_code (stmts_code ss (in_transaction kind x) scope (from + 1) l)
+    stmt_code (Cancel at) x scope from l = one_written own.Cancel from l
+    stmt_code (CancelOuter at) x scope from l = one_written (cancelling x.to_outer) from l
 
-    pub all_written : Stmts → Exits → LocalScope → ℕ → Lists → Written
-    all_written Stmts.[] x scope from l = nothing_written from l
-    all_written (Stmts.◌∷◌ s ss) x scope from l =
-        let first = written s x scope from l in
-        and_then first (all_written ss x (locals_after s scope) first.to first.lists)
+    pub stmts_code : Stmts → Exits → LocalScope → ℕ → Lists → Written
+    stmts_code Stmts.[] x scope from l = nothing_written from l
+    stmts_code (Stmts.◌∷◌ s ss) x scope from l =
+        let first = stmt_code s x scope from l in
+        and_then first (stmts_code ss x (locals_after s scope) first.to first.lists)

@@ -82,8 +82,8 @@ module _ (p : Program) (touching : FunctionSet) (tells : TellsTouching p touchin
   access_more CancelsOuter u = u
 
   not_bare : (s : Site) (c : Construct) → AreMet (demands_at touching s c) → s.in_any ≡ false → IsAccess (λ g. IsTrue (touching g)) c → ⊥
-  not_bare s (Uses x) h e u = no (sym e ∙ is_met 50 s.at s.in_any h)
-  not_bare s (Calls g) h e u = or_not s.in_any (touching g) (is_met 51 s.at (s.in_any || not (touching g)) h) e u
+  not_bare s (Uses x) h e u = no (sym e ∙ is_met 50 s.span s.in_any h)
+  not_bare s (Calls g) h e u = or_not s.in_any (touching g) (is_met 51 s.span (s.in_any || not (touching g)) h) e u
   not_bare s Prints h e u = u
   not_bare s Relaxes h e u = u
   not_bare s OpensOuter h e u = u

@@ -4,8 +4,8 @@ use Rattle.std.proofs.Common.{◌≡◌, refl, sym, ap, subst, ◌∙◌, ℕ, z
 use Rattle.std.specs.Prelude.{if◌then◌else◌, is_some}
 use Rattle.std.specs.Fmt.{signed_decimal}
 use Rattle.lex.specs.declared.token.Scalar.{Scalar}
-use Rattle.syntax.specs.declared.tree.Kind.{Kind}
-use Rattle.syntax.specs.declared.tree.Kind.TheVariants.{Plain, Outer}
+use Rattle.syntax.specs.declared.tree.TransactionKind.{TransactionKind}
+use Rattle.syntax.specs.declared.tree.TransactionKind.TheVariants.{Plain, Outer}
 use Rattle.syntax.specs.declared.tree.Mode.{Mode}
 use Rattle.syntax.specs.declared.tree.Mode.TheVariants.{Atomic, Relaxed}
 use Rattle.syntax.specs.declared.numbers.Trap.{Trap}
@@ -14,10 +14,10 @@ use Rattle.syntax.specs.declared.numbers.Halt.TheVariants.{Trapped, Wants, Spent
 use Rattle.syntax.specs.declared.numbers.Value.{Value}
 use Rattle.syntax.specs.Numbers.{number, value_in_type}
 use Rattle.syntax.specs.Names.{Local, word_at, with_word}
-use Rattle.syntax.specs.Formats.{Piece, Literal, Figure, figures}
+use Rattle.syntax.specs.Formats.{Piece, Literal, Specifier, specifiers}
 use Rattle.syntax.specs.Behaviours.{Memory}
 use Rattle.syntax.specs.Actions.{Context, Outside, Inside, State, Answer, Gives, Stops, Action, pure, go_on, ◌>>=◌, ◌>>◌, spend, tick, trap, or_trap, or_astray, locals, put_locals, load_at, load, store_at, store, may_print_at, may_print, print_piece}
-use Rattle.syntax.specs.Meaning.{Spot, InLocal, InCell, fetch, assign, print_pieces, Completion, Next, Breaks, Continues, Returns, Cancels, CancelsOuter, on_next, in_scope, after_turn, turns, loop, after_body, Left, mode_of, left_by, close_inner, close, enter, transaction, begin_at, begin_value, value_at, value_transaction}
+use Rattle.syntax.specs.Meaning.{Lvalue, InLocal, InCell, fetch, assign, print_pieces, Completion, Next, Breaks, Continues, Returns, Cancels, CancelsOuter, on_next, in_scope, after_turn, turns, loop, after_body, Left, mode_of, left_by, close_inner, close, enter, transaction, begin_at, begin_value, value_at, value_transaction}
 use Rattle.syntax.specs.Laws.{shape}
 use Rattle.syntax.proofs.OlderLocals.{same_shapes}
 use Rattle.syntax.proofs.ExactLocals.{same_taken}
@@ -149,23 +149,23 @@ piece_goes : {w : Option Mode} {ls : Shapes} (text : List ℕ) → Goes w ls ls 
 piece_goes text = then_goes tick_goes (record { goes = λ s e f. (e, f, tt) })
 
 -- a value's cell is reached only inside transactions
-abbrev pub SpotFits : Option Mode → Spot → Type 0
-SpotFits w (InLocal i t) = Unit {0}
-SpotFits w (InCell c t) = IsInside w
+abbrev pub LvalueFits : Option Mode → Lvalue → Type 0
+LvalueFits w (InLocal i t) = Unit {0}
+LvalueFits w (InCell c t) = IsInside w
 
-pub fetch_goes : {w : Option Mode} {ls : Shapes} (at : Spot) → SpotFits w at → Goes w ls ls Any (fetch at)
+pub fetch_goes : {w : Option Mode} {ls : Shapes} (at : Lvalue) → LvalueFits w at → Goes w ls ls Any (fetch at)
 fetch_goes (InLocal i t) h = on_goes locals_goes (λ mine e. pure_goes (record { ty = t; word = word_at mine i }) tt)
 fetch_goes (InCell c t) h = on_goes (load_goes c h) (λ v e. pure_goes (record { ty = t; word = v }) tt)
 
-pub assign_goes : {w : Option Mode} {ls : Shapes} (at : Spot) (v : Value) → SpotFits w at → Goes w ls ls Any (assign at v)
+pub assign_goes : {w : Option Mode} {ls : Shapes} (at : Lvalue) (v : Value) → LvalueFits w at → Goes w ls ls Any (assign at v)
 assign_goes (InLocal i t) v h = on_goes locals_goes (λ mine e. put_goes (with_word mine i (value_in_type t v).word) (same_shapes mine i (value_in_type t v).word ∙ e))
 assign_goes (InCell c t) v h = store_goes c (value_in_type t v).word h
 
-pub pieces_go : {w : Option Mode} {ls : Shapes} (ps : List Piece) (vs : List Value) → length (figures ps) ≡ length vs → Goes w ls ls Any (print_pieces ps vs)
+pub pieces_go : {w : Option Mode} {ls : Shapes} (ps : List Piece) (vs : List Value) → length (specifiers ps) ≡ length vs → Goes w ls ls Any (print_pieces ps vs)
 pieces_go [] vs h = pure_goes tt tt
 pieces_go (Literal text ∷ ps) vs h = then_goes (piece_goes text) (pieces_go ps vs h)
-pieces_go (Figure t ∷ ps) [] h = absurd (omega (arith, h))
-pieces_go (Figure t ∷ ps) (v ∷ vs) h = then_goes (piece_goes (signed_decimal (number t v.word))) (pieces_go ps vs (omega (arith, h)))
+pieces_go (Specifier t ∷ ps) [] h = absurd (omega (arith, h))
+pieces_go (Specifier t ∷ ps) (v ∷ vs) h = then_goes (piece_goes (signed_decimal (number t v.word))) (pieces_go ps vs (omega (arith, h)))
 
 -- scopes
 open_fine : {A : Type 0} (w : Option Mode) (ls more : Shapes) (P : A → Type 0) (r : Answer A) → Fine w (ls ++ more) P r → FineOpen w ls P r
@@ -244,11 +244,11 @@ pub loop_goes : {w : Option Mode} {ls : Shapes} (l b u : Bool) {turn : Action (O
 loop_goes l b u h = record { goes = λ s e f. (turns_go l b u h s.ticks).goes s e f }
 
 -- transactions: a cancel goes no further, and an outer cancel not out of an outer one
-abbrev pub in_outer : Kind → Bool → Bool
+abbrev pub in_outer : TransactionKind → Bool → Bool
 in_outer Outer u = true
 in_outer (Plain mode) u = u
 
-left_fits : (l b b' u : Bool) (kind : Kind) (mine : List Local) (found : Memory) (end : Completion) (now : State) → EndFits l b (in_outer kind u) end → EndFits l b' u (left_by kind mine found end now).end
+left_fits : (l b b' u : Bool) (kind : TransactionKind) (mine : List Local) (found : Memory) (end : Completion) (now : State) → EndFits l b (in_outer kind u) end → EndFits l b' u (left_by kind mine found end now).end
 left_fits l b b' u kind mine found Cancels now h = tt
 left_fits l b b' u Outer mine found CancelsOuter now h = tt
 left_fits l b b' u (Plain mode) mine found CancelsOuter now h = h
@@ -257,7 +257,7 @@ left_fits l b b' u kind mine found Breaks now h = h
 left_fits l b b' u kind mine found Continues now h = h
 left_fits l b b' u kind mine found (Returns v) now h = h
 
-left_shapes : (ls : Shapes) (kind : Kind) (mine : List Local) (found : Memory) (end : Completion) (now : State) → map shape mine ≡ ls → map shape now.locals ≡ ls → map shape (left_by kind mine found end now).locals ≡ ls
+left_shapes : (ls : Shapes) (kind : TransactionKind) (mine : List Local) (found : Memory) (end : Completion) (now : State) → map shape mine ≡ ls → map shape now.locals ≡ ls → map shape (left_by kind mine found end now).locals ≡ ls
 left_shapes ls kind mine found Cancels now g h = g
 left_shapes ls Outer mine found CancelsOuter now g h = g
 left_shapes ls (Plain mode) mine found CancelsOuter now g h = h
@@ -271,10 +271,10 @@ leave_fine w ls P zero founds lefts left now e f h = tt
 leave_fine w ls P (suc n) founds lefts left now e f h = (e, f, h)
 
 -- how a body ends fits how its transaction then does
-abbrev Handed : Kind → (P Q : Completion → Type 0) → Type 0
+abbrev Handed : TransactionKind → (P Q : Completion → Type 0) → Type 0
 Handed kind P Q = (mine : List Local) (found : Memory) (end : Completion) (now : State) → P end → Q (left_by kind mine found end now).end
 
-module _ (kind : Kind) (P Q : Completion → Type 0) (handed : Handed kind P Q) (ls : Shapes) (mine : List Local) (found : Memory) (same : map shape mine ≡ ls) where
+module _ (kind : TransactionKind) (P Q : Completion → Type 0) (handed : Handed kind P Q) (ls : Shapes) (mine : List Local) (found : Memory) (same : map shape mine ≡ ls) where
   close_fine : (w : Option Mode) (founds lefts : List Memory) (r : Answer Completion) → None ≡ w → Fine (Some (mode_of kind)) ls P r → Fine w ls Q (close kind founds lefts mine found r)
   close_fine w founds lefts (Gives end now) e f = leave_fine w ls Q now.ticks founds lefts (left_by kind mine found end now) now e (left_shapes ls kind mine found end now same f.1) (handed mine found end now f.2)
   close_fine w founds lefts (Stops (Trapped k) now) e f = tt
@@ -292,7 +292,7 @@ relaxed_absurd (Some Relaxed) h e = absurd (cc)
 relaxed_absurd (Some Atomic) h e = absurd h
 
 module _ (P Q : Completion → Type 0) where
-  enter_fine : (w : Option Mode) (ls : Shapes) (kind : Kind) → Handed kind P Q → (run : Action Completion) → Goes (Some (mode_of kind)) ls ls P run → MayBegin w (mode_of kind) → (pl : Context) (s : State) → mode_at pl ≡ w → map shape s.locals ≡ ls → Fine w ls Q (enter pl kind run s)
+  enter_fine : (w : Option Mode) (ls : Shapes) (kind : TransactionKind) → Handed kind P Q → (run : Action Completion) → Goes (Some (mode_of kind)) ls ls P run → MayBegin w (mode_of kind) → (pl : Context) (s : State) → mode_at pl ≡ w → map shape s.locals ≡ ls → Fine w ls Q (enter pl kind run s)
   enter_fine w ls kind handed run h g (Outside [] lefts) s e f = tt
   enter_fine w ls kind handed run h g (Outside (m ∷ founds) lefts) s e f =
       close_fine kind P Q handed ls s.locals m f w founds lefts (run (record s { context = Inside (mode_of kind) m })) e (h.goes (record s { context = Inside (mode_of kind) m }) refl f)
@@ -304,10 +304,10 @@ module _ (P Q : Completion → Type 0) where
   enter_fine w ls Outer handed run h g (Inside Atomic m) s e f =
       inner_fine Outer P Q handed ls s.locals m f w Atomic (run (record s { context = Inside Atomic m })) e (h.goes (record s { context = Inside Atomic m }) refl f)
 
-  enters : {w : Option Mode} {ls : Shapes} (kind : Kind) → Handed kind P Q → {run : Action Completion} → MayBegin w (mode_of kind) → Goes (Some (mode_of kind)) ls ls P run → Goes w ls ls Q (transaction kind run)
+  enters : {w : Option Mode} {ls : Shapes} (kind : TransactionKind) → Handed kind P Q → {run : Action Completion} → MayBegin w (mode_of kind) → Goes (Some (mode_of kind)) ls ls P run → Goes w ls ls Q (transaction kind run)
   enters {w = w} {ls = ls} kind handed {run = run} g h = record { goes = λ s e f. enter_fine w ls kind handed run h g s.context s e f }
 
-pub transaction_goes : {w : Option Mode} {ls : Shapes} (l b b' u : Bool) (kind : Kind) {run : Action Completion} → MayBegin w (mode_of kind) → Goes (Some (mode_of kind)) ls ls (EndFits l b (in_outer kind u)) run → Goes w ls ls (EndFits l b' u) (transaction kind run)
+pub transaction_goes : {w : Option Mode} {ls : Shapes} (l b b' u : Bool) (kind : TransactionKind) {run : Action Completion} → MayBegin w (mode_of kind) → Goes (Some (mode_of kind)) ls ls (EndFits l b (in_outer kind u)) run → Goes w ls ls (EndFits l b' u) (transaction kind run)
 transaction_goes l b b' u kind g h = enters (EndFits l b (in_outer kind u)) (EndFits l b' u) kind (left_fits l b b' u kind) g h
 
 -- a transaction that is an expression: its body returns the value, and ends in no other way

@@ -46,8 +46,8 @@ of_either (Some y) o' x e = inl e
 
 module _ (p : Program) (touching : FunctionSet) (tells : TellsTouching p touching) (n : ℕ) (at : Span) where
   at_site : (s : Site) (c : Construct) → first_unmet (demands_at touching s c) ≡ Some (n, at) → (s.in_any ≡ false) × IsAccess (IsTouching p) c
-  at_site s (Uses x) e = (unmet (50, s.at) (n, at) s.in_any e, tt)
-  at_site s (Calls f) e = let h = bare_call s.in_any (touching f) (unmet (51, s.at) (n, at) (s.in_any || not (touching f)) e) in (h.0, (tells f).0 h.1)
+  at_site s (Uses x) e = (unmet (50, s.span) (n, at) s.in_any e, tt)
+  at_site s (Calls f) e = let h = bare_call s.in_any (touching f) (unmet (51, s.span) (n, at) (s.in_any || not (touching f)) e) in (h.0, (tells f).0 h.1)
   at_site s Prints e = absurd (nothing_is (n, at) e)
   at_site s Relaxes e = absurd (nothing_is (n, at) e)
   at_site s OpensOuter e = absurd (nothing_is (n, at) e)

@@ -9,7 +9,7 @@ use Rattle.lex.specs.declared.token.Scalar.{Scalar}
 use Rattle.lex.specs.declared.token.Scalar.TheVariants.{Int, Unsigned}
 use Rattle.syntax.specs.declared.tree.BinaryOp.{BinaryOp}
 use Rattle.syntax.specs.declared.tree.LogicalOp.TheVariants.{AndThen, OrElse}
-use Rattle.syntax.specs.declared.tree.Kind.TheVariants.{Plain, Outer}
+use Rattle.syntax.specs.declared.tree.TransactionKind.TheVariants.{Plain, Outer}
 use Rattle.syntax.specs.declared.tree.Mode.{Mode}
 use Rattle.syntax.specs.declared.tree.Mode.TheVariants.{Atomic, Relaxed}
 use Rattle.syntax.specs.declared.numbers.Trap.TheVariants.{Index, Frames}
@@ -19,12 +19,12 @@ use Rattle.syntax.specs.Tree as Tree
 use Rattle.syntax.specs.Tree.{Name, Expr, Exprs, Variable, Constant, Element, Call, Parenthesized, Cast, Unary, Binary, Logical, Conditional, InTransaction, Simple, Evaluate, Assign, Adjust, Declarator, Start, Nothing, Declares, Does, Stmt, Stmts, Empty, Declare, Do, Block, Print, If, IfElse, While, DoWhile, For, Break, Continue, Return, Transaction, Cancel, CancelOuter, Parameter, Function, Program}
 use Rattle.syntax.specs.Numbers.{word_of, value_in_type, flag, is_zero, unary, binary}
 use Rattle.syntax.specs.Names.{Local, newest, global_of, definition_of, cells}
-use Rattle.syntax.specs.Formats.{pieces, figures}
+use Rattle.syntax.specs.Formats.{pieces, specifiers}
 use Rattle.syntax.specs.Types.{Known, Unknown, Number, Array, Callable, Scope, known_function, file_scope, with_number, type_of, running_scope}
 use Rattle.syntax.specs.Typing.{has_name, is_unknown, may_be_number, may_be_array, may_be_function, may_be_assigned, takes_so_many, count, is_void, is_worker, knows, scope_after, names_of, scope_of_start, parameter_names}
 use Rattle.syntax.specs.Behaviours.{Stopped}
 use Rattle.syntax.specs.Actions.{Answer, Stops, Action, pure}
-use Rattle.syntax.specs.Meaning.{Spot, InLocal, InCell, Completion, Next, Breaks, Continues, Returns, Cancels, CancelsOuter, in_scope, op_of, int_one, Caller, spot_from, named, element, expr, exprs, spot, changed, assigned, simple, first_value, declare, start_with, holds, stepped, return_value, stmt, stmts, call_locals, result_of, invoke, calls}
+use Rattle.syntax.specs.Meaning.{Lvalue, InLocal, InCell, Completion, Next, Breaks, Continues, Returns, Cancels, CancelsOuter, in_scope, op_of, int_one, Caller, lvalue_from, lvalue_of_name, element, expr, exprs, lvalue, assign_by_operator, assign_by, simple, first_value, declare, start_with, for_condition, optional_step, return_value, stmt, stmts, call_locals, result_of, invoke, calls}
 use Rattle.syntax.specs.Threads.{outcome_of, first_state, worker_run}
 use Rattle.syntax.specs.Laws.{shape}
 use Rattle.syntax.specs.ScopeLaws.{IsSubscope, declared_by, body_scope}
@@ -36,7 +36,7 @@ use Rattle.safety.specs.Sites.{Prints, Relaxes, OpensOuter, Cancels as CancelCon
 use Rattle.safety.proofs.CancelsStay.{definition_sites}
 use Rattle.separation.specs.Touching.{IsAccepted}
 use Rattle.separation.specs.Laws.{NeverAstray}
-use Rattle.separation.proofs.Goes.{Shapes, Goes, Opens, Any, Fine, IsInside, SpotFits, EndFits, TurnFits, on_goes, then_goes, pure_goes, if_goes, tick_goes, trap_goes, or_trap_goes, there_goes, locals_goes, put_goes, may_print_goes, fetch_goes, assign_goes, pieces_go, opened, no_further, scoped_goes, on_opens, next_opens, after_body_goes, loop_goes, transaction_goes, value_transaction_goes}
+use Rattle.separation.proofs.Goes.{Shapes, Goes, Opens, Any, Fine, IsInside, LvalueFits, EndFits, TurnFits, on_goes, then_goes, pure_goes, if_goes, tick_goes, trap_goes, or_trap_goes, there_goes, locals_goes, put_goes, may_print_goes, fetch_goes, assign_goes, pieces_go, opened, no_further, scoped_goes, on_opens, next_opens, after_body_goes, loop_goes, transaction_goes, value_transaction_goes}
 use Rattle.separation.proofs.Permitted.{Permits, mode_in, AllPermitted, front_permitted, back_permitted, one_permitted, may_print, is_inside, may_begin_atomic, may_begin_relaxed, relaxed_inside, all_permitted, worker_permitted}
 
 -- what a name that is typed is known as
@@ -178,9 +178,9 @@ module _ (p : Program) (call : Caller) (called : CallsGo p call) (outer : Option
   mode_of a = mode_in outer a.atomic a.in_any
 
   -- a shared name
-  shared_inside : (x : Name) (a : Around) (b : Bool) → b ≡ false → AllPermitted p outer (if b then [] else site a (Uses x.text) x.at) → IsInside (mode_of a)
+  shared_inside : (x : Name) (a : Around) (b : Bool) → b ≡ false → AllPermitted p outer (if b then [] else site a (Uses x.text) x.span) → IsInside (mode_of a)
   shared_inside x a true e h = absurd (cc)
-  shared_inside x a false e h = is_inside p (mode_of a) x.text (one_permitted (record { construct = Uses x.text; at = x.at; atomic = a.atomic; outer = a.outer; in_any = a.in_any }) h).0
+  shared_inside x a false e h = is_inside p (mode_of a) x.text (one_permitted (record { construct = Uses x.text; span = x.span; atomic = a.atomic; outer = a.outer; in_any = a.in_any }) h).0
 
   no_local : (names : List (List ℕ)) (ls : Shapes) (x : List ℕ) → Named names ls → newest_in ls x ≡ None → has_name names x ≡ false
   no_local names ls x h e = by_name (has_name names x) refl
@@ -192,20 +192,20 @@ module _ (p : Program) (call : Caller) (called : CallsGo p call) (outer : Option
   used_inside : (known : Scope) (ls : Shapes) (a : Around) (x : Name) → Here p known ls a → AllPermitted p outer (uses x a) → newest_in ls x.text ≡ None → IsInside (mode_of a)
   used_inside known ls a x h m e = shared_inside x a (has_name a.locals x.text) (no_local a.locals ls x.text h.named e) m
 
-  spot_goes : (w : Option Mode) (ls : Shapes) (x : List ℕ) (t : Scalar) → (newest_in ls x ≡ None → IsInside w) → over (newest_in ls x) (file_scope p x) ≡ Number t → (o : Option (ℕ × Scalar)) → option_map (λ (l : ℕ × Scalar). l.1) o ≡ newest_in ls x → Goes w ls ls (SpotFits w) (spot_from p call x o)
-  spot_goes w ls x t inside e (Some l) g = pure_goes (InLocal l.0 l.1) tt
-  spot_goes w ls x t inside e None g =
+  lvalue_goes : (w : Option Mode) (ls : Shapes) (x : List ℕ) (t : Scalar) → (newest_in ls x ≡ None → IsInside w) → over (newest_in ls x) (file_scope p x) ≡ Number t → (o : Option (ℕ × Scalar)) → option_map (λ (l : ℕ × Scalar). l.1) o ≡ newest_in ls x → Goes w ls ls (LvalueFits w) (lvalue_from p call x o)
+  lvalue_goes w ls x t inside e (Some l) g = pure_goes (InLocal l.0 l.1) tt
+  lvalue_goes w ls x t inside e None g =
       let here : Found (global_of p x) t = found p x t (ap shared_type (over_number (newest_in ls x) (file_scope p x) t (sym g) e)) in
       on_goes (there_goes (global_of p x) (is_there (global_of p x) here.0 here.1)) (λ c f. pure_goes (InCell c.cell c.global.ty) (inside (sym g)))
 
   module _ (known : Scope) (ls : Shapes) where
     module _ (a : Around) (here : Here p known ls a) where
-      named_goes : (x : Name) → IsTrue (not (is_unknown (known x.text))) → IsTrue (may_be_number (known x.text)) → AllPermitted p outer (uses x a) → Goes (mode_of a) ls ls (SpotFits (mode_of a)) (named p call x.text)
+      named_goes : (x : Name) → IsTrue (not (is_unknown (known x.text))) → IsTrue (may_be_number (known x.text)) → AllPermitted p outer (uses x a) → Goes (mode_of a) ls ls (LvalueFits (mode_of a)) (lvalue_of_name p call x.text)
       named_goes x g h m =
           let number = known_number (known x.text) g h in
-          on_goes locals_goes (λ mine e. spot_goes (mode_of a) ls x.text number.0 (used_inside known ls a x here m) (here.fits x.text g ∙ number.1) (newest mine x.text) (newest_by_shape 0 mine x.text ∙ ap (λ ms. newest_in ms x.text) e))
+          on_goes locals_goes (λ mine e. lvalue_goes (mode_of a) ls x.text number.0 (used_inside known ls a x here m) (here.fits x.text g ∙ number.1) (newest mine x.text) (newest_by_shape 0 mine x.text ∙ ap (λ ms. newest_in ms x.text) e))
 
-      element_goes : (x : Name) (k : Value) → IsTrue (not (is_unknown (known x.text))) → IsTrue (may_be_array (known x.text)) → AllPermitted p outer (uses x a) → Goes (mode_of a) ls ls (SpotFits (mode_of a)) (element p call x.text k)
+      element_goes : (x : Name) (k : Value) → IsTrue (not (is_unknown (known x.text))) → IsTrue (may_be_array (known x.text)) → AllPermitted p outer (uses x a) → Goes (mode_of a) ls ls (LvalueFits (mode_of a)) (element p call x.text k)
       element_goes x k g h m =
           let array = known_array (known x.text) g h in
           let hidden = over_array (newest_in ls x.text) (file_scope p x.text) array.0 array.1 (here.fits x.text g ∙ array.2) in
@@ -213,11 +213,11 @@ module _ (p : Program) (call : Caller) (called : CallsGo p call) (outer : Option
           on_goes (there_goes (global_of p x.text) (is_there (global_of p x.text) cell.0 cell.1))
           (λ c f. if_goes (nat_lt k.word (cells c.global)) (pure_goes (InCell (c.cell + k.word) c.global.ty) (used_inside known ls a x here m hidden.0)) (trap_goes Index))
 
-      call_goes : (f : Name) (es : Exprs) (vs : List Value) → IsTrue (not (is_unknown (known f.text))) → IsTrue (may_be_function (known f.text)) → IsTrue (takes_so_many (known f.text) (count es)) → length vs ≡ count es → AllPermitted p outer (site a (Calls f.text) f.at) → Goes (mode_of a) ls ls Any (call f.text vs)
+      call_goes : (f : Name) (es : Exprs) (vs : List Value) → IsTrue (not (is_unknown (known f.text))) → IsTrue (may_be_function (known f.text)) → IsTrue (takes_so_many (known f.text) (count es)) → length vs ≡ count es → AllPermitted p outer (site a (Calls f.text) f.span) → Goes (mode_of a) ls ls Any (call f.text vs)
       call_goes f es vs g h e n m =
           let function = known_callable (known f.text) (count es) g h e in
           called (mode_of a) ls f.text vs function.0 function.1 (over_callable (newest_in ls f.text) (file_scope p f.text) function.0 function.1 (here.fits f.text g ∙ function.2)) (n ∙ function.3)
-          (one_permitted (record { construct = Calls f.text; at = f.at; atomic = a.atomic; outer = a.outer; in_any = a.in_any }) m).0
+          (one_permitted (record { construct = Calls f.text; span = f.span; atomic = a.atomic; outer = a.outer; in_any = a.in_any }) m).0
 
       -- the type of a conditional expression is there
       typed_there : (e : Expr) → TypedExpr known e → IsTrue (not (is_void known e)) → (mine : List Local) → map shape mine ≡ ls → IsTrue (is_some (type_of (running_scope p mine) e))
@@ -231,8 +231,8 @@ module _ (p : Program) (call : Caller) (called : CallsGo p call) (outer : Option
       expr_goes a here (Element x i at) h m =
           on_goes (expr_goes a here i h.1 (back_permitted (uses x a) (expr_sites i a) m)) (λ k _. on_goes (element_goes a here x k h.0 h.2 (front_permitted (uses x a) (expr_sites i a) m)) (λ at f. fetch_goes at f))
       expr_goes a here (Call f es at) h m =
-          on_goes (exprs_go a here es h.1 (back_permitted (site a (Calls f.text) f.at) (exprs_sites es a) m))
-          (λ vs n. then_goes tick_goes (call_goes a here f es vs h.0 h.2 h.3 n (front_permitted (site a (Calls f.text) f.at) (exprs_sites es a) m)))
+          on_goes (exprs_go a here es h.1 (back_permitted (site a (Calls f.text) f.span) (exprs_sites es a) m))
+          (λ vs n. then_goes tick_goes (call_goes a here f es vs h.0 h.2 h.3 n (front_permitted (site a (Calls f.text) f.span) (exprs_sites es a) m)))
       expr_goes a here (Parenthesized e at) h m = expr_goes a here e h m
       expr_goes a here (Cast t e at) h m = on_goes (expr_goes a here e h m) (λ v _. pure_goes (value_in_type t v) tt)
       expr_goes a here (Unary op e at) h m = on_goes (expr_goes a here e h.0 m) (λ v _. or_trap_goes (unary op v))
@@ -253,7 +253,7 @@ module _ (p : Program) (call : Caller) (called : CallsGo p call) (outer : Option
           (expr_goes a' (record { fits = here.fits; named = here.named }) e h.0 (back_permitted [] (expr_sites e a') m))
       expr_goes a here (InTransaction Relaxed keyword e at) h m =
           let a' = in_transaction (Plain Relaxed) a in
-          let permit = (one_permitted (record { construct = Relaxes; at = keyword; atomic = a.atomic; outer = a.outer; in_any = a.in_any }) (front_permitted (site a Relaxes keyword) (expr_sites e a') m)).0 in
+          let permit = (one_permitted (record { construct = Relaxes; span = keyword; atomic = a.atomic; outer = a.outer; in_any = a.in_any }) (front_permitted (site a Relaxes keyword) (expr_sites e a') m)).0 in
           value_transaction_goes Relaxed (may_begin_relaxed p (mode_of a) permit)
           (subst (λ w. Goes w ls ls Any (expr p call e)) (relaxed_inside p outer a.atomic a.in_any permit)
           (expr_goes a' (record { fits = here.fits; named = here.named }) e h.0 (back_permitted (site a Relaxes keyword) (expr_sites e a') m)))
@@ -264,16 +264,16 @@ module _ (p : Program) (call : Caller) (called : CallsGo p call) (outer : Option
           on_goes (expr_goes a here e h.0 (front_permitted (expr_sites e a) (exprs_sites es a) m)) (λ v _. on_goes (exprs_go a here es h.1 (back_permitted (expr_sites e a) (exprs_sites es a) m)) (λ vs n. pure_goes (v ∷ vs) (omega (arith, n))))
 
     module _ (a : Around) (here : Here p known ls a) where
-      target_goes : (to : Expr) → TypedTarget known to → IsTrue (may_be_assigned known to) → AllPermitted p outer (expr_sites to a) → Goes (mode_of a) ls ls (SpotFits (mode_of a)) (spot p call to)
+      target_goes : (to : Expr) → TypedTarget known to → IsTrue (may_be_assigned known to) → AllPermitted p outer (expr_sites to a) → Goes (mode_of a) ls ls (LvalueFits (mode_of a)) (lvalue p call to)
       target_goes (Variable x) h g m = named_goes a here x h g m
       target_goes (Element x i at) h g m =
           on_goes (expr_goes a here i h.1 (back_permitted (uses x a) (expr_sites i a) m)) (λ k _. element_goes a here x k h.0 h.2 (front_permitted (uses x a) (expr_sites i a) m))
       target_goes to h g m = absurd (cc)
 
-      changed_goes : (at : Spot) {by : Action Value} → SpotFits (mode_of a) at → Goes (mode_of a) ls ls Any by → (op : BinaryOp) → Goes (mode_of a) ls ls Any (changed p call at by op)
+      changed_goes : (at : Lvalue) {by : Action Value} → LvalueFits (mode_of a) at → Goes (mode_of a) ls ls Any by → (op : BinaryOp) → Goes (mode_of a) ls ls Any (assign_by_operator p call at by op)
       changed_goes at f g op = on_goes (fetch_goes at f) (λ old _. on_goes g (λ v _. on_goes (or_trap_goes (binary op old v)) (λ new _. assign_goes at new f)))
 
-      assigned_goes : (at : Spot) {by : Action Value} → SpotFits (mode_of a) at → Goes (mode_of a) ls ls Any by → (op : Option BinaryOp) → Goes (mode_of a) ls ls Any (assigned p call at by op)
+      assigned_goes : (at : Lvalue) {by : Action Value} → LvalueFits (mode_of a) at → Goes (mode_of a) ls ls Any by → (op : Option BinaryOp) → Goes (mode_of a) ls ls Any (assign_by p call at by op)
       assigned_goes at f g None = on_goes g (λ v _. assign_goes at v f)
       assigned_goes at f g (Some op) = changed_goes at f g op
 
@@ -289,11 +289,11 @@ module _ (p : Program) (call : Caller) (called : CallsGo p call) (outer : Option
       first_goes i t None h m = pure_goes tt tt
       first_goes i t (Some e) h m = on_goes (expr_goes a here e h m) (λ v _. assign_goes (InLocal i t) v tt)
 
-      holds_goes : (o : Option Expr) → IfSome o (TypedExpr known) → AllPermitted p outer (sites_if_any expr_sites o a) → Goes (mode_of a) ls ls Any (holds p call o)
+      holds_goes : (o : Option Expr) → IfSome o (TypedExpr known) → AllPermitted p outer (sites_if_any expr_sites o a) → Goes (mode_of a) ls ls Any (for_condition p call o)
       holds_goes None h m = pure_goes true tt
       holds_goes (Some e) h m = on_goes (expr_goes a here e h m) (λ v _. pure_goes (not (is_zero v)) tt)
 
-      stepped_goes : (l b u : Bool) (o : Option Simple) → IfSome o (TypedSimple known) → AllPermitted p outer (sites_if_any simple_sites o a) → Goes (mode_of a) ls ls (TurnFits l b u) (stepped p call o)
+      stepped_goes : (l b u : Bool) (o : Option Simple) → IfSome o (TypedSimple known) → AllPermitted p outer (sites_if_any simple_sites o a) → Goes (mode_of a) ls ls (TurnFits l b u) (optional_step p call o)
       stepped_goes l b u None h m = pure_goes None tt
       stepped_goes l b u (Some s) h m = then_goes (simple_goes l b u s h m) (pure_goes None tt)
 
@@ -334,9 +334,9 @@ module _ (p : Program) (call : Caller) (called : CallsGo p call) (outer : Option
     stmt_goes (Do s) known ls a l here h m = no_further (then_goes tick_goes (simple_goes known ls a here l a.atomic a.outer s h m))
     stmt_goes (Block ss) known ls a l here h m = no_further (then_goes tick_goes (scoped_goes (stmts_open ss known ls a l here h m)))
     stmt_goes (Print at format format_at es) known ls a l here h m =
-        let may = may_print p (mode_of a) (one_permitted (record { construct = Prints; at = at; atomic = a.atomic; outer = a.outer; in_any = a.in_any }) (front_permitted (site a Prints at) (exprs_sites es a) m)).0 in
+        let may = may_print p (mode_of a) (one_permitted (record { construct = Prints; span = at; atomic = a.atomic; outer = a.outer; in_any = a.in_any }) (front_permitted (site a Prints at) (exprs_sites es a) m)).0 in
         no_further (then_goes tick_goes (then_goes (may_print_goes may) (on_goes (exprs_go known ls a here es h.0 (back_permitted (site a Prints at) (exprs_sites es a) m))
-        (λ vs n. then_goes (pieces_go (pieces format) vs (same_count (length (figures (pieces format))) (count es) (length vs) h.1 n)) (pure_goes Next tt)))))
+        (λ vs n. then_goes (pieces_go (pieces format) vs (same_count (length (specifiers (pieces format))) (count es) (length vs) h.1 n)) (pure_goes Next tt)))))
     stmt_goes (If c s) known ls a l here h m =
         no_further (then_goes tick_goes (on_goes (expr_goes known ls a here c h.0 (front_permitted (expr_sites c a) (stmt_sites s a) m))
         (λ v _. if_goes (is_zero v) (pure_goes Next tt) (scoped_goes (opened (declared_by s) (stmt_goes s known ls a l here h.1 (back_permitted (expr_sites c a) (stmt_sites s a) m)))))))
@@ -374,7 +374,7 @@ module _ (p : Program) (call : Caller) (called : CallsGo p call) (outer : Option
         (scoped_goes (stmts_open ss known ls a' l (record { fits = here.fits; named = here.named }) h (back_permitted [] (stmts_sites ss a') m)))))
     stmt_goes (Transaction (Plain Relaxed) ss at) known ls a l here h m =
         let a' = in_transaction (Plain Relaxed) a in
-        let permit = (one_permitted (record { construct = Relaxes; at = at; atomic = a.atomic; outer = a.outer; in_any = a.in_any }) (front_permitted (site a Relaxes at) (stmts_sites ss a') m)).0 in
+        let permit = (one_permitted (record { construct = Relaxes; span = at; atomic = a.atomic; outer = a.outer; in_any = a.in_any }) (front_permitted (site a Relaxes at) (stmts_sites ss a') m)).0 in
         no_further (then_goes tick_goes (transaction_goes l a.atomic a.atomic a.outer (Plain Relaxed) (may_begin_relaxed p (mode_of a) permit)
         (subst (λ w. Goes w ls ls (EndFits l a.atomic a.outer) (in_scope (stmts p call ss))) (relaxed_inside p outer a.atomic a.in_any permit)
         (scoped_goes (stmts_open ss known ls a' l (record { fits = here.fits; named = here.named }) h (back_permitted (site a Relaxes at) (stmts_sites ss a') m))))))
@@ -383,9 +383,9 @@ module _ (p : Program) (call : Caller) (called : CallsGo p call) (outer : Option
         no_further (then_goes tick_goes (transaction_goes l true a.atomic a.outer Outer (may_begin_atomic (mode_of a))
         (scoped_goes (stmts_open ss known ls a' l (record { fits = here.fits; named = here.named }) h (back_permitted (site a OpensOuter at) (stmts_sites ss a') m)))))
     stmt_goes (Cancel at) known ls a l here h m =
-        no_further (then_goes tick_goes (pure_goes Cancels ((one_permitted (record { construct = CancelConstruct; at = at; atomic = a.atomic; outer = a.outer; in_any = a.in_any }) m).1 refl)))
+        no_further (then_goes tick_goes (pure_goes Cancels ((one_permitted (record { construct = CancelConstruct; span = at; atomic = a.atomic; outer = a.outer; in_any = a.in_any }) m).1 refl)))
     stmt_goes (CancelOuter at) known ls a l here h m =
-        no_further (then_goes tick_goes (pure_goes CancelsOuter ((one_permitted (record { construct = OuterCancelConstruct; at = at; atomic = a.atomic; outer = a.outer; in_any = a.in_any }) m).2 refl)))
+        no_further (then_goes tick_goes (pure_goes CancelsOuter ((one_permitted (record { construct = OuterCancelConstruct; span = at; atomic = a.atomic; outer = a.outer; in_any = a.in_any }) m).2 refl)))
 
     stmts_open : (ss : Stmts) (known : Scope) (ls : Shapes) (a : Around) (l : Bool) → Here p known ls a → TypedStmts ss known l → AllPermitted p outer (stmts_sites ss a) → Opens (mode_of a) ls (EndFits l a.atomic a.outer) (stmts p call ss)
     stmts_open Tree.[] known ls a l here h m = opened [] (no_further (pure_goes Next tt))

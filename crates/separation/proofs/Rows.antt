@@ -21,7 +21,7 @@ at n = record { start = n; end = n + 1 }
 abbrev bare : Program
 bare =
     global (codes "x")
-    ∷ worker_with (then_ (Do (Evaluate (Call (record { text = codes "f"; at = at 3 }) Tree.[] (at 3)))) (just (Do (Assign (Variable (record { text = codes "x"; at = at 5 })) None (num 1))))) ∷ []
+    ∷ worker_with (then_ (Do (Evaluate (Call (record { text = codes "f"; span = at 3 }) Tree.[] (at 3)))) (just (Do (Assign (Variable (record { text = codes "x"; span = at 5 })) None (num 1))))) ∷ []
 
 bare_access : fault bare (bytes_eq (codes "worker")) ≡ Some (50, at 5)
 bare_access = refl

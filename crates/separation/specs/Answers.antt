@@ -34,8 +34,8 @@ module _ {A : Type 0} where
 
   -- the check of a safe program: it is accepted, or this is its first fault; without memory nothing is said.
   -- The program is kept, or handed back.
-  abbrev pub Checks : Safe A → Result (Accepted A) (SeparationFault A) → Type 0
-  Checks s (Ok a) = (a.safe ≡ s) × ∥ IsAccepted (program_of s.typed.unit) ∥₁
-  Checks s (Err (fault.OutOfMemory t)) = t ≡ s
-  Checks s (Err (fault.NotSeparate t b)) =
+  abbrev pub ChecksSeparation : Safe A → Result (Accepted A) (SeparationFault A) → Type 0
+  ChecksSeparation s (Ok a) = (a.safe ≡ s) × ∥ IsAccepted (program_of s.typed.unit) ∥₁
+  ChecksSeparation s (Err (fault.OutOfMemory t)) = t ≡ s
+  ChecksSeparation s (Err (fault.NotSeparate t b)) =
       (t ≡ s) × IsSeparationFault (number_in b) (span_in b) (program_of s.typed.unit)

@@ -37,8 +37,8 @@ pub record IsAccepted (p : Program) : Type 0 where
 
 -- 50: no access is bare; 51: no call of a touching function is
 abbrev pub demands_at : FunctionSet → Site → Construct → List Demand
-demands_at touching s (Uses x) = demand 50 s.at s.in_any
-demands_at touching s (Calls f) = demand 51 s.at (s.in_any || not (touching f))
+demands_at touching s (Uses x) = demand 50 s.span s.in_any
+demands_at touching s (Calls f) = demand 51 s.span (s.in_any || not (touching f))
 demands_at touching s c = []
 
 -- the demands of these sites in the body of worker, where these functions touch

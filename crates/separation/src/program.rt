@@ -1,6 +1,6 @@
 //! Which programs are accepted.
 
-ghost use Rattle.separation.specs.Answers.{Checks};
+ghost use Rattle.separation.specs.Answers.{ChecksSeparation};
 
 use crate::checked::Accepted;
 use crate::demands::fault_of;
@@ -16,7 +16,7 @@ pub fn accept<A: Allocator + Copy>(
     alloc: A,
     safe: Safe<A>,
 ) -> Result<Accepted<A>, SeparationFault<A>>
-    ensures { Checks safe result }
+    ensures { ChecksSeparation safe result }
 {
     let unit = safe.typed().unit();
     match fault_of(alloc, unit.key, unit.items.as_slice()) {

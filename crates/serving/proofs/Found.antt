@@ -15,7 +15,7 @@ use Rattle.machine.specs.States.{first_thread}
 use Rattle.machine.specs.Threads.{Thread, access}
 use Rattle.machine.specs.Worlds.{Part, World}
 use Rattle.seats.specs.Setup.{Setup}
-use Rattle.workers.specs.Closing.{AreThere, HasWorker, NoWorker, finished_back}
+use Rattle.workers.specs.Closing.{AreThere, HasWorkerFor, NoWorker, finished_back}
 use Rattle.workers.specs.Driving.{AreEnded, EndsBy, Ran}
 use Rattle.workers.specs.Workers.{AreWorkersOf}
 use Rattle.workers.specs.declared.close.Finished.{Finished}
@@ -23,7 +23,7 @@ use Rattle.workers.specs.declared.run.Ending.{Ending}
 use Rattle.workers.specs.declared.run.RunReport.{RunReport}
 use Rattle.workers.specs.declared.worker.Worker.{Worker}
 use Rattle.syntax.specs.Behaviours.{Behaviour}
-use Rattle.serving.specs.Runs.{IsThreadAtOnce, end_at_once, thread_at_once}
+use Rattle.serving.specs.Runs.{IsConcurrentThread, end_of_run, thread_of_run}
 
 apart : (a b : ℕ) → (a == b) ≡ false → a ≢ b
 apart a b e same = let t : true ≡ false = sym (eq-eqb a b same) ∙ e in cc
@@ -108,11 +108,11 @@ module _ (z : TableId) (key : Setup) (w : World Configuration) (heard : List (Li
           )
       by false is rest = later is rest
 
-  here : (ws : List (Worker Global)) → HasWorker ws n → NoWorker ws n → ⊥
+  here : (ws : List (Worker Global)) → HasWorkerFor ws n → NoWorker ws n → ⊥
   here ws (k, x, at, is) none = none k x at is
 
 -- what a report shows of a thread of the run is its part in the world, and why its loop ended
-pub thread_shown : (does : Behaviour) (key : Setup) (budget : ℕ) (r : RunReport Global) (ran : Ran does key budget r) (n : ℕ) → n < key.threads → IsThreadAtOnce key.code ran.closes.world budget n (thread_at_once r n)
+pub thread_shown : (does : Behaviour) (key : Setup) (budget : ℕ) (r : RunReport Global) (ran : Ran does key budget r) (n : ℕ) → n < key.threads → IsConcurrentThread key.code ran.closes.world budget n (thread_of_run r n)
 thread_shown does key budget r ran n lt = joined (thread_found z key w hs n ran.workers ran.are ran.closes.there) (ending_found z key w hs n budget ran.workers r.ends.items ran.are ran.closes.there ran.ends)
   where
     z : TableId
@@ -124,13 +124,13 @@ thread_shown does key budget r ran n lt = joined (thread_found z key w hs n ran.
     hs : List (List Heard)
     hs = ran.closes.heard
 
-    worker : HasWorker ran.workers n
+    worker : HasWorkerFor ran.workers n
     worker = ran.here n lt
 
     joined : (NoWorker ran.workers n × (find (λ (f : Finished Global). f.number == n) (finished_back ran.workers) ≡ None))
         ⊎ ((f : Finished Global) × (find (λ (f : Finished Global). f.number == n) (finished_back ran.workers) ≡ Some f) × IsThread z key w hs n f) →
         NoWorker ran.workers n ⊎ ((e : Ending) × (find (λ (e : Ending). e.number == n) r.ends.items ≡ Some e) × IsEnding z key w hs n budget e) →
-        IsThreadAtOnce key.code w budget n (thread_at_once r n)
+        IsConcurrentThread key.code w budget n (thread_of_run r n)
     joined (inl none) e = absurd (here z key w hs n ran.workers worker none.0)
     joined (inr f) (inl none) = absurd (here z key w hs n ran.workers worker none)
     joined (inr f) (inr e) =
@@ -145,5 +145,5 @@ thread_shown does key budget r ran n lt = joined (thread_found z key w hs n ran.
           makes = e.2.4;
           stopped = e.0.stopped;
           because = e.2.5;
-          shows = rw (e.1, found) (ap (λ (t : Thread Configuration). record { end = end_at_once t.status e.0.stopped; text = t.text }) (sym f.2.2 ∙ ap (λ (p : Part Configuration). p.thread) (sym same)));
+          shows = rw (e.1, found) (ap (λ (t : Thread Configuration). record { end = end_of_run t.status e.0.stopped; text = t.text }) (sym f.2.2 ∙ ap (λ (p : Part Configuration). p.thread) (sym same)));
         }

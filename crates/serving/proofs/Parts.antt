@@ -6,11 +6,6 @@ use Rattle.std.specs.Io.KnownBytes.{Appends, Keeps}
 use Rattle.serving.specs.Written.{WritesPart}
 use Rattle.serving.proofs.Replays.{appends_more}
 
--- nothing of a text is written so far
-pub none_yet : (known : Option (List ℕ)) (text : List ℕ) → Appends known known (take 0 text)
-none_yet None text = tt
-none_yet (Some xs) text = sym (append-nil xs)
-
 -- more of a text is written, of what is left of it
 pub part_more : (a b c : Option (List ℕ)) (n m : ℕ) (text : List ℕ) → Appends a b (take n text) → Appends b c (take m (take (length text - n) (drop n text))) → Appends a c (take (n + m) text)
 part_more a b c n m text p q =

@@ -38,7 +38,7 @@ use Rattle.serving.proofs.Codes.{compiles}
 pub replay_of : {A : Type 0} (p : Program) (code : Code) (threads : ℕ) (found : List Line) (r : Report A) (made : List ℕ) (stop : Option WorldStop) (shown : Printed) → IsCodeOf p code → IsReplay code threads found r → made ≡ r.trace.items → stop ≡ r.stop → shown ≡ report_shown p r → IsReplayOf p code threads found made stop shown
 replay_of p code threads found r made stop shown compiled replay made_is stop_is shows =
     let cells : bounds p ≡ bounds_of code = ap cell_bounds (sym compiled.globals) in
-    let held : shown.holder ≡ r.holder = ap (λ (s : Printed). s.holder) shows in
+    let holder_is : shown.holder ≡ r.holder = ap (λ (s : Printed). s.holder) shows in
     let events = replay.events in
     let found_are = replay.threads_are in
     let words = replay.words in
@@ -49,8 +49,8 @@ replay_of p code threads found r made stop shown compiled replay made_is stop_is
       named = replay.named;
       ends = replay.ends;
       explained = replay.explained.programs (thread p) (subst (λ bs. Means bs (meaning (effect code) (beginning code)) (thread p)) cells compiled.means);
-      holder = subst (λ (h : Option ℕ). IsHolder (world_of (simulation_after code threads replay.made)) h) (sym held) replay.holder;
-      shows = cc (shows, events, found_are, words, held);
+      holder = subst (λ (h : Option ℕ). IsHolder (world_of (simulation_after code threads replay.made)) h) (sym holder_is) replay.holder;
+      shows = cc (shows, events, found_are, words, holder_is);
       stopped_is = stop_is ∙ replay.stop_is;
     }
 

@@ -49,7 +49,7 @@ use Rattle.report.specs.declared.printed.End.{End}
 use Rattle.report.specs.Printed.{ThreadShown, Printed}
 use Rattle.serving.specs.Replays.{IsReplayOf, end_after_replay, thread_found}
 use Rattle.serving.specs.Reports.{has_stopped, is_stopped}
-use Rattle.serving.specs.Runs.{RunsAtOnce, end_at_once, globals_left, held_by, thread_at_once, threads_at_once}
+use Rattle.serving.specs.Runs.{RunsConcurrently, end_of_run, globals_left, held_by, thread_of_run, threads_of_run}
 use Rattle.serving.specs.Shows.{order_end, shown_globals, thread_shown}
 use Rattle.serving.specs.inner.Serial.{IsSerial}
 use Rattle.serving.proofs.Inside.{over_outside}
@@ -65,11 +65,11 @@ get_before [] y i lt = absurd (omega arith)
 get_before (x ∷ xs) y zero lt = refl
 get_before (x ∷ xs) y (suc i) lt = get_before xs y i (omega arith)
 
-length_all : (r : RunReport Global) (k : ℕ) → length (threads_at_once r k) ≡ k
+length_all : (r : RunReport Global) (k : ℕ) → length (threads_of_run r k) ≡ k
 length_all r zero = refl
 length_all r (suc k) =
-    let e : length (threads_at_once r (suc k)) ≡ length (threads_at_once r k) + 1 = length_push (threads_at_once r k) (thread_at_once r k) in
-    let ih : length (threads_at_once r k) ≡ k = length_all r k in
+    let e : length (threads_of_run r (suc k)) ≡ length (threads_of_run r k) + 1 = length_push (threads_of_run r k) (thread_of_run r k) in
+    let ih : length (threads_of_run r k) ≡ k = length_all r k in
     omega (arith, e, ih)
 
 -- the number after this one, and so many further on
@@ -81,18 +81,18 @@ beyond_is : (j t : ℕ) → beyond j t ≡ j + suc t
 beyond_is zero t = omega arith
 beyond_is (suc j) t = let ih : beyond j t ≡ j + suc t = beyond_is j t in omega (arith, ih)
 
-thread_after : (r : RunReport Global) (j t : ℕ) → slice_get (threads_at_once r (beyond j t)) t ≡ Some (thread_at_once r t)
-thread_after r zero t = ap (slice_get (threads_at_once r (suc t))) (sym (length_all r t)) ∙ get_here (threads_at_once r t) (thread_at_once r t)
+thread_after : (r : RunReport Global) (j t : ℕ) → slice_get (threads_of_run r (beyond j t)) t ≡ Some (thread_of_run r t)
+thread_after r zero t = ap (slice_get (threads_of_run r (suc t))) (sym (length_all r t)) ∙ get_here (threads_of_run r t) (thread_of_run r t)
 thread_after r (suc j) t =
-    let l : length (threads_at_once r (beyond j t)) ≡ beyond j t = length_all r (beyond j t) in
+    let l : length (threads_of_run r (beyond j t)) ≡ beyond j t = length_all r (beyond j t) in
     let b : beyond j t ≡ j + suc t = beyond_is j t in
-    get_before (threads_at_once r (beyond j t)) (thread_at_once r (beyond j t)) t (omega (arith, l, b)) ∙ thread_after r j t
+    get_before (threads_of_run r (beyond j t)) (thread_of_run r (beyond j t)) t (omega (arith, l, b)) ∙ thread_after r j t
 
-thread_at : (r : RunReport Global) (k t : ℕ) → t < k → slice_get (threads_at_once r k) t ≡ Some (thread_at_once r t)
+thread_at : (r : RunReport Global) (k t : ℕ) → t < k → slice_get (threads_of_run r k) t ≡ Some (thread_of_run r t)
 thread_at r k t lt =
     let b : beyond (k - suc t) t ≡ k - suc t + suc t = beyond_is (k - suc t) t in
     let e : beyond (k - suc t) t ≡ k = omega (arith, lt, b) in
-    subst (λ n. slice_get (threads_at_once r n) t ≡ Some (thread_at_once r t)) e (thread_after r (k - suc t) t)
+    subst (λ n. slice_get (threads_of_run r n) t ≡ Some (thread_of_run r t)) e (thread_after r (k - suc t) t)
 
 pub same_some : {X : Type 0} (x y : X) → Some x ≡ Some y → x ≡ y
 same_some x y e = ap (λ (o : Option _). unwrap_or o x) e
@@ -136,12 +136,12 @@ module _ (p : Program) (m0 : Memory) (run : List Step) (t : ℕ) (text : List �
   over Running s is = absurd (is refl)
 
 -- how a thread that is over is shown after a run of all threads
-over_at_once : (s : Status) (stopped : Option Stop) → is_stopped (end_at_once s stopped) ≡ false → (s ≢ Running) × (end_at_once s stopped ≡ end_after_replay (end_of s))
-over_at_once Running None still = absurd (cc)
-over_at_once Running (Some stop.OutOfMemory) still = absurd (cc)
-over_at_once Running (Some stop.SequenceUsedUp) still = absurd (cc)
-over_at_once HasEnded stopped still = (λ e. absurd (cc), refl)
-over_at_once (HasTrapped k) stopped still = (λ e. absurd (cc), refl)
+over_in_run : (s : Status) (stopped : Option Stop) → is_stopped (end_of_run s stopped) ≡ false → (s ≢ Running) × (end_of_run s stopped ≡ end_after_replay (end_of s))
+over_in_run Running None still = absurd (cc)
+over_in_run Running (Some stop.OutOfMemory) still = absurd (cc)
+over_in_run Running (Some stop.SequenceUsedUp) still = absurd (cc)
+over_in_run HasEnded stopped still = (λ e. absurd (cc), refl)
+over_in_run (HasTrapped k) stopped still = (λ e. absurd (cc), refl)
 
 -- and after a replay
 over_found : (s : Status) → is_stopped (end_after_replay (end_of s)) ≡ false → s ≢ Running
@@ -207,7 +207,7 @@ globals_are p (LockHeld n) ws cells last is nobody words = let f : true ≡ fals
 
 -- ---- a run of all threads at once
 
-pub serial_run : (threads budget : ℕ) (text : List ℕ) (shown : Printed) (r : RunsAtOnce threads budget text shown) → has_stopped shown ≡ false →
+pub serial_run : (threads budget : ℕ) (text : List ℕ) (shown : Printed) (r : RunsConcurrently threads budget text shown) → has_stopped shown ≡ false →
     IsSerial r.compiled.source.program threads shown × (shown.events ≡ None) × (shown.holder ≡ None)
 serial_run threads budget text shown r none =
     let p : Program = r.compiled.source.program in
@@ -216,12 +216,12 @@ serial_run threads budget text shown r none =
     let es : List Entry = ran.closes.runs.entries in
     let x = ran.program es ran.closes.runs.is_merge in
     let same : initial_of r.code ≡ initial_memory p = ap initial_from r.compiled.compiled.globals in
-    let all : shown.threads ≡ threads_at_once r.run.report threads = ap (λ (s : Printed). s.threads) r.run.shows in
-    let none' : list_any (λ (t : ThreadShown). is_stopped t.end) (threads_at_once r.run.report threads) ≡ false = ap (list_any (λ (t : ThreadShown). is_stopped t.end)) (sym all) ∙ none in
-    let still : (t : ℕ) → t < threads → is_stopped (thread_at_once r.run.report t).end ≡ false = (λ t lt.
-    any_no (λ (t : ThreadShown). is_stopped t.end) (threads_at_once r.run.report threads) t (thread_at_once r.run.report t) none' (thread_at r.run.report threads t lt)) in
-    let over_at : (t : ℕ) (lt : t < threads) → ((r.run.each t lt).part.thread.status ≢ Running) × (end_at_once (r.run.each t lt).part.thread.status (r.run.each t lt).stopped ≡ end_after_replay (end_of (r.run.each t lt).part.thread.status)) = (λ t lt.
-    over_at_once _ _ (ap (λ (s : ThreadShown). is_stopped s.end) (sym (r.run.each t lt).shows) ∙ still t lt)) in
+    let all : shown.threads ≡ threads_of_run r.run.report threads = ap (λ (s : Printed). s.threads) r.run.shows in
+    let none' : list_any (λ (t : ThreadShown). is_stopped t.end) (threads_of_run r.run.report threads) ≡ false = ap (list_any (λ (t : ThreadShown). is_stopped t.end)) (sym all) ∙ none in
+    let still : (t : ℕ) → t < threads → is_stopped (thread_of_run r.run.report t).end ≡ false = (λ t lt.
+    any_no (λ (t : ThreadShown). is_stopped t.end) (threads_of_run r.run.report threads) t (thread_of_run r.run.report t) none' (thread_at r.run.report threads t lt)) in
+    let over_at : (t : ℕ) (lt : t < threads) → ((r.run.each t lt).part.thread.status ≢ Running) × (end_of_run (r.run.each t lt).part.thread.status (r.run.each t lt).stopped ≡ end_after_replay (end_of (r.run.each t lt).part.thread.status)) = (λ t lt.
+    over_in_run _ _ (ap (λ (s : ThreadShown). is_stopped s.end) (sym (r.run.each t lt).shows) ∙ still t lt)) in
     let over_there : (n : ℕ) (q : Part Configuration) → slice_get w.parts n ≡ Some q → q.thread.status ≢ Running = (λ n q here.
     let count : length w.parts ≡ threads = x.count in
     let within : n < length w.parts = slice_get_within w.parts n q here in
@@ -238,7 +238,7 @@ serial_run threads budget text shown r none =
             let within : t < length shown.threads = slice_get_within shown.threads t this at in
             let lt : t < threads = omega (arith, counted, within) in
             let i = r.run.each t lt in
-            let is : thread_at_once r.run.report t ≡ this = same_some _ this (sym (ap (λ ts. slice_get ts t) all ∙ thread_at r.run.report threads t lt) ∙ at) in
+            let is : thread_of_run r.run.report t ≡ this = same_some _ this (sym (ap (λ ts. slice_get ts t) all ∙ thread_at r.run.report threads t lt) ∙ at) in
             let o = over p (initial_of r.code) (run_of es) t i.part.thread.text i.part.thread.status (x.standing t i.part i.there) (over_at t lt).0 in
             (o.0, o.1, sym is ∙ i.shows ∙ ap (as_shown i.part.thread.text) (over_at t lt).1 ∙ o.2);
         globals =

@@ -10,7 +10,7 @@ use Rattle.serving.specs.Listings.{PrintsListing}
 use Rattle.serving.specs.Reports.{PrintsReport}
 use Rattle.serving.specs.Outcomes.{PrintsOutcomes}
 use Rattle.serving.specs.Orders.{RunsInOrder, RunsInSomeOrder}
-use Rattle.serving.specs.Runs.{RunsAtOnce}
+use Rattle.serving.specs.Runs.{RunsConcurrently}
 use Rattle.serving.specs.Pictures.{PrintsPicture, ReplaysDrawn}
 use Rattle.serving.specs.Replays.{PrintsSchedule, PrintsTimeline, Replays, ReplaysShown, behind_events, lines_of_seed}
 
@@ -21,7 +21,8 @@ abbrev pub Answers : Task → (schedule : Option (List ℕ)) → (text : List �
 Answers Check schedule text status old new = SaysAccepted text status old new
 Answers Listing schedule text status old new = PrintsListing text status old new
 Answers (Run threads budget counts) schedule text status old new =
-    PrintsReport (λ shown. RunsInSomeOrder threads text shown × RunsAtOnce threads budget text shown) status old new
+    PrintsReport (λ shown. RunsInSomeOrder threads text shown
+    × RunsConcurrently threads budget text shown) status old new
 Answers (Replay threads steps) schedule text status old new =
     PrintsReport (λ shown. RunsInSomeOrder threads text (behind_events shown)
     × Replays threads steps schedule text shown) status old new

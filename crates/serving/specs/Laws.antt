@@ -11,13 +11,13 @@ use Rattle.serving.specs.Codes.{IsCodeOf}
 use Rattle.serving.specs.Reports.{has_stopped}
 use Rattle.serving.specs.Orders.{LeavesSomeOrder, RunsInSomeOrder}
 use Rattle.serving.specs.Outcomes.{AreAllOutcomes, reports}
-use Rattle.serving.specs.Runs.{RunsAtOnce}
+use Rattle.serving.specs.Runs.{RunsConcurrently}
 use Rattle.serving.specs.Replays.{IsReplayOf, Replays, behind_events}
 
 -- what a run of all threads shows, where each of them has ended or trapped, they show in some order
 abbrev pub ConcurrentRunsAreOrders : Type 0
 ConcurrentRunsAreOrders =
-    (threads budget : ℕ) (text : List ℕ) (shown : Printed) → RunsAtOnce threads budget text shown →
+    (threads budget : ℕ) (text : List ℕ) (shown : Printed) → RunsConcurrently threads budget text shown →
     has_stopped shown ≡ false → RunsInSomeOrder threads text shown
 
 -- and so it is behind the events of a replay

@@ -58,7 +58,7 @@ pub record IsNotSeparate (text : List ℕ) (fault : SeparationViolation) : Type 
 pub record IsFunctionName (p : Program) (at : Span) : Type 0 where
   pub function : Function
   pub is_of : Contains p (Defines function)
-  pub is_at : at ≡ function.name.at
+  pub is_at : at ≡ function.name.span
 
 -- a limit of code: a transaction lies in 16 others, and the keyword of the first one that does stands here; or none
 -- does, and the code would have too many registers or instructions, in or with the function whose name stands here

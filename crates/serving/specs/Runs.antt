@@ -29,12 +29,12 @@ use Rattle.serving.specs.Codes.{Compiles}
 use Rattle.serving.specs.Shows.{shown_globals}
 
 -- how a thread is found after a run of all threads at once: by its status, and by what stopped it
-abbrev pub end_at_once : Status → Option Stop → End
-end_at_once HasEnded stopped = end.Ended
-end_at_once (HasTrapped k) stopped = end.Trapped k
-end_at_once Running None = end.Budget
-end_at_once Running (Some stop.OutOfMemory) = end.OutOfMemory
-end_at_once Running (Some stop.SequenceUsedUp) = end.SequenceUsedUp
+abbrev pub end_of_run : Status → Option Stop → End
+end_of_run HasEnded stopped = end.Ended
+end_of_run (HasTrapped k) stopped = end.Trapped k
+end_of_run Running None = end.Budget
+end_of_run Running (Some stop.OutOfMemory) = end.OutOfMemory
+end_of_run Running (Some stop.SequenceUsedUp) = end.SequenceUsedUp
 
 -- what stopped the thread of this number
 abbrev pub stopped_of : List Ending → ℕ → Option Stop
@@ -44,16 +44,16 @@ module _ {G : Type 0} where
   -- a thread after a run of all threads at once, where there is one
   abbrev pub finished_shown : Option Stop → Option (Finished G) → ThreadShown
   finished_shown stopped (Some f) =
-      record { end = end_at_once (finished_thread f).status stopped; text = (finished_thread f).text }
+      record { end = end_of_run (finished_thread f).status stopped; text = (finished_thread f).text }
   finished_shown stopped None = record { end = end.Running; text = [] }
 
-  abbrev pub thread_at_once : RunReport G → ℕ → ThreadShown
-  thread_at_once r t = finished_shown (stopped_of r.ends.items t) (find (λ f. finished_number f == t) r.threads.items)
+  abbrev pub thread_of_run : RunReport G → ℕ → ThreadShown
+  thread_of_run r t = finished_shown (stopped_of r.ends.items t) (find (λ f. finished_number f == t) r.threads.items)
 
   -- so many threads, from thread 0 on
-  abbrev pub threads_at_once : RunReport G → ℕ → List ThreadShown
-  threads_at_once r zero = []
-  threads_at_once r (suc n) = threads_at_once r n ++ thread_at_once r n ∷ []
+  abbrev pub threads_of_run : RunReport G → ℕ → List ThreadShown
+  threads_of_run r zero = []
+  threads_of_run r (suc n) = threads_of_run r n ++ thread_of_run r n ∷ []
 
 -- the globals, where no thread has the lock
 abbrev pub globals_left : Program → RunMemory → List Shown
@@ -65,10 +65,10 @@ held_by (Words v) = None
 held_by (LockHeld t) = Some t
 
 -- all threads of a program at once
-abbrev pub at_once_shown : {G : Type 0} → Program → ℕ → RunReport G → Printed
-at_once_shown p threads r = record {
+abbrev pub run_shown : {G : Type 0} → Program → ℕ → RunReport G → Printed
+run_shown p threads r = record {
   events = None;
-  threads = threads_at_once r threads;
+  threads = threads_of_run r threads;
   globals = globals_left p r.memory;
   holder = held_by r.memory;
 }
@@ -76,7 +76,8 @@ at_once_shown p threads r = record {
 -- What a report shows of the thread of this number: its text and its end in the world that the run led to. So many
 -- steps of its own have led it there. What stopped its loop is why no further step was made; where nothing did, it is
 -- over, or all steps of its budget are made.
-pub record IsThreadAtOnce (code : Code) (w : World Configuration) (budget n : ℕ) (shown : ThreadShown) : Type 0 where
+pub record IsConcurrentThread (code : Code) (w : World Configuration) (budget n : ℕ)
+    (shown : ThreadShown) : Type 0 where
   pub part : Part Configuration
   pub there : slice_get w.parts n ≡ Some part
   pub steps : ℕ
@@ -84,18 +85,18 @@ pub record IsThreadAtOnce (code : Code) (w : World Configuration) (budget n : �
   pub makes : StepsHearing (effect code) (first_thread code n) steps answers part.thread
   pub stopped : Option Stop
   pub because : EndsBy stopped (access (effect code) part.thread) part.thread.status budget steps
-  pub shows : shown ≡ record { end = end_at_once part.thread.status stopped; text = part.thread.text }
+  pub shows : shown ≡ record { end = end_of_run part.thread.status stopped; text = part.thread.text }
 
 -- what a report shows of so many threads of this code at once, each with so many steps at most: their run is one of the
 -- program, and each thread stands in it as it is shown
-pub record IsRunAtOnce (p : Program) (code : Code) (threads budget : ℕ) (shown : Printed) : Type 0 where
+pub record IsConcurrentRun (p : Program) (code : Code) (threads budget : ℕ) (shown : Printed) : Type 0 where
   pub report : RunReport Global
   pub ran : Ran (thread p) (record { code = code; threads = threads }) budget report
-  pub shows : shown ≡ at_once_shown p threads report
-  pub each : (n : ℕ) → n < threads → IsThreadAtOnce code ran.closes.world budget n (thread_at_once report n)
+  pub shows : shown ≡ run_shown p threads report
+  pub each : (n : ℕ) → n < threads → IsConcurrentThread code ran.closes.world budget n (thread_of_run report n)
 
 -- the text spells an accepted program, and this is what the report of a run of its threads shows
-pub record RunsAtOnce (threads budget : ℕ) (text : List ℕ) (shown : Printed) : Type 0 where
+pub record RunsConcurrently (threads budget : ℕ) (text : List ℕ) (shown : Printed) : Type 0 where
   pub code : Code
   pub compiled : Compiles text code
-  pub run : IsRunAtOnce compiled.source.program code threads budget shown
+  pub run : IsConcurrentRun compiled.source.program code threads budget shown

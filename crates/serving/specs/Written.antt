@@ -22,7 +22,7 @@ use Rattle.serving.specs.Listings.{ShowsListing}
 use Rattle.serving.specs.Outcomes.{IsListOfOutcomes}
 use Rattle.serving.specs.Orders.{RunsInOrder}
 use Rattle.serving.specs.Replays.{IsReplayOfText, lines_of_seed}
-use Rattle.serving.specs.Runs.{RunsAtOnce}
+use Rattle.serving.specs.Runs.{RunsConcurrently}
 
 -- the report of something that is so
 abbrev pub IsReportOf : (Printed → Type 0) → List ℕ → Type 0
@@ -60,7 +60,7 @@ IsSeedSchedule seed threads count text written =
 abbrev pub IsAskedFor : Task → (schedule : Option (List ℕ)) → (text : List ℕ) → (written : List ℕ) → Type 0
 IsAskedFor Check schedule text written = Accepts text × (written ≡ codes "accepted\n")
 IsAskedFor Listing schedule text written = ShowsListing text written
-IsAskedFor (Run threads budget counts) schedule text written = IsReportOf (RunsAtOnce threads budget text) written
+IsAskedFor (Run threads budget counts) schedule text written = IsReportOf (RunsConcurrently threads budget text) written
 IsAskedFor (Replay threads steps) schedule text written = IsReplayReport threads steps schedule text written
 IsAskedFor (Timeline threads steps) schedule text written = IsReplayTimeline threads steps schedule text written
 IsAskedFor (Picture threads steps) schedule text written = IsReplayPicture threads steps schedule text written

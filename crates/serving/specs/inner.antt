@@ -1,5 +1,5 @@
--- what is shown of a thread that was told of
-pub mod Told
+-- what is shown of a reported thread
+pub mod ThreadReports
 -- what was read
 pub mod Read
 -- what is shown of a replay's report

@@ -6,10 +6,10 @@ ghost use Rattle.syntax.specs.Views.{program_of};
 ghost use Rattle.meaning.specs.InOrder.{IsFaultOfOrder};
 ghost use Rattle.outcomes.specs.Outcomes.{NeverSpent};
 ghost use Rattle.outcome_lists.specs.Views.{outcome_of};
-ghost use Rattle.serving.specs.Outcomes.{AreAllOutcomes, AreOutcomes, AreOutcomesOf, outcomes_status};
+ghost use Rattle.serving.specs.Outcomes.{AreAllOutcomes, AreOutcomesOfText, AreOutcomesOf, outcomes_status};
 ghost use Rattle.serving.specs.Refusals.{IsFaultInOrder};
 ghost use Rattle.serving.specs.Reports.{has_trapped};
-ghost use Rattle.serving.specs.inner.Told.{listed_shown};
+ghost use Rattle.serving.specs.inner.ThreadReports.{listed_shown};
 
 use crate::order::{OrderFault, unit_of};
 use crate::run::read_accepted;
@@ -115,7 +115,8 @@ pub fn list_outcomes<A: Allocator + Copy, E: Write>(
     is_shown: bool,
     err: &mut E,
 ) -> Result<OutcomesFound<A>, OrderFault>
-    ensures are { IfOk result (λ o. AreOutcomes threads ticks o.is_whole text.now (map outcome_of o.outcomes.items)) }
+    ensures are { IfOk result
+        (λ o. AreOutcomesOfText threads ticks o.is_whole text.now (map outcome_of o.outcomes.items)) }
     ensures all { IfOk result (λ o. o.is_whole ≡ true → o.is_spent ≡ false
         → AreAllOutcomes threads ticks text.now (map outcome_of o.outcomes.items)) }
     ensures err { IfErr result (λ f. IsFaultInOrder text.now threads [] f) }

@@ -5,11 +5,11 @@ ghost use Rattle.syntax.specs.Views.{program_of};
 ghost use Rattle.report.specs.Views.{printed_of};
 ghost use Rattle.workers.specs.Driving.{IsRunRefused};
 ghost use Rattle.serving.specs.Codes.{IsCodeOf};
-ghost use Rattle.serving.specs.Runs.{IsRunAtOnce, RunsAtOnce};
-ghost use Rattle.serving.specs.inner.Threads.{IsFaultAtOnce};
+ghost use Rattle.serving.specs.Runs.{IsConcurrentRun, RunsConcurrently};
+ghost use Rattle.serving.specs.inner.Threads.{IsThreadsFault};
 
-use crate::at_once::shown_at_once;
 use crate::compiled::{Compiled, compile};
+use crate::concurrent_shown::shown_concurrently;
 use crate::order::unit_of;
 use crate::run::SourceFault;
 use report::Printed;
@@ -49,8 +49,8 @@ pub(crate) fn run_threads<H: Threads + Wait + Sync>(
     threads: u32,
     budget: u64,
 ) -> Result<(Printed, Vec<Finished>), ThreadsFault>
-    ensures ok { IfOk result (λ r. RunsAtOnce threads budget text.now (printed_of r.0)) }
-    ensures err { IfErr result (λ f. IsFaultAtOnce text.now threads f) }
+    ensures ok { IfOk result (λ r. RunsConcurrently threads budget text.now (printed_of r.0)) }
+    ensures err { IfErr result (λ f. IsThreadsFault text.now threads f) }
 {
     match compile(alloc, text) {
         Ok(compiled) => match run_code(rt, alloc, &compiled, threads, budget) {
@@ -71,12 +71,12 @@ fn run_code<H: Threads + Wait + Sync>(
     budget: u64,
 ) -> Result<(Printed, Vec<Finished>), RunFault>
     ensures ok { IfOk result (λ r. IsCodeOf (program_of compiled.now.accepted.safe.typed.unit) compiled.now.code
-        → IsRunAtOnce (program_of compiled.now.accepted.safe.typed.unit) compiled.now.code threads budget
+        → IsConcurrentRun (program_of compiled.now.accepted.safe.typed.unit) compiled.now.code threads budget
         (printed_of r.0)) }
     ensures err { IfErr result (λ f. IsRunRefused f threads) }
 {
     let ran = run_all(rt, alloc, &compiled.code, threads, budget, &OpenGate)?;
-    match shown_at_once(alloc, unit_of(&compiled.accepted), threads, &ran) {
+    match shown_concurrently(alloc, unit_of(&compiled.accepted), threads, &ran) {
         Ok(printed) => Ok((printed, finished_of(ran))),
         Err(_) => Err(RunFault::OutOfMemory),
     }

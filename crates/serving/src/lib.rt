@@ -3,9 +3,9 @@
 #![tactic(auto)]
 
 mod all_orders;
-mod at_once;
 mod compiled;
 mod concurrent;
+mod concurrent_shown;
 pub mod laws;
 mod listed;
 mod opened;

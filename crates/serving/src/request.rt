@@ -20,7 +20,7 @@ ghost use Rattle.serving.specs.Refusals.{IsRefused};
 ghost use Rattle.serving.specs.Replays.{IsReplayOfText, PrintsSchedule, PrintsTimeline, Replays, ReplaysShown};
 ghost use Rattle.serving.specs.Replays.{behind_events, lines_of_seed};
 ghost use Rattle.serving.specs.Reports.{PrintsReport, exit_status};
-ghost use Rattle.serving.specs.Runs.{RunsAtOnce};
+ghost use Rattle.serving.specs.Runs.{RunsConcurrently};
 ghost use Rattle.serving.specs.Written.{AppendsBeginning, IsAskedFor, IsReplayPicture, IsReplayReport};
 ghost use Rattle.serving.specs.Written.{IsReplayTimeline, IsReportOf, IsSeedSchedule, WritesFor, WritesPart};
 ghost use Rattle.serving.specs.inner.Printing.{PrintsBehind, PrintsShown};
@@ -318,9 +318,9 @@ fn run<H: Threads + Wait + Sync, W: Write, E: Write>(
 ) -> u8
     ensures status { result ≤ 4 }
     ensures report { PrintsReport (λ shown. RunsInSomeOrder threads text.now shown
-        × RunsAtOnce threads budget text.now shown) result (W.contents out.old) (W.contents out.new) }
+        × RunsConcurrently threads budget text.now shown) result (W.contents out.old) (W.contents out.new) }
     ensures refused { result ≡ 1 → IsRefused text.now }
-    ensures written { WritesPart (IsReportOf (RunsAtOnce threads budget text.now)) (W.contents out.old)
+    ensures written { WritesPart (IsReportOf (RunsConcurrently threads budget text.now)) (W.contents out.old)
         (W.contents out.new) }
     ensures untouched { result ≡ 1 → W.contents out.new ≡ W.contents out.old }
 {

@@ -22,7 +22,7 @@ pub(crate) fn lines_of<A: Allocator + Copy, S: Read + Drop, E: Write>(
     err: &mut E,
 ) -> Result<Vec<Line, A>, u8>
     ensures lines { IfOk result (λ v. AreLinesOf steps.now threads (S.remaining schedule) v.items) }
-    ensures told { IfErr result (λ s. (s ≡ 2) ⊎ (s ≡ 4)) }
+    ensures status { IfErr result (λ s. (s ≡ 2) ⊎ (s ≡ 4)) }
 {
     match steps {
         Steps::Schedule { file } => lines_read(alloc, file.as_str(), schedule, detail, err),
@@ -39,7 +39,7 @@ fn lines_read<A: Allocator + Copy, S: Read + Drop, E: Write>(
     err: &mut E,
 ) -> Result<Vec<Line, A>, u8>
     ensures lines { IfOk result (λ v. IsSchedule (S.remaining schedule) v.items) }
-    ensures told { IfErr result (λ s. (s ≡ 2) ⊎ (s ≡ 4)) }
+    ensures status { IfErr result (λ s. (s ≡ 2) ⊎ (s ≡ 4)) }
 {
     match read_text(alloc, schedule) {
         Ok(Some(text)) => match read_schedule(alloc, text.as_str()) {
@@ -62,7 +62,7 @@ pub(crate) fn lines_picked<A: Allocator + Copy, E: Write>(
 ) -> Result<Vec<Line, A>, u8>
     ensures lines { IfOk result (λ v. v.items ≡ lines_of_seed seed threads count) }
     ensures few { OnOk result (count ≤ MOST_STEPS) }
-    ensures told { IfErr result (λ s. (s ≡ 2) ⊎ (s ≡ 4)) }
+    ensures status { IfErr result (λ s. (s ≡ 2) ⊎ (s ≡ 4)) }
 {
     if threads == 0 {
         return Err(refuse_replay(WorldFault::WrongThreads, err));

@@ -6,7 +6,7 @@ ghost use Rattle.syntax.specs.Names.{globals};
 ghost use Rattle.report.specs.Views.{printed_of, shown_of, thread_of};
 ghost use Rattle.meaning.specs.Outcomes.{thread_end_in};
 ghost use Rattle.serving.specs.Shows.{program_shown, order_end, shown_global, shown_globals};
-ghost use Rattle.serving.specs.inner.Told.{report_shown};
+ghost use Rattle.serving.specs.inner.ThreadReports.{report_shown};
 ghost use Rattle.serving.specs.inner.Words.{words_beyond};
 
 use containers::{Copied, Items};

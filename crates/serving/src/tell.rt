@@ -7,13 +7,13 @@ ghost use Rattle.std.specs.IoError.{error_kind};
 ghost use Rattle.serving.specs.Usage.{IsHelp, IsWrong};
 ghost use Rattle.serving.specs.Written.{AppendsBeginning};
 
-use crate::at_once::thread_numbered;
+use crate::concurrent_shown::thread_numbered;
 use crate::run::SourceFault;
 use crate::status::{ENDED, REFUSED, STOPPED, UNUSABLE};
 use command::{Format, UsageFault};
 use faults::{underline, words};
 use hints::hints;
-use lex::position;
+use lex::place;
 use lex::token::Span;
 use meaning::MeaningFault;
 use replay::ScheduleFault;
@@ -86,7 +86,7 @@ pub(crate) fn refuse<A: Allocator + Copy, E: Write>(
     let number = fault.number();
     match fault.span() {
         Some(span) => {
-            let (line, column) = position(text, span.start.min(text.len()));
+            let (line, column) = place(text, span.start.min(text.len()));
             tell_place(number, line, column, detail, err);
             if detail.lines {
                 show_line(alloc, text, span, err);
@@ -172,7 +172,7 @@ fn cannot_read<E: Write>(file: &str, error: &io::Error, detail: Detail<'_>, err:
 
 /// Says why a file was not opened or not read: memory was refused, or the file cannot be read.
 pub fn not_read<E: Write>(file: &str, error: &io::Error, detail: Detail<'_>, err: &mut E) -> u8
-    ensures told { (result ≡ 2) ⊎ (result ≡ 4) }
+    ensures status { (result ≡ 2) ⊎ (result ≡ 4) }
     ensures memory { error_kind error.now ≡ ErrorKind.OutOfMemory → result ≡ 4 }
     ensures others { error_kind error.now ≢ ErrorKind.OutOfMemory → result ≡ 2 }
 {
@@ -308,7 +308,7 @@ fn span_of_line(text: &[u8], line: usize) -> Span {
 
 /// Says why an order is refused.
 pub(crate) fn refuse_order<E: Write>(fault: MeaningFault, detail: Detail<'_>, err: &mut E) -> u8
-    ensures told { (result ≡ 2) ⊎ (result ≡ 4) }
+    ensures status { (result ≡ 2) ⊎ (result ≡ 4) }
     ensures stranger { fault ≡ MeaningFault.Stranger → result ≡ 2 }
     ensures threads { fault ≡ MeaningFault.WrongThreads → result ≡ 4 }
 {

@@ -21,13 +21,18 @@ pub struct Served {
 }
 
 /// What is answered: the status, the output and the standard error.
-pub type Answer<'a> = (u8, &'a [u8], &'a [u8]);
+pub type ServeResult<'a> = (u8, &'a [u8], &'a [u8]);
 
 /// A command line, the source and the schedule of its files, and what is answered.
-pub type Row = (&'static str, &'static [u8], &'static [u8], Answer<'static>);
+pub type Row = (
+    &'static str,
+    &'static [u8],
+    &'static [u8],
+    ServeResult<'static>,
+);
 
 /// Whether this is what was served.
-pub fn is_answer(served: &Served, wanted: Answer) -> bool {
+pub fn is_answer(served: &Served, wanted: ServeResult) -> bool {
     served.status == wanted.0
         && served.out.as_slice() == wanted.1
         && served.err.as_slice() == wanted.2
@@ -86,7 +91,7 @@ pub fn answers<H: Threads + Wait + Sync>(
     source: &[u8],
     schedule: &[u8],
     is_terminal: bool,
-    wanted: Answer,
+    wanted: ServeResult,
 ) -> bool {
     match serve_line(rt, alloc, line, source, schedule, is_terminal) {
         Some(served) => is_answer(&served, wanted),
@@ -105,7 +110,7 @@ pub struct WrongRow {
 }
 
 /// An answer in a line of text, if there was memory for it.
-fn answer_text(alloc: Global, answer: Answer) -> Option<String> {
+fn answer_text(alloc: Global, answer: ServeResult) -> Option<String> {
     let (status, out, err) = answer;
     let out = String::from_utf8_lossy(alloc, out).ok()?;
     let err = String::from_utf8_lossy(alloc, err).ok()?;

@@ -2,8 +2,8 @@
 
 use command::{Format, Request, Steps, Task};
 use serving_in_memory::{
-    ADDS, Answer, Broken, Row, Served, answers, is_answer, request_of, serve_bytes, serve_line,
-    wrong_row,
+    ADDS, Broken, Row, ServeResult, Served, answers, is_answer, request_of, serve_bytes,
+    serve_line, wrong_row,
 };
 use std::alloc::{AllocError, Global};
 use std::str;
@@ -353,7 +353,7 @@ fn refuses_schedules(rt: HostRuntime) {
 /// A source that is refused, and what is answered.
 const BARE: &[u8] = b"int x; void worker(int self) { x = 1; }";
 
-const BARE_ANSWER: Answer<'static> = (
+const BARE_ANSWER: ServeResult<'static> = (
     1,
     b"",
     b"txc: fault 50 at 1:32: shared access outside a transaction\n",
@@ -502,7 +502,7 @@ fn is_answered<H: Threads + Wait + Sync>(
     alloc: Global,
     threads: u32,
     count: u32,
-    wanted: Answer,
+    wanted: ServeResult,
 ) -> bool {
     let none = b"".as_slice();
     match seeded_request(alloc, threads, count) {

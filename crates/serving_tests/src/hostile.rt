@@ -3,7 +3,7 @@
 use command::{Format, Request, Task};
 use refusing::{Refusing, growths};
 use serving::{Detail, serve_alone};
-use serving_in_memory::{Answer, Served, is_answer, request_of};
+use serving_in_memory::{ServeResult, Served, is_answer, request_of};
 use std::alloc::Global;
 use std::str;
 
@@ -115,7 +115,7 @@ fn tells(
     inner: Global,
     task: &Task,
     files: (&[u8], &[u8]),
-    wanted: Answer,
+    wanted: ServeResult,
 ) -> bool {
     alloc.refuse(nth);
     let served = served_alone(alloc, inner, task, files.0, files.1);

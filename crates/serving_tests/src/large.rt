@@ -1,7 +1,7 @@
 //! Large inputs and broken ones: each is answered, and none for want of something.
 
 use crate::refusals::text_of_pieces;
-use serving_in_memory::{Answer, Served, answers, serve_line};
+use serving_in_memory::{ServeResult, Served, answers, serve_line};
 use std::alloc::{AllocError, Global};
 use std::sync::Wait;
 use std::thread::Threads;
@@ -10,8 +10,8 @@ use std::thread::Threads;
 type Pieces = &'static [(&'static str, usize)];
 
 /// Texts in pieces, and what `txc check` answers to them.
-fn checks() -> &'static [(Pieces, Answer<'static>)] {
-    static ROWS: [(Pieces, Answer<'static>); 14] = [
+fn checks() -> &'static [(Pieces, ServeResult<'static>)] {
+    static ROWS: [(Pieces, ServeResult<'static>); 14] = [
         // as many tokens as a text can have
         (
             &[(";", 1_048_575), (" ", 1)],
@@ -109,7 +109,7 @@ fn is_checked<H: Threads + Wait + Sync>(
     rt: &H,
     alloc: Global,
     pieces: &[(&str, usize)],
-    wanted: Answer,
+    wanted: ServeResult,
 ) -> bool {
     match text_of_pieces(alloc, pieces) {
         Ok(source) => {
@@ -268,7 +268,7 @@ fn locals_are_checked<H: Threads + Wait + Sync>(
     alloc: Global,
     beginning: &str,
     last: u32,
-    wanted: Answer,
+    wanted: ServeResult,
 ) -> bool {
     match of_locals(alloc, beginning, last) {
         Ok(source) => {
@@ -355,7 +355,7 @@ fn turns_give<H: Threads + Wait + Sync>(
     alloc: Global,
     turns: usize,
     source: &[u8],
-    wanted: Answer,
+    wanted: ServeResult,
 ) -> bool {
     match line_of_turns(alloc, turns) {
         Ok(line) => answers(rt, alloc, line.as_str(), source, b"", false, wanted),

@@ -1,7 +1,7 @@
 //! Which files are opened for a request, and what is said of those that are not.
 
 use serving::{Files, serve_files};
-use serving_in_memory::{ADDS, Answer, request_of};
+use serving_in_memory::{ADDS, ServeResult, request_of};
 use std::alloc::Global;
 use std::io;
 use std::io::{ErrorKind, IsTerminal, Read, Write};
@@ -76,7 +76,7 @@ impl IsTerminal for Told {
 }
 
 /// A command line, what is found of its two files, whether standard error is a terminal, and what is answered.
-type Row = (&'static str, Found, Found, bool, Answer<'static>);
+type Row = (&'static str, Found, Found, bool, ServeResult<'static>);
 
 const REPLAY: &str = "txc replay a.c --threads 2 --schedule s.txt";
 
@@ -88,7 +88,7 @@ const NONE: Found = Err(ErrorKind::NotFound);
 
 const REFUSED: Found = Err(ErrorKind::OutOfMemory);
 
-const OUT_OF_MEMORY: Answer<'static> = (4, b"", b"txc: out of memory\n");
+const OUT_OF_MEMORY: ServeResult<'static> = (4, b"", b"txc: out of memory\n");
 
 fn rows() -> &'static [Row] {
     static ROWS: [Row; 11] = [

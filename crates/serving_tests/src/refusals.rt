@@ -3,7 +3,7 @@
 
 use command::Format;
 use serving::{Detail, refuse_run};
-use serving_in_memory::{Answer, answers, serve_line};
+use serving_in_memory::{ServeResult, answers, serve_line};
 use std::alloc::{AllocError, Global};
 use std::sync::Wait;
 use std::thread::Threads;
@@ -226,7 +226,12 @@ fn line(alloc: Global, number: u32, told: &str) -> Result<String, AllocError> {
 }
 
 /// Whether `txc run` answers a source so.
-fn runs_to<H: Threads + Wait + Sync>(rt: &H, alloc: Global, source: &[u8], wanted: Answer) -> bool {
+fn runs_to<H: Threads + Wait + Sync>(
+    rt: &H,
+    alloc: Global,
+    source: &[u8],
+    wanted: ServeResult,
+) -> bool {
     answers(rt, alloc, "txc run a.c", source, b"", false, wanted)
 }
 
@@ -362,7 +367,7 @@ fn no_text_is_told<H: Threads + Wait + Sync>(
     rt: &H,
     alloc: Global,
     count: usize,
-    wanted: Answer,
+    wanted: ServeResult,
 ) -> bool {
     match b"\xff".as_slice().repeat(alloc, count) {
         Ok(source) => runs_to(rt, alloc, source.as_slice(), wanted),

@@ -3,7 +3,7 @@
 use command::{Format, Request, UsageFault};
 use serving::{Detail, not_read as tell_unread, serve, tell_usage};
 use serving_in_memory::{
-    ADDS, Answer, Broken, Row, answers, is_answer, request_of, serve_bytes, wrong_row,
+    ADDS, Broken, Row, ServeResult, answers, is_answer, request_of, serve_bytes, wrong_row,
 };
 use std::alloc::Global;
 use std::fs::File;
@@ -627,7 +627,7 @@ fn serves_threads_in_an_order(rt: HostRuntime) {
 }
 
 /// Whether why words are refused is told so: with this status, output that begins so and this standard error.
-fn is_told_so(alloc: Global, fault: &UsageFault, wanted: Answer) -> bool {
+fn is_told_so(alloc: Global, fault: &UsageFault, wanted: ServeResult) -> bool {
     let mut out = Vec::new(alloc);
     let mut err = Vec::new(alloc);
     let status = tell_usage(fault, &mut out, &mut err);
@@ -636,7 +636,7 @@ fn is_told_so(alloc: Global, fault: &UsageFault, wanted: Answer) -> bool {
 }
 
 /// Whether why a command line is refused is told so: with this status, output that begins so and this standard error.
-fn is_refused(alloc: Global, line: &str, wanted: Answer) -> bool {
+fn is_refused(alloc: Global, line: &str, wanted: ServeResult) -> bool {
     match request_of(alloc, line) {
         Ok(_) => false,
         Err(fault) => is_told_so(alloc, &fault, wanted),
@@ -736,7 +736,7 @@ fn says_what_cannot_be_written(rt: HostRuntime) {
     assert!(rt; cannot_write_for(&rt, rt.alloc(), RUN, b"txc: cannot write\n"));
 }
 
-fn at_once() -> &'static [Row] {
+fn concurrent_rows() -> &'static [Row] {
     static ROWS: [Row; 5] = [
         (
             "txc run a.c --threads 4",
@@ -790,8 +790,8 @@ fn at_once() -> &'static [Row] {
 
 /// Threads that run at once: the sum of what all of them add, whatever their order.
 #[test]
-fn serves_threads_at_once(rt: HostRuntime) {
-    assert_eq!(rt; wrong_row(&rt, rt.alloc(), at_once()), None);
+fn serves_concurrent_threads(rt: HostRuntime) {
+    assert_eq!(rt; wrong_row(&rt, rt.alloc(), concurrent_rows()), None);
 }
 
 /// Threads that each write a cell of their own, of which the last one prints.

@@ -113,11 +113,11 @@ defined_from p earlier (Shares gs ∷ items) x result takes h g e =
     (scope_append earlier (Shares gs ∷ []) x ∙ ap (λ k. or_known k (known_among gs (λ y. Unknown) x)) g ∙ apart.1)
     apart.0
 defined_from p earlier (Defines f ∷ items) x result takes h g e =
-    by_name (bytes_eq f.name.text x) refl (λ n. defined_from p (earlier ++ Defines f ∷ []) items x result takes (met_behind (demand 29 f.name.at (not (is_unknown (file_scope earlier f.name.text)) || is_some (definition_of p f.name.text))) (AreDefined p (earlier ++ Defines f ∷ []) items) h)
+    by_name (bytes_eq f.name.text x) refl (λ n. defined_from p (earlier ++ Defines f ∷ []) items x result takes (met_behind (demand 29 f.name.span (not (is_unknown (file_scope earlier f.name.text)) || is_some (definition_of p f.name.text))) (AreDefined p (earlier ++ Defines f ∷ []) items) h)
     (scope_append earlier (Defines f ∷ []) x ∙ ap (λ k. or_known k (if bytes_eq f.name.text x then known_function f else Unknown)) g ∙ ap (λ b. if b then known_function f else Unknown) n)) e
   where
     own : IsTrue (not (is_unknown (file_scope earlier f.name.text)) || is_some (definition_of p f.name.text))
-    own = is_met 29 f.name.at (not (is_unknown (file_scope earlier f.name.text)) || is_some (definition_of p f.name.text)) (met_before (demand 29 f.name.at (not (is_unknown (file_scope earlier f.name.text)) || is_some (definition_of p f.name.text))) (AreDefined p (earlier ++ Defines f ∷ []) items) h)
+    own = is_met 29 f.name.span (not (is_unknown (file_scope earlier f.name.text)) || is_some (definition_of p f.name.text)) (met_before (demand 29 f.name.span (not (is_unknown (file_scope earlier f.name.text)) || is_some (definition_of p f.name.text))) (AreDefined p (earlier ++ Defines f ∷ []) items) h)
 
     by_name : (b : Bool) → bytes_eq f.name.text x ≡ b → (bytes_eq f.name.text x ≡ false → file_scope items x ≡ Callable result takes → IsTrue (is_some (definition_of p x))) → (if b then known_function f else file_scope items x) ≡ Callable result takes → IsTrue (is_some (definition_of p x))
     by_name true n others e =
@@ -201,8 +201,8 @@ earlier_agree p earlier later e x k = ap (λ items. file_scope items x) e ∙ sc
 
 body_met : (earlier later : List Item) (f : Function) (body : Stmts) → f.body ≡ Some body → AreMet (AreTypedItems earlier (Defines f ∷ later)) → AreMet (AreTypedStmts f.result body (body_scope earlier f) (parameter_names f.parameters) false)
 body_met earlier later f body e h =
-    let name = demand 21 f.name.at (may_be_function (file_scope earlier f.name.text) && (is_none f.body || not (has_name (defined_names earlier) f.name.text))) in
-    let type = demand 22 f.name.at (agrees f (file_scope earlier f.name.text)) in
+    let name = demand 21 f.name.span (may_be_function (file_scope earlier f.name.text) && (is_none f.body || not (has_name (defined_names earlier) f.name.text))) in
+    let type = demand 22 f.name.span (agrees f (file_scope earlier f.name.text)) in
     let own : AreMet (IsTypedFunction earlier f) = met_before (IsTypedFunction earlier f) (AreTypedItems (earlier ++ Defines f ∷ []) later) h in
     subst (λ b. AreMet (IsTypedBody earlier f b)) e (met_behind (name ++ type ++ AreDistinct [] f.parameters) (IsTypedBody earlier f f.body) own)
 

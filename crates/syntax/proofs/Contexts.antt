@@ -2,15 +2,15 @@
 use Rattle.std.proofs.Common.{refl, sym, ap, ◌∙◌, ℕ, zero, suc, List, [], ◌∷◌, ◌++◌, length-append, append_assoc, append-nil, Option, Some, None, arith}
 use Rattle.syntax.specs.declared.tree.Mode.{Mode}
 use Rattle.syntax.specs.declared.tree.Mode.TheVariants.{Atomic, Relaxed}
-use Rattle.syntax.specs.declared.tree.Kind.{Kind}
-use Rattle.syntax.specs.declared.tree.Kind.TheVariants.{Plain, Outer}
+use Rattle.syntax.specs.declared.tree.TransactionKind.{TransactionKind}
+use Rattle.syntax.specs.declared.tree.TransactionKind.TheVariants.{Plain, Outer}
 use Rattle.syntax.specs.declared.numbers.Halt.TheVariants.{Trapped}
 use Rattle.syntax.specs.Names.{Local}
 use Rattle.syntax.specs.Behaviours.{Memory}
 use Rattle.syntax.specs.Actions.{Context, Outside, Inside, State, Answer, Gives, Stops, Action, stop, go_on, ◌>>=◌, spend, tick, load_at, store, may_print_at, write}
 use Rattle.syntax.specs.Meaning.{Completion, after_turn, turns, Left, left_by, close_inner, close, enter, mode_of, begin_at}
 use Rattle.syntax.specs.Laws.{WhereGiven, StaysIn, StaysInContext}
-use Rattle.syntax.proofs.Kept.{IsAlwaysKept, each_expr_holds, each_stmt_holds}
+use Rattle.syntax.proofs.Preserved.{IsAlwaysPreserved, each_expr_holds, each_stmt_holds}
 
 pub stays_refl : (c : Context) → StaysIn c c
 stays_refl (Outside f l) = ([], [], refl, sym (append-nil l), refl)
@@ -72,12 +72,12 @@ leave_given : (n : ℕ) (now : State) (m : Memory) (founds lefts : List Memory) 
 leave_given zero now m founds lefts left = tt
 leave_given (suc n) now m founds lefts left = (m ∷ [], left.memory ∷ [], refl, refl, refl)
 
-close_given : (kind : Kind) (m : Memory) (founds lefts : List Memory) (mine : List Local) (r : Answer Completion) → Given (Outside (m ∷ founds) lefts) (close kind founds lefts mine m r)
+close_given : (kind : TransactionKind) (m : Memory) (founds lefts : List Memory) (mine : List Local) (r : Answer Completion) → Given (Outside (m ∷ founds) lefts) (close kind founds lefts mine m r)
 close_given kind m founds lefts mine (Gives end now) = leave_given now.ticks now m founds lefts (left_by kind mine m end now)
 close_given kind m founds lefts mine (Stops (Trapped k) now) = tt
 close_given kind m founds lefts mine r = tt
 
-close_inner_given : (outer : Mode) (kind : Kind) (m : Memory) (mine : List Local) (r : Answer Completion) → Given (Inside outer m) (close_inner outer kind mine m r)
+close_inner_given : (outer : Mode) (kind : TransactionKind) (m : Memory) (mine : List Local) (r : Answer Completion) → Given (Inside outer m) (close_inner outer kind mine m r)
 close_inner_given outer kind m mine (Gives end now) = refl
 close_inner_given outer kind m mine (Stops why now) = tt
 
@@ -85,7 +85,7 @@ begin_given : (p : Context) (s : State) → Given s.context (begin_at p s)
 begin_given (Outside founds lefts) s = spend_given s.ticks s
 begin_given (Inside mode m) s = stays_refl s.context
 
-enter_given : (kind : Kind) (run : Action Completion) → (p : Context) (n : ℕ) (ls : List Local) (t : List ℕ) → Given p (enter p kind run (record { ticks = n; locals = ls; context = p; text = t }))
+enter_given : (kind : TransactionKind) (run : Action Completion) → (p : Context) (n : ℕ) (ls : List Local) (t : List ℕ) → Given p (enter p kind run (record { ticks = n; locals = ls; context = p; text = t }))
 enter_given kind run (Outside [] lefts) n ls t = tt
 enter_given kind run (Outside (m ∷ founds) lefts) n ls t = close_given kind m founds lefts ls (run (record { ticks = n; locals = ls; context = Inside (mode_of kind) m; text = t }))
 enter_given kind run (Inside Relaxed m) n ls t = close_inner_given Relaxed kind m ls (run (record { ticks = n; locals = ls; context = Inside (mode_of kind) m; text = t }))
@@ -93,7 +93,7 @@ enter_given (Plain Atomic) run (Inside Atomic m) n ls t = close_inner_given Atom
 enter_given Outer run (Inside Atomic m) n ls t = close_inner_given Atomic Outer m ls (run (record { ticks = n; locals = ls; context = Inside Atomic m; text = t }))
 enter_given (Plain Relaxed) run (Inside Atomic m) n ls t = tt
 
-pub stays_kept : IsAlwaysKept (λ A run. Stays run)
+pub stays_kept : IsAlwaysPreserved (λ A run. Stays run)
 stays_kept = record {
   pure_holds = λ a. record { stays = λ s. stays_refl s.context };
   on_holds = λ g h. record { stays = λ s. on_given s.context _ _ (g.stays s) (λ a t. (h a).stays t) };

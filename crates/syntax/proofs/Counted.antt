@@ -2,8 +2,8 @@
 use Rattle.std.proofs.Common.{◌≡◌, ℕ, zero, suc, ◌+◌, List, [], ◌∷◌, ◌++◌, ◌≤◌, length, length-append, Option, Some, None, refl, ◌∙◌, arith}
 use Rattle.syntax.specs.declared.tree.Mode.{Mode}
 use Rattle.syntax.specs.declared.tree.Mode.TheVariants.{Atomic, Relaxed}
-use Rattle.syntax.specs.declared.tree.Kind.{Kind}
-use Rattle.syntax.specs.declared.tree.Kind.TheVariants.{Plain, Outer}
+use Rattle.syntax.specs.declared.tree.TransactionKind.{TransactionKind}
+use Rattle.syntax.specs.declared.tree.TransactionKind.TheVariants.{Plain, Outer}
 use Rattle.syntax.specs.declared.numbers.Halt.TheVariants.{Trapped, Wants, Spent, Astray}
 use Rattle.syntax.specs.Tree.{Program}
 use Rattle.syntax.specs.Names.{Local}
@@ -14,7 +14,7 @@ use Rattle.syntax.specs.Actions.{lefts_in}
 use Rattle.syntax.specs.Behaviours.{Stopped}
 use Rattle.syntax.specs.Laws.{IsPieceOf, LeftAsManyAsFound, NeverMoreLeft}
 use Rattle.syntax.specs.Threads.{outcome_of, first_state, worker_run}
-use Rattle.syntax.proofs.Kept.{IsKept, any_cells, worker_holds}
+use Rattle.syntax.proofs.Preserved.{IsPreserved, any_cells, worker_holds}
 
 -- memories to be found and memories left are as many as before
 abbrev Keeps : Context → Context → Type 0
@@ -118,18 +118,18 @@ leave_counted : (n : ℕ) (now : State) (m : Memory) (founds lefts : List Memory
 leave_counted zero now m founds lefts left = omega arith
 leave_counted (suc n) now m founds lefts left = omega (arith, length-append lefts (left.memory ∷ []))
 
-close_counted : (kind : Kind) (m : Memory) (founds lefts : List Memory) (mine : List Local) (r : Answer Completion) → Counted (Inside (mode_of kind) m) r → Counted (Outside (m ∷ founds) lefts) (close kind founds lefts mine m r)
+close_counted : (kind : TransactionKind) (m : Memory) (founds lefts : List Memory) (mine : List Local) (r : Answer Completion) → Counted (Inside (mode_of kind) m) r → Counted (Outside (m ∷ founds) lefts) (close kind founds lefts mine m r)
 close_counted kind m founds lefts mine (Gives end now) c = leave_counted now.ticks now m founds lefts (left_by kind mine m end now)
 close_counted kind m founds lefts mine (Stops (Trapped k) now) c = omega (arith, length-append lefts (m ∷ []))
 close_counted kind m founds lefts mine (Stops Wants now) c = absurd c
 close_counted kind m founds lefts mine (Stops Spent now) c = omega arith
 close_counted kind m founds lefts mine (Stops Astray now) c = omega arith
 
-close_inner_counted : (outer : Mode) (kind : Kind) (old m : Memory) (mine : List Local) (r : Answer Completion) → Counted (Inside (mode_of kind) m) r → Counted (Inside outer old) (close_inner outer kind mine m r)
+close_inner_counted : (outer : Mode) (kind : TransactionKind) (old m : Memory) (mine : List Local) (r : Answer Completion) → Counted (Inside (mode_of kind) m) r → Counted (Inside outer old) (close_inner outer kind mine m r)
 close_inner_counted outer kind old m mine (Stops Wants now) c = c
 close_inner_counted outer kind old m mine r c = tt
 
-enter_counted : (kind : Kind) (run : Action Completion) → IsCounted run → (p : Context) (n : ℕ) (ls : List Local) (t : List ℕ) → Counted p (enter p kind run (record { ticks = n; locals = ls; context = p; text = t }))
+enter_counted : (kind : TransactionKind) (run : Action Completion) → IsCounted run → (p : Context) (n : ℕ) (ls : List Local) (t : List ℕ) → Counted p (enter p kind run (record { ticks = n; locals = ls; context = p; text = t }))
 enter_counted kind run h (Outside [] lefts) n ls t = omega arith
 enter_counted kind run h (Outside (m ∷ founds) lefts) n ls t = close_counted kind m founds lefts ls _ (h.counts (record { ticks = n; locals = ls; context = Inside (mode_of kind) m; text = t }))
 enter_counted kind run h (Inside Relaxed m) n ls t = close_inner_counted Relaxed kind m m ls _ (h.counts (record { ticks = n; locals = ls; context = Inside (mode_of kind) m; text = t }))
@@ -141,7 +141,7 @@ begin_counted : (p : Context) (s : State) → Counted s.context (begin_at p s)
 begin_counted (Outside f l) s = spend_counted s.ticks s
 begin_counted (Inside mode m) s = keeps_refl s.context
 
-counted_kept : (IsPiece : List ℕ → Type 0) → IsKept IsPiece (λ c t. Unit {0}) (λ A run. IsCounted run)
+counted_kept : (IsPiece : List ℕ → Type 0) → IsPreserved IsPiece (λ c t. Unit {0}) (λ A run. IsCounted run)
 counted_kept IsPiece = record {
   pure_holds = λ a. record { counts = λ s. keeps_refl s.context };
   on_holds = λ g h. record { counts = λ s. on_counted s.context _ _ (g.counts s) (λ a t. (h a).counts t) };

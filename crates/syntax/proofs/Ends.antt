@@ -5,8 +5,8 @@ use Rattle.std.specs.Prelude.{if◌then◌else◌}
 use Rattle.lex.specs.declared.token.Scalar.{Scalar}
 use Rattle.syntax.specs.declared.tree.Mode.{Mode}
 use Rattle.syntax.specs.declared.tree.Mode.TheVariants.{Atomic, Relaxed}
-use Rattle.syntax.specs.declared.tree.Kind.{Kind}
-use Rattle.syntax.specs.declared.tree.Kind.TheVariants.{Plain, Outer}
+use Rattle.syntax.specs.declared.tree.TransactionKind.{TransactionKind}
+use Rattle.syntax.specs.declared.tree.TransactionKind.TheVariants.{Plain, Outer}
 use Rattle.syntax.specs.declared.numbers.Halt.TheVariants.{Trapped}
 use Rattle.syntax.specs.Tree as Tree
 use Rattle.syntax.specs.Tree.{Simple, Evaluate, Assign, Adjust, Declarator, Stmt, Stmts, Empty, Declare, Do, Block, Print, If, IfElse, While, DoWhile, For, Break, Continue, Return, Transaction, Cancel, CancelOuter, Program}
@@ -16,7 +16,7 @@ use Rattle.syntax.specs.Typing.{scope_after, scope_of_start}
 use Rattle.syntax.specs.Behaviours.{Memory}
 use Rattle.syntax.specs.Actions.{Context, Outside, Inside, State, Answer, Gives, Stops, Action, pure, go_on, ◌>>=◌, ◌>>◌, spend, tick, locals, put_locals, may_print}
 use Rattle.syntax.specs.Formats.{pieces}
-use Rattle.syntax.specs.Meaning.{Completion, Next, Breaks, Continues, Returns, Cancels, CancelsOuter, mode_of, on_next, in_scope, after_turn, turns, loop, after_body, Left, left_by, close_inner, close, enter, transaction, Caller, InLocal, op_of, int_one, expr, exprs, spot, assigned, changed, first_value, holds, return_value, print_pieces, simple, declare, start_with, stepped, stmt, stmts, calls}
+use Rattle.syntax.specs.Meaning.{Completion, Next, Breaks, Continues, Returns, Cancels, CancelsOuter, mode_of, on_next, in_scope, after_turn, turns, loop, after_body, Left, left_by, close_inner, close, enter, transaction, Caller, InLocal, op_of, int_one, expr, exprs, lvalue, assign_by, assign_by_operator, first_value, for_condition, return_value, print_pieces, simple, declare, start_with, optional_step, stmt, stmts, calls}
 use Rattle.syntax.specs.Laws.{WhereGiven}
 use Rattle.syntax.specs.ScopeLaws.{IsNoJump, EndsFit}
 use Rattle.syntax.proofs.TypedParts.{TypedStmt, TypedStmts, stmt_parts}
@@ -35,7 +35,7 @@ pub record EndsSo (looping inside outer : Bool) (run : Action Completion) : Type
   pub ends : (s : State) → WhereGiven (run s) (λ end now. Fits looping inside outer end)
 
 -- whether what stands in a transaction of this kind stands in an outer one
-abbrev pub in_outer : Kind → Bool → Bool
+abbrev pub in_outer : TransactionKind → Bool → Bool
 in_outer Outer outer = true
 in_outer (Plain mode) outer = outer
 
@@ -148,7 +148,7 @@ loop_ends : {c o : Bool} {turn : Action (Option Completion)} (l : Bool) → Turn
 loop_ends l h = record { ends = λ s. (turns_end l h s.ticks).ends s }
 
 -- a transaction takes a cancel up, and an outer one an outer cancel
-left_ends : (l c o : Bool) (kind : Kind) (mine : List Local) (found : Memory) (end : Completion) (now : State) → Fits l true (in_outer kind o) end → Fits l c o (left_by kind mine found end now).end
+left_ends : (l c o : Bool) (kind : TransactionKind) (mine : List Local) (found : Memory) (end : Completion) (now : State) → Fits l true (in_outer kind o) end → Fits l c o (left_by kind mine found end now).end
 left_ends l c o kind mine found Cancels now h = tt
 left_ends l c o Outer mine found CancelsOuter now h = tt
 left_ends l c o (Plain mode) mine found CancelsOuter now h = h
@@ -161,16 +161,16 @@ leave_ends : (l c o : Bool) (n : ℕ) (founds lefts : List Memory) (left : Left)
 leave_ends l c o zero founds lefts left now h = tt
 leave_ends l c o (suc n) founds lefts left now h = h
 
-close_ends : (l c o : Bool) (kind : Kind) (founds lefts : List Memory) (mine : List Local) (found : Memory) (r : Answer Completion) → WhereGiven r (λ end now. Fits l true (in_outer kind o) end) → WhereGiven (close kind founds lefts mine found r) (λ end now. Fits l c o end)
+close_ends : (l c o : Bool) (kind : TransactionKind) (founds lefts : List Memory) (mine : List Local) (found : Memory) (r : Answer Completion) → WhereGiven r (λ end now. Fits l true (in_outer kind o) end) → WhereGiven (close kind founds lefts mine found r) (λ end now. Fits l c o end)
 close_ends l c o kind founds lefts mine found (Gives end now) h = leave_ends l c o now.ticks founds lefts (left_by kind mine found end now) now (left_ends l c o kind mine found end now h)
 close_ends l c o kind founds lefts mine found (Stops (Trapped k) now) h = tt
 close_ends l c o kind founds lefts mine found r h = tt
 
-inner_ends : (l c o : Bool) (outer : Mode) (kind : Kind) (mine : List Local) (found : Memory) (r : Answer Completion) → WhereGiven r (λ end now. Fits l true (in_outer kind o) end) → WhereGiven (close_inner outer kind mine found r) (λ end now. Fits l c o end)
+inner_ends : (l c o : Bool) (outer : Mode) (kind : TransactionKind) (mine : List Local) (found : Memory) (r : Answer Completion) → WhereGiven r (λ end now. Fits l true (in_outer kind o) end) → WhereGiven (close_inner outer kind mine found r) (λ end now. Fits l c o end)
 inner_ends l c o outer kind mine found (Gives end now) h = left_ends l c o kind mine found end now h
 inner_ends l c o outer kind mine found (Stops why now) h = tt
 
-enter_ends : (l c o : Bool) (kind : Kind) (run : Action Completion) → EndsSo l true (in_outer kind o) run → (p : Context) (s : State) → WhereGiven (enter p kind run s) (λ end now. Fits l c o end)
+enter_ends : (l c o : Bool) (kind : TransactionKind) (run : Action Completion) → EndsSo l true (in_outer kind o) run → (p : Context) (s : State) → WhereGiven (enter p kind run s) (λ end now. Fits l c o end)
 enter_ends l c o kind run h (Outside [] lefts) s = tt
 enter_ends l c o kind run h (Outside (m ∷ founds) lefts) s = close_ends l c o kind founds lefts s.locals m (run (record s { context = Inside (mode_of kind) m })) (h.ends (record s { context = Inside (mode_of kind) m }))
 enter_ends l c o kind run h (Inside Relaxed m) s = inner_ends l c o Relaxed kind s.locals m (run (record s { context = Inside (mode_of kind) m })) (h.ends (record s { context = Inside (mode_of kind) m }))
@@ -178,21 +178,21 @@ enter_ends l c o (Plain Atomic) run h (Inside Atomic m) s = inner_ends l c o Ato
 enter_ends l c o Outer run h (Inside Atomic m) s = inner_ends l c o Atomic Outer s.locals m (run (record s { context = Inside Atomic m })) (h.ends (record s { context = Inside Atomic m }))
 enter_ends l c o (Plain Relaxed) run h (Inside Atomic m) s = tt
 
-transaction_ends : {l : Bool} (c o : Bool) (kind : Kind) {run : Action Completion} → EndsSo l true (in_outer kind o) run → EndsSo l c o (transaction kind run)
+transaction_ends : {l : Bool} (c o : Bool) (kind : TransactionKind) {run : Action Completion} → EndsSo l true (in_outer kind o) run → EndsSo l c o (transaction kind run)
 transaction_ends {l = l} c o kind {run = run} h = record { ends = λ s. enter_ends l c o kind run h s.context s }
 
 module _ (p : Program) (call : Caller) where
   simple_ends : (l c o : Bool) (s : Simple) → EndsSo l c o (simple p call s)
   simple_ends l c o (Evaluate e) = then_ends (expr p call e) (ends_by Next tt)
-  simple_ends l c o (Assign to op e) = last_ends (spot p call to) (λ at. then_ends (assigned p call at (expr p call e) op) (ends_by Next tt))
-  simple_ends l c o (Adjust to by) = last_ends (spot p call to) (λ at. then_ends (changed p call at (pure int_one) (op_of by)) (ends_by Next tt))
+  simple_ends l c o (Assign to op e) = last_ends (lvalue p call to) (λ at. then_ends (assign_by p call at (expr p call e) op) (ends_by Next tt))
+  simple_ends l c o (Adjust to by) = last_ends (lvalue p call to) (λ at. then_ends (assign_by_operator p call at (pure int_one) (op_of by)) (ends_by Next tt))
 
   declare_ends : (l c o : Bool) (t : Scalar) (ds : List Declarator) → EndsSo l c o (declare p call t ds)
   declare_ends l c o t [] = ends_by Next tt
   declare_ends l c o t (d ∷ ds) =
       last_ends locals (λ mine. then_ends (put_locals (mine ++ record { name = d.name.text; ty = t; word = 0 } ∷ [])) (then_ends (first_value p call (InLocal (length mine) t) d.first) (declare_ends l c o t ds)))
 
-  stepped_turns : (c o : Bool) (q : Option Simple) → TurnsSo c o (stepped p call q)
+  stepped_turns : (c o : Bool) (q : Option Simple) → TurnsSo c o (optional_step p call q)
   stepped_turns c o None = turns_by None tt
   stepped_turns c o (Some s) = last_turns (simple p call s) (λ _. turns_by None tt)
 
@@ -211,7 +211,7 @@ module _ (p : Program) (call : Caller) where
     stmt_ends (IfElse e a b) l c o h = then_ends tick (last_ends (expr p call e) (λ v. if_ends _ (scoped_ends (stmt_ends b l c o h.1)) (scoped_ends (stmt_ends a l c o h.0))))
     stmt_ends (While e a) l c o h = then_ends tick (loop_ends l (last_turns (expr p call e) (λ v. if_turns _ (turns_by (Some Next) tt) (body_turns (scoped_ends (stmt_ends a true c o h)) (turns_by None tt)))))
     stmt_ends (DoWhile a e) l c o h = then_ends tick (loop_ends l (body_turns (scoped_ends (stmt_ends a true c o h)) (last_turns (expr p call e) (λ v. tested_turns c o _))))
-    stmt_ends (For start e step a) l c o h = then_ends tick (scoped_ends (then_ends (start_with p call start) (loop_ends l (last_turns (holds p call e) (λ more. if_turns _ (body_turns (scoped_ends (stmt_ends a true c o h)) (stepped_turns c o step)) (turns_by (Some Next) tt))))))
+    stmt_ends (For start e step a) l c o h = then_ends tick (scoped_ends (then_ends (start_with p call start) (loop_ends l (last_turns (for_condition p call e) (λ more. if_turns _ (body_turns (scoped_ends (stmt_ends a true c o h)) (stepped_turns c o step)) (turns_by (Some Next) tt))))))
     stmt_ends (Break at) l c o h = then_ends tick (ends_by Breaks h)
     stmt_ends (Continue at) l c o h = then_ends tick (ends_by Continues h)
     stmt_ends (Return e at) l c o h = then_ends tick (last_ends (return_value p call e) (λ v. ends_by (Returns v) tt))

@@ -6,19 +6,19 @@ use Rattle.lex.specs.declared.token.Scalar.{Scalar}
 use Rattle.syntax.specs.declared.tree.BinaryOp.{BinaryOp}
 use Rattle.syntax.specs.declared.tree.Mode.{Mode}
 use Rattle.syntax.specs.declared.tree.Mode.TheVariants.{Atomic, Relaxed}
-use Rattle.syntax.specs.declared.tree.Kind.{Kind}
-use Rattle.syntax.specs.declared.tree.Kind.TheVariants.{Plain, Outer}
+use Rattle.syntax.specs.declared.tree.TransactionKind.{TransactionKind}
+use Rattle.syntax.specs.declared.tree.TransactionKind.TheVariants.{Plain, Outer}
 use Rattle.syntax.specs.declared.numbers.Halt.{Halt}
 use Rattle.syntax.specs.declared.numbers.Halt.TheVariants.{Trapped, Spent, Astray}
 use Rattle.syntax.specs.declared.numbers.Value.{Value}
 use Rattle.syntax.specs.Tree.{Expr, Variable, Element, Simple, Evaluate, Assign, Adjust, Declarator, Stmt, Empty, Declare, Do, Block, Print, If, IfElse, While, DoWhile, For, Break, Continue, Return, Transaction, Cancel, CancelOuter, Program}
 use Rattle.syntax.specs.Names.{Local}
-use Rattle.syntax.specs.Formats.{Piece, Literal, Figure, pieces}
+use Rattle.syntax.specs.Formats.{Piece, Literal, Specifier, pieces}
 use Rattle.syntax.specs.Types.{Scope, running_scope}
 use Rattle.syntax.specs.Typing.{scope_after}
 use Rattle.syntax.specs.Behaviours.{Memory}
 use Rattle.syntax.specs.Actions.{Context, Outside, Inside, State, Answer, Gives, Stops, Action, pure, stop, go_on, ◌>>=◌, ◌>>◌, spend, tick, store_at, may_print_at, may_print, print_piece}
-use Rattle.syntax.specs.Meaning.{Spot, InLocal, InCell, assign, print_pieces, Completion, Next, Breaks, Continues, Returns, Cancels, CancelsOuter, mode_of, in_scope, after_turn, turns, loop, after_body, Left, undoes, left_or, left_by, close_inner, close, enter, transaction, op_of, int_one, Caller, expr, spot, changed, assigned, simple, first_value, declare, return_value, stmt, calls}
+use Rattle.syntax.specs.Meaning.{Lvalue, InLocal, InCell, assign, print_pieces, Completion, Next, Breaks, Continues, Returns, Cancels, CancelsOuter, mode_of, in_scope, after_turn, turns, loop, after_body, Left, undoes, left_or, left_by, close_inner, close, enter, transaction, op_of, int_one, Caller, expr, lvalue, assign_by_operator, assign_by, simple, first_value, declare, return_value, stmt, calls}
 use Rattle.syntax.specs.Laws.{WhereGiven, shape, BeginsWithLocals}
 use Rattle.syntax.specs.ScopeLaws.{LocalsExact, ScopeFits, IsSubscope, declared_by}
 use Rattle.syntax.proofs.Expressions.{LeavesLocals, named_holds, element_holds, expr_holds, exprs_holds, fetch_holds, or_trap_holds, calls_holds}
@@ -82,15 +82,15 @@ may_print_same = record { keeps = λ s. may_print_at_same s.context s }
 piece_same : (text : List ℕ) → KeepsShape (print_piece text)
 piece_same text = then_same tick_same (record { keeps = λ s. refl })
 
-assign_same : (at : Spot) (v : Value) → KeepsShape (assign at v)
+assign_same : (at : Lvalue) (v : Value) → KeepsShape (assign at v)
 assign_same (InLocal i t) v = record { keeps = λ s. same_shapes s.locals i _ }
 assign_same (InCell c t) v = record { keeps = λ s. store_same s.context c _ s }
 
 pieces_same : (ps : List Piece) (vs : List Value) → KeepsShape (print_pieces ps vs)
 pieces_same [] vs = pure_same tt
 pieces_same (Literal text ∷ ps) vs = then_same (piece_same text) (pieces_same ps vs)
-pieces_same (Figure t ∷ ps) [] = stop_same Astray
-pieces_same (Figure t ∷ ps) (v ∷ vs) = then_same (piece_same _) (pieces_same ps vs)
+pieces_same (Specifier t ∷ ps) [] = stop_same Astray
+pieces_same (Specifier t ∷ ps) (v ∷ vs) = then_same (piece_same _) (pieces_same ps vs)
 
 -- a scope's end leaves the locals of its beginning
 pub same_taken : (ls ms : List Local) (more : List (List ℕ × Scalar)) → map shape ms ≡ map shape ls ++ more → map shape (take (length ls) ms) ≡ map shape ls
@@ -142,16 +142,16 @@ leave_same : (n : ℕ) (mine : List Local) (founds lefts : List Memory) (left : 
 leave_same zero mine founds lefts left now h = tt
 leave_same (suc n) mine founds lefts left now h = h
 
-close_same : (kind : Kind) (founds lefts : List Memory) (mine : List Local) (found : Memory) (r : Answer Completion) → WhereGiven r (λ a now. map shape now.locals ≡ map shape mine) → WhereGiven (close kind founds lefts mine found r) (λ a now. map shape now.locals ≡ map shape mine)
+close_same : (kind : TransactionKind) (founds lefts : List Memory) (mine : List Local) (found : Memory) (r : Answer Completion) → WhereGiven r (λ a now. map shape now.locals ≡ map shape mine) → WhereGiven (close kind founds lefts mine found r) (λ a now. map shape now.locals ≡ map shape mine)
 close_same kind founds lefts mine found (Gives end now) h = leave_same now.ticks mine founds lefts (left_by kind mine found end now) now (left_same (undoes end kind) mine found end now h)
 close_same kind founds lefts mine found (Stops (Trapped k) now) h = tt
 close_same kind founds lefts mine found r h = tt
 
-inner_same : (outer : Mode) (kind : Kind) (mine : List Local) (found : Memory) (r : Answer Completion) → WhereGiven r (λ a now. map shape now.locals ≡ map shape mine) → WhereGiven (close_inner outer kind mine found r) (λ a now. map shape now.locals ≡ map shape mine)
+inner_same : (outer : Mode) (kind : TransactionKind) (mine : List Local) (found : Memory) (r : Answer Completion) → WhereGiven r (λ a now. map shape now.locals ≡ map shape mine) → WhereGiven (close_inner outer kind mine found r) (λ a now. map shape now.locals ≡ map shape mine)
 inner_same outer kind mine found (Gives end now) h = left_same (undoes end kind) mine found end now h
 inner_same outer kind mine found (Stops why now) h = tt
 
-enter_same : (run : Action Completion) → KeepsShape run → (kind : Kind) (p : Context) (s : State) → WhereGiven (enter p kind run s) (λ a now. map shape now.locals ≡ map shape s.locals)
+enter_same : (run : Action Completion) → KeepsShape run → (kind : TransactionKind) (p : Context) (s : State) → WhereGiven (enter p kind run s) (λ a now. map shape now.locals ≡ map shape s.locals)
 enter_same run h kind (Outside [] lefts) s = tt
 enter_same run h kind (Outside (m ∷ founds) lefts) s = close_same kind founds lefts s.locals m (run (record s { context = Inside (mode_of kind) m })) (h.keeps (record s { context = Inside (mode_of kind) m }))
 enter_same run h kind (Inside Relaxed m) s = inner_same Relaxed kind s.locals m (run (record s { context = Inside (mode_of kind) m })) (h.keeps (record s { context = Inside (mode_of kind) m }))
@@ -159,31 +159,31 @@ enter_same run h (Plain Atomic) (Inside Atomic m) s = inner_same Atomic (Plain A
 enter_same run h Outer (Inside Atomic m) s = inner_same Atomic Outer s.locals m (run (record s { context = Inside Atomic m })) (h.keeps (record s { context = Inside Atomic m }))
 enter_same run h (Plain Relaxed) (Inside Atomic m) s = tt
 
-transaction_same : (kind : Kind) {run : Action Completion} → KeepsShape run → KeepsShape (transaction kind run)
+transaction_same : (kind : TransactionKind) {run : Action Completion} → KeepsShape run → KeepsShape (transaction kind run)
 transaction_same kind {run} h = record { keeps = λ s. enter_same run h kind s.context s }
 
 module _ (p : Program) (call : Caller) (h : (x : List ℕ) (vs : List Value) → LeavesLocals (call x vs)) where
   expr_same : (e : Expr) → KeepsShape (expr p call e)
   expr_same e = leaves_same (expr_holds p call h e)
 
-  spot_same : (e : Expr) → KeepsShape (spot p call e)
-  spot_same (Variable x) = leaves_same (named_holds p call h x.text)
-  spot_same (Element x i at) = on_same (expr_same i) (λ k. leaves_same (element_holds p call h x.text k))
-  spot_same e = stop_same Astray
+  lvalue_same : (e : Expr) → KeepsShape (lvalue p call e)
+  lvalue_same (Variable x) = leaves_same (named_holds p call h x.text)
+  lvalue_same (Element x i at) = on_same (expr_same i) (λ k. leaves_same (element_holds p call h x.text k))
+  lvalue_same e = stop_same Astray
 
-  changed_same : (at : Spot) {by : Action Value} → KeepsShape by → (op : BinaryOp) → KeepsShape (changed p call at by op)
+  changed_same : (at : Lvalue) {by : Action Value} → KeepsShape by → (op : BinaryOp) → KeepsShape (assign_by_operator p call at by op)
   changed_same at g op = on_same (leaves_same (fetch_holds at)) (λ old. on_same g (λ v. on_same (leaves_same (or_trap_holds _)) (λ new. assign_same at new)))
 
-  assigned_same : (at : Spot) {by : Action Value} → KeepsShape by → (op : Option BinaryOp) → KeepsShape (assigned p call at by op)
+  assigned_same : (at : Lvalue) {by : Action Value} → KeepsShape by → (op : Option BinaryOp) → KeepsShape (assign_by p call at by op)
   assigned_same at g None = on_same g (λ v. assign_same at v)
   assigned_same at g (Some op) = changed_same at g op
 
   simple_same : (s : Simple) → KeepsShape (simple p call s)
   simple_same (Evaluate e) = then_same (expr_same e) (pure_same Next)
-  simple_same (Assign to op e) = on_same (spot_same to) (λ at. then_same (assigned_same at (expr_same e) op) (pure_same Next))
-  simple_same (Adjust to by) = on_same (spot_same to) (λ at. then_same (changed_same at (pure_same int_one) (op_of by)) (pure_same Next))
+  simple_same (Assign to op e) = on_same (lvalue_same to) (λ at. then_same (assigned_same at (expr_same e) op) (pure_same Next))
+  simple_same (Adjust to by) = on_same (lvalue_same to) (λ at. then_same (changed_same at (pure_same int_one) (op_of by)) (pure_same Next))
 
-  first_same : (at : Spot) (o : Option Expr) → KeepsShape (first_value p call at o)
+  first_same : (at : Lvalue) (o : Option Expr) → KeepsShape (first_value p call at o)
   first_same at None = pure_same tt
   first_same at (Some e) = on_same (expr_same e) (λ v. assign_same at v)
 

@@ -23,7 +23,7 @@ pub mod ExactLocals
 pub mod Expressions
 pub mod Fits
 pub mod Items
-pub mod Kept
+pub mod Preserved
 pub mod Loops
 pub mod Memories
 pub mod MoreFounds

@@ -2,8 +2,8 @@
 use Rattle.std.proofs.Common.{◌≡◌, ℕ, zero, suc, List, [], ◌∷◌, ◌++◌, Option, Some, None, Bool, true, false, refl, sym, ap, ◌∙◌, subst, append-nil}
 use Rattle.syntax.specs.declared.tree.Mode.{Mode}
 use Rattle.syntax.specs.declared.tree.Mode.TheVariants.{Atomic, Relaxed}
-use Rattle.syntax.specs.declared.tree.Kind.{Kind}
-use Rattle.syntax.specs.declared.tree.Kind.TheVariants.{Plain, Outer}
+use Rattle.syntax.specs.declared.tree.TransactionKind.{TransactionKind}
+use Rattle.syntax.specs.declared.tree.TransactionKind.TheVariants.{Plain, Outer}
 use Rattle.syntax.specs.Tree.{Program}
 use Rattle.syntax.specs.Names.{Local}
 use Rattle.syntax.specs.declared.numbers.Halt.TheVariants.{Trapped, Wants, Spent, Astray}
@@ -14,7 +14,7 @@ use Rattle.syntax.specs.Meaning.{Completion, after_turn, turns, loop, Left, undo
 use Rattle.syntax.specs.Threads.{worker_run}
 use Rattle.syntax.proofs.Further.{state_of, added, with_founds, with_more, Follows, Grown, Extends, IsSteady}
 use Rattle.syntax.specs.Laws.{IsPieceOf}
-use Rattle.syntax.proofs.Kept.{IsKept, any_cells, worker_holds}
+use Rattle.syntax.proofs.Preserved.{IsPreserved, any_cells, worker_holds}
 use Rattle.syntax.proofs.Steady.{still, grown_trans, more_grown, on_grown, on_extends, on_steady, pure_steady, astray_steady, tick_steady, locals_steady, put_locals_steady, load_steady, store_steady, may_print_steady, trap_steady, print_piece_steady}
 
 after_turn_grows : (rest : Action Completion) → ((s : State) → Grown s (state_of (rest s))) → (o : Option Completion) (s : State) → Grown s (state_of (after_turn rest o s))
@@ -70,7 +70,7 @@ left_further k extra false mine found end now = ap (λ m. left_with end now.loca
 abbrev state : ℕ → List Local → Context → List ℕ → State
 state n ls p t = record { ticks = n; locals = ls; context = p; text = t }
 
-module _ (outer : Mode) (kind : Kind) (mine : List Local) (found : Memory) where
+module _ (outer : Mode) (kind : TransactionKind) (mine : List Local) (found : Memory) where
   close_inner_grows : (s : State) (r : Answer Completion) → IsInside s.context → Grown s (state_of r) → Grown s (state_of (close_inner outer kind mine found r))
   close_inner_grows s (Gives end now) f g = record { printed = g.printed; text = g.text; context = inside_follows s.context f outer _ }
   close_inner_grows s (Stops why now) f g = g
@@ -84,7 +84,7 @@ module _ (outer : Mode) (kind : Kind) (mine : List Local) (found : Memory) where
   close_inner_extends k extra (Stops Wants s) more f e = (close_inner_grows s more f e.0, λ n. ap (close_inner outer kind mine found) (e.1 n))
 
 -- the answer of a transaction inside another one
-inner_steady : (outer : Mode) (kind : Kind) (found : Memory) (run : Action Completion) → IsSteady run → (n : ℕ) (ls : List Local) (old : Memory) (t : List ℕ) → Grown (state n ls (Inside outer old) t) (state_of (inner outer kind found run (state n ls (Inside outer old) t)))
+inner_steady : (outer : Mode) (kind : TransactionKind) (found : Memory) (run : Action Completion) → IsSteady run → (n : ℕ) (ls : List Local) (old : Memory) (t : List ℕ) → Grown (state n ls (Inside outer old) t) (state_of (inner outer kind found run (state n ls (Inside outer old) t)))
 inner_steady outer kind found run h n ls old t =
     let g = h.grows (state n ls (Inside (mode_of kind) found) t) in
     inner_grown (run (state n ls (Inside (mode_of kind) found) t)) g
@@ -97,7 +97,7 @@ inner_steady outer kind found run h n ls old t =
         inside_too (Outside founds lefts) f = f
         inside_too (Inside mode' m') f = tt
 
-inner_extends : (k : ℕ) (extra : List Memory) (outer : Mode) (kind : Kind) (found : Memory) (run : Action Completion) → IsSteady run → (s : State) → Extends k extra (inner outer kind found run s) (inner outer kind found run (with_more k extra s))
+inner_extends : (k : ℕ) (extra : List Memory) (outer : Mode) (kind : TransactionKind) (found : Memory) (run : Action Completion) → IsSteady run → (s : State) → Extends k extra (inner outer kind found run s) (inner outer kind found run (with_more k extra s))
 inner_extends k extra outer kind found run h s =
     let start = record s { context = Inside (mode_of kind) found } in
     close_inner_extends outer kind s.locals found k extra (run start) (run (with_more k extra start)) (stays_inside (mode_of kind) found (state_of (run start)).context (h.grows start).context) (h.extends k extra start)
@@ -116,14 +116,14 @@ leave_extends : (k : ℕ) (extra : List Memory) (n : ℕ) (now : State) (founds 
 leave_extends k extra zero now founds lefts left = leave_grows k now (with_more k extra now) founds (founds ++ extra) lefts left [] (sym (append-nil now.text))
 leave_extends k extra (suc n) now founds lefts left = refl
 
-close_grows : (kind : Kind) (founds founds' lefts : List Memory) (mine : List Local) (found : Memory) (s : State) (r : Answer Completion) → Grown s (state_of r) → Grown (record s { context = Outside founds lefts }) (state_of (close kind founds' lefts mine found r))
+close_grows : (kind : TransactionKind) (founds founds' lefts : List Memory) (mine : List Local) (found : Memory) (s : State) (r : Answer Completion) → Grown s (state_of r) → Grown (record s { context = Outside founds lefts }) (state_of (close kind founds' lefts mine found r))
 close_grows kind founds founds' lefts mine found s (Gives end now) g = leave_grows now.ticks s now founds founds' lefts (left_by kind mine found end now) g.printed g.text
 close_grows kind founds founds' lefts mine found s (Stops (Trapped t) now) g = record { printed = g.printed; text = g.text; context = (found ∷ [], refl) }
 close_grows kind founds founds' lefts mine found s (Stops Wants now) g = record { printed = g.printed; text = g.text; context = ([], sym (append-nil lefts)) }
 close_grows kind founds founds' lefts mine found s (Stops Spent now) g = record { printed = g.printed; text = g.text; context = ([], sym (append-nil lefts)) }
 close_grows kind founds founds' lefts mine found s (Stops Astray now) g = record { printed = g.printed; text = g.text; context = ([], sym (append-nil lefts)) }
 
-close_extends : (kind : Kind) (k : ℕ) (extra founds lefts : List Memory) (mine : List Local) (found : Memory) (r more : Answer Completion) → Extends k extra r more → Extends k extra (close kind founds lefts mine found r) (close kind (founds ++ extra) lefts mine found more)
+close_extends : (kind : TransactionKind) (k : ℕ) (extra founds lefts : List Memory) (mine : List Local) (found : Memory) (r more : Answer Completion) → Extends k extra r more → Extends k extra (close kind founds lefts mine found r) (close kind (founds ++ extra) lefts mine found more)
 close_extends kind k extra founds lefts mine found (Gives end now) more e =
     let left = left_by kind mine found end now in
     let same = ap (close kind (founds ++ extra) lefts mine found) e ∙ ap (λ l. leave_at (added now.ticks k) (with_more k extra now) (founds ++ extra) lefts l) (left_further k extra (undoes end kind) mine found end now) in
@@ -134,17 +134,17 @@ close_extends kind k extra founds lefts mine found (Stops Spent s) more e = clos
 close_extends kind k extra founds lefts mine found (Stops Wants s) more e =
     (close_grows kind founds (founds ++ extra) lefts mine found s more e.0, λ n. ap (close kind (founds ++ extra) lefts mine found) (e.1 n) ∙ ap (λ x. Stops Wants (record s { ticks = added s.ticks k; context = Outside (founds ++ x) lefts })) n)
 
-outermost_extends : (k : ℕ) (extra : List Memory) (kind : Kind) (found : Memory) (founds lefts : List Memory) (run : Action Completion) → IsSteady run → (s : State) → Extends k extra (outermost kind found founds lefts run s) (outermost kind found (founds ++ extra) lefts run (with_more k extra s))
+outermost_extends : (k : ℕ) (extra : List Memory) (kind : TransactionKind) (found : Memory) (founds lefts : List Memory) (run : Action Completion) → IsSteady run → (s : State) → Extends k extra (outermost kind found founds lefts run s) (outermost kind found (founds ++ extra) lefts run (with_more k extra s))
 outermost_extends k extra kind found founds lefts run h s =
     let start = record s { context = Inside (mode_of kind) found } in
     close_extends kind k extra founds lefts s.locals found (run start) (run (with_more k extra start)) (h.extends k extra start)
 
-outermost_grows : (kind : Kind) (found : Memory) (founds founds' lefts : List Memory) (run : Action Completion) → IsSteady run → (s : State) → Grown (record s { context = Outside founds' lefts }) (state_of (outermost kind found founds lefts run s))
+outermost_grows : (kind : TransactionKind) (found : Memory) (founds founds' lefts : List Memory) (run : Action Completion) → IsSteady run → (s : State) → Grown (record s { context = Outside founds' lefts }) (state_of (outermost kind found founds lefts run s))
 outermost_grows kind found founds founds' lefts run h s =
     let start = record s { context = Inside (mode_of kind) found } in
     close_grows kind founds' founds lefts s.locals found start (run start) (h.grows start)
 
-enter_grows : (kind : Kind) (run : Action Completion) → IsSteady run → (p : Context) (n : ℕ) (ls : List Local) (t : List ℕ) → Grown (state n ls p t) (state_of (enter p kind run (state n ls p t)))
+enter_grows : (kind : TransactionKind) (run : Action Completion) → IsSteady run → (p : Context) (n : ℕ) (ls : List Local) (t : List ℕ) → Grown (state n ls p t) (state_of (enter p kind run (state n ls p t)))
 enter_grows kind run h (Outside [] lefts) n ls t = still (state n ls (Outside [] lefts) t)
 enter_grows kind run h (Outside (found ∷ founds) lefts) n ls t = outermost_grows kind found founds (found ∷ founds) lefts run h (state n ls (Outside (found ∷ founds) lefts) t)
 enter_grows kind run h (Inside Relaxed found) n ls t = inner_steady Relaxed kind found run h n ls found t
@@ -152,13 +152,13 @@ enter_grows (Plain Atomic) run h (Inside Atomic found) n ls t = inner_steady Ato
 enter_grows Outer run h (Inside Atomic found) n ls t = inner_steady Atomic Outer found run h n ls found t
 enter_grows (Plain Relaxed) run h (Inside Atomic found) n ls t = still (state n ls (Inside Atomic found) t)
 
-wants_extends : (k : ℕ) (extra lefts : List Memory) (kind : Kind) (run : Action Completion) → IsSteady run → (n : ℕ) (ls : List Local) (t : List ℕ) → Extends k extra (stop {A = Completion} Wants (state n ls (Outside [] lefts) t)) (enter (Outside extra lefts) kind run (state (added n k) ls (Outside extra lefts) t))
+wants_extends : (k : ℕ) (extra lefts : List Memory) (kind : TransactionKind) (run : Action Completion) → IsSteady run → (n : ℕ) (ls : List Local) (t : List ℕ) → Extends k extra (stop {A = Completion} Wants (state n ls (Outside [] lefts) t)) (enter (Outside extra lefts) kind run (state (added n k) ls (Outside extra lefts) t))
 wants_extends k [] lefts kind run h n ls t = (more_grown k [] (state n ls (Outside [] lefts) t), λ _. refl)
 wants_extends k (m ∷ ms) lefts kind run h n ls t =
     let s = state (added n k) ls (Outside (m ∷ ms) lefts) t in
     (grown_trans (state n ls (Outside [] lefts) t) s _ (more_grown k (m ∷ ms) (state n ls (Outside [] lefts) t)) (outermost_grows kind m ms (m ∷ ms) lefts run h s), λ e. absurd (cc))
 
-enter_extends : (k : ℕ) (extra : List Memory) (kind : Kind) (run : Action Completion) → IsSteady run → (p : Context) (n : ℕ) (ls : List Local) (t : List ℕ) → Extends k extra (enter p kind run (state n ls p t)) (enter (with_founds extra p) kind run (with_more k extra (state n ls p t)))
+enter_extends : (k : ℕ) (extra : List Memory) (kind : TransactionKind) (run : Action Completion) → IsSteady run → (p : Context) (n : ℕ) (ls : List Local) (t : List ℕ) → Extends k extra (enter p kind run (state n ls p t)) (enter (with_founds extra p) kind run (with_more k extra (state n ls p t)))
 enter_extends k extra kind run h (Outside [] lefts) n ls t = wants_extends k extra lefts kind run h n ls t
 enter_extends k extra kind run h (Outside (found ∷ founds) lefts) n ls t = outermost_extends k extra kind found founds lefts run h (state n ls (Outside (found ∷ founds) lefts) t)
 enter_extends k extra kind run h (Inside Relaxed found) n ls t = inner_extends k extra Relaxed kind found run h (state n ls (Inside Relaxed found) t)
@@ -166,7 +166,7 @@ enter_extends k extra (Plain Atomic) run h (Inside Atomic found) n ls t = inner_
 enter_extends k extra Outer run h (Inside Atomic found) n ls t = inner_extends k extra Atomic Outer found run h (state n ls (Inside Atomic found) t)
 enter_extends k extra (Plain Relaxed) run h (Inside Atomic found) n ls t = refl
 
-transaction_steady : (kind : Kind) {run : Action Completion} → IsSteady run → IsSteady (transaction kind run)
+transaction_steady : (kind : TransactionKind) {run : Action Completion} → IsSteady run → IsSteady (transaction kind run)
 transaction_steady kind {run} h = record {
   grows = λ s. enter_grows kind run h s.context s.ticks s.locals s.text;
   extends = λ k extra s. enter_extends k extra kind run h s.context s.ticks s.locals s.text;
@@ -183,7 +183,7 @@ begin_extends k extra (Inside mode m) s = refl
 begin_value_steady : IsSteady begin_value
 begin_value_steady = record { grows = λ s. begin_grows s.context s; extends = λ k extra s. begin_extends k extra s.context s }
 
-steady_kept : (p : Program) → IsKept (IsPieceOf p) (λ c t. Unit {0}) (λ A run. IsSteady run)
+steady_kept : (p : Program) → IsPreserved (IsPieceOf p) (λ c t. Unit {0}) (λ A run. IsSteady run)
 steady_kept p = record {
   pure_holds = pure_steady;
   on_holds = on_steady;

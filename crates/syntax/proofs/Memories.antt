@@ -12,8 +12,8 @@ use Rattle.syntax.proofs.Words.{cell_bound}
 use Rattle.std.proofs.lemmas.List.Elements.{All-nil, All-from_recursion, recursion_from_All, All-head, All-tail, All-push}
 use Rattle.syntax.specs.declared.tree.Mode.{Mode}
 use Rattle.syntax.specs.declared.tree.Mode.TheVariants.{Atomic, Relaxed}
-use Rattle.syntax.specs.declared.tree.Kind.{Kind}
-use Rattle.syntax.specs.declared.tree.Kind.TheVariants.{Plain, Outer}
+use Rattle.syntax.specs.declared.tree.TransactionKind.{TransactionKind}
+use Rattle.syntax.specs.declared.tree.TransactionKind.TheVariants.{Plain, Outer}
 use Rattle.syntax.specs.declared.numbers.Halt.TheVariants.{Trapped, Wants, Spent, Astray}
 use Rattle.syntax.specs.Tree.{Program}
 use Rattle.syntax.specs.Names.{Local, GlobalCells, cells, globals, global_from, global_of, bounds}
@@ -23,7 +23,7 @@ use Rattle.syntax.specs.Meaning.{Completion, after_turn, turns, Left, undoes, le
 use Rattle.syntax.specs.Threads.{outcome_of, first_state, worker_run, thread}
 use Rattle.syntax.specs.Laws.{IsPieceOf, LeavesMemories}
 use Rattle.syntax.proofs.Further.{state_of}
-use Rattle.syntax.proofs.Kept.{IsKept, AreCells, worker_holds}
+use Rattle.syntax.proofs.Preserved.{IsPreserved, AreCells, worker_holds}
 
 -- a typed global has a cell
 size_some : (l : Option (ℕ × Span)) → AreMet (IsLength l) → 0 < unwrap_or (option_map (λ n. n.0) l) 1
@@ -35,10 +35,10 @@ size_some (Some n) h =
 among_some : (earlier : List Item) (before : List Global) (taken : ℕ) (gs more : List Global) → AreMet (AreTypedGlobals earlier before taken gs) → (c : ℕ) (x : List ℕ) (at : GlobalCells) → ((d : ℕ) → global_from d more x ≡ Some at → 0 < cells at.global) → global_from c (gs ++ more) x ≡ Some at → 0 < cells at.global
 among_some earlier before taken [] more h c x at later e = later c e
 among_some earlier before taken (g ∷ gs) more h c x at later e =
-    let new = demand 21 g.name.at (is_unknown (file_scope (earlier ++ Shares before ∷ []) g.name.text)) in
+    let new = demand 21 g.name.span (is_unknown (file_scope (earlier ++ Shares before ∷ []) g.name.text)) in
     let size = IsLength g.length in
     let room = HaveCells (drop (cells g) g.first) in
-    let few = demand 25 g.name.at (nat_le (taken + cells g) 4096) in
+    let few = demand 25 g.name.span (nat_le (taken + cells g) 4096) in
     let others = AreTypedGlobals earlier (before ++ g ∷ []) (taken + cells g) gs in
     let all = met_before (new ++ size ++ room ++ few) others h in
     by (bytes_eq g.name.text x) (size_some g.length (met_behind new size (met_before (new ++ size) room (met_before (new ++ size ++ room) few all))))
@@ -130,18 +130,18 @@ module _ (M : Memory → Type 0) (IsCell : ℕ → Scalar → Type 0) (written :
   leave_keeps zero now m founds lefts left h = λ f l. (All-tail M m founds f, l)
   leave_keeps (suc n) now m founds lefts left h = λ f l. (All-tail M m founds f, All-push M lefts left.memory l (h (All-head M m founds f)))
 
-  close_keeps : (kind : Kind) (m : Memory) (founds lefts : List Memory) (mine : List Local) (r : Answer Completion) → Keeps (Inside (mode_of kind) m) (state_of r).context → Keeps (Outside (m ∷ founds) lefts) (state_of (close kind founds lefts mine m r)).context
+  close_keeps : (kind : TransactionKind) (m : Memory) (founds lefts : List Memory) (mine : List Local) (r : Answer Completion) → Keeps (Inside (mode_of kind) m) (state_of r).context → Keeps (Outside (m ∷ founds) lefts) (state_of (close kind founds lefts mine m r)).context
   close_keeps kind m founds lefts mine (Gives end now) c = leave_keeps now.ticks now m founds lefts (left_by kind mine m end now) (left_kept (undoes end kind) (mode_of kind) m mine end now c)
   close_keeps kind m founds lefts mine (Stops (Trapped k) now) c = λ f l. (All-tail M m founds f, All-push M lefts m l (All-head M m founds f))
   close_keeps kind m founds lefts mine (Stops Wants now) c = λ f l. (All-tail M m founds f, l)
   close_keeps kind m founds lefts mine (Stops Spent now) c = λ f l. (All-tail M m founds f, l)
   close_keeps kind m founds lefts mine (Stops Astray now) c = λ f l. (All-tail M m founds f, l)
 
-  close_inner_keeps : (outer : Mode) (kind : Kind) (m : Memory) (mine : List Local) (r : Answer Completion) → Keeps (Inside (mode_of kind) m) (state_of r).context → Keeps (Inside outer m) (state_of (close_inner outer kind mine m r)).context
+  close_inner_keeps : (outer : Mode) (kind : TransactionKind) (m : Memory) (mine : List Local) (r : Answer Completion) → Keeps (Inside (mode_of kind) m) (state_of r).context → Keeps (Inside outer m) (state_of (close_inner outer kind mine m r)).context
   close_inner_keeps outer kind m mine (Gives end now) c = λ h. left_kept (undoes end kind) (mode_of kind) m mine end now c h
   close_inner_keeps outer kind m mine (Stops why now) c = c
 
-  enter_keeps : (kind : Kind) (run : Action Completion) → IsKeeping run → (p : Context) (n : ℕ) (ls : List Local) (t : List ℕ) → Keeps p (state_of (enter p kind run (record { ticks = n; locals = ls; context = p; text = t }))).context
+  enter_keeps : (kind : TransactionKind) (run : Action Completion) → IsKeeping run → (p : Context) (n : ℕ) (ls : List Local) (t : List ℕ) → Keeps p (state_of (enter p kind run (record { ticks = n; locals = ls; context = p; text = t }))).context
   enter_keeps kind run h (Outside [] lefts) n ls t = keeps_refl (Outside [] lefts)
   enter_keeps kind run h (Outside (m ∷ founds) lefts) n ls t = close_keeps kind m founds lefts ls (run (record { ticks = n; locals = ls; context = Inside (mode_of kind) m; text = t })) (h.keeps (record { ticks = n; locals = ls; context = Inside (mode_of kind) m; text = t }))
   enter_keeps kind run h (Inside Relaxed m) n ls t = close_inner_keeps Relaxed kind m ls (run (record { ticks = n; locals = ls; context = Inside (mode_of kind) m; text = t })) (h.keeps (record { ticks = n; locals = ls; context = Inside (mode_of kind) m; text = t }))
@@ -153,7 +153,7 @@ module _ (M : Memory → Type 0) (IsCell : ℕ → Scalar → Type 0) (written :
   begin_keeps (Outside f l) s = spend_keeps s.ticks s
   begin_keeps (Inside mode m) s = keeps_refl s.context
 
-  keeping_kept : (IsPiece : List ℕ → Type 0) → IsKept IsPiece IsCell (λ A run. IsKeeping run)
+  keeping_kept : (IsPiece : List ℕ → Type 0) → IsPreserved IsPiece IsCell (λ A run. IsKeeping run)
   keeping_kept IsPiece = record {
     pure_holds = λ a. record { keeps = λ s. keeps_refl s.context };
     on_holds = on_keeping;

@@ -2,8 +2,8 @@
 use Rattle.std.proofs.Common.{◌≡◌, ◌≢◌, ℕ, zero, suc, List, [], ◌∷◌, ◌++◌, Option, Some, None, Bool, true, false, refl, sym, ap, ◌∙◌, subst}
 use Rattle.syntax.specs.declared.tree.Mode.{Mode}
 use Rattle.syntax.specs.declared.tree.Mode.TheVariants.{Atomic, Relaxed}
-use Rattle.syntax.specs.declared.tree.Kind.{Kind}
-use Rattle.syntax.specs.declared.tree.Kind.TheVariants.{Plain, Outer}
+use Rattle.syntax.specs.declared.tree.TransactionKind.{TransactionKind}
+use Rattle.syntax.specs.declared.tree.TransactionKind.TheVariants.{Plain, Outer}
 use Rattle.syntax.specs.Tree.{Program}
 use Rattle.syntax.specs.Names.{Local}
 use Rattle.syntax.specs.declared.numbers.Halt.TheVariants.{Trapped, Wants, Spent, Astray}
@@ -12,7 +12,7 @@ use Rattle.syntax.specs.Actions.{Context, Outside, Inside, State, Answer, Gives,
 use Rattle.syntax.specs.Meaning.{Completion, after_turn, turns, Left, undoes, left_or, left_by, leave_inner, close_inner, inner, close, enter, mode_of, begin_at}
 use Rattle.syntax.specs.Threads.{outcome_of, first_state, worker_run}
 use Rattle.syntax.specs.Laws.{IsPieceOf, MoreFounds}
-use Rattle.syntax.proofs.Kept.{IsKept, any_cells, worker_holds}
+use Rattle.syntax.proofs.Preserved.{IsPreserved, any_cells, worker_holds}
 
 -- further memories to be found
 abbrev with_founds : List Memory → Context → Context
@@ -84,7 +84,7 @@ left_further : (extra : List Memory) (undone : Bool) (mine : List Local) (found 
 left_further extra true mine found end now = refl
 left_further extra false mine found end now = ap (λ m. left_with end now.locals m) (memory_further extra now.context)
 
-close_inner_alike : (outer : Mode) (kind : Kind) (mine : List Local) (found : Memory) (extra : List Memory) (r more : Answer Completion) → Alike extra r more → Alike extra (close_inner outer kind mine found r) (close_inner outer kind mine found more)
+close_inner_alike : (outer : Mode) (kind : TransactionKind) (mine : List Local) (found : Memory) (extra : List Memory) (r more : Answer Completion) → Alike extra r more → Alike extra (close_inner outer kind mine found r) (close_inner outer kind mine found more)
 close_inner_alike outer kind mine found extra (Gives end now) more e =
     ap (close_inner outer kind mine found) e ∙ ap (λ l. leave_inner outer l (further extra now)) (left_further extra (undoes end kind) mine found end now)
 close_inner_alike outer kind mine found extra (Stops (Trapped t) s) more e = ap (close_inner outer kind mine found) e
@@ -92,7 +92,7 @@ close_inner_alike outer kind mine found extra (Stops Astray s) more e = ap (clos
 close_inner_alike outer kind mine found extra (Stops Spent s) more e = ap (close_inner outer kind mine found) e
 close_inner_alike outer kind mine found extra (Stops Wants s) more e = tt
 
-inner_alike : (extra : List Memory) (outer : Mode) (kind : Kind) (found : Memory) (run : Action Completion) → IsAlike run → (s : State) → Alike extra (inner outer kind found run s) (inner outer kind found run (further extra s))
+inner_alike : (extra : List Memory) (outer : Mode) (kind : TransactionKind) (found : Memory) (run : Action Completion) → IsAlike run → (s : State) → Alike extra (inner outer kind found run s) (inner outer kind found run (further extra s))
 inner_alike extra outer kind found run h s =
     let start = record s { context = Inside (mode_of kind) found } in
     close_inner_alike outer kind s.locals found extra (run start) (run (further extra start)) (h.alike extra start)
@@ -106,7 +106,7 @@ leave_alike : (extra : List Memory) (n : ℕ) (now : State) (founds lefts : List
 leave_alike extra zero now founds lefts left = refl
 leave_alike extra (suc n) now founds lefts left = refl
 
-close_alike : (kind : Kind) (extra founds lefts : List Memory) (mine : List Local) (found : Memory) (r more : Answer Completion) → Alike extra r more → Alike extra (close kind founds lefts mine found r) (close kind (founds ++ extra) lefts mine found more)
+close_alike : (kind : TransactionKind) (extra founds lefts : List Memory) (mine : List Local) (found : Memory) (r more : Answer Completion) → Alike extra r more → Alike extra (close kind founds lefts mine found r) (close kind (founds ++ extra) lefts mine found more)
 close_alike kind extra founds lefts mine found (Gives end now) more e =
     let left = left_by kind mine found end now in
     let same = ap (close kind (founds ++ extra) lefts mine found) e ∙ ap (λ l. leave_at now.ticks (further extra now) (founds ++ extra) lefts l) (left_further extra (undoes end kind) mine found end now) in
@@ -119,7 +119,7 @@ close_alike kind extra founds lefts mine found (Stops Wants s) more e = tt
 abbrev state : ℕ → List Local → Context → List ℕ → State
 state n ls p t = record { ticks = n; locals = ls; context = p; text = t }
 
-enter_alike : (extra : List Memory) (kind : Kind) (run : Action Completion) → IsAlike run → (p : Context) (n : ℕ) (ls : List Local) (t : List ℕ) → Alike extra (enter p kind run (state n ls p t)) (enter (with_founds extra p) kind run (further extra (state n ls p t)))
+enter_alike : (extra : List Memory) (kind : TransactionKind) (run : Action Completion) → IsAlike run → (p : Context) (n : ℕ) (ls : List Local) (t : List ℕ) → Alike extra (enter p kind run (state n ls p t)) (enter (with_founds extra p) kind run (further extra (state n ls p t)))
 enter_alike extra kind run h (Outside [] lefts) n ls t = tt
 enter_alike extra kind run h (Outside (found ∷ founds) lefts) n ls t =
     let start = state n ls (Inside (mode_of kind) found) t in
@@ -133,7 +133,7 @@ begin_alike : (extra : List Memory) (p : Context) (s : State) → Alike extra (b
 begin_alike extra (Outside founds lefts) s = tick_alike.alike extra s
 begin_alike extra (Inside mode m) s = refl
 
-alike_kept : (p : Program) → IsKept (IsPieceOf p) (λ c t. Unit {0}) (λ A run. IsAlike run)
+alike_kept : (p : Program) → IsPreserved (IsPieceOf p) (λ c t. Unit {0}) (λ A run. IsAlike run)
 alike_kept p = record {
   pure_holds = λ a. record { alike = λ extra s. refl };
   on_holds = on_all;

@@ -10,7 +10,7 @@ use Rattle.syntax.specs.declared.numbers.Trap.TheVariants.{OutOfRange, Index, Fr
 use Rattle.syntax.specs.Tree as Tree
 use Rattle.syntax.specs.Tree.{Expr, Constant, Element, Call, Unary, Binary, Evaluate, Assign, Adjust, Does, Stmt, Stmts, Declare, Do, Block, Print, If, IfElse, While, For, Break, Cancel, Defines, Shares, Program}
 use Rattle.syntax.specs.declared.numbers.Halt.TheVariants.{Trapped}
-use Rattle.syntax.specs.declared.tree.Initializer.{Initializer}
+use Rattle.syntax.specs.declared.tree.Initialiser.{Initialiser}
 use Rattle.syntax.specs.Names.{initial_memory}
 use Rattle.syntax.specs.Behaviours.{Memory, Ended, Stopped, Step, founds_of, lefts_of, last_memory}
 use Rattle.syntax.specs.Threads.{thread, IsSourceRun}
@@ -93,7 +93,7 @@ nearer_row : thread nearer 0 ((0 ∷ []) ∷ []) 100 ≡ record { lefts = (0 ∷
 nearer_row = refl
 
 -- unsigned a[3] = {1, 2}; int b = -1; W{ atomic { b = 7; a[3] = 1; } }: a trap leaves what was found
-abbrev first_number : Bool → ℕ → Initializer
+abbrev first_number : Bool → ℕ → Initialiser
 first_number minus n = record { negative = minus; value = n; ty = Int; span = here }
 
 abbrev past_end : Program

@@ -5,18 +5,18 @@ use Rattle.lex.specs.declared.token.Scalar.{Scalar}
 use Rattle.syntax.specs.declared.tree.BinaryOp.{BinaryOp}
 use Rattle.syntax.specs.declared.tree.Mode.{Mode}
 use Rattle.syntax.specs.declared.tree.Mode.TheVariants.{Atomic, Relaxed}
-use Rattle.syntax.specs.declared.tree.Kind.{Kind}
-use Rattle.syntax.specs.declared.tree.Kind.TheVariants.{Plain, Outer}
+use Rattle.syntax.specs.declared.tree.TransactionKind.{TransactionKind}
+use Rattle.syntax.specs.declared.tree.TransactionKind.TheVariants.{Plain, Outer}
 use Rattle.syntax.specs.declared.numbers.Halt.{Halt}
 use Rattle.syntax.specs.declared.numbers.Halt.TheVariants.{Trapped, Spent, Astray}
 use Rattle.syntax.specs.declared.numbers.Value.{Value}
 use Rattle.syntax.specs.Tree as Tree
 use Rattle.syntax.specs.Tree.{Expr, Variable, Element, Simple, Evaluate, Assign, Adjust, Declarator, Start, Nothing, Declares, Does, Stmt, Stmts, Empty, Declare, Do, Block, Print, If, IfElse, While, DoWhile, For, Break, Continue, Return, Transaction, Cancel, CancelOuter, Program}
 use Rattle.syntax.specs.Names.{Local, with_word}
-use Rattle.syntax.specs.Formats.{Piece, Literal, Figure, pieces}
+use Rattle.syntax.specs.Formats.{Piece, Literal, Specifier, pieces}
 use Rattle.syntax.specs.Behaviours.{Memory}
 use Rattle.syntax.specs.Actions.{Context, Outside, Inside, State, Answer, Gives, Stops, Action, pure, stop, go_on, ◌>>=◌, ◌>>◌, spend, tick, store_at, may_print_at, may_print, write, print_piece}
-use Rattle.syntax.specs.Meaning.{Spot, InLocal, InCell, assign, print_pieces, Completion, Next, Breaks, Continues, Returns, Cancels, CancelsOuter, mode_of, on_next, in_scope, after_turn, turns, loop, after_body, Left, undoes, left_or, left_by, close_inner, close, enter, transaction, op_of, int_one, Caller, expr, spot, changed, assigned, simple, first_value, declare, start_with, holds, stepped, return_value, stmt, stmts, calls}
+use Rattle.syntax.specs.Meaning.{Lvalue, InLocal, InCell, assign, print_pieces, Completion, Next, Breaks, Continues, Returns, Cancels, CancelsOuter, mode_of, on_next, in_scope, after_turn, turns, loop, after_body, Left, undoes, left_or, left_by, close_inner, close, enter, transaction, op_of, int_one, Caller, expr, lvalue, assign_by_operator, assign_by, simple, first_value, declare, start_with, for_condition, optional_step, return_value, stmt, stmts, calls}
 use Rattle.syntax.specs.Laws.{WhereGiven, shape, KeepsOlderLocals, BeginsWithLocals}
 use Rattle.syntax.proofs.Expressions.{LeavesLocals, named_holds, element_holds, expr_holds, exprs_holds, fetch_holds, or_trap_holds, calls_holds}
 
@@ -92,15 +92,15 @@ same_shapes [] i w = refl
 same_shapes (l ∷ ls) zero w = refl
 same_shapes (l ∷ ls) (suc i) w = ap (λ x. shape l ∷ x) (same_shapes ls i w)
 
-assign_older : (at : Spot) (v : Value) → KeepsOlder (assign at v)
+assign_older : (at : Lvalue) (v : Value) → KeepsOlder (assign at v)
 assign_older (InLocal i t) v = record { keeps = λ s. ([], same_shapes s.locals i _ ∙ sym (append-nil (map shape s.locals))) }
 assign_older (InCell c t) v = record { keeps = λ s. store_keeps s.context c _ s }
 
 pieces_older : (ps : List Piece) (vs : List Value) → KeepsOlder (print_pieces ps vs)
 pieces_older [] vs = pure_older tt
 pieces_older (Literal text ∷ ps) vs = then_older (piece_older text) (pieces_older ps vs)
-pieces_older (Figure t ∷ ps) [] = stop_older Astray
-pieces_older (Figure t ∷ ps) (v ∷ vs) = then_older (piece_older _) (pieces_older ps vs)
+pieces_older (Specifier t ∷ ps) [] = stop_older Astray
+pieces_older (Specifier t ∷ ps) (v ∷ vs) = then_older (piece_older _) (pieces_older ps vs)
 
 on_next_older : {rest : Action Completion} → KeepsOlder rest → (end : Completion) → KeepsOlder (on_next rest end)
 on_next_older h Next = h
@@ -161,16 +161,16 @@ leave_older : (n : ℕ) (mine : List Local) (founds lefts : List Memory) (left :
 leave_older zero mine founds lefts left now h = tt
 leave_older (suc n) mine founds lefts left now h = h
 
-close_older : (kind : Kind) (founds lefts : List Memory) (mine : List Local) (found : Memory) (r : Answer Completion) → WhereGiven r (λ a now. BeginsWithLocals mine now.locals) → WhereGiven (close kind founds lefts mine found r) (λ a now. BeginsWithLocals mine now.locals)
+close_older : (kind : TransactionKind) (founds lefts : List Memory) (mine : List Local) (found : Memory) (r : Answer Completion) → WhereGiven r (λ a now. BeginsWithLocals mine now.locals) → WhereGiven (close kind founds lefts mine found r) (λ a now. BeginsWithLocals mine now.locals)
 close_older kind founds lefts mine found (Gives end now) h = leave_older now.ticks mine founds lefts (left_by kind mine found end now) now (left_older (undoes end kind) mine found end now h)
 close_older kind founds lefts mine found (Stops (Trapped k) now) h = tt
 close_older kind founds lefts mine found r h = tt
 
-inner_older : (outer : Mode) (kind : Kind) (mine : List Local) (found : Memory) (r : Answer Completion) → WhereGiven r (λ a now. BeginsWithLocals mine now.locals) → WhereGiven (close_inner outer kind mine found r) (λ a now. BeginsWithLocals mine now.locals)
+inner_older : (outer : Mode) (kind : TransactionKind) (mine : List Local) (found : Memory) (r : Answer Completion) → WhereGiven r (λ a now. BeginsWithLocals mine now.locals) → WhereGiven (close_inner outer kind mine found r) (λ a now. BeginsWithLocals mine now.locals)
 inner_older outer kind mine found (Gives end now) h = left_older (undoes end kind) mine found end now h
 inner_older outer kind mine found (Stops why now) h = tt
 
-enter_older : (run : Action Completion) → KeepsOlder run → (kind : Kind) (p : Context) (s : State) → WhereGiven (enter p kind run s) (λ a now. BeginsWithLocals s.locals now.locals)
+enter_older : (run : Action Completion) → KeepsOlder run → (kind : TransactionKind) (p : Context) (s : State) → WhereGiven (enter p kind run s) (λ a now. BeginsWithLocals s.locals now.locals)
 enter_older run h kind (Outside [] lefts) s = tt
 enter_older run h kind (Outside (m ∷ founds) lefts) s = close_older kind founds lefts s.locals m (run (record s { context = Inside (mode_of kind) m })) (h.keeps (record s { context = Inside (mode_of kind) m }))
 enter_older run h kind (Inside Relaxed m) s = inner_older Relaxed kind s.locals m (run (record s { context = Inside (mode_of kind) m })) (h.keeps (record s { context = Inside (mode_of kind) m }))
@@ -178,31 +178,31 @@ enter_older run h (Plain Atomic) (Inside Atomic m) s = inner_older Atomic (Plain
 enter_older run h Outer (Inside Atomic m) s = inner_older Atomic Outer s.locals m (run (record s { context = Inside Atomic m })) (h.keeps (record s { context = Inside Atomic m }))
 enter_older run h (Plain Relaxed) (Inside Atomic m) s = tt
 
-transaction_older : (kind : Kind) {run : Action Completion} → KeepsOlder run → KeepsOlder (transaction kind run)
+transaction_older : (kind : TransactionKind) {run : Action Completion} → KeepsOlder run → KeepsOlder (transaction kind run)
 transaction_older kind {run} h = record { keeps = λ s. enter_older run h kind s.context s }
 
 module _ (p : Program) (call : Caller) (h : (x : List ℕ) (vs : List Value) → LeavesLocals (call x vs)) where
   pub expr_older : (e : Expr) → KeepsOlder (expr p call e)
   expr_older e = leaves_older (expr_holds p call h e)
 
-  spot_older : (e : Expr) → KeepsOlder (spot p call e)
-  spot_older (Variable x) = leaves_older (named_holds p call h x.text)
-  spot_older (Element x i at) = on_older (expr_older i) (λ k. leaves_older (element_holds p call h x.text k))
-  spot_older e = stop_older Astray
+  lvalue_older : (e : Expr) → KeepsOlder (lvalue p call e)
+  lvalue_older (Variable x) = leaves_older (named_holds p call h x.text)
+  lvalue_older (Element x i at) = on_older (expr_older i) (λ k. leaves_older (element_holds p call h x.text k))
+  lvalue_older e = stop_older Astray
 
-  changed_older : (at : Spot) {by : Action Value} → KeepsOlder by → (op : BinaryOp) → KeepsOlder (changed p call at by op)
+  changed_older : (at : Lvalue) {by : Action Value} → KeepsOlder by → (op : BinaryOp) → KeepsOlder (assign_by_operator p call at by op)
   changed_older at g op = on_older (leaves_older (fetch_holds at)) (λ old. on_older g (λ v. on_older (leaves_older (or_trap_holds _)) (λ new. assign_older at new)))
 
-  assigned_older : (at : Spot) {by : Action Value} → KeepsOlder by → (op : Option BinaryOp) → KeepsOlder (assigned p call at by op)
+  assigned_older : (at : Lvalue) {by : Action Value} → KeepsOlder by → (op : Option BinaryOp) → KeepsOlder (assign_by p call at by op)
   assigned_older at g None = on_older g (λ v. assign_older at v)
   assigned_older at g (Some op) = changed_older at g op
 
   simple_older : (s : Simple) → KeepsOlder (simple p call s)
   simple_older (Evaluate e) = then_older (expr_older e) (pure_older Next)
-  simple_older (Assign to op e) = on_older (spot_older to) (λ at. then_older (assigned_older at (expr_older e) op) (pure_older Next))
-  simple_older (Adjust to by) = on_older (spot_older to) (λ at. then_older (changed_older at (pure_older int_one) (op_of by)) (pure_older Next))
+  simple_older (Assign to op e) = on_older (lvalue_older to) (λ at. then_older (assigned_older at (expr_older e) op) (pure_older Next))
+  simple_older (Adjust to by) = on_older (lvalue_older to) (λ at. then_older (changed_older at (pure_older int_one) (op_of by)) (pure_older Next))
 
-  first_value_older : (at : Spot) (o : Option Expr) → KeepsOlder (first_value p call at o)
+  first_value_older : (at : Lvalue) (o : Option Expr) → KeepsOlder (first_value p call at o)
   first_value_older at None = pure_older tt
   first_value_older at (Some e) = on_older (expr_older e) (λ v. assign_older at v)
 
@@ -231,11 +231,11 @@ module _ (p : Program) (call : Caller) (h : (x : List ℕ) (vs : List Value) →
   start_older (Declares d) = declare_older d.ty d.declarators
   start_older (Does s) = simple_older s
 
-  pub holds_older : (o : Option Expr) → KeepsOlder (holds p call o)
+  pub holds_older : (o : Option Expr) → KeepsOlder (for_condition p call o)
   holds_older None = pure_older true
   holds_older (Some e) = on_older (expr_older e) (λ v. pure_older _)
 
-  pub stepped_older : (o : Option Simple) → KeepsOlder (stepped p call o)
+  pub stepped_older : (o : Option Simple) → KeepsOlder (optional_step p call o)
   stepped_older None = pure_older None
   stepped_older (Some s) = then_older (simple_older s) (pure_older None)
 

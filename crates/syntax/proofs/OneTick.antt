@@ -2,8 +2,8 @@
 use Rattle.std.proofs.Common.{◌≡◌, ℕ, zero, suc, ◌+◌, ◌≤◌, ◌⊎◌, inl, inr, refl, sym, ap, subst, ◌∙◌, arith, List, [], ◌∷◌, ◌++◌, Option, Some, None, Bool, true, false}
 use Rattle.syntax.specs.declared.tree.Mode.{Mode}
 use Rattle.syntax.specs.declared.tree.Mode.TheVariants.{Atomic, Relaxed}
-use Rattle.syntax.specs.declared.tree.Kind.{Kind}
-use Rattle.syntax.specs.declared.tree.Kind.TheVariants.{Plain, Outer}
+use Rattle.syntax.specs.declared.tree.TransactionKind.{TransactionKind}
+use Rattle.syntax.specs.declared.tree.TransactionKind.TheVariants.{Plain, Outer}
 use Rattle.syntax.specs.declared.numbers.Trap.{Trap}
 use Rattle.syntax.specs.declared.numbers.Halt.TheVariants.{Trapped, Wants, Spent, Astray}
 use Rattle.syntax.specs.Tree.{Program}
@@ -14,7 +14,7 @@ use Rattle.syntax.specs.Meaning.{Completion, after_turn, turns, loop, Left, undo
 use Rattle.syntax.specs.Threads.{outcome_of, first_state, worker_run, thread}
 use Rattle.syntax.specs.Laws.{IsPieceOf, ShowsOneMore, OneTickMore}
 use Rattle.syntax.proofs.Further.{state_of}
-use Rattle.syntax.proofs.Kept.{IsKept, any_cells, worker_holds}
+use Rattle.syntax.proofs.Preserved.{IsPreserved, any_cells, worker_holds}
 
 -- nothing left between two contexts, and one memory left
 abbrev Quiet : Context → Context → Type 0
@@ -397,7 +397,7 @@ module _ (program : Program) where
     leave_shown t zero end u left e i f x = (f, carried {A = Completion} {B = Completion} t (Gives end u) founds lefts (Stops Spent (record u { context = Outside founds lefts })) i x refl refl tt)
     leave_shown t (suc n) end u left e i f x = absurd (cc)
 
-    module _ (kind : Kind) (mine : List Local) (found : Memory) where
+    module _ (kind : TransactionKind) (mine : List Local) (found : Memory) where
       close_falls : (n : ℕ) (r : Answer Completion) → (state_of r).ticks ≤ n → (state_of (close kind founds lefts mine found r)).ticks ≤ n
       close_falls n (Gives end now) b = let c : (state_of (leave_at now.ticks now founds lefts (left_by kind mine found end now))).ticks ≤ now.ticks = leave_falls now.ticks now (left_by kind mine found end now) refl in omega (arith, b, c)
       close_falls n (Stops (Trapped k) now) b = b
@@ -433,7 +433,7 @@ module _ (program : Program) where
       close_one (Stops Spent t) more i e = close_shown t more i e.0 e.1
 
   -- an inner transaction
-  module _ (outer : Mode) (kind : Kind) (mine : List Local) (found : Memory) where
+  module _ (outer : Mode) (kind : TransactionKind) (mine : List Local) (found : Memory) where
     inner_falls : (n : ℕ) (r : Answer Completion) → (state_of r).ticks ≤ n → (state_of (close_inner outer kind mine found r)).ticks ≤ n
     inner_falls n (Gives end now) b = b
     inner_falls n (Stops why now) b = b
@@ -471,7 +471,7 @@ module _ (program : Program) where
     stays_in : (mode : Mode) (m : Memory) (n : ℕ) (ls : List Local) (t : List ℕ) → IsInside (state_of (run (from mode m n ls t))).context
     stays_in mode m n ls t = inside_side mode m (state_of (run (from mode m n ls t))).context (h.side (from mode m n ls t))
 
-    enter_falls : (kind : Kind) (p : Context) (n : ℕ) (ls : List Local) (t : List ℕ) → (state_of (enter p kind run (state n ls p t))).ticks ≤ n
+    enter_falls : (kind : TransactionKind) (p : Context) (n : ℕ) (ls : List Local) (t : List ℕ) → (state_of (enter p kind run (state n ls p t))).ticks ≤ n
     enter_falls kind (Outside [] lefts) n ls t = omega arith
     enter_falls kind (Outside (m ∷ founds) lefts) n ls t = close_falls founds lefts kind ls m n (run (from (mode_of kind) m n ls t)) (h.falls (from (mode_of kind) m n ls t))
     enter_falls kind (Inside Relaxed m) n ls t = inner_falls Relaxed kind ls m n (run (from (mode_of kind) m n ls t)) (h.falls (from (mode_of kind) m n ls t))
@@ -479,7 +479,7 @@ module _ (program : Program) where
     enter_falls Outer (Inside Atomic m) n ls t = inner_falls Atomic Outer ls m n (run (from Atomic m n ls t)) (h.falls (from Atomic m n ls t))
     enter_falls (Plain Relaxed) (Inside Atomic m) n ls t = omega arith
 
-    enter_side : (kind : Kind) (p : Context) (n : ℕ) (ls : List Local) (t : List ℕ) → SameSide p (state_of (enter p kind run (state n ls p t))).context
+    enter_side : (kind : TransactionKind) (p : Context) (n : ℕ) (ls : List Local) (t : List ℕ) → SameSide p (state_of (enter p kind run (state n ls p t))).context
     enter_side kind (Outside [] lefts) n ls t = tt
     enter_side kind (Outside (m ∷ founds) lefts) n ls t = close_side founds lefts kind ls m (m ∷ founds) lefts (run (from (mode_of kind) m n ls t))
     enter_side kind (Inside Relaxed m) n ls t = inner_side Relaxed kind ls m (mode_of kind) (run (from (mode_of kind) m n ls t)) (h.side (from (mode_of kind) m n ls t))
@@ -487,7 +487,7 @@ module _ (program : Program) where
     enter_side Outer (Inside Atomic m) n ls t = inner_side Atomic Outer ls m Atomic (run (from Atomic m n ls t)) (h.side (from Atomic m n ls t))
     enter_side (Plain Relaxed) (Inside Atomic m) n ls t = tt
 
-    enter_idle : (kind : Kind) (p : Context) (n : ℕ) (ls : List Local) (t : List ℕ) → n ≡ 0 → IsIdle (state n ls p t) (enter p kind run (state n ls p t))
+    enter_idle : (kind : TransactionKind) (p : Context) (n : ℕ) (ls : List Local) (t : List ℕ) → n ≡ 0 → IsIdle (state n ls p t) (enter p kind run (state n ls p t))
     enter_idle kind (Outside [] lefts) n ls t e = record { ticks = e; text = refl; context = refl; free = tt }
     enter_idle kind (Outside (m ∷ founds) lefts) n ls t e = close_idle founds lefts kind ls m (mode_of kind) n ls t (run (from (mode_of kind) m n ls t)) (h.idle (from (mode_of kind) m n ls t) e)
     enter_idle kind (Inside Relaxed m) n ls t e = inner_idle Relaxed kind ls m (mode_of kind) n ls t (run (from (mode_of kind) m n ls t)) (h.idle (from (mode_of kind) m n ls t) e)
@@ -495,7 +495,7 @@ module _ (program : Program) where
     enter_idle Outer (Inside Atomic m) n ls t e = inner_idle Atomic Outer ls m Atomic n ls t (run (from Atomic m n ls t)) (h.idle (from Atomic m n ls t) e)
     enter_idle (Plain Relaxed) (Inside Atomic m) n ls t e = record { ticks = e; text = refl; context = tt; free = tt }
 
-    enter_one : (kind : Kind) (p : Context) (n : ℕ) (ls : List Local) (t : List ℕ) → OneMore (enter p kind run (state n ls p t)) (enter p kind run (state (suc n) ls p t))
+    enter_one : (kind : TransactionKind) (p : Context) (n : ℕ) (ls : List Local) (t : List ℕ) → OneMore (enter p kind run (state n ls p t)) (enter p kind run (state (suc n) ls p t))
     enter_one kind (Outside [] lefts) n ls t = refl
     enter_one kind (Outside (m ∷ founds) lefts) n ls t = close_one founds lefts kind ls m (run (from (mode_of kind) m n ls t)) (run (from (mode_of kind) m (suc n) ls t)) (stays_in (mode_of kind) m n ls t) (h.one (from (mode_of kind) m n ls t))
     enter_one kind (Inside Relaxed m) n ls t = inner_one Relaxed kind ls m (run (from (mode_of kind) m n ls t)) (run (from (mode_of kind) m (suc n) ls t)) (stays_in (mode_of kind) m n ls t) (h.one (from (mode_of kind) m n ls t))
@@ -519,7 +519,7 @@ module _ (program : Program) where
   begin_one (Outside f l) s = tick_slow.one s
   begin_one (Inside mode m) s = refl
 
-  slow_kept : IsKept (IsPieceOf program) (λ c t. Unit {0}) (λ A run. IsSlow run)
+  slow_kept : IsPreserved (IsPieceOf program) (λ c t. Unit {0}) (λ A run. IsSlow run)
   slow_kept = record {
     pure_holds = pure_slow;
     on_holds = on_slow;

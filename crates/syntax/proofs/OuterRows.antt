@@ -4,7 +4,7 @@ use Rattle.std.specs.Prelude.{codes}
 use Rattle.std.specs.Fmt.{digits}
 use Rattle.lex.specs.declared.token.Scalar.TheVariants.{Int}
 use Rattle.syntax.specs.declared.tree.Mode.TheVariants.{Relaxed}
-use Rattle.syntax.specs.declared.tree.Kind.TheVariants.{Plain, Outer}
+use Rattle.syntax.specs.declared.tree.TransactionKind.TheVariants.{Plain, Outer}
 use Rattle.syntax.specs.declared.numbers.Halt.TheVariants.{Spent, Astray}
 use Rattle.syntax.specs.Tree as Tree
 use Rattle.syntax.specs.Tree.{Stmt, Stmts, Declare, Block, Print, While, Transaction, CancelOuter, Program}

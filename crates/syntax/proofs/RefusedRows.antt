@@ -17,7 +17,7 @@ abbrev at : ℕ → Span
 at n = record { start = n; end = n + 1 }
 
 abbrev named : List ℕ → ℕ → Name
-named x n = record { text = x; at = at n }
+named x n = record { text = x; span = at n }
 
 abbrev void : List ℕ → Stmts → Item
 void f body = Defines (record { attributes = []; result = None; name = called f; parameters = []; body = Some body })

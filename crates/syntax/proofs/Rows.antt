@@ -4,7 +4,7 @@ use Rattle.std.specs.Prelude.{codes}
 use Rattle.lex.specs.declared.token.Span.{Span}
 use Rattle.lex.specs.declared.token.Scalar.TheVariants.{Int}
 use Rattle.syntax.specs.declared.tree.Mode.TheVariants.{Atomic}
-use Rattle.syntax.specs.declared.tree.Kind.TheVariants.{Plain}
+use Rattle.syntax.specs.declared.tree.TransactionKind.TheVariants.{Plain}
 use Rattle.syntax.specs.Tree as Tree
 use Rattle.syntax.specs.Tree.{Name, Expr, Variable, Constant, Assign, Stmt, Stmts, Do, Transaction, Item, Defines, Shares, Program}
 use Rattle.syntax.specs.declared.numbers.Halt.TheVariants.{Wants, Spent}
@@ -15,7 +15,7 @@ abbrev pub here : Span
 here = record { start = 0; end = 0 }
 
 abbrev pub called : List ℕ → Name
-called t = record { text = t; at = here }
+called t = record { text = t; span = here }
 
 abbrev pub var : List ℕ → Expr
 var x = Variable (called x)

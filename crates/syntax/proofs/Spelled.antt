@@ -24,7 +24,7 @@ abbrev x_token : ℕ → Tok
 x_token n = record { terminal = name (120 ∷ []); span = byte n }
 
 abbrev x_name : ℕ → Name
-x_name n = record { text = 120 ∷ []; at = byte n }
+x_name n = record { text = 120 ∷ []; span = byte n }
 
 -- `int x;`, of tokens one byte long
 pub one_variable : Spells (record { program = Shares (record { ty = Int; name = x_name 2; length = None; first = [] } ∷ []) ∷ []; ends = 5 }) (sign (Keyword key.Int) 0 ∷ x_token 2 ∷ sign (Punctuator punct.Semicolon) 4 ∷ [])

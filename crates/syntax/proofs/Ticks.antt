@@ -2,8 +2,8 @@
 use Rattle.std.proofs.Common.{ℕ, zero, suc, ◌≤◌, List, [], ◌∷◌, ◌++◌, Option, Some, None, arith}
 use Rattle.syntax.specs.declared.tree.Mode.{Mode}
 use Rattle.syntax.specs.declared.tree.Mode.TheVariants.{Atomic, Relaxed}
-use Rattle.syntax.specs.declared.tree.Kind.{Kind}
-use Rattle.syntax.specs.declared.tree.Kind.TheVariants.{Plain, Outer}
+use Rattle.syntax.specs.declared.tree.TransactionKind.{TransactionKind}
+use Rattle.syntax.specs.declared.tree.TransactionKind.TheVariants.{Plain, Outer}
 use Rattle.syntax.specs.declared.numbers.Halt.TheVariants.{Trapped}
 use Rattle.syntax.specs.Names.{Local}
 use Rattle.syntax.specs.Behaviours.{Memory}
@@ -11,7 +11,7 @@ use Rattle.syntax.specs.Actions.{Context, Outside, Inside, State, Answer, Gives,
 use Rattle.syntax.specs.Tree.{Program, Simple}
 use Rattle.syntax.specs.Meaning.{simple, calls, Completion, after_turn, turns, Left, left_by, close_inner, close, enter, mode_of, begin_at}
 use Rattle.syntax.specs.Laws.{TicksNeverGrow}
-use Rattle.syntax.proofs.Kept.{IsAlwaysKept, each_expr_holds, each_simple_holds, each_stmt_holds}
+use Rattle.syntax.proofs.Preserved.{IsAlwaysPreserved, each_expr_holds, each_simple_holds, each_stmt_holds}
 
 record Falls {A : Type 0} (run : Action A) : Type 0 where
   falls : (s : State) → (state_of (run s)).ticks ≤ s.ticks
@@ -51,12 +51,12 @@ leave_falls : (n k : ℕ) (now : State) (founds lefts : List Memory) (left : Lef
 leave_falls n zero now founds lefts left h k = h
 leave_falls n (suc k) now founds lefts left h below = omega (arith, below)
 
-close_falls : (n : ℕ) (kind : Kind) (m : Memory) (founds lefts : List Memory) (mine : List Local) (r : Answer Completion) → (state_of r).ticks ≤ n → (state_of (close kind founds lefts mine m r)).ticks ≤ n
+close_falls : (n : ℕ) (kind : TransactionKind) (m : Memory) (founds lefts : List Memory) (mine : List Local) (r : Answer Completion) → (state_of r).ticks ≤ n → (state_of (close kind founds lefts mine m r)).ticks ≤ n
 close_falls n kind m founds lefts mine (Gives end now) c = leave_falls n now.ticks now founds lefts (left_by kind mine m end now) c c
 close_falls n kind m founds lefts mine (Stops (Trapped k) now) c = c
 close_falls n kind m founds lefts mine r c = c
 
-close_inner_falls : (n : ℕ) (outer : Mode) (kind : Kind) (m : Memory) (mine : List Local) (r : Answer Completion) → (state_of r).ticks ≤ n → (state_of (close_inner outer kind mine m r)).ticks ≤ n
+close_inner_falls : (n : ℕ) (outer : Mode) (kind : TransactionKind) (m : Memory) (mine : List Local) (r : Answer Completion) → (state_of r).ticks ≤ n → (state_of (close_inner outer kind mine m r)).ticks ≤ n
 close_inner_falls n outer kind m mine (Gives end now) c = c
 close_inner_falls n outer kind m mine (Stops why now) c = c
 
@@ -64,10 +64,10 @@ begin_falls : (p : Context) (s : State) → (state_of (begin_at p s)).ticks ≤ 
 begin_falls (Outside founds lefts) s = spend_falls s.ticks s (omega arith)
 begin_falls (Inside mode m) s = omega arith
 
-inside : (kind : Kind) (m : Memory) → State → State
+inside : (kind : TransactionKind) (m : Memory) → State → State
 inside kind m s = record s { context = Inside (mode_of kind) m }
 
-enter_falls : (kind : Kind) (run : Action Completion) → Falls run → (p : Context) (s : State) → (state_of (enter p kind run s)).ticks ≤ s.ticks
+enter_falls : (kind : TransactionKind) (run : Action Completion) → Falls run → (p : Context) (s : State) → (state_of (enter p kind run s)).ticks ≤ s.ticks
 unfolding inside
 enter_falls kind run h (Outside [] lefts) s = omega arith
 enter_falls kind run h (Outside (m ∷ founds) lefts) s = close_falls s.ticks kind m founds lefts s.locals (run (inside kind m s)) (h.falls (inside kind m s))
@@ -79,7 +79,7 @@ enter_falls (Plain Relaxed) run h (Inside Atomic m) s = omega arith
 on_falling : {A B : Type 0} {run : Action A} {rest : A → Action B} → Falls run → ((a : A) → Falls (rest a)) → Falls (run >>= rest)
 on_falling {run = run} {rest = rest} g h = record { falls = λ s. on_falls s.ticks (run s) rest (g.falls s) (λ a t. (h a).falls t) }
 
-falls_kept : IsAlwaysKept (λ A run. Falls run)
+falls_kept : IsAlwaysPreserved (λ A run. Falls run)
 falls_kept = record {
   pure_holds = λ a. record { falls = λ s. omega arith };
   on_holds = on_falling;

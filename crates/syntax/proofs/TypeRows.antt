@@ -17,7 +17,7 @@ abbrev place : ℕ → ℕ → Span
 place start end = record { start = start; end = end }
 
 abbrev name_at : List ℕ → ℕ → ℕ → Name
-name_at x start end = record { text = x; at = place start end }
+name_at x start end = record { text = x; span = place start end }
 
 -- W{ atomic { z = 1; } }: no name z is known
 abbrev sets_unknown : Program

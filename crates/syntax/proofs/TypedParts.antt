@@ -7,7 +7,7 @@ use Rattle.lex.specs.declared.token.Scalar.{Scalar}
 use Rattle.syntax.specs.Tree as Tree
 use Rattle.syntax.specs.Tree.{Name, Expr, Exprs, Variable, Constant, Element, Call, Parenthesized, Cast, Unary, Binary, Logical, Conditional, InTransaction, Simple, Evaluate, Assign, Adjust, Declarator, Start, Nothing, Declares, Does, Stmt, Stmts, Empty, Declare, Do, Block, Print, If, IfElse, While, DoWhile, For, Break, Continue, Return, Transaction, Cancel, CancelOuter}
 use Rattle.syntax.specs.Types.{Scope, with_number}
-use Rattle.syntax.specs.Formats.{pieces, is_format, figures}
+use Rattle.syntax.specs.Formats.{pieces, is_format, specifiers}
 use Rattle.syntax.specs.Typing.{is_unknown, may_be_number, may_be_array, may_be_function, takes_so_many, count, span_of, is_void, has_name, scope_after, names_of, scope_of_start, returns_right, may_be_assigned, Demand, demand, demands_of, IsKnown, GivesNumber, IsTyped, AreNumbers, IsNumber, IsTypedTarget, IsAssignable, IsTypedSimple, HaveTypes, IsTypedPrint, AreTypedDeclarators, IsTypedStart, IsTypedStmt, AreTypedStmts}
 use Rattle.syntax.proofs.Demands.{AreMet, met_before, met_behind, is_met}
 
@@ -38,7 +38,7 @@ module _ (known : Scope) where
     TypedExprs (Exprs.◌∷◌ e es) = TypedExpr e × TypedExprs es
 
   known_part : (x : Name) → AreMet (IsKnown known x) → Knows x
-  known_part x h = is_met 20 x.at (not (is_unknown (known x.text))) h
+  known_part x h = is_met 20 x.span (not (is_unknown (known x.text))) h
 
   number_part : (e : Expr) → AreMet (IsNumber known e) → AreMet (IsTyped known e)
   number_part e h = met_before (IsTyped known e) (GivesNumber known e) h
@@ -49,8 +49,8 @@ module _ (known : Scope) where
   mutual
     pub expr_parts : (e : Expr) → AreMet (IsTyped known e) → TypedExpr e
     expr_parts (Variable x) h =
-        let number = demand 22 x.at (may_be_number (known x.text)) in
-        (known_part x (met_before (IsKnown known x) number h), is_met 22 x.at (may_be_number (known x.text)) (met_behind (IsKnown known x) number h))
+        let number = demand 22 x.span (may_be_number (known x.text)) in
+        (known_part x (met_before (IsKnown known x) number h), is_met 22 x.span (may_be_number (known x.text)) (met_behind (IsKnown known x) number h))
     expr_parts (Constant n t at) h = tt
     expr_parts (Element x i at) h =
         let array = demand 22 at (may_be_array (known x.text)) in
@@ -61,13 +61,13 @@ module _ (known : Scope) where
         )
     expr_parts (Call f es at) h =
         let function = demand 22 at (may_be_function (known f.text)) in
-        let so_many = demand 23 f.at (takes_so_many (known f.text) (count es)) in
+        let so_many = demand 23 f.span (takes_so_many (known f.text) (count es)) in
         let first = met_before (IsKnown known f ++ AreNumbers known es) (function ++ so_many) h in
         let last = met_behind (IsKnown known f ++ AreNumbers known es) (function ++ so_many) h in (
           known_part f (met_before (IsKnown known f) (AreNumbers known es) first),
           exprs_parts es (met_behind (IsKnown known f) (AreNumbers known es) first),
           is_met 22 at (may_be_function (known f.text)) (met_before function so_many last),
-          is_met 23 f.at (takes_so_many (known f.text) (count es)) (met_behind function so_many last),
+          is_met 23 f.span (takes_so_many (known f.text) (count es)) (met_behind function so_many last),
         )
     expr_parts (Parenthesized e at) h = expr_parts e h
     expr_parts (Cast t e at) h = expr_parts e (number_part e h)
@@ -107,7 +107,7 @@ module _ (known : Scope) where
   TypedSimple (Adjust to by) = TypedTarget to × IsTrue (may_be_assigned known to)
 
   abbrev pub TypedPrint : List ℕ → Exprs → Type 0
-  TypedPrint format es = TypedExprs es × IsTrue (length (figures (pieces format)) == count es)
+  TypedPrint format es = TypedExprs es × IsTrue (length (specifiers (pieces format)) == count es)
 
   target_parts : (to : Expr) → AreMet (IsTypedTarget known to) → TypedTarget to
   target_parts (Variable x) h = known_part x h
@@ -139,7 +139,7 @@ module _ (known : Scope) where
 
   pub print_parts : (format : List ℕ) (at : Span) (es : Exprs) → AreMet (IsTypedPrint known format at es) → TypedPrint format es
   print_parts format at es h =
-      let printed = figures (pieces format) in
+      let printed = specifiers (pieces format) in
       let right = is_format format && (length printed == count es) in
       let first = met_before (AreNumbers known es ++ demand 27 at right) (HaveTypes known printed es) h in (
         exprs_parts es (met_before (AreNumbers known es) (demand 27 at right) first),
@@ -161,7 +161,7 @@ pub declarators_parts : (known : Scope) (declared : List (List ℕ)) (t : Scalar
 declarators_parts known declared t [] h = tt
 declarators_parts known declared t (d ∷ ds) h =
     let known' = with_number d.name.text t known in
-    let new = demand 21 d.name.at (not (has_name declared d.name.text)) in
+    let new = demand 21 d.name.span (not (has_name declared d.name.text)) in
     let own = demands_of d.first (IsNumber known') in
     let others = AreTypedDeclarators known' (d.name.text ∷ declared) t ds in (
       parts_of (TypedExpr known') (IsNumber known') d.first (of_number known') (met_behind new own (met_before (new ++ own) others h)),

@@ -3,8 +3,8 @@ use Rattle.std.proofs.Common.{◌≡◌, ℕ, zero, suc, ◌+◌, ◌<◌, ◌�
 use Rattle.std.specs.Prelude.{◌==◌, slice_index}
 use Rattle.std.proofs.lemmas.List.{drop-drop, drop_more}
 use Rattle.syntax.specs.Tree.{Scalar}
-use Rattle.syntax.specs.Formats.{Figure, figure_at, pieces_from, pieces, is_format_from, is_format}
-use Rattle.syntax.specs.Units.{IsFigureAt}
+use Rattle.syntax.specs.Formats.{Specifier, specifier_at, pieces_from, pieces, is_format_from, is_format}
+use Rattle.syntax.specs.Units.{IsSpecifierAt}
 
 -- bytes that are used up say nothing
 used_pieces : (n : ℕ) (cs : List ℕ) → pieces_from n cs ≡ pieces (drop n cs)
@@ -18,22 +18,22 @@ used_format (suc n) [] = refl
 used_format (suc n) (c ∷ cs) = used_format n cs
 
 -- a number behind a percent sign
-figure_pieces : (c : ℕ) (rest : List ℕ) (f : Scalar × ℕ) → (c == 37) ≡ true → figure_at rest ≡ Some f → pieces (c ∷ rest) ≡ Figure f.0 ∷ pieces (drop f.1 rest)
-figure_pieces c [] f h is = absurd cc
-figure_pieces c (b ∷ rest) f h is = rw (h, is) (ap (λ ps. Figure f.0 ∷ ps) (used_pieces f.1 (b ∷ rest)))
+specifier_pieces : (c : ℕ) (rest : List ℕ) (f : Scalar × ℕ) → (c == 37) ≡ true → specifier_at rest ≡ Some f → pieces (c ∷ rest) ≡ Specifier f.0 ∷ pieces (drop f.1 rest)
+specifier_pieces c [] f h is = absurd cc
+specifier_pieces c (b ∷ rest) f h is = rw (h, is) (ap (λ ps. Specifier f.0 ∷ ps) (used_pieces f.1 (b ∷ rest)))
 
-figure_right : (c : ℕ) (rest : List ℕ) (f : Scalar × ℕ) → (c == 37) ≡ true → figure_at rest ≡ Some f → is_format (c ∷ rest) ≡ is_format (drop f.1 rest)
-figure_right c [] f h is = absurd cc
-figure_right c (b ∷ rest) f h is = rw (h, is) (used_format f.1 (b ∷ rest))
+specifier_right : (c : ℕ) (rest : List ℕ) (f : Scalar × ℕ) → (c == 37) ≡ true → specifier_at rest ≡ Some f → is_format (c ∷ rest) ≡ is_format (drop f.1 rest)
+specifier_right c [] f h is = absurd cc
+specifier_right c (b ∷ rest) f h is = rw (h, is) (used_format f.1 (b ∷ rest))
 
-pub figure_is : (format : List ℕ) (i : ℕ) (f : Scalar × ℕ) → i < length format → (slice_index format i == 37) ≡ true → figure_at (drop (i + 1) format) ≡ Some f → i + 1 + f.1 ≤ length format → IsFigureAt f.0 (i + 1 + f.1) format i
-figure_is format i f less percent is fits =
+pub specifier_is : (format : List ℕ) (i : ℕ) (f : Scalar × ℕ) → i < length format → (slice_index format i == 37) ≡ true → specifier_at (drop (i + 1) format) ≡ Some f → i + 1 + f.1 ≤ length format → IsSpecifierAt f.0 (i + 1 + f.1) format i
+specifier_is format i f less percent is fits =
     let c = slice_index format i in
     let here : drop i format ≡ c ∷ drop (i + 1) format = drop_more format i 0 less in
     let behind : drop f.1 (drop (i + 1) format) ≡ drop (i + 1 + f.1) format = drop-drop f.1 (i + 1) format in
     record {
-      is = ap pieces here ∙ figure_pieces c (drop (i + 1) format) f percent is ∙ ap (λ cs. Figure f.0 ∷ pieces cs) behind;
-      right = ap is_format here ∙ figure_right c (drop (i + 1) format) f percent is ∙ ap is_format behind;
+      is = ap pieces here ∙ specifier_pieces c (drop (i + 1) format) f percent is ∙ ap (λ cs. Specifier f.0 ∷ pieces cs) behind;
+      right = ap is_format here ∙ specifier_right c (drop (i + 1) format) f percent is ∙ ap is_format behind;
       after = omega arith;
       within = fits;
     }

@@ -7,7 +7,7 @@ use Rattle.lex.specs.declared.token.Scalar.TheVariants.{Int}
 use Rattle.syntax.specs.declared.tree.Mode.TheVariants.{Atomic, Relaxed}
 use Rattle.syntax.specs.declared.numbers.Trap.TheVariants.{OutOfRange}
 use Rattle.syntax.specs.declared.numbers.Halt.TheVariants.{Trapped, Wants, Spent}
-use Rattle.syntax.specs.declared.tree.Initializer.{Initializer}
+use Rattle.syntax.specs.declared.tree.Initialiser.{Initialiser}
 use Rattle.syntax.specs.Tree as Tree
 use Rattle.syntax.specs.Tree.{Expr, Call, InTransaction, Evaluate, Stmt, Declare, Do, Print, Defines, Shares, Program}
 use Rattle.syntax.specs.Behaviours.{Ended, Stopped}
@@ -85,7 +85,7 @@ inside_5 : thread inside 0 ((5 ∷ []) ∷ []) 5 ≡ record { lefts = (7 ∷ [])
 inside_5 = refl
 
 -- int x = 2147483647; W{ printf("a"); int v = 1 + __transaction_atomic(x + 1); }: a trap leaves the memory that was found
-abbrev greatest : Initializer
+abbrev greatest : Initialiser
 greatest = record { negative = false; value = 2 ^ 31 - 1; ty = Int; span = here }
 
 abbrev traps : Program

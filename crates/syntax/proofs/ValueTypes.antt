@@ -22,7 +22,7 @@ use Rattle.syntax.specs.Types.{Known, Unknown, Number, Array, Callable, known_gl
 use Rattle.syntax.specs.Typing.{same_type, same_result, agrees, may_be_function, has_name, defined_names, is_worker, demand, AreDistinct, IsTypedBody, IsTypedFunction, IsTypedItem, AreTypedItems, AreDefined, IsTypedProgram}
 use Rattle.syntax.proofs.Demands.{AreMet, met_before, met_behind, is_met}
 use Rattle.syntax.specs.Actions.{Context, Outside, Inside, State, Answer, Gives, Stops, Action, pure, stop, go_on, ◌>>=◌, ◌>>◌, spend, tick, trap, or_trap, or_astray, locals, put_locals, load_at}
-use Rattle.syntax.specs.Meaning.{Spot, InLocal, InCell, fetch, Completion, Next, Breaks, Continues, Returns, Cancels, CancelsOuter, spot_from, element, expr, exprs, stmts, call_locals, result_of, Caller, calls}
+use Rattle.syntax.specs.Meaning.{Lvalue, InLocal, InCell, fetch, Completion, Next, Breaks, Continues, Returns, Cancels, CancelsOuter, lvalue_from, element, expr, exprs, stmts, call_locals, result_of, Caller, calls}
 use Rattle.syntax.specs.Laws.{WhereGiven, GivesItsType}
 use Rattle.syntax.proofs.Expressions.{expr_holds, calls_holds, value_transaction_gives}
 
@@ -164,7 +164,7 @@ module _ (p : Program) where
       some_global a b e = ap (λ o. unwrap_or o a) e
 
   -- a variable: the newest local of its name, else a global
-  variable_typed : (call : Caller) (x : List ℕ) (l : Option (ℕ × Scalar)) (s : State) → GivesType (number_type (in_scope p l x)) (go_on (spot_from p call x l s) fetch)
+  variable_typed : (call : Caller) (x : List ℕ) (l : Option (ℕ × Scalar)) (s : State) → GivesType (number_type (in_scope p l x)) (go_on (lvalue_from p call x l s) fetch)
   variable_typed call x (Some l) s = λ t f. some_same l.1 t f
   variable_typed call x None s =
       let o = number_type (file_scope p x) in
@@ -177,7 +177,7 @@ module _ (p : Program) where
   element_typed : (call : Caller) (x : List ℕ) (k : Value) (l : Option (ℕ × Scalar)) (s : State) → GivesType (element_type (in_scope p l x)) (go_on (element p call x k s) fetch)
   element_typed call x k (Some l) s = on_any None (element p call x k s) fetch (λ at u. fetch_none at u)
     where
-      fetch_none : (at : Spot) (u : State) → GivesType None (fetch at u)
+      fetch_none : (at : Lvalue) (u : State) → GivesType None (fetch at u)
       fetch_none (InLocal i t) u = λ t f. none_some t f
       fetch_none (InCell c t) u = fetched None c t u.context u (λ t f. none_some t f)
   element_typed call x k None s =
@@ -188,7 +188,7 @@ module _ (p : Program) where
       tested o true at t h = fetched o at t s.context s h
       tested o false at t h = untrapped o s.ticks
         where
-          untrapped : (o : Option Scalar) (n : ℕ) → GivesType o (go_on (go_on (spend n s) (λ _. stop {A = Spot} (Trapped Index))) fetch)
+          untrapped : (o : Option Scalar) (n : ℕ) → GivesType o (go_on (go_on (spend n s) (λ _. stop {A = Lvalue} (Trapped Index))) fetch)
           untrapped o zero = tt
           untrapped o (suc n) = tt
 
@@ -211,7 +211,7 @@ global_known : (ty : Scalar) (length : Option (ℕ × Span)) (last : Known) → 
 global_known ty None last = refl
 global_known ty (Some n) last = refl
 
-among_known : (gs : List Global) (rest whole : Scope) (x : List ℕ) (last : Known) → whole x ≡ or_known (rest x) last → known_among gs whole x ≡ or_known (known_among gs rest x) last
+pub among_known : (gs : List Global) (rest whole : Scope) (x : List ℕ) (last : Known) → whole x ≡ or_known (rest x) last → known_among gs whole x ≡ or_known (known_among gs rest x) last
 among_known [] rest whole x last e = e
 among_known (g ∷ gs) rest whole x last e = if_or_known (bytes_eq g.name.text x) (known_global g) (known_among gs rest x) last (known_among gs whole x) (global_known g.ty g.length last) (among_known gs rest whole x last e)
 
@@ -259,11 +259,11 @@ rest_met earlier i items h = met_behind (IsTypedItem earlier i) (AreTypedItems (
 
 pub agrees_before : (earlier items : List Item) (f : Function) → AreMet (AreTypedItems earlier (Defines f ∷ items)) → IsTrue (agrees f (file_scope earlier f.name.text))
 agrees_before earlier items f h =
-    let name = demand 21 f.name.at (may_be_function (file_scope earlier f.name.text) && (is_none f.body || not (has_name (defined_names earlier) f.name.text))) in
-    let type = demand 22 f.name.at (agrees f (file_scope earlier f.name.text)) in
+    let name = demand 21 f.name.span (may_be_function (file_scope earlier f.name.text) && (is_none f.body || not (has_name (defined_names earlier) f.name.text))) in
+    let type = demand 22 f.name.span (agrees f (file_scope earlier f.name.text)) in
     let own : AreMet (IsTypedFunction earlier f) = met_before (IsTypedFunction earlier f) (AreTypedItems (earlier ++ Defines f ∷ []) items) h in
     let both : AreMet (name ++ type) = met_before (name ++ type) (AreDistinct [] f.parameters) (met_before (name ++ type ++ AreDistinct [] f.parameters) (IsTypedBody earlier f f.body) own) in
-    is_met 22 f.name.at (agrees f (file_scope earlier f.name.text)) (met_behind name type both)
+    is_met 22 f.name.span (agrees f (file_scope earlier f.name.text)) (met_behind name type both)
 
 agreed_from : (earlier items : List Item) (f : List ℕ) (t : Scalar) (d : Function × Stmts) → AreMet (AreTypedItems earlier items) → call_type (file_scope (earlier ++ items) f) ≡ Some t → definition_of items f ≡ Some d → d.0.result ≡ Some t
 agreed_from earlier [] f t d h e g = absurd (cc)

@@ -13,8 +13,8 @@ use Rattle.syntax.specs.declared.tree.BinaryOp.TheVariants.{ShiftLeft, ShiftRigh
 use Rattle.syntax.specs.declared.tree.LogicalOp.TheVariants.{AndThen, OrElse}
 use Rattle.syntax.specs.declared.tree.Mode.{Mode}
 use Rattle.syntax.specs.declared.tree.Mode.TheVariants.{Atomic, Relaxed}
-use Rattle.syntax.specs.declared.tree.Kind.{Kind}
-use Rattle.syntax.specs.declared.tree.Kind.TheVariants.{Plain, Outer}
+use Rattle.syntax.specs.declared.tree.TransactionKind.{TransactionKind}
+use Rattle.syntax.specs.declared.tree.TransactionKind.TheVariants.{Plain, Outer}
 use Rattle.syntax.specs.declared.numbers.Trap.{Trap}
 use Rattle.syntax.specs.declared.numbers.Trap.TheVariants.{Index, Frames}
 use Rattle.syntax.specs.declared.numbers.Halt.{Halt}
@@ -27,14 +27,14 @@ use Rattle.syntax.specs.Types.{type_of, running_scope}
 use Rattle.syntax.specs.Names.{Local, newest, newest_from, word_at, with_word, GlobalCells, cells, global_of, definition_of, bounds}
 use Rattle.syntax.specs.Behaviours.{Memory, IsMemory}
 use Rattle.syntax.specs.Actions.{Context, Outside, Inside, State, Answer, Gives, Stops, Action, pure, stop, go_on, ◌>>=◌, ◌>>◌, spend, tick, trap, or_trap, or_astray, locals, put_locals, load_at, store, may_print_at, may_print, write, print_piece, memory_in}
-use Rattle.syntax.specs.Formats.{Piece, Literal, Figure, pieces}
-use Rattle.syntax.specs.Meaning.{Spot, InLocal, InCell, fetch, assign, print_pieces, Completion, Next, Breaks, Continues, Returns, Cancels, CancelsOuter, mode_of, begin_at, value_at, on_next, in_scope, after_turn, turns, loop, after_body, Left, undoes, left_or, left_by, close_inner, close, enter, transaction, op_of, int_one, Caller, spot_from, named, element, expr, exprs, spot, changed, assigned, simple, first_value, declare, start_with, holds, stepped, return_value, stmt, stmts, parameter_local, call_locals, result_of, invoke, calls}
+use Rattle.syntax.specs.Formats.{Piece, Literal, Specifier, pieces}
+use Rattle.syntax.specs.Meaning.{Lvalue, InLocal, InCell, fetch, assign, print_pieces, Completion, Next, Breaks, Continues, Returns, Cancels, CancelsOuter, mode_of, begin_at, value_at, on_next, in_scope, after_turn, turns, loop, after_body, Left, undoes, left_or, left_by, close_inner, close, enter, transaction, op_of, int_one, Caller, lvalue_from, lvalue_of_name, element, expr, exprs, lvalue, assign_by_operator, assign_by, simple, first_value, declare, start_with, for_condition, optional_step, return_value, stmt, stmts, parameter_local, call_locals, result_of, invoke, calls}
 use Rattle.syntax.specs.Laws.{WhereGiven, StaysIn, memories_of, HasWords, WordsStay}
 use Rattle.syntax.specs.Typing.{IsTypedProgram}
 use Rattle.syntax.proofs.Expressions.{LeavesLocals, expr_holds, fetch_holds, or_trap_holds, calls_holds}
 use Rattle.syntax.proofs.Memories.{IsBounded, typed_cells, written_memory}
 use Rattle.syntax.proofs.Words.{some_below, word_below, truth_below, fitted_below, shift_below, computed_below}
-use Rattle.syntax.proofs.Kept.{AreCells, block_holds, returned_holds, called_holds}
+use Rattle.syntax.proofs.Preserved.{AreCells, block_holds, returned_holds, called_holds}
 use Rattle.syntax.proofs.Contexts.{Stays, stays_kept}
 
 abbrev IsOwn : Local → Type 0
@@ -254,8 +254,8 @@ module _ (q : Program) (checked : IsTypedProgram q) where
   on_at : {A B : Type 0} (ls : List Local) (P : A → Type 0) (Q : B → Type 0) {run : Action A} {rest : A → Action B} → LeavesLocals run → KeepsAt ls P run → ((a : A) → P a → KeepsAt ls Q (rest a)) → KeepsAt ls Q (run >>= rest)
   on_at ls P Q {run} {rest} l g h = record { keeps = λ s e w. on_at_given ls P Q (run s) rest (same_locals ls s.locals (run s) e (l.leaves s)) (g.keeps s e w) h }
 
-  -- what a spot is, among these locals
-  abbrev Fits : List Local → Spot → Type 0
+  -- what an lvalue is, among these locals
+  abbrev Fits : List Local → Lvalue → Type 0
   Fits ls (InLocal i t) = TypeIs ls i t
   Fits ls (InCell c t) = slice_index (bounds q) c ≡ modulus t
 
@@ -263,7 +263,7 @@ module _ (q : Program) (checked : IsTypedProgram q) where
   cell_fetched (Outside f l) c t s e m w = tt
   cell_fetched (Inside mode memory) c t s e m w = (memory_word (bounds q) memory c (modulus t) m.0 e (some_below t), w)
 
-  fetch_at : (ls : List Local) (at : Spot) → Fits ls at → KeepsAt ls IsValue (fetch at)
+  fetch_at : (ls : List Local) (at : Lvalue) → Fits ls at → KeepsAt ls IsValue (fetch at)
   fetch_at ls (InLocal i t) f = record { keeps = λ s e w. (word_of_local s.locals i t (subst (λ (ms : List Local). TypeIs ms i t) (sym e) f) w.locals, w) }
   fetch_at ls (InCell c t) f = record { keeps = λ s e w. cell_fetched s.context c t s f w.memories w }
 
@@ -272,35 +272,35 @@ module _ (q : Program) (checked : IsTypedProgram q) where
   cell_stored n ls (Inside mode memory) text c w t e below h m =
       (tt, record { locals = h; memories = (written_memory (bounds q) memory c w (subst (λ (k : ℕ). w < k) (sym e) below) m.0, tt) })
 
-  assign_at : (ls : List Local) (at : Spot) → Fits ls at → (v : Value) → KeepsAt ls IsAny (assign at v)
+  assign_at : (ls : List Local) (at : Lvalue) → Fits ls at → (v : Value) → KeepsAt ls IsAny (assign at v)
   assign_at ls (InLocal i t) f v = record {
     keeps = λ s e w. (tt, record { locals = with_words s.locals i (value_in_type t v).word t (subst (λ (ms : List Local). TypeIs ms i t) (sym e) f) (word_below t (number_of v)) w.locals; memories = w.memories });
   }
   assign_at ls (InCell c t) f v = record { keeps = λ s e w. cell_stored s.ticks s.locals s.context s.text c (value_in_type t v).word t f (word_below t (number_of v)) w.locals w.memories }
 
-  -- a run that gives a spot among the locals that it leaves
-  record GivesSpot (run : Action Spot) : Type 0 where
+  -- a run that gives an lvalue among the locals that it leaves
+  record GivesLvalue (run : Action Lvalue) : Type 0 where
     gives : (s : State) → HasWords q s → WhereGiven (run s) (λ at now. Fits now.locals at × HasWords q now)
 
-  on_spot_given : {B : Type 0} (Q : B → Type 0) (r : Answer Spot) (rest : Spot → Action B) → WhereGiven r (λ at now. Fits now.locals at × HasWords q now) → ((ls : List Local) (at : Spot) → Fits ls at → KeepsAt ls Q (rest at)) → WhereGiven (go_on r rest) (λ b now. Q b × HasWords q now)
-  on_spot_given Q (Gives at t) rest h k = (k t.locals at h.0).keeps t refl h.1
-  on_spot_given Q (Stops why t) rest h k = tt
+  on_lvalue_given : {B : Type 0} (Q : B → Type 0) (r : Answer Lvalue) (rest : Lvalue → Action B) → WhereGiven r (λ at now. Fits now.locals at × HasWords q now) → ((ls : List Local) (at : Lvalue) → Fits ls at → KeepsAt ls Q (rest at)) → WhereGiven (go_on r rest) (λ b now. Q b × HasWords q now)
+  on_lvalue_given Q (Gives at t) rest h k = (k t.locals at h.0).keeps t refl h.1
+  on_lvalue_given Q (Stops why t) rest h k = tt
 
-  on_spot : {B : Type 0} (Q : B → Type 0) {run : Action Spot} {rest : Spot → Action B} → GivesSpot run → ((ls : List Local) (at : Spot) → Fits ls at → KeepsAt ls Q (rest at)) → Keeps Q (run >>= rest)
-  on_spot Q {run} {rest} g h = record { keeps = λ s w. on_spot_given Q (run s) rest (g.gives s w) h }
+  on_lvalue : {B : Type 0} (Q : B → Type 0) {run : Action Lvalue} {rest : Lvalue → Action B} → GivesLvalue run → ((ls : List Local) (at : Lvalue) → Fits ls at → KeepsAt ls Q (rest at)) → Keeps Q (run >>= rest)
+  on_lvalue Q {run} {rest} g h = record { keeps = λ s w. on_lvalue_given Q (run s) rest (g.gives s w) h }
 
-  then_spot_given : {A : Type 0} (P : A → Type 0) (r : Answer A) (rest : A → Action Spot) → WhereGiven r (λ a now. P a × HasWords q now) → ((a : A) → P a → GivesSpot (rest a)) → WhereGiven (go_on r rest) (λ at now. Fits now.locals at × HasWords q now)
-  then_spot_given P (Gives a t) rest h k = (k a h.0).gives t h.1
-  then_spot_given P (Stops why t) rest h k = tt
+  then_lvalue_given : {A : Type 0} (P : A → Type 0) (r : Answer A) (rest : A → Action Lvalue) → WhereGiven r (λ a now. P a × HasWords q now) → ((a : A) → P a → GivesLvalue (rest a)) → WhereGiven (go_on r rest) (λ at now. Fits now.locals at × HasWords q now)
+  then_lvalue_given P (Gives a t) rest h k = (k a h.0).gives t h.1
+  then_lvalue_given P (Stops why t) rest h k = tt
 
-  then_spot : {A : Type 0} (P : A → Type 0) {run : Action A} {rest : A → Action Spot} → Keeps P run → ((a : A) → P a → GivesSpot (rest a)) → GivesSpot (run >>= rest)
-  then_spot P {run} {rest} g h = record { gives = λ s w. then_spot_given P (run s) rest (g.keeps s w) h }
+  then_lvalue : {A : Type 0} (P : A → Type 0) {run : Action A} {rest : A → Action Lvalue} → Keeps P run → ((a : A) → P a → GivesLvalue (rest a)) → GivesLvalue (run >>= rest)
+  then_lvalue P {run} {rest} g h = record { gives = λ s w. then_lvalue_given P (run s) rest (g.keeps s w) h }
 
   pieces_keep : (ps : List Piece) (vs : List Value) → Keeps IsAny (print_pieces ps vs)
   pieces_keep [] vs = pure_keeps IsAny tt tt
   pieces_keep (Literal text ∷ ps) vs = then_ IsAny IsAny (piece_keeps text) (pieces_keep ps vs)
-  pieces_keep (Figure t ∷ ps) [] = stop_keeps IsAny Astray
-  pieces_keep (Figure t ∷ ps) (v ∷ vs) = then_ IsAny IsAny (piece_keeps _) (pieces_keep ps vs)
+  pieces_keep (Specifier t ∷ ps) [] = stop_keeps IsAny Astray
+  pieces_keep (Specifier t ∷ ps) (v ∷ vs) = then_ IsAny IsAny (piece_keeps _) (pieces_keep ps vs)
 
   on_next_keeps : {rest : Action Completion} → Keeps IsEnd rest → (end : Completion) → IsEnd end → Keeps IsEnd (on_next rest end)
   on_next_keeps h Next e = h
@@ -365,18 +365,18 @@ module _ (q : Program) (checked : IsTypedProgram q) where
       let M = IsMemory (bounds q) in
       (h.end, record { locals = h.locals; memories = all_joined M founds (lefts ++ left.memory ∷ []) (all_before M founds lefts k) (all_joined M lefts (left.memory ∷ []) (all_behind M founds lefts k) (h.memory, tt)) })
 
-  close_keeps : (kind : Kind) (founds lefts : List Memory) (mine : List Local) (m : Memory) (r : Answer Completion) → AreLocals mine → IsMemory (bounds q) m → AllByRecursion (IsMemory (bounds q)) (founds ++ lefts) → WhereGiven r (λ end now. StaysIn (Inside (mode_of kind) m) now.context) → WhereGiven r (λ end now. IsEnd end × HasWords q now) → WhereGiven (close kind founds lefts mine m r) (λ end now. IsEnd end × HasWords q now)
+  close_keeps : (kind : TransactionKind) (founds lefts : List Memory) (mine : List Local) (m : Memory) (r : Answer Completion) → AreLocals mine → IsMemory (bounds q) m → AllByRecursion (IsMemory (bounds q)) (founds ++ lefts) → WhereGiven r (λ end now. StaysIn (Inside (mode_of kind) m) now.context) → WhereGiven r (λ end now. IsEnd end × HasWords q now) → WhereGiven (close kind founds lefts mine m r) (λ end now. IsEnd end × HasWords q now)
   close_keeps kind founds lefts mine m (Gives end now) h k ms in_ w = leave_keeps now.ticks founds lefts (left_by kind mine m end now) now (is_left (undoes end kind) (mode_of kind) mine m end now h k in_ w.0 w.1) ms
   close_keeps kind founds lefts mine m (Stops (Trapped t) now) h k ms in_ w = tt
   close_keeps kind founds lefts mine m r h k ms in_ w = tt
 
-  inner_keeps : (outer : Mode) (kind : Kind) (mine : List Local) (m : Memory) (r : Answer Completion) → AreLocals mine → IsMemory (bounds q) m → WhereGiven r (λ end now. StaysIn (Inside (mode_of kind) m) now.context) → WhereGiven r (λ end now. IsEnd end × HasWords q now) → WhereGiven (close_inner outer kind mine m r) (λ end now. IsEnd end × HasWords q now)
+  inner_keeps : (outer : Mode) (kind : TransactionKind) (mine : List Local) (m : Memory) (r : Answer Completion) → AreLocals mine → IsMemory (bounds q) m → WhereGiven r (λ end now. StaysIn (Inside (mode_of kind) m) now.context) → WhereGiven r (λ end now. IsEnd end × HasWords q now) → WhereGiven (close_inner outer kind mine m r) (λ end now. IsEnd end × HasWords q now)
   inner_keeps outer kind mine m (Gives end now) h k in_ w =
       let left = is_left (undoes end kind) (mode_of kind) mine m end now h k in_ w.0 w.1 in
       (left.end, record { locals = left.locals; memories = (left.memory, tt) })
   inner_keeps outer kind mine m (Stops why now) h k in_ w = tt
 
-  enter_keeps : (kind : Kind) (run : Action Completion) → Stays run → Keeps IsEnd run → (p : Context) (n : ℕ) (ls : List Local) (t : List ℕ) → AreLocals ls → AllByRecursion (IsMemory (bounds q)) (memories_of p) → WhereGiven (enter p kind run (record { ticks = n; locals = ls; context = p; text = t })) (λ end now. IsEnd end × HasWords q now)
+  enter_keeps : (kind : TransactionKind) (run : Action Completion) → Stays run → Keeps IsEnd run → (p : Context) (n : ℕ) (ls : List Local) (t : List ℕ) → AreLocals ls → AllByRecursion (IsMemory (bounds q)) (memories_of p) → WhereGiven (enter p kind run (record { ticks = n; locals = ls; context = p; text = t })) (λ end now. IsEnd end × HasWords q now)
   enter_keeps kind run g h (Outside [] lefts) n ls t w ms = tt
   enter_keeps kind run g h (Outside (m ∷ founds) lefts) n ls t w ms =
       let s : State = record { ticks = n; locals = ls; context = Inside (mode_of kind) m; text = t } in
@@ -392,7 +392,7 @@ module _ (q : Program) (checked : IsTypedProgram q) where
       inner_keeps Atomic (Plain Atomic) ls m (run s) w ms.0 (g.stays s) (h.keeps s (record { locals = w; memories = ms }))
   enter_keeps (Plain Relaxed) run g h (Inside Atomic m) n ls t w ms = tt
 
-  transaction_keeps : (kind : Kind) {run : Action Completion} → Stays run → Keeps IsEnd run → Keeps IsEnd (transaction kind run)
+  transaction_keeps : (kind : TransactionKind) {run : Action Completion} → Stays run → Keeps IsEnd run → Keeps IsEnd (transaction kind run)
   transaction_keeps kind {run} g h = record { keeps = λ s w. enter_keeps kind run g h s.context s.ticks s.locals s.text w.locals w.memories }
 
   -- the parameters hold words
@@ -423,40 +423,40 @@ module _ (q : Program) (checked : IsTypedProgram q) where
     cells_are : AreCells q (IsBounded q)
     cells_are = typed_cells q checked
 
-    global_spot : (x : List ℕ) (o : Option GlobalCells) → global_of q x ≡ o → GivesSpot (or_astray o >>= λ g. pure (InCell g.cell g.global.ty))
-    global_spot x (Some g) e = record { gives = λ s w. (cells_are.first x g e, w) }
-    global_spot x None e = record { gives = λ s w. tt }
+    global_lvalue : (x : List ℕ) (o : Option GlobalCells) → global_of q x ≡ o → GivesLvalue (or_astray o >>= λ g. pure (InCell g.cell g.global.ty))
+    global_lvalue x (Some g) e = record { gives = λ s w. (cells_are.first x g e, w) }
+    global_lvalue x None e = record { gives = λ s w. tt }
 
-    from_spot : (x : List ℕ) (s : State) (o : Option (ℕ × Scalar)) → newest s.locals x ≡ o → HasWords q s → WhereGiven (spot_from q call x o s) (λ at now. Fits now.locals at × HasWords q now)
-    from_spot x s (Some l) e w = (newest_is 0 [] s.locals x l refl e, w)
-    from_spot x s None e w = (global_spot x (global_of q x) refl).gives s w
+    from_lvalue : (x : List ℕ) (s : State) (o : Option (ℕ × Scalar)) → newest s.locals x ≡ o → HasWords q s → WhereGiven (lvalue_from q call x o s) (λ at now. Fits now.locals at × HasWords q now)
+    from_lvalue x s (Some l) e w = (newest_is 0 [] s.locals x l refl e, w)
+    from_lvalue x s None e w = (global_lvalue x (global_of q x) refl).gives s w
 
-    named_spot : (x : List ℕ) → GivesSpot (named q call x)
-    named_spot x = record { gives = λ s w. from_spot x s (newest s.locals x) refl w }
+    named_lvalue : (x : List ℕ) → GivesLvalue (lvalue_of_name q call x)
+    named_lvalue x = record { gives = λ s w. from_lvalue x s (newest s.locals x) refl w }
 
-    trapped_spot : (n : ℕ) (s : State) → WhereGiven {A = Spot} (go_on (spend n s) (λ _. stop (Trapped Index))) (λ at now. Fits now.locals at × HasWords q now)
-    trapped_spot zero s = tt
-    trapped_spot (suc n) s = tt
+    trapped_lvalue : (n : ℕ) (s : State) → WhereGiven {A = Lvalue} (go_on (spend n s) (λ _. stop (Trapped Index))) (λ at now. Fits now.locals at × HasWords q now)
+    trapped_lvalue zero s = tt
+    trapped_lvalue (suc n) s = tt
 
-    element_if : (x : List ℕ) (k : Value) (g : GlobalCells) → global_of q x ≡ Some g → (b : Bool) → nat_lt k.word (cells g.global) ≡ b → GivesSpot (if b then pure (InCell (g.cell + k.word) g.global.ty) else trap Index)
+    element_if : (x : List ℕ) (k : Value) (g : GlobalCells) → global_of q x ≡ Some g → (b : Bool) → nat_lt k.word (cells g.global) ≡ b → GivesLvalue (if b then pure (InCell (g.cell + k.word) g.global.ty) else trap Index)
     element_if x k g e true lt = record { gives = λ s w. (cells_are.each x g k.word e lt, w) }
-    element_if x k g e false lt = record { gives = λ s w. trapped_spot s.ticks s }
+    element_if x k g e false lt = record { gives = λ s w. trapped_lvalue s.ticks s }
 
-    element_of : (x : List ℕ) (k : Value) (o : Option GlobalCells) → global_of q x ≡ o → GivesSpot (or_astray o >>= λ g. if nat_lt k.word (cells g.global) then pure (InCell (g.cell + k.word) g.global.ty) else trap Index)
+    element_of : (x : List ℕ) (k : Value) (o : Option GlobalCells) → global_of q x ≡ o → GivesLvalue (or_astray o >>= λ g. if nat_lt k.word (cells g.global) then pure (InCell (g.cell + k.word) g.global.ty) else trap Index)
     element_of x k (Some g) e = record { gives = λ s w. (element_if x k g e (nat_lt k.word (cells g.global)) refl).gives s w }
     element_of x k None e = record { gives = λ s w. tt }
 
-    element_spot : (x : List ℕ) (k : Value) → GivesSpot (element q call x k)
-    element_spot x k = element_of x k (global_of q x) refl
+    element_lvalue : (x : List ℕ) (k : Value) → GivesLvalue (element q call x k)
+    element_lvalue x k = element_of x k (global_of q x) refl
 
     leaves_expr : (e : Expr) → LeavesLocals (expr q call e)
     leaves_expr = expr_holds q call leave
 
     mutual
       expr_keeps : (e : Expr) → Keeps IsValue (expr q call e)
-      expr_keeps (Variable x) = on_spot IsValue (named_spot x.text) fetch_at
+      expr_keeps (Variable x) = on_lvalue IsValue (named_lvalue x.text) fetch_at
       expr_keeps (Constant n t at) = pure_keeps IsValue _ (word_below t (pos n))
-      expr_keeps (Element x i at) = on IsValue IsValue (expr_keeps i) (λ k _. on_spot IsValue (element_spot x.text k) fetch_at)
+      expr_keeps (Element x i at) = on IsValue IsValue (expr_keeps i) (λ k _. on_lvalue IsValue (element_lvalue x.text k) fetch_at)
       expr_keeps (Call f es at) = on IsAny IsValue (exprs_keep es) (λ vs _. then_ IsAny IsValue tick_keeps (h f.text vs))
       expr_keeps (Parenthesized e at) = expr_keeps e
       expr_keeps (Cast t e at) = on IsValue IsValue (expr_keeps e) (λ v _. pure_keeps IsValue _ (word_below t (number_of v)))
@@ -473,16 +473,16 @@ module _ (q : Program) (checked : IsTypedProgram q) where
       exprs_keep Tree.[] = pure_keeps IsAny [] tt
       exprs_keep (Tree.◌∷◌ e es) = on IsValue IsAny (expr_keeps e) (λ v _. on IsAny IsAny (exprs_keep es) (λ vs _. pure_keeps IsAny _ tt))
 
-    spot_gives : (e : Expr) → GivesSpot (spot q call e)
-    spot_gives (Variable x) = named_spot x.text
-    spot_gives (Element x i at) = then_spot IsValue (expr_keeps i) (λ k _. element_spot x.text k)
-    spot_gives e = record { gives = λ s w. tt }
+    lvalue_gives : (e : Expr) → GivesLvalue (lvalue q call e)
+    lvalue_gives (Variable x) = named_lvalue x.text
+    lvalue_gives (Element x i at) = then_lvalue IsValue (expr_keeps i) (λ k _. element_lvalue x.text k)
+    lvalue_gives e = record { gives = λ s w. tt }
 
-    changed_keeps : (ls : List Local) (at : Spot) → Fits ls at → {by : Action Value} → LeavesLocals by → Keeps IsValue by → (op : BinaryOp) → KeepsAt ls IsAny (changed q call at by op)
+    changed_keeps : (ls : List Local) (at : Lvalue) → Fits ls at → {by : Action Value} → LeavesLocals by → Keeps IsValue by → (op : BinaryOp) → KeepsAt ls IsAny (assign_by_operator q call at by op)
     changed_keeps ls at f l k op =
         on_at ls IsValue IsAny (fetch_holds at) (fetch_at ls at f) (λ old _. on_at ls IsValue IsAny l (any_at ls IsValue k) (λ v _. on_at ls IsValue IsAny (or_trap_holds (binary op old v)) (any_at ls IsValue (or_trap_keeps IsValue (binary op old v) (binary_word op old v))) (λ new _. assign_at ls at f new)))
 
-    assigned_keeps : (ls : List Local) (at : Spot) → Fits ls at → {by : Action Value} → LeavesLocals by → Keeps IsValue by → (op : Option BinaryOp) → KeepsAt ls IsAny (assigned q call at by op)
+    assigned_keeps : (ls : List Local) (at : Lvalue) → Fits ls at → {by : Action Value} → LeavesLocals by → Keeps IsValue by → (op : Option BinaryOp) → KeepsAt ls IsAny (assign_by q call at by op)
     assigned_keeps ls at f l k None = on_at ls IsValue IsAny l (any_at ls IsValue k) (λ v _. assign_at ls at f v)
     assigned_keeps ls at f l k (Some op) = changed_keeps ls at f l k op
 
@@ -498,10 +498,10 @@ module _ (q : Program) (checked : IsTypedProgram q) where
 
     simple_keeps : (s : Simple) → Keeps IsEnd (simple q call s)
     simple_keeps (Evaluate e) = then_ IsValue IsEnd (expr_keeps e) (pure_keeps IsEnd Next tt)
-    simple_keeps (Assign to op e) = on_spot IsEnd (spot_gives to) (λ ls at f. next_at ls (assigned_keeps ls at f (leaves_expr e) (expr_keeps e) op))
-    simple_keeps (Adjust to by) = on_spot IsEnd (spot_gives to) (λ ls at f. next_at ls (changed_keeps ls at f one_leaves (pure_keeps IsValue int_one one_below) (op_of by)))
+    simple_keeps (Assign to op e) = on_lvalue IsEnd (lvalue_gives to) (λ ls at f. next_at ls (assigned_keeps ls at f (leaves_expr e) (expr_keeps e) op))
+    simple_keeps (Adjust to by) = on_lvalue IsEnd (lvalue_gives to) (λ ls at f. next_at ls (changed_keeps ls at f one_leaves (pure_keeps IsValue int_one one_below) (op_of by)))
 
-    first_value_keeps : (ls : List Local) (at : Spot) → Fits ls at → (o : Option Expr) → KeepsAt ls IsAny (first_value q call at o)
+    first_value_keeps : (ls : List Local) (at : Lvalue) → Fits ls at → (o : Option Expr) → KeepsAt ls IsAny (first_value q call at o)
     first_value_keeps ls at f None = any_at ls IsAny (pure_keeps IsAny tt tt)
     first_value_keeps ls at f (Some e) = on_at ls IsValue IsAny (leaves_expr e) (any_at ls IsValue (expr_keeps e)) (λ v _. assign_at ls at f v)
 
@@ -529,11 +529,11 @@ module _ (q : Program) (checked : IsTypedProgram q) where
     start_keeps (Declares d) = declare_keeps d.ty d.declarators
     start_keeps (Does s) = simple_keeps s
 
-    holds_keeps : (o : Option Expr) → Keeps IsAny (holds q call o)
+    holds_keeps : (o : Option Expr) → Keeps IsAny (for_condition q call o)
     holds_keeps None = pure_keeps IsAny true tt
     holds_keeps (Some e) = on IsValue IsAny (expr_keeps e) (λ v _. pure_keeps IsAny _ tt)
 
-    stepped_keeps : (o : Option Simple) → Keeps IsTurn (stepped q call o)
+    stepped_keeps : (o : Option Simple) → Keeps IsTurn (optional_step q call o)
     stepped_keeps None = pure_keeps IsTurn None tt
     stepped_keeps (Some s) = then_ IsEnd IsTurn (simple_keeps s) (pure_keeps IsTurn None tt)
 

@@ -8,8 +8,9 @@ use Rattle.lex.specs.declared.token.Punctuator.TheVariants as punct
 use Rattle.syntax.specs.Tree.{Span, Scalar, Int, Unsigned, LongLong, UnaryOp, Negate, Keep, Not, Complement, BinaryOp}
 use Rattle.syntax.specs.Tree.{Or, Xor, And, Equal, NotEqual, Less, Greater, LessEqual, GreaterEqual, ShiftLeft}
 use Rattle.syntax.specs.Tree.{ShiftRight, Add, Subtract, Multiply, Divide, Remainder, LogicalOp, AndThen, OrElse}
-use Rattle.syntax.specs.Tree.{IncDec, Increment, Decrement, Mode, Atomic, Relaxed, Kind, Plain, Outer, Attribute, Safe}
-use Rattle.syntax.specs.Tree.{Unsafe, Callable, Initializer, Name, Expr, Exprs, Variable, Constant, Element, Call}
+use Rattle.syntax.specs.Tree.{IncDec, Increment, Decrement, Mode, Atomic, Relaxed, TransactionKind, Plain, Outer}
+use Rattle.syntax.specs.Tree.{Attribute, Safe}
+use Rattle.syntax.specs.Tree.{Unsafe, Callable, Initialiser, Name, Expr, Exprs, Variable, Constant, Element, Call}
 use Rattle.syntax.specs.Tree.{Parenthesized, Cast, Unary, Binary, Logical, Conditional, InTransaction, Simple, Evaluate}
 use Rattle.syntax.specs.Tree.{Assign, Adjust, Declarator, Declaration, Start, Nothing, Declares, Does, Stmt, Stmts}
 use Rattle.syntax.specs.Tree.{Empty, Declare, Do, Block, Print, If, IfElse, While, DoWhile, For, Break, Continue}
@@ -27,7 +28,7 @@ by_fixed table (Terminal.fixed k) = table k
 by_fixed table _ = None
 
 abbrev pub name_in : Terminal → Span → Option Name
-name_in (Terminal.name s) at = Some (record { text = s; at = at })
+name_in (Terminal.name s) at = Some (record { text = s; span = at })
 name_in _ at = None
 
 abbrev pub the_name : Tok → Option Name
@@ -37,10 +38,10 @@ the_name t = name_in t.terminal t.span
 pub record IntegerConstant : Type 0 where
   pub value : ℕ
   pub ty : Scalar
-  pub at : Span
+  pub span : Span
 
 abbrev pub integer_constant_in : Terminal → Span → Option IntegerConstant
-integer_constant_in (Terminal.constant n ty) at = Some (record { value = n; ty = ty; at = at })
+integer_constant_in (Terminal.constant n ty) at = Some (record { value = n; ty = ty; span = at })
 integer_constant_in _ at = None
 
 abbrev pub the_integer_constant : Tok → Option IntegerConstant
@@ -195,7 +196,7 @@ mode_keyword Relaxed = (Keyword key.Relaxed)
 abbrev mutual
   pub expr : Expr → Phrase
   expr (Variable x) = name_phrase x
-  expr (Constant n t at) = One the_integer_constant (record { value = n; ty = t; at = at })
+  expr (Constant n t at) = One the_integer_constant (record { value = n; ty = t; span = at })
   expr (Element x i at) = spanning at (name_phrase x ⨾ Sign punct.OpenBracket ⨾ expr i ⨾ Sign punct.CloseBracket)
   expr (Call f es at) = spanning at (name_phrase f ⨾ Sign punct.OpenParen ⨾ arguments es ⨾ Sign punct.CloseParen)
   expr (Parenthesized e at) = spanning at (Sign punct.OpenParen ⨾ expr e ⨾ Sign punct.CloseParen)
@@ -251,7 +252,7 @@ outer_phrase =
 
 -- how a transaction's statement begins, with its keyword at this place (the C++ draft on transactions 1.1, in GCC's
 -- words for C)
-abbrev pub kind : Kind → Span → Phrase
+abbrev pub kind : TransactionKind → Span → Phrase
 kind (Plain mode) at = IsAt (mode_keyword mode) at
 kind Outer at = IsAt (mode_keyword Atomic) at ⨾ outer_phrase
 
@@ -356,7 +357,7 @@ value_in _ = None
 abbrev pub the_value : Tok → Option (ℕ × Scalar)
 the_value t = value_in t.terminal
 
-abbrev pub initialiser : Initializer → Phrase
+abbrev pub initialiser : Initialiser → Phrase
 initialiser i = spanning i.span (minus i.negative ⨾ One the_value (i.value, i.ty))
 
 -- a length: a constant of any type, by its value and place
@@ -366,18 +367,18 @@ length_in terminal at = option_map (λ v. (v.0, at)) (value_in terminal)
 abbrev pub the_length : Tok → Option (ℕ × Span)
 the_length t = length_in t.terminal t.span
 
-abbrev pub first_value : List Initializer → Phrase
+abbrev pub first_value : List Initialiser → Phrase
 first_value [] = Nil
 first_value (i ∷ []) = Sign punct.Assign ⨾ initialiser i
 first_value (i ∷ j ∷ is) = never
 
-abbrev pub first_values : List Initializer → Phrase
+abbrev pub first_values : List Initialiser → Phrase
 first_values [] = Nil
 first_values (i ∷ is) =
     Sign punct.Assign ⨾ Sign punct.OpenBrace ⨾ Listed initialiser (i ∷ is) ⨾ (Nil ∣ Sign punct.Comma)
     ⨾ Sign punct.CloseBrace
 
-abbrev pub global_phrase : Option (ℕ × Span) → List Initializer → Phrase
+abbrev pub global_phrase : Option (ℕ × Span) → List Initialiser → Phrase
 global_phrase None is = first_value is
 global_phrase (Some n) is = Sign punct.OpenBracket ⨾ One the_length n ⨾ Sign punct.CloseBracket ⨾ first_values is
 

@@ -3,14 +3,15 @@ use Rattle.std.specs.Prelude.{ℕ, zero, suc, ◌+◌, pos, List, [], ◌∷◌,
 use Rattle.std.specs.Prelude.{if◌then◌else◌, Bool, true, false, not, nat_lt, unwrap_or, option_map}
 use Rattle.std.specs.Fmt.{signed_decimal}
 use Rattle.syntax.specs.Tree.{Scalar, Int, BinaryOp, Add, Subtract, AndThen, OrElse, IncDec, Increment, Decrement, Mode}
-use Rattle.syntax.specs.Tree.{Atomic, Relaxed, Kind, Plain, Outer, Expr, Exprs, Variable, Constant, Element, Call}
+use Rattle.syntax.specs.Tree.{Atomic, Relaxed, TransactionKind, Plain, Outer, Expr, Exprs, Variable, Constant, Element}
+use Rattle.syntax.specs.Tree.{Call}
 use Rattle.syntax.specs.Tree.{Parenthesized, Cast, Unary, Binary, Logical, Conditional, InTransaction, Simple, Evaluate}
 use Rattle.syntax.specs.Tree.{Assign, Adjust, Declarator, Start, Nothing, Declares, Does, Stmt, Stmts, Empty, Declare}
 use Rattle.syntax.specs.Tree.{Do, Block, Print, If, IfElse, While, DoWhile, For, Break, Continue, Return, Transaction}
 use Rattle.syntax.specs.Tree.{Cancel, CancelOuter, Parameter, Program}
 use Rattle.syntax.specs.Numbers.{Value, Index, Frames, word_of, number, value_in_type, is_zero, flag, unary, binary}
 use Rattle.syntax.specs.Names.{Local, newest, word_at, with_word, global_of, cells, definition_of}
-use Rattle.syntax.specs.Formats.{Piece, Literal, Figure, pieces}
+use Rattle.syntax.specs.Formats.{Piece, Literal, Specifier, pieces}
 use Rattle.syntax.specs.Types.{type_of, running_scope}
 use Rattle.syntax.specs.Behaviours.{Memory, Trapped, Wants, Spent, Astray}
 use Rattle.syntax.specs.Actions.{Context, Outside, Inside, State, Answer, Gives, Stops, Action, pure, stop, go_on}
@@ -18,24 +19,24 @@ use Rattle.syntax.specs.Actions.{◌>>=◌, ◌>>◌, tick, trap, or_trap, or_as
 use Rattle.syntax.specs.Actions.{may_print, print_piece, memory_in}
 
 -- where a value stands: in a local variable, by its place among the locals, or in a shared cell
-pub data Spot : Type 0 where
-  InLocal : (i : ℕ) (ty : Scalar) → Spot
-  InCell : (cell : ℕ) (ty : Scalar) → Spot
+pub data Lvalue : Type 0 where
+  InLocal : (i : ℕ) (ty : Scalar) → Lvalue
+  InCell : (cell : ℕ) (ty : Scalar) → Lvalue
 
-abbrev pub fetch : Spot → Action Value
+abbrev pub fetch : Lvalue → Action Value
 fetch (InLocal i t) = do mine ← locals; pure (record { ty = t; word = word_at mine i })
 fetch (InCell c t) = do w ← load c; pure (record { ty = t; word = w })
 
-abbrev pub assign : Spot → Value → Action (Unit {0})
+abbrev pub assign : Lvalue → Value → Action (Unit {0})
 assign (InLocal i t) v = do mine ← locals; put_locals (with_word mine i (value_in_type t v).word)
 assign (InCell c t) v = store c (value_in_type t v).word
 
--- the pieces of a format, with these values for its figures
+-- the pieces of a format, with these values for its specifiers
 abbrev pub print_pieces : List Piece → List Value → Action (Unit {0})
 print_pieces [] vs = pure tt
 print_pieces (Literal text ∷ ps) vs = print_piece text >> print_pieces ps vs
-print_pieces (Figure t ∷ ps) [] = stop Astray
-print_pieces (Figure t ∷ ps) (v ∷ vs) = print_piece (signed_decimal (number t v.word)) >> print_pieces ps vs
+print_pieces (Specifier t ∷ ps) [] = stop Astray
+print_pieces (Specifier t ∷ ps) (v ∷ vs) = print_piece (signed_decimal (number t v.word)) >> print_pieces ps vs
 
 -- ---- statements (C11 6.8)
 
@@ -84,12 +85,12 @@ after_body go end = pure (Some end)
 -- cancel them)
 
 -- how a transaction of this kind runs
-abbrev pub mode_of : Kind → Mode
+abbrev pub mode_of : TransactionKind → Mode
 mode_of (Plain mode) = mode
 mode_of Outer = Atomic
 
 -- a cancel undoes the innermost transaction, and an outer cancel the innermost outer one with all in it
-abbrev pub undoes : Completion → Kind → Bool
+abbrev pub undoes : Completion → TransactionKind → Bool
 undoes Cancels kind = true
 undoes CancelsOuter Outer = true
 undoes end kind = false
@@ -105,18 +106,18 @@ abbrev pub left_or : Bool → List Local → Memory → Completion → State →
 left_or true mine found end now = record { end = Next; locals = mine; memory = found }
 left_or false mine found end now = record { end = end; locals = now.locals; memory = memory_in now.context }
 
-abbrev pub left_by : Kind → List Local → Memory → Completion → State → Left
+abbrev pub left_by : TransactionKind → List Local → Memory → Completion → State → Left
 left_by kind mine found end now = left_or (undoes end kind) mine found end now
 
 -- a transaction that lies in another, which runs as outer: what it leaves is seen there
 abbrev pub leave_inner : Mode → Left → State → Answer Completion
 leave_inner outer left now = Gives left.end (record now { locals = left.locals; context = Inside outer left.memory })
 
-abbrev pub close_inner : Mode → Kind → List Local → Memory → Answer Completion → Answer Completion
+abbrev pub close_inner : Mode → TransactionKind → List Local → Memory → Answer Completion → Answer Completion
 close_inner outer kind mine found (Gives end now) = leave_inner outer (left_by kind mine found end now) now
 close_inner outer kind mine found (Stops why now) = Stops why now
 
-abbrev pub inner : (outer : Mode) (kind : Kind) → Memory → Action Completion → Action Completion
+abbrev pub inner : (outer : Mode) (kind : TransactionKind) → Memory → Action Completion → Action Completion
 inner outer kind found run s =
     close_inner outer kind s.locals found (run (record s { context = Inside (mode_of kind) found }))
 
@@ -128,25 +129,26 @@ leave founds lefts left now =
     (record then_ { locals = left.locals; context = Outside founds (lefts ++ left.memory ∷ []) }))
 
 -- a trap leaves the memory that was found, and a run that otherwise stops leaves none
-abbrev pub close : Kind → List Memory → List Memory → List Local → Memory → Answer Completion → Answer Completion
+abbrev pub close : TransactionKind → List Memory → List Memory → List Local → Memory → Answer Completion
+    → Answer Completion
 close kind founds lefts mine found (Gives end now) = leave founds lefts (left_by kind mine found end now) now
 close kind founds lefts mine found (Stops (Trapped k) now) =
     Stops (Trapped k) (record now { context = Outside founds (lefts ++ found ∷ []) })
 close kind founds lefts mine found (Stops why now) = Stops why (record now { context = Outside founds lefts })
 
-abbrev pub outermost : Kind → Memory → List Memory → List Memory → Action Completion → Action Completion
+abbrev pub outermost : TransactionKind → Memory → List Memory → List Memory → Action Completion → Action Completion
 outermost kind found founds lefts run s =
     close kind founds lefts s.locals found (run (record s { context = Inside (mode_of kind) found }))
 
 -- a transaction that begins here: outside it takes the next memory, and inside an atomic one no relaxed one begins
-abbrev pub enter : Context → Kind → Action Completion → Action Completion
+abbrev pub enter : Context → TransactionKind → Action Completion → Action Completion
 enter (Outside [] lefts) kind run = stop Wants
 enter (Outside (found ∷ founds) lefts) kind run = outermost kind found founds lefts run
 enter (Inside Relaxed found) kind run = inner Relaxed kind found run
 enter (Inside Atomic found) (Plain Relaxed) run = stop Astray
 enter (Inside Atomic found) kind run = inner Atomic kind found run
 
-abbrev pub transaction : Kind → Action Completion → Action Completion
+abbrev pub transaction : TransactionKind → Action Completion → Action Completion
 transaction kind run s = enter s.context kind run s
 
 -- outside transactions one that is an expression takes a tick before its memory is wanted
@@ -183,15 +185,15 @@ Caller = List ℕ → List Value → Action Value
 
 module _ (p : Program) (call : Caller) where
   -- where a name's value stands: in the newest local of that name, else in the global
-  abbrev pub spot_from : List ℕ → Option (ℕ × Scalar) → Action Spot
-  spot_from x (Some l) = pure (InLocal l.0 l.1)
-  spot_from x None = do g ← or_astray (global_of p x); pure (InCell g.cell g.global.ty)
+  abbrev pub lvalue_from : List ℕ → Option (ℕ × Scalar) → Action Lvalue
+  lvalue_from x (Some l) = pure (InLocal l.0 l.1)
+  lvalue_from x None = do g ← or_astray (global_of p x); pure (InCell g.cell g.global.ty)
 
-  abbrev pub named : List ℕ → Action Spot
-  named x = do mine ← locals; spot_from x (newest mine x)
+  abbrev pub lvalue_of_name : List ℕ → Action Lvalue
+  lvalue_of_name x = do mine ← locals; lvalue_from x (newest mine x)
 
   -- an index is tested when it is computed
-  abbrev pub element : List ℕ → Value → Action Spot
+  abbrev pub element : List ℕ → Value → Action Lvalue
   element x k = do
     g ← or_astray (global_of p x)
     if nat_lt k.word (cells g.global) then pure (InCell (g.cell + k.word) g.global.ty) else trap Index
@@ -199,7 +201,7 @@ module _ (p : Program) (call : Caller) where
   abbrev mutual
     -- names and constants, elements and calls (C11 6.5.1, 6.5.2.1, 6.5.2.2)
     pub expr : Expr → Action Value
-    expr (Variable x) = do at ← named x.text; fetch at
+    expr (Variable x) = do at ← lvalue_of_name x.text; fetch at
     expr (Constant n t at) = pure (record { ty = t; word = word_of t (pos n) })
     expr (Element x i at) = do k ← expr i; at ← element x.text k; fetch at
     expr (Call f es at) = do vs ← exprs es; tick; call f.text vs
@@ -227,27 +229,27 @@ module _ (p : Program) (call : Caller) where
     exprs (Exprs.◌∷◌ e es) = do v ← expr e; vs ← exprs es; pure (v ∷ vs)
 
   -- the left side of an assignment
-  abbrev pub spot : Expr → Action Spot
-  spot (Variable x) = named x.text
-  spot (Element x i at) = do k ← expr i; element x.text k
-  spot e = stop Astray
+  abbrev pub lvalue : Expr → Action Lvalue
+  lvalue (Variable x) = lvalue_of_name x.text
+  lvalue (Element x i at) = do k ← expr i; element x.text k
+  lvalue e = stop Astray
 
   -- what an operator's assignment writes, the old value read first
-  abbrev pub changed : Spot → Action Value → BinaryOp → Action (Unit {0})
-  changed at by op = do old ← fetch at; v ← by; new ← or_trap (binary op old v); assign at new
+  abbrev pub assign_by_operator : Lvalue → Action Value → BinaryOp → Action (Unit {0})
+  assign_by_operator at by op = do old ← fetch at; v ← by; new ← or_trap (binary op old v); assign at new
 
-  abbrev pub assigned : Spot → Action Value → Option BinaryOp → Action (Unit {0})
-  assigned at by None = do v ← by; assign at v
-  assigned at by (Some op) = changed at by op
+  abbrev pub assign_by : Lvalue → Action Value → Option BinaryOp → Action (Unit {0})
+  assign_by at by None = do v ← by; assign at v
+  assign_by at by (Some op) = assign_by_operator at by op
 
   -- expressions as statements, assignments, ++ and -- (C11 6.8.3, 6.5.16, 6.5.2.4, 6.5.3.1)
   abbrev pub simple : Simple → Action Completion
   simple (Evaluate e) = do expr e; pure Next
-  simple (Assign to op e) = do at ← spot to; assigned at (expr e) op; pure Next
-  simple (Adjust to by) = do at ← spot to; changed at (pure int_one) (op_of by); pure Next
+  simple (Assign to op e) = do at ← lvalue to; assign_by at (expr e) op; pure Next
+  simple (Adjust to by) = do at ← lvalue to; assign_by_operator at (pure int_one) (op_of by); pure Next
 
   -- a declared name is 0 and then, in its own scope, its first value (6.2.1, 6.7.9)
-  abbrev pub first_value : Spot → Option Expr → Action (Unit {0})
+  abbrev pub first_value : Lvalue → Option Expr → Action (Unit {0})
   first_value at None = pure tt
   first_value at (Some e) = do v ← expr e; assign at v
 
@@ -265,13 +267,13 @@ module _ (p : Program) (call : Caller) where
   start_with (Does s) = simple s
 
   -- a missing condition is true
-  abbrev pub holds : Option Expr → Action Bool
-  holds None = pure true
-  holds (Some e) = do v ← expr e; pure (not (is_zero v))
+  abbrev pub for_condition : Option Expr → Action Bool
+  for_condition None = pure true
+  for_condition (Some e) = do v ← expr e; pure (not (is_zero v))
 
-  abbrev pub stepped : Option Simple → Action (Option Completion)
-  stepped None = pure None
-  stepped (Some s) = do simple s; pure None
+  abbrev pub optional_step : Option Simple → Action (Option Completion)
+  optional_step None = pure None
+  optional_step (Some s) = do simple s; pure None
 
   abbrev pub return_value : Option Expr → Action Value
   return_value None = pure (flag false)
@@ -299,8 +301,8 @@ module _ (p : Program) (call : Caller) where
       in_scope (do
         start_with start
         loop (do
-          more ← holds c
-          if more then (in_scope (stmt a) >>= after_body (stepped step)) else pure (Some Next)))
+          more ← for_condition c
+          if more then (in_scope (stmt a) >>= after_body (optional_step step)) else pure (Some Next)))
     -- jumps (6.8.6)
     stmt (Break at) = do tick; pure Breaks
     stmt (Continue at) = do tick; pure Continues

@@ -77,11 +77,11 @@ abbrev pub Word : keyword_type.Keyword → Phrase
 Word k = Is (Keyword k)
 
 -- the keyword m, by its place
-abbrev pub place_of : Fixed → Tok → Option Span
-place_of m t = if is_fixed m t.terminal then Some t.span else None
+abbrev pub fixed_span : Fixed → Tok → Option Span
+fixed_span m t = if is_fixed m t.terminal then Some t.span else None
 
 abbrev pub IsAt : Fixed → Span → Phrase
-IsAt m = One (place_of m)
+IsAt m = One (fixed_span m)
 
 -- one or more, with commas between
 abbrev pub Listed : {A : Type 0} → (A → Phrase) → List A → Phrase

@@ -6,7 +6,7 @@ use Rattle.std.specs.Prelude.{ℕ, ◌+◌, List, [], ◌∷◌, ◌++◌, lengt
 use Rattle.std.specs.Prelude.{false, not, ◌&&◌, ◌||◌, IsTrue, is_some, is_none, if◌then◌else◌, codes, option_map}
 use Rattle.std.specs.Prelude.{unwrap_or, ◌==◌, nat_le, bytes_eq, All}
 use Rattle.std.specs.List.{list_any}
-use Rattle.syntax.specs.Tree.{Span, Scalar, Int, Unsigned, LongLong, Initializer, Name, Expr, Exprs, Variable, Constant}
+use Rattle.syntax.specs.Tree.{Span, Scalar, Int, Unsigned, LongLong, Initialiser, Name, Expr, Exprs, Variable, Constant}
 use Rattle.syntax.specs.Tree.{Element, Call, Parenthesized, Cast, Unary, Binary, Logical, Conditional, InTransaction}
 use Rattle.syntax.specs.Tree.{Simple, Evaluate, Assign, Adjust, Declarator, Start, Nothing, Declares, Does, Stmt, Stmts}
 use Rattle.syntax.specs.Tree.{Declare, Do, Block, Print, If, IfElse, While, DoWhile, For, Break, Continue, Return}
@@ -14,7 +14,7 @@ use Rattle.syntax.specs.Tree.{Transaction, Parameter, Function, Global, Item, De
 use Rattle.syntax.specs.Names.{cells, definition_of}
 use Rattle.syntax.specs.Types.{Known, Unknown, Callable, Scope, file_scope, with_number, number_type, element_type}
 use Rattle.syntax.specs.Types.{type_of}
-use Rattle.syntax.specs.Formats.{pieces, is_format, figures}
+use Rattle.syntax.specs.Formats.{pieces, is_format, specifiers}
 
 -- a list of names has a name
 abbrev pub has_name : List (List ℕ) → List ℕ → Bool
@@ -76,7 +76,7 @@ returns_right gives e = if is_some gives then is_some e else is_none e
 
 -- where an expression stands
 abbrev pub span_of : Expr → Span
-span_of (Variable x) = x.at
+span_of (Variable x) = x.span
 span_of (Constant n t at) = at
 span_of (Element x i at) = at
 span_of (Call f es at) = at
@@ -144,11 +144,11 @@ is_worker other = false
 -- what a program has to meet, by the constraints of C11 6.5 to 6.9: a fault's number, its place, and whether it is met
 pub record Demand : Type 0 where
   pub number : ℕ
-  pub at : Span
+  pub span : Span
   pub met : Bool
 
 abbrev pub demand : ℕ → Span → Bool → List Demand
-demand n at met = record { number = n; at = at; met = met } ∷ []
+demand n at met = record { number = n; span = at; met = met } ∷ []
 
 abbrev pub demands_of : {A : Type 0} → Option A → (A → List Demand) → List Demand
 demands_of None f = []
@@ -157,7 +157,7 @@ demands_of (Some x) f = f x
 module _ (known : Scope) where
   -- a name that is known (C11 6.5.1)
   abbrev pub IsKnown : Name → List Demand
-  IsKnown x = demand 20 x.at (not (is_unknown (known x.text)))
+  IsKnown x = demand 20 x.span (not (is_unknown (known x.text)))
 
   -- no value of a void call (6.3.2.2)
   abbrev pub GivesNumber : Expr → List Demand
@@ -166,12 +166,12 @@ module _ (known : Scope) where
   -- names, elements and calls, then operators, whose operands are numbers (6.5.1, 6.5.2.1, 6.5.2.2; 6.5.3 to 6.5.15)
   abbrev mutual
     pub IsTyped : Expr → List Demand
-    IsTyped (Variable x) = IsKnown x ++ demand 22 x.at (may_be_number (known x.text))
+    IsTyped (Variable x) = IsKnown x ++ demand 22 x.span (may_be_number (known x.text))
     IsTyped (Constant n t at) = []
     IsTyped (Element x i at) = IsKnown x ++ (IsTyped i ++ GivesNumber i) ++ demand 22 at (may_be_array (known x.text))
     IsTyped (Call f es at) =
         IsKnown f ++ AreNumbers es
-        ++ (demand 22 at (may_be_function (known f.text)) ++ demand 23 f.at (takes_so_many (known f.text) (count es)))
+        ++ (demand 22 at (may_be_function (known f.text)) ++ demand 23 f.span (takes_so_many (known f.text) (count es)))
     IsTyped (Parenthesized e at) = IsTyped e
     IsTyped (Cast t e at) = IsTyped e ++ GivesNumber e
     IsTyped (Unary op e at) = IsTyped e ++ GivesNumber e
@@ -207,7 +207,7 @@ module _ (known : Scope) where
   IsTypedSimple (Assign to op e) = IsTypedTarget to ++ IsNumber e ++ IsAssignable to
   IsTypedSimple (Adjust to by) = IsTypedTarget to ++ IsAssignable to
 
-  -- each figure has an argument of its own type (7.21.6.1)
+  -- each specifier has an argument of its own type (7.21.6.1)
   abbrev pub HaveTypes : List Scalar → Exprs → List Demand
   HaveTypes (t ∷ ts) (Exprs.◌∷◌ e es) =
       demand 27 (span_of e) (is_none (type_of known e) || is_type t (type_of known e)) ++ HaveTypes ts es
@@ -215,7 +215,7 @@ module _ (known : Scope) where
 
   abbrev pub IsTypedPrint : List ℕ → Span → Exprs → List Demand
   IsTypedPrint format at es =
-      let printed = figures (pieces format) in
+      let printed = specifiers (pieces format) in
       AreNumbers es ++ demand 27 at (is_format format && (length printed == count es)) ++ HaveTypes printed es
 
 -- each new name is new in its scope, and known from its own first value on (6.2.1, 6.7)
@@ -223,7 +223,7 @@ abbrev pub AreTypedDeclarators : Scope → List (List ℕ) → Scalar → List D
 AreTypedDeclarators known declared t [] = []
 AreTypedDeclarators known declared t (d ∷ ds) =
     let known' = with_number d.name.text t known in
-    demand 21 d.name.at (not (has_name declared d.name.text))
+    demand 21 d.name.span (not (has_name declared d.name.text))
     ++ demands_of d.first (IsNumber known')
     ++ AreTypedDeclarators known' (d.name.text ∷ declared) t ds
 
@@ -265,7 +265,7 @@ module _ (gives : Option Scalar) where
 abbrev pub AreDistinct : List (List ℕ) → List Parameter → List Demand
 AreDistinct declared [] = []
 AreDistinct declared (q ∷ qs) =
-    demands_of q.name (λ x. demand 21 x.at (not (has_name declared x.text)))
+    demands_of q.name (λ x. demand 21 x.span (not (has_name declared x.text)))
     ++ AreDistinct (parameter_names (q ∷ []) ++ declared) qs
 
 abbrev pub IsTypedBody : List Item → Function → Option Stmts → List Demand
@@ -279,9 +279,9 @@ IsTypedBody earlier f (Some ss) =
 abbrev pub IsTypedFunction : List Item → Function → List Demand
 IsTypedFunction earlier f =
     let before = file_scope earlier f.name.text in
-    demand 21 f.name.at
+    demand 21 f.name.span
     (may_be_function before && (is_none f.body || not (has_name (defined_names earlier) f.name.text)))
-    ++ demand 22 f.name.at (agrees f before)
+    ++ demand 22 f.name.span (agrees f before)
     ++ AreDistinct [] f.parameters
     ++ IsTypedBody earlier f f.body
 
@@ -291,7 +291,7 @@ IsLength None = []
 IsLength (Some n) = demand 25 n.1 (nat_le 1 n.0 && nat_le n.0 4096)
 
 -- no initialiser stands where no cell is left for it
-abbrev pub HaveCells : List Initializer → List Demand
+abbrev pub HaveCells : List Initialiser → List Demand
 HaveCells [] = []
 HaveCells (i ∷ is) = demand 25 i.span false
 
@@ -299,10 +299,10 @@ HaveCells (i ∷ is) = demand 25 i.span false
 abbrev pub AreTypedGlobals : List Item → List Global → ℕ → List Global → List Demand
 AreTypedGlobals earlier before taken [] = []
 AreTypedGlobals earlier before taken (g ∷ gs) =
-    demand 21 g.name.at (is_unknown (file_scope (earlier ++ Shares before ∷ []) g.name.text))
+    demand 21 g.name.span (is_unknown (file_scope (earlier ++ Shares before ∷ []) g.name.text))
     ++ IsLength g.length
     ++ HaveCells (drop (cells g) g.first)
-    ++ demand 25 g.name.at (nat_le (taken + cells g) 4096)
+    ++ demand 25 g.name.span (nat_le (taken + cells g) 4096)
     ++ AreTypedGlobals earlier (before ++ g ∷ []) (taken + cells g) gs
 
 abbrev pub IsTypedItem : List Item → Item → List Demand
@@ -318,7 +318,7 @@ abbrev pub AreDefined : Program → (earlier items : List Item) → List Demand
 AreDefined p earlier [] = []
 AreDefined p earlier (Shares gs ∷ items) = AreDefined p (earlier ++ Shares gs ∷ []) items
 AreDefined p earlier (Defines f ∷ items) =
-    demand 29 f.name.at (not (is_unknown (file_scope earlier f.name.text)) || is_some (definition_of p f.name.text))
+    demand 29 f.name.span (not (is_unknown (file_scope earlier f.name.text)) || is_some (definition_of p f.name.text))
     ++ AreDefined p (earlier ++ Defines f ∷ []) items
 
 -- the demands of a program whose last token ends at this place
@@ -335,4 +335,4 @@ IsTypedProgram p = All (λ d. IsTrue d.met) (Meets 0 p)
 -- the first demand that is not met
 abbrev pub first_unmet : List Demand → Option (ℕ × Span)
 first_unmet [] = None
-first_unmet (d ∷ ds) = if d.met then first_unmet ds else Some (d.number, d.at)
+first_unmet (d ∷ ds) = if d.met then first_unmet ds else Some (d.number, d.span)

@@ -1,7 +1,7 @@
 -- What stands at a place of a format, and where the rest begins.
 use Rattle.std.specs.Prelude.{◌≡◌, ℕ, ◌-◌, ◌<◌, ◌≤◌, List, ◌∷◌, length, drop, Bool, ◌==◌, ◌&&◌, if◌then◌else◌}
 use Rattle.syntax.specs.Tree.{Scalar}
-use Rattle.syntax.specs.Formats.{Figure, literal, pieces, is_format}
+use Rattle.syntax.specs.Formats.{Specifier, literal, pieces, is_format}
 use Rattle.syntax.specs.declared.format.FormatUnit as U
 use Rattle.syntax.specs.declared.format.FormatUnit.TheVariants as unit
 
@@ -16,12 +16,12 @@ pub record IsByteAt (c next : ℕ) (format : List ℕ) (i : ℕ) : Type 0 where
   pub after : i < next
   pub within : next ≤ length format
 
-pub record IsFigureAt (t : Scalar) (next : ℕ) (format : List ℕ) (i : ℕ) : Type 0 where
-  pub is : pieces (drop i format) ≡ Figure t ∷ pieces (drop next format)
+pub record IsSpecifierAt (t : Scalar) (next : ℕ) (format : List ℕ) (i : ℕ) : Type 0 where
+  pub is : pieces (drop i format) ≡ Specifier t ∷ pieces (drop next format)
   pub right : is_format (drop i format) ≡ is_format (drop next format)
   pub after : i < next
   pub within : next ≤ length format
 
 abbrev pub IsUnitAt : U.FormatUnit → List ℕ → ℕ → Type 0
 IsUnitAt (unit.Byte c next) format i = IsByteAt c next format i
-IsUnitAt (unit.Figure t next) format i = IsFigureAt t next format i
+IsUnitAt (unit.Specifier t next) format i = IsSpecifierAt t next format i

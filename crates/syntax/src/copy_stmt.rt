@@ -70,9 +70,9 @@ impl<A: Allocator + Copy> Stmt<A> {
             Stmt::Declare(d) => Ok(Stmt::Declare(d.copy(alloc)?)),
             Stmt::Do(s) => Ok(Stmt::Do(s.copy(alloc)?)),
             Stmt::Block(body) => Ok(Stmt::Block(copy_stmts(alloc, body.as_slice())?)),
-            Stmt::Print(at, text, text_at, args) => {
+            Stmt::Print(span, text, text_span, args) => {
                 let (text, args) = copy_two(alloc, text, args)?;
-                Ok(Stmt::Print(*at, text, *text_at, args))
+                Ok(Stmt::Print(*span, text, *text_span, args))
             }
             Stmt::If(c, a, b) => {
                 let (c, a) = both(c.copy(alloc), copy_boxed(alloc, a))?;
@@ -90,15 +90,15 @@ impl<A: Allocator + Copy> Stmt<A> {
                 let head = head.copy(alloc)?;
                 Ok(Stmt::For(head, copy_boxed(alloc, body)?))
             }
-            Stmt::Break(at) => Ok(Stmt::Break(*at)),
-            Stmt::Continue(at) => Ok(Stmt::Continue(*at)),
-            Stmt::Return(e, at) => Ok(Stmt::Return(e.copy(alloc)?, *at)),
-            Stmt::Transaction(kind, body, at) => {
+            Stmt::Break(span) => Ok(Stmt::Break(*span)),
+            Stmt::Continue(span) => Ok(Stmt::Continue(*span)),
+            Stmt::Return(e, span) => Ok(Stmt::Return(e.copy(alloc)?, *span)),
+            Stmt::Transaction(kind, body, span) => {
                 let body = copy_stmts(alloc, body.as_slice())?;
-                Ok(Stmt::Transaction(*kind, body, *at))
+                Ok(Stmt::Transaction(*kind, body, *span))
             }
-            Stmt::Cancel(at) => Ok(Stmt::Cancel(*at)),
-            Stmt::CancelOuter(at) => Ok(Stmt::CancelOuter(*at)),
+            Stmt::Cancel(span) => Ok(Stmt::Cancel(*span)),
+            Stmt::CancelOuter(span) => Ok(Stmt::CancelOuter(*span)),
         }
     }
 }

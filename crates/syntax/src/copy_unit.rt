@@ -1,6 +1,6 @@
 //! Copies of functions, globals and units.
 
-use crate::tree::{Attribute, Function, Global, Initializer, Item, Parameter, Unit};
+use crate::tree::{Attribute, Function, Global, Initialiser, Item, Parameter, Unit};
 use containers::Copied;
 use std::alloc::{AllocError, Allocator};
 
@@ -17,8 +17,8 @@ impl<A: Allocator + Copy> Copied<A> for Attribute {
     }
 }
 
-impl<A: Allocator + Copy> Copied<A> for Initializer {
-    fn copy(&self, _alloc: A) -> Result<Initializer, AllocError> {
+impl<A: Allocator + Copy> Copied<A> for Initialiser {
+    fn copy(&self, _alloc: A) -> Result<Initialiser, AllocError> {
         Ok(*self)
     }
 }

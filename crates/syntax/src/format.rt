@@ -1,7 +1,7 @@
 //! What stands at a place of a format.
 
 ghost use Rattle.std.specs.Prelude.{◌≡◌, ◌<◌, ◌≤◌, ◌+◌, length, drop, IfSome};
-ghost use Rattle.syntax.specs.Formats.{figure_at};
+ghost use Rattle.syntax.specs.Formats.{specifier_at};
 ghost use Rattle.syntax.specs.Units.{IsUnitAt};
 
 use lex::token::Scalar;
@@ -9,13 +9,13 @@ use lex::token::Scalar;
 /// A byte of literal text or a number, and the place behind what says it.
 pub enum FormatUnit {
     Byte(u8, usize),
-    Figure(Scalar, usize),
+    Specifier(Scalar, usize),
 }
 
 /// The number that stands at a place behind a percent sign: its type, and how many bytes say it (C11 7.21.6.1).
-fn figure_at(format: &[u8], i: usize) -> Option<(Scalar, usize)>
+fn specifier_at(format: &[u8], i: usize) -> Option<(Scalar, usize)>
     requires { i < length format.now }
-    ensures is { result ≡ figure_at (drop i format.now) }
+    ensures is { result ≡ specifier_at (drop i format.now) }
     ensures fits { IfSome result (λ f. i + f.1 ≤ length format.now) }
 {
     let (_, rest) = format.split_at(i);
@@ -36,8 +36,8 @@ pub fn unit_at(format: &[u8], i: usize) -> FormatUnit
     if byte != b'%' || format.len() - i == 1 {
         return FormatUnit::Byte(byte, i + 1);
     }
-    match figure_at(format, i + 1) {
-        Some((ty, count)) => FormatUnit::Figure(ty, i + 1 + count),
+    match specifier_at(format, i + 1) {
+        Some((ty, count)) => FormatUnit::Specifier(ty, i + 1 + count),
         None => FormatUnit::Byte(format[i + 1], i + 2),
     }
 }

@@ -5,11 +5,11 @@ ghost use Rattle.syntax.specs.Names.{cells, first_value, first_word, first_words
 ghost use Rattle.syntax.specs.Views.{global_of};
 
 use crate::number::{number, word_of};
-use crate::tree::{Global, Initializer};
+use crate::tree::{Global, Initialiser};
 use lex::token::Scalar;
 use std::alloc::{AllocError, Allocator};
 
-impl Initializer {
+impl Initialiser {
     /// The word of the number in the constant's own type.
     fn own_word(self) -> u64
         ensures { result ≡ (first_value self).word }
@@ -44,7 +44,7 @@ impl<A: Allocator> Global<A> {
 fn push_firsts<A: Allocator>(
     words: &mut Vec<u64, A>,
     ty: Scalar,
-    firsts: &[Initializer],
+    firsts: &[Initialiser],
 ) -> Result<(), AllocError>
     ensures { OnOk result (words.new.items ≡ words.old.items ++ map (first_word ty) firsts.now) }
 {

@@ -1,7 +1,7 @@
 //! Whether trees are the same, with all their places.
 
 use crate::tree::{
-    Attribute, Declaration, Declarator, Expr, ForHead, Function, Global, Initializer, Item, Name,
+    Attribute, Declaration, Declarator, Expr, ForHead, Function, Global, Initialiser, Item, Name,
     Parameter, Simple, Start, Stmt, Unit,
 };
 use containers::Same;
@@ -17,29 +17,31 @@ impl<A: Allocator> Same for Expr<A> {
     fn same(&self, other: &Expr<A>) -> bool {
         match (self, other) {
             (Expr::Variable(x), Expr::Variable(y)) => x.same(y),
-            (Expr::Constant(m, s, at), Expr::Constant(n, t, to)) => {
-                *m == *n && *s == *t && *at == *to
+            (Expr::Constant(m, s, span), Expr::Constant(n, t, to)) => {
+                *m == *n && *s == *t && *span == *to
             }
-            (Expr::Element(x, i, at), Expr::Element(y, j, to)) => {
-                x.same(y) && i.same(j) && *at == *to
+            (Expr::Element(x, i, span), Expr::Element(y, j, to)) => {
+                x.same(y) && i.same(j) && *span == *to
             }
-            (Expr::Call(f, xs, at), Expr::Call(g, ys, to)) => f.same(g)
+            (Expr::Call(f, xs, span), Expr::Call(g, ys, to)) => f.same(g)
                 && xs.same(ys)
-                && *at == *to,
-            (Expr::Parenthesized(a, at), Expr::Parenthesized(b, to)) => a.same(b) && *at == *to,
-            (Expr::Cast(s, a, at), Expr::Cast(t, b, to)) => *s == *t && a.same(b) && *at == *to,
-            (Expr::Unary(f, a, at), Expr::Unary(g, b, to)) => *f == *g && a.same(b) && *at == *to,
-            (Expr::Binary(f, a, b, at), Expr::Binary(g, c, d, to)) => {
-                *f == *g && a.same(c) && b.same(d) && *at == *to
+                && *span == *to,
+            (Expr::Parenthesized(a, span), Expr::Parenthesized(b, to)) => a.same(b) && *span == *to,
+            (Expr::Cast(s, a, span), Expr::Cast(t, b, to)) => *s == *t && a.same(b) && *span == *to,
+            (Expr::Unary(f, a, span), Expr::Unary(g, b, to)) => *f == *g
+                && a.same(b)
+                && *span == *to,
+            (Expr::Binary(f, a, b, span), Expr::Binary(g, c, d, to)) => {
+                *f == *g && a.same(c) && b.same(d) && *span == *to
             }
-            (Expr::Logical(f, a, b, at), Expr::Logical(g, c, d, to)) => {
-                *f == *g && a.same(c) && b.same(d) && *at == *to
+            (Expr::Logical(f, a, b, span), Expr::Logical(g, c, d, to)) => {
+                *f == *g && a.same(c) && b.same(d) && *span == *to
             }
-            (Expr::Conditional(a, b, c, at), Expr::Conditional(d, e, f, to)) => {
-                a.same(d) && b.same(e) && c.same(f) && *at == *to
+            (Expr::Conditional(a, b, c, span), Expr::Conditional(d, e, f, to)) => {
+                a.same(d) && b.same(e) && c.same(f) && *span == *to
             }
-            (Expr::InTransaction(f, k, a, at), Expr::InTransaction(g, l, b, to)) => {
-                *f == *g && *k == *l && a.same(b) && *at == *to
+            (Expr::InTransaction(f, k, a, span), Expr::InTransaction(g, l, b, to)) => {
+                *f == *g && *k == *l && a.same(b) && *span == *to
             }
             _ => false,
         }
@@ -97,21 +99,21 @@ impl<A: Allocator> Same for Stmt<A> {
             (Stmt::Declare(a), Stmt::Declare(b)) => a.same(b),
             (Stmt::Do(a), Stmt::Do(b)) => a.same(b),
             (Stmt::Block(a), Stmt::Block(b)) => a.same(b),
-            (Stmt::Print(at, a, a_at, xs), Stmt::Print(to, b, b_at, ys)) => {
-                *at == *to && a.same(b) && *a_at == *b_at && xs.same(ys)
+            (Stmt::Print(span, a, a_span, xs), Stmt::Print(to, b, b_span, ys)) => {
+                *span == *to && a.same(b) && *a_span == *b_span && xs.same(ys)
             }
             (Stmt::If(c, a, x), Stmt::If(d, b, y)) => c.same(d) && a.same(b) && x.same(y),
             (Stmt::While(c, a), Stmt::While(d, b)) => c.same(d) && a.same(b),
             (Stmt::DoWhile(a, c), Stmt::DoWhile(b, d)) => a.same(b) && c.same(d),
             (Stmt::For(x, a), Stmt::For(y, b)) => x.same(y) && a.same(b),
-            (Stmt::Break(at), Stmt::Break(to)) => *at == *to,
-            (Stmt::Continue(at), Stmt::Continue(to)) => *at == *to,
-            (Stmt::Return(a, at), Stmt::Return(b, to)) => a.same(b) && *at == *to,
-            (Stmt::Transaction(f, a, at), Stmt::Transaction(g, b, to)) => {
-                *f == *g && a.same(b) && *at == *to
+            (Stmt::Break(span), Stmt::Break(to)) => *span == *to,
+            (Stmt::Continue(span), Stmt::Continue(to)) => *span == *to,
+            (Stmt::Return(a, span), Stmt::Return(b, to)) => a.same(b) && *span == *to,
+            (Stmt::Transaction(f, a, span), Stmt::Transaction(g, b, to)) => {
+                *f == *g && a.same(b) && *span == *to
             }
-            (Stmt::Cancel(at), Stmt::Cancel(to)) => *at == *to,
-            (Stmt::CancelOuter(at), Stmt::CancelOuter(to)) => *at == *to,
+            (Stmt::Cancel(span), Stmt::Cancel(to)) => *span == *to,
+            (Stmt::CancelOuter(span), Stmt::CancelOuter(to)) => *span == *to,
             _ => false,
         }
     }
@@ -129,8 +131,8 @@ impl Same for Attribute {
     }
 }
 
-impl Same for Initializer {
-    fn same(&self, other: &Initializer) -> bool {
+impl Same for Initialiser {
+    fn same(&self, other: &Initialiser) -> bool {
         *self == *other
     }
 }

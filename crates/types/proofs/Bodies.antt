@@ -6,7 +6,7 @@ use Rattle.syntax.specs.declared.tree.Function as Own
 use Rattle.syntax.specs.Views.{function_of, stmts_of}
 use Rattle.syntax.specs.Types.{Known}
 use Rattle.syntax.specs.Typing.{has_name, defined_names, may_be_function}
-use Rattle.name_tables.specs.Named.{first, declared}
+use Rattle.name_tables.specs.Named.{first, with_declaration}
 use Rattle.name_tables.specs.Known.{entries_in}
 use Rattle.name_tables.specs.declared.entries.Table.{Table}
 use Rattle.name_tables.proofs.Firsts.{first_declared}
@@ -31,7 +31,7 @@ no_body f None n x h = refl
 no_body f (Some b) n x h = absurd cc
 
 module _ {B V A : Type 0} (earlier : List Item) (f : Own.Function B) where
-  pub body_more : (old new : Table V A) (x : List ℕ) (v : V) → entries_in new ≡ declared (entries_in old) x v → x ≡ f.name.text → is_some f.body ≡ true → AreBodies old earlier → AreBodies new (earlier ++ Defines (function_of f) ∷ [])
+  pub body_more : (old new : Table V A) (x : List ℕ) (v : V) → entries_in new ≡ with_declaration (entries_in old) x v → x ≡ f.name.text → is_some f.body ≡ true → AreBodies old earlier → AreBodies new (earlier ++ Defines (function_of f) ∷ [])
   body_more old new n v e name body h = λ x.
       ap (λ es. is_some (first es x)) e ∙ ap is_some (first_declared (entries_in old) n v x) ∙ or_some (first (entries_in old) x) (bytes_eq n x) v
       ∙ ap (λ r. r || (bytes_eq n x || false)) (h x)

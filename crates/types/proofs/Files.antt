@@ -5,13 +5,7 @@ use Rattle.syntax.specs.Tree.{Span, Scalar, Function, Global, Item, Defines, Sha
 use Rattle.syntax.specs.Names.{definition_of, definition_or}
 use Rattle.syntax.specs.Types.{Known, Unknown, Number, Array, Callable, Scope, file_scope, known_among, known_global, known_function}
 use Rattle.syntax.specs.Typing.{is_unknown, has_name, defined_names, all_cells}
-
--- what is known, and else this
-abbrev pub or_known : Known → Known → Known
-or_known Unknown k = k
-or_known (Number t) k = Number t
-or_known (Array t n) k = Array t n
-or_known (Callable r ts) k = Callable r ts
+use Rattle.syntax.proofs.ValueTypes.{or_known, among_known, scope_append}
 
 or_unknown : (k : Known) → or_known k Unknown ≡ k
 or_unknown Unknown = refl
@@ -33,26 +27,9 @@ known_first (Number t) last h = refl
 known_first (Array t n) last h = refl
 known_first (Callable r ts) last h = refl
 
-if_or_known : (b : Bool) (k k' last : Known) (whole : Known) → or_known k last ≡ k → whole ≡ or_known k' last → (if b then k else whole) ≡ or_known (if b then k else k') last
-if_or_known true k k' last whole e f = sym e
-if_or_known false k k' last whole e f = f
-
-global_known : (ty : Scalar) (length : Option (ℕ × Span)) (last : Known) → or_known (unwrap_or (option_map (λ n. Array ty n.0) length) (Number ty)) last ≡ unwrap_or (option_map (λ n. Array ty n.0) length) (Number ty)
-global_known ty None last = refl
-global_known ty (Some n) last = refl
-
-among_known : (gs : List Global) (rest whole : Scope) (x : List ℕ) (last : Known) → whole x ≡ or_known (rest x) last → known_among gs whole x ≡ or_known (known_among gs rest x) last
-among_known [] rest whole x last e = e
-among_known (g ∷ gs) rest whole x last e = if_or_known (bytes_eq g.name.text x) (known_global g) (known_among gs rest x) last (known_among gs whole x) (global_known g.ty g.length last) (among_known gs rest whole x last e)
-
 among_append : (gs hs : List Global) (rest : Scope) (x : List ℕ) → known_among (gs ++ hs) rest x ≡ known_among gs (known_among hs rest) x
 among_append [] hs rest x = refl
 among_append (g ∷ gs) hs rest x = ap (λ k. if bytes_eq g.name.text x then known_global g else k) (among_append gs hs rest x)
-
-pub scope_append : (earlier items : List Item) (x : List ℕ) → file_scope (earlier ++ items) x ≡ or_known (file_scope earlier x) (file_scope items x)
-scope_append [] items x = refl
-scope_append (Defines f ∷ earlier) items x = if_or_known (bytes_eq f.name.text x) (known_function f) (file_scope earlier x) (file_scope items x) (file_scope (earlier ++ items) x) refl (scope_append earlier items x)
-scope_append (Shares gs ∷ earlier) items x = among_known gs (file_scope earlier) (file_scope (earlier ++ items)) x (file_scope items x) (scope_append earlier items x)
 
 -- a name that was not known takes what it is declared as, and the others stay
 last_known : (b : Bool) (k new : Known) → (b ≡ true → k ≡ Unknown) → (if b then new else k) ≡ or_known k (if b then new else Unknown)

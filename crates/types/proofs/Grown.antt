@@ -10,7 +10,7 @@ use Rattle.syntax.specs.declared.tree.Function.{Function}
 use Rattle.syntax.specs.Tree.{Scalar}
 use Rattle.syntax.specs.Types.{Number, with_number}
 use Rattle.syntax.specs.Typing.{has_name, is_unknown}
-use Rattle.name_tables.specs.Named.{first, declared, newest, newest_from}
+use Rattle.name_tables.specs.Named.{first, with_declaration, newest, newest_from}
 use Rattle.name_tables.proofs.Firsts.{first_declared}
 use Rattle.name_tables.proofs.Newest.{newest_more}
 use Rattle.types.specs.declared.symbol.ScopeSymbol.{ScopeSymbol}
@@ -18,11 +18,6 @@ use Rattle.types.specs.declared.table.ScopeTable.{ScopeTable}
 use Rattle.types.specs.inner.Scopes.{known_of}
 use Rattle.types.specs.inner.Symbols.{is_nothing, AreSymbols}
 use Rattle.types.specs.inner.Known.{known_as, is_behind, locals_of, file_of, known_in, count_in, Grows, Agrees, AreDeclared}
-
--- a result is good or bad
-pub by_either : {X Y : Type 0} (r : Result X Y) (P Q G : Type 0) → OnOk r P → OnErr r Q → (P → G) → (Q → G) → G
-by_either (Ok x) P Q G p q f h = f p
-by_either (Err y) P Q G p q f h = h q
 
 abbrev Locals : Type 0
 Locals = List (List ℕ × Scalar)
@@ -132,7 +127,7 @@ module _ {A : Type 0} where
   file_known false None s h = refl
   file_known false (Some k) s h = refl
 
-  pub define_known : (old new : ScopeTable A) (x : List ℕ) (s : ScopeSymbol (Function A)) → count_in old ≡ 0 → locals_of new ≡ locals_of old → file_of new ≡ declared (file_of old) x s → is_unknown (known_in old x) ≡ true → known_in new ≡ (λ y. if bytes_eq x y then known_of s else known_in old y)
+  pub define_known : (old new : ScopeTable A) (x : List ℕ) (s : ScopeSymbol (Function A)) → count_in old ≡ 0 → locals_of new ≡ locals_of old → file_of new ≡ with_declaration (file_of old) x s → is_unknown (known_in old x) ≡ true → known_in new ≡ (λ y. if bytes_eq x y then known_of s else known_in old y)
   define_known old new x s none same e unknown = unfold known_in in (
       let here : (y : List ℕ) → newest (locals_of old) y ≡ None = λ y. no_locals (locals_of old) y none in
       let free : first (file_of old) x ≡ None = not_known (first (file_of old) x) (old.symbols x) (ap (λ o. is_unknown (known_as o (first (file_of old) x))) (sym (here x)) ∙ unknown) in
@@ -149,7 +144,7 @@ module _ {A : Type 0} where
   symbol_more None false s h k = refl
   symbol_more (Some t) b s h k = h
 
-  pub symbols_more : (old new : List (List ℕ × ScopeSymbol (Function A))) (x : List ℕ) (s : ScopeSymbol (Function A)) → new ≡ declared old x s → is_unknown (known_of s) ≡ false → AreSymbols old → AreSymbols new
+  pub symbols_more : (old new : List (List ℕ × ScopeSymbol (Function A))) (x : List ℕ) (s : ScopeSymbol (Function A)) → new ≡ with_declaration old x s → is_unknown (known_of s) ≡ false → AreSymbols old → AreSymbols new
   symbols_more old new x s e k h = λ y. ap (λ es. is_nothing (first es y)) e ∙ ap is_nothing (first_declared old x s y) ∙ symbol_more (first old y) (bytes_eq x y) s (h y) k
 
   pub symbols_same : (old new : List (List ℕ × ScopeSymbol (Function A))) → new ≡ old → AreSymbols old → AreSymbols new

@@ -15,15 +15,15 @@ use Rattle.syntax.specs.Typing.{is_unknown, may_be_function}
 use Rattle.syntax.specs.Typing.{Demand, first_unmet, demand, IsLength, HaveCells, AreTypedGlobals, IsTypedFunction, IsTypedItem, AreTypedItems, AreDefined}
 use Rattle.types.proofs.Steps.{first_of_two}
 use Rattle.types.proofs.AllMet.{met_first}
-use Rattle.types.proofs.Files.{scope_append, or_known}
+use Rattle.syntax.proofs.ValueTypes.{scope_append, or_known}
 
 -- one global's demands
 abbrev pub IsTypedGlobal : List Item → List Global → ℕ → Global → List Demand
 IsTypedGlobal earlier before taken g =
-    demand 21 g.name.at (is_unknown (file_scope (earlier ++ Shares before ∷ []) g.name.text))
+    demand 21 g.name.span (is_unknown (file_scope (earlier ++ Shares before ∷ []) g.name.text))
     ++ IsLength g.length
     ++ HaveCells (drop (cells g) g.first)
-    ++ demand 25 g.name.at (nat_le (taken + cells g) 4096)
+    ++ demand 25 g.name.span (nat_le (taken + cells g) 4096)
 
 module _ {A : Type 0} (gs : List (OwnGlobal.Global A)) (i : ℕ) (g : OwnGlobal.Global A) (is : g ≡ get_or gs i g) (less : i < length gs) where
   pub globals_taken : map global_of (take (i + 1) gs) ≡ map global_of (take i gs) ++ global_of g ∷ []
@@ -52,11 +52,11 @@ module _ {A : Type 0} (xs : List (OwnItem.Item A)) (i : ℕ) (d : OwnItem.Item A
       ∙ ap (λ b. option_or (first_unmet (IsTypedItem before (item_of d))) (first_unmet (AreTypedItems b rest))) (sym items_taken)
 
   -- whether what is declared is defined
-  pub defined_more : (p : Program) (f : Function) → item_of d ≡ Defines f → first_unmet (AreDefined p (map item_of (take i xs)) (map item_of (drop i xs))) ≡ option_or (first_unmet (demand 29 f.name.at (not (is_unknown (file_scope (map item_of (take i xs)) f.name.text)) || is_some (definition_of p f.name.text)))) (first_unmet (AreDefined p (map item_of (take (i + 1) xs)) (map item_of (drop (i + 1) xs))))
+  pub defined_more : (p : Program) (f : Function) → item_of d ≡ Defines f → first_unmet (AreDefined p (map item_of (take i xs)) (map item_of (drop i xs))) ≡ option_or (first_unmet (demand 29 f.name.span (not (is_unknown (file_scope (map item_of (take i xs)) f.name.text)) || is_some (definition_of p f.name.text)))) (first_unmet (AreDefined p (map item_of (take (i + 1) xs)) (map item_of (drop (i + 1) xs))))
   defined_more p f e =
       let before = map item_of (take i xs) in
       let rest = map item_of (drop (i + 1) xs) in
-      let here = demand 29 f.name.at (not (is_unknown (file_scope before f.name.text)) || is_some (definition_of p f.name.text)) in
+      let here = demand 29 f.name.span (not (is_unknown (file_scope before f.name.text)) || is_some (definition_of p f.name.text)) in
       at_drop_more (λ ys. first_unmet (AreDefined p before (map item_of ys))) xs i d less
       ∙ ap (λ x. first_unmet (AreDefined p before (map item_of (x ∷ drop (i + 1) xs)))) (sym is)
       ∙ ap (λ x. first_unmet (AreDefined p before (x ∷ rest))) e

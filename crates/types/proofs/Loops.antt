@@ -19,9 +19,9 @@ use Rattle.syntax.specs.Typing.{first_unmet, IsTyped, IsNumber, AreNumbers, dema
 use Rattle.types.proofs.Steps.{first_of_two, or_or}
 
 -- the demands of a call
-pub call_parts : (known : Scope) (x : Tree.Name) (es : Tree.Exprs) (at : Span) → first_unmet (IsTyped known (Tree.Call x es at)) ≡ option_or (first_unmet (IsKnown known x)) (option_or (first_unmet (AreNumbers known es)) (first_unmet (demand 22 at (may_be_function (known x.text)) ++ demand 23 x.at (takes_so_many (known x.text) (count es)))))
+pub call_parts : (known : Scope) (x : Tree.Name) (es : Tree.Exprs) (at : Span) → first_unmet (IsTyped known (Tree.Call x es at)) ≡ option_or (first_unmet (IsKnown known x)) (option_or (first_unmet (AreNumbers known es)) (first_unmet (demand 22 at (may_be_function (known x.text)) ++ demand 23 x.span (takes_so_many (known x.text) (count es)))))
 call_parts known x es at =
-    let last = demand 22 at (may_be_function (known x.text)) ++ demand 23 x.at (takes_so_many (known x.text) (count es)) in
+    let last = demand 22 at (may_be_function (known x.text)) ++ demand 23 x.span (takes_so_many (known x.text) (count es)) in
     first_of_two (IsKnown known x ++ AreNumbers known es) last ∙ ap (λ o. option_or o (first_unmet last)) (first_of_two (IsKnown known x) (AreNumbers known es)) ∙ or_or (first_unmet (IsKnown known x)) (first_unmet (AreNumbers known es)) (first_unmet last)
 
 module _ {A : Type 0} where

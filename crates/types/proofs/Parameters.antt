@@ -29,11 +29,11 @@ nothing_more [] x = refl
 nothing_more (y ∷ xs) x = ap (λ b. bytes_eq y x || b) (nothing_more xs x)
 
 module _ {A : Type 0} (qs : List (Own.Parameter A)) (i : ℕ) (q : Own.Parameter A) (is : q ≡ get_or qs i q) (less : i < length qs) where
-  pub distinct_more : (ns : List (List ℕ)) → first_unmet (AreDistinct ns (map parameter_of (drop i qs))) ≡ option_or (first_unmet (demands_of (option_map name_of q.name) (λ x. demand 21 x.at (not (has_name ns x.text))))) (first_unmet (AreDistinct (parameter_names (parameter_of q ∷ []) ++ ns) (map parameter_of (drop (i + 1) qs))))
+  pub distinct_more : (ns : List (List ℕ)) → first_unmet (AreDistinct ns (map parameter_of (drop i qs))) ≡ option_or (first_unmet (demands_of (option_map name_of q.name) (λ x. demand 21 x.span (not (has_name ns x.text))))) (first_unmet (AreDistinct (parameter_names (parameter_of q ∷ []) ++ ns) (map parameter_of (drop (i + 1) qs))))
   distinct_more ns =
       at_drop_more (λ xs. first_unmet (AreDistinct ns (map parameter_of xs))) qs i q less
       ∙ ap (λ x. first_unmet (AreDistinct ns (map parameter_of (x ∷ drop (i + 1) qs)))) (sym is)
-      ∙ first_of_two (demands_of (option_map name_of q.name) (λ x. demand 21 x.at (not (has_name ns x.text)))) (AreDistinct (parameter_names (parameter_of q ∷ []) ++ ns) (map parameter_of (drop (i + 1) qs)))
+      ∙ first_of_two (demands_of (option_map name_of q.name) (λ x. demand 21 x.span (not (has_name ns x.text)))) (AreDistinct (parameter_names (parameter_of q ∷ []) ++ ns) (map parameter_of (drop (i + 1) qs)))
 
   pub with_more : (known : Scope) → with_parameters (map parameter_of (drop i qs)) known ≡ with_parameters (map parameter_of (drop (i + 1) qs)) (with_parameters (parameter_of q ∷ []) known)
   with_more known = at_drop_more (λ xs. with_parameters (map parameter_of xs) known) qs i q less ∙ ap (λ x. with_parameters (map parameter_of (x ∷ drop (i + 1) qs)) known) (sym is)

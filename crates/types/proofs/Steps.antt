@@ -14,7 +14,7 @@ use Rattle.syntax.specs.Typing.{Demand, first_unmet, demand}
 -- the first unmet demand of two lists
 pub first_of_two : (ds es : List Demand) → first_unmet (ds ++ es) ≡ option_or (first_unmet ds) (first_unmet es)
 first_of_two [] es = refl
-first_of_two (d ∷ ds) es = by d.met (first_unmet ds) (first_unmet es) (first_unmet (ds ++ es)) (d.number, d.at) (first_of_two ds es)
+first_of_two (d ∷ ds) es = by d.met (first_unmet ds) (first_unmet es) (first_unmet (ds ++ es)) (d.number, d.span) (first_of_two ds es)
   where
     by : (b : Bool) (r s t : Option (ℕ × Span)) (f : ℕ × Span) → t ≡ option_or r s → (if b then t else Some f) ≡ option_or (if b then r else Some f) s
     by true r s t f h = h

@@ -4,7 +4,7 @@ use Rattle.std.proofs.lemmas.List.{at_drop_more}
 use Rattle.std.specs.Option.{option_or}
 use Rattle.lex.specs.declared.token.Scalar.{Scalar}
 use Rattle.syntax.specs.Tree.{Span, Stmts, Function, Item, Defines}
-use Rattle.syntax.specs.declared.tree.Kind.{Kind}
+use Rattle.syntax.specs.declared.tree.TransactionKind.{TransactionKind}
 use Rattle.syntax.specs.declared.tree.Expr as E
 use Rattle.syntax.specs.declared.tree.ForHead as H
 use Rattle.syntax.specs.declared.tree.Declaration as D
@@ -34,7 +34,7 @@ module _ {A : Type 0} (g : Option Scalar) (known : Scope) (ns : List (List ℕ))
   pub typed_block : (ss : List (S.Stmt A)) → s ≡ S.Block ss → first_unmet (IsTypedStmt g (stmt_of s) known ns looping) ≡ first_unmet (AreTypedStmts g (stmts_of ss) known [] looping)
   typed_block ss is = ap (λ x. first_unmet (IsTypedStmt g x known ns looping)) (ap stmt_of is ∙ stmt_of_block ss)
 
-  pub typed_transaction : (kind : Kind) (ss : List (S.Stmt A)) (at : Span) → s ≡ S.Transaction kind ss at → first_unmet (IsTypedStmt g (stmt_of s) known ns looping) ≡ first_unmet (AreTypedStmts g (stmts_of ss) known [] looping)
+  pub typed_transaction : (kind : TransactionKind) (ss : List (S.Stmt A)) (at : Span) → s ≡ S.Transaction kind ss at → first_unmet (IsTypedStmt g (stmt_of s) known ns looping) ≡ first_unmet (AreTypedStmts g (stmts_of ss) known [] looping)
   typed_transaction kind ss at is = ap (λ x. first_unmet (IsTypedStmt g x known ns looping)) (ap stmt_of is ∙ stmt_of_transaction kind ss at)
 
   pub typed_print : (at : Span) (format : List ℕ) (format_at : Span) (es : List (E.Expr A)) → s ≡ S.Print at format format_at es → first_unmet (IsTypedStmt g (stmt_of s) known ns looping) ≡ first_unmet (IsTypedPrint known format format_at (exprs_of es))
@@ -89,8 +89,8 @@ body_demands earlier f None = refl
 body_demands earlier f (Some ss) = refl
 
 -- a function by its parts
-pub typed_function : (earlier : List Item) (f : Function) → first_unmet (IsTypedFunction earlier f) ≡ option_or (first_unmet (demand 21 f.name.at (may_be_function (file_scope earlier f.name.text) && (is_none f.body || not (has_name (defined_names earlier) f.name.text))) ++ demand 22 f.name.at (agrees f (file_scope earlier f.name.text)))) (first_unmet (AreDistinct [] f.parameters ++ demands_of f.body (λ ss. AreTypedStmts f.result ss (with_parameters f.parameters (file_scope (earlier ++ Defines f ∷ []))) (parameter_names f.parameters) false)))
+pub typed_function : (earlier : List Item) (f : Function) → first_unmet (IsTypedFunction earlier f) ≡ option_or (first_unmet (demand 21 f.name.span (may_be_function (file_scope earlier f.name.text) && (is_none f.body || not (has_name (defined_names earlier) f.name.text))) ++ demand 22 f.name.span (agrees f (file_scope earlier f.name.text)))) (first_unmet (AreDistinct [] f.parameters ++ demands_of f.body (λ ss. AreTypedStmts f.result ss (with_parameters f.parameters (file_scope (earlier ++ Defines f ∷ []))) (parameter_names f.parameters) false)))
 typed_function earlier f =
-    let own = demand 21 f.name.at (may_be_function (file_scope earlier f.name.text) && (is_none f.body || not (has_name (defined_names earlier) f.name.text))) ++ demand 22 f.name.at (agrees f (file_scope earlier f.name.text)) in
+    let own = demand 21 f.name.span (may_be_function (file_scope earlier f.name.text) && (is_none f.body || not (has_name (defined_names earlier) f.name.text))) ++ demand 22 f.name.span (agrees f (file_scope earlier f.name.text)) in
     first_of_three own (AreDistinct [] f.parameters) (IsTypedBody earlier f f.body)
     ∙ ap (option_or (first_unmet own)) (sym (first_of_two (AreDistinct [] f.parameters) (IsTypedBody earlier f f.body)) ∙ ap (λ ds. first_unmet (AreDistinct [] f.parameters ++ ds)) (body_demands earlier f f.body))

@@ -52,8 +52,8 @@ module _ {A : Type 0} where
 
   -- the check of a unit: the fault is the first demand that is not met, and there is none where all are;
   -- without memory nothing is said. The unit is kept, or handed back.
-  abbrev pub Checks : Own.Unit A → Result (Typed A) (TypeFault A) → Type 0
-  Checks u (Ok t) = (t.unit ≡ u) × (None ≡ first_unmet (Meets u.end (program_of u)))
-  Checks u (Err (fault.OutOfMemory v)) = v ≡ u
-  Checks u (Err (fault.IllTyped v b)) =
+  abbrev pub ChecksTypes : Own.Unit A → Result (Typed A) (TypeFault A) → Type 0
+  ChecksTypes u (Ok t) = (t.unit ≡ u) × (None ≡ first_unmet (Meets u.end (program_of u)))
+  ChecksTypes u (Err (fault.OutOfMemory v)) = v ≡ u
+  ChecksTypes u (Err (fault.IllTyped v b)) =
       (v ≡ u) × (Some (number_in b, span_in b) ≡ first_unmet (Meets u.end (program_of u)))

@@ -9,4 +9,4 @@ pub mod Known
 pub mod Bodies
 pub mod Found
 -- formats
-pub mod Figures
+pub mod Specifiers

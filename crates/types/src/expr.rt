@@ -17,21 +17,21 @@ use std::alloc::Allocator;
 use syntax::tree::{Expr, Function, Name};
 
 /// Where an expression stands.
-pub(crate) fn place_of<A: Allocator>(e: &Expr<A>) -> Span
+pub(crate) fn span_of<A: Allocator>(e: &Expr<A>) -> Span
     ensures { result ≡ span_of (expr_of e.now) }
 {
     match e {
         Expr::Variable(x) => x.span,
-        Expr::Constant(_, _, at)
-        | Expr::Element(_, _, at)
-        | Expr::Call(_, _, at)
-        | Expr::Parenthesized(_, at)
-        | Expr::Cast(_, _, at)
-        | Expr::Unary(_, _, at)
-        | Expr::Binary(_, _, _, at)
-        | Expr::Logical(_, _, _, at)
-        | Expr::Conditional(_, _, _, at)
-        | Expr::InTransaction(_, _, _, at) => *at,
+        Expr::Constant(_, _, span)
+        | Expr::Element(_, _, span)
+        | Expr::Call(_, _, span)
+        | Expr::Parenthesized(_, span)
+        | Expr::Cast(_, _, span)
+        | Expr::Unary(_, _, span)
+        | Expr::Binary(_, _, _, span)
+        | Expr::Logical(_, _, _, span)
+        | Expr::Conditional(_, _, _, span)
+        | Expr::InTransaction(_, _, _, span) => *span,
     }
 }
 
@@ -53,7 +53,7 @@ pub(crate) fn gives_number<'a, A: Allocator + Copy>(
     ensures { unmet_in result ≡ first_unmet (GivesNumber (known_in names.now) (expr_of e.now)) }
 {
     let void = is_void(names, e);
-    demand(!void, Violation::WrongType(place_of(e)))
+    demand(!void, Violation::WrongType(span_of(e)))
 }
 
 /// An element of an array: its name, its index, and then that it is an array.
@@ -63,15 +63,15 @@ fn check_element<'a, A: Allocator + Copy>(
     names: &ScopeTable<'a, A>,
     x: &'a Name<A>,
     index: &'a Expr<A>,
-    at: Span,
+    span: Span,
 ) -> Result<(), Violation>
     ensures { unmet_in result
-        ≡ first_unmet (IsTyped (known_in names.now) (Tree.Element (name_of x.now) (expr_of index.now) at)) }
+        ≡ first_unmet (IsTyped (known_in names.now) (Tree.Element (name_of x.now) (expr_of index.now) span)) }
 {
     let symbol = names.look(x.text.as_str());
     demand(!symbol.is_unknown(), Violation::UnknownName(x.span))?;
     check_number(names, index)?;
-    demand(symbol.may_be_array(), Violation::WrongType(at))
+    demand(symbol.may_be_array(), Violation::WrongType(span))
 }
 
 /// A variable: its name, and then that it is a number.
@@ -109,13 +109,13 @@ fn check_symbol<A: Allocator + Copy>(
     symbol: &ScopeSymbol<'_, Function<A>>,
     count: usize,
     f: Span,
-    at: Span,
+    span: Span,
 ) -> Result<(), Violation>
     ensures { unmet_in result
-        ≡ first_unmet (demand 22 at (may_be_function (known_of symbol.now))
+        ≡ first_unmet (demand 22 span (may_be_function (known_of symbol.now))
         ++ demand 23 f (takes_so_many (known_of symbol.now) count)) }
 {
-    demand(symbol.may_be_function(), Violation::WrongType(at))?;
+    demand(symbol.may_be_function(), Violation::WrongType(span))?;
     demand(symbol.takes_so_many(count), Violation::WrongCount(f))
 }
 
@@ -124,15 +124,15 @@ fn check_called<'a, A: Allocator + Copy>(
     names: &ScopeTable<'a, A>,
     f: &'a Name<A>,
     args: &'a [Expr<A>],
-    at: Span,
+    span: Span,
 ) -> Result<(), Violation>
     ensures { unmet_in result
-        ≡ first_unmet (demand 22 at (may_be_function (known_in names.now f.now.text))
+        ≡ first_unmet (demand 22 span (may_be_function (known_in names.now f.now.text))
         ++ demand 23 f.now.span (takes_so_many (known_in names.now f.now.text) (count (exprs_of args.now)))) }
 {
     let symbol = names.look(f.text.as_str());
     let many = count_of(args);
-    check_symbol(&symbol, many, f.span, at)
+    check_symbol(&symbol, many, f.span, span)
 }
 
 /// A call: its name, its arguments, that it is a function, and how many arguments it takes.
@@ -141,14 +141,14 @@ fn check_call<'a, A: Allocator + Copy>(
     names: &ScopeTable<'a, A>,
     f: &'a Name<A>,
     args: &'a [Expr<A>],
-    at: Span,
+    span: Span,
 ) -> Result<(), Violation>
     ensures { unmet_in result
-        ≡ first_unmet (IsTyped (known_in names.now) (Tree.Call (name_of f.now) (exprs_of args.now) at)) }
+        ≡ first_unmet (IsTyped (known_in names.now) (Tree.Call (name_of f.now) (exprs_of args.now) span)) }
 {
     check_known(names, f)?;
     check_numbers(names, args)?;
-    check_called(names, f, args, at)
+    check_called(names, f, args, span)
 }
 
 /// An expression, whether it gives a value or not.
@@ -162,8 +162,8 @@ pub(crate) fn check_expr<'a, A: Allocator + Copy>(
     match e {
         Expr::Variable(x) => check_variable(names, x),
         Expr::Constant(_, _, _) => Ok(()),
-        Expr::Element(x, index, at) => check_element(names, x, index.get(), *at),
-        Expr::Call(f, args, at) => check_call(names, f, args.as_slice(), *at),
+        Expr::Element(x, index, span) => check_element(names, x, index.get(), *span),
+        Expr::Call(f, args, span) => check_call(names, f, args.as_slice(), *span),
         Expr::Parenthesized(e, _) => check_expr(names, e.get()),
         Expr::Cast(_, e, _) => check_number(names, e.get()),
         Expr::Unary(_, e, _) => check_number(names, e.get()),

@@ -35,8 +35,8 @@ pub enum Violation {
     /// A `break` or a `continue` in no loop.
     #[error("break or continue outside a loop")]
     OutsideLoop(Span),
-    /// A format that is none or has another number of figures than arguments, or an argument of another type than its
-    /// figure.
+    /// A format that is none or has another number of specifiers than arguments, or an argument of another type than
+    /// its specifier.
     #[error("bad format")]
     BadFormat(Span),
     /// No function takes one `int` and gives nothing under the name `worker`; empty, where the last token ends.

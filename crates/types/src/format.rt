@@ -2,16 +2,16 @@
 
 ghost use Rattle.std.specs.Prelude.{◌≡◌, ◌&&◌, ◌==◌, length};
 ghost use Rattle.syntax.specs.Views.{expr_of, exprs_of};
-ghost use Rattle.syntax.specs.Formats.{is_format, pieces, figures};
+ghost use Rattle.syntax.specs.Formats.{is_format, pieces, specifiers};
 ghost use Rattle.syntax.specs.Units.{says};
 ghost use Rattle.syntax.specs.Typing.{span_of};
 ghost use Rattle.syntax.specs.Types.{type_of};
 ghost use Rattle.syntax.specs.Typing.{first_unmet, demand, HaveTypes, IsTypedPrint};
 ghost use Rattle.types.specs.inner.Unmet.{unmet_in};
 ghost use Rattle.types.specs.inner.Known.{known_in};
-ghost use Rattle.types.specs.inner.Figures.{is_fitting};
+ghost use Rattle.types.specs.inner.Specifiers.{is_fitting};
 
-use crate::expr::{check_numbers, count_of, place_of};
+use crate::expr::{check_numbers, count_of, span_of};
 use crate::expr_type::type_of;
 use crate::fault::{Violation, demand};
 use crate::table::ScopeTable;
@@ -42,7 +42,7 @@ fn is_format(format: &[u8]) -> bool
                 i = next;
                 continue;
             }
-            FormatUnit::Figure(_, next) => {
+            FormatUnit::Specifier(_, next) => {
                 i = next;
             }
         }
@@ -51,8 +51,8 @@ fn is_format(format: &[u8]) -> bool
 }
 
 /// The number of numbers that a format prints.
-fn count_figures(format: &[u8]) -> usize
-    ensures { result ≡ length (figures (pieces format.now)) }
+fn count_specifiers(format: &[u8]) -> usize
+    ensures { result ≡ length (specifiers (pieces format.now)) }
 {
     let mut count: usize = 0;
     let mut i = 0;
@@ -62,7 +62,7 @@ fn count_figures(format: &[u8]) -> usize
                 i = next;
                 continue;
             }
-            FormatUnit::Figure(_, next) => {
+            FormatUnit::Specifier(_, next) => {
                 count += 1;
                 i = next;
             }
@@ -82,7 +82,7 @@ fn is_fitting(ty: Scalar, given: Option<Scalar>) -> bool
 }
 
 /// An argument is of the type that is printed.
-fn check_figure<'a, A: Allocator + Copy>(
+fn check_specifier<'a, A: Allocator + Copy>(
     names: &ScopeTable<'a, A>,
     ty: Scalar,
     arg: &'a Expr<A>,
@@ -93,17 +93,17 @@ fn check_figure<'a, A: Allocator + Copy>(
 {
     let given = type_of(names, arg);
     let fits = is_fitting(ty, given);
-    demand(fits, Violation::BadFormat(place_of(arg)))
+    demand(fits, Violation::BadFormat(span_of(arg)))
 }
 
 /// Each argument is of the type that is printed in its place.
-fn check_figures<'a, A: Allocator + Copy>(
+fn check_specifiers<'a, A: Allocator + Copy>(
     names: &ScopeTable<'a, A>,
     format: &[u8],
     args: &'a [Expr<A>],
 ) -> Result<(), Violation>
     ensures { unmet_in result
-        ≡ first_unmet (HaveTypes (known_in names.now) (figures (pieces format.now)) (exprs_of args.now)) }
+        ≡ first_unmet (HaveTypes (known_in names.now) (specifiers (pieces format.now)) (exprs_of args.now)) }
 {
     let mut next: usize = 0;
     let mut i = 0;
@@ -113,11 +113,11 @@ fn check_figures<'a, A: Allocator + Copy>(
                 i = behind;
                 continue;
             }
-            FormatUnit::Figure(ty, behind) => {
+            FormatUnit::Specifier(ty, behind) => {
                 let Some(arg) = args.get(next) else {
                     return Ok(());
                 };
-                check_figure(names, ty, arg)?;
+                check_specifier(names, ty, arg)?;
                 next += 1;
                 i = behind;
             }
@@ -128,23 +128,23 @@ fn check_figures<'a, A: Allocator + Copy>(
 
 /// Whether a format is one, and prints so many numbers.
 fn is_right(format: &[u8], count: usize) -> bool
-    ensures { result ≡ (is_format format.now && (length (figures (pieces format.now)) == count)) }
+    ensures { result ≡ (is_format format.now && (length (specifiers (pieces format.now)) == count)) }
 {
-    is_format(format) && count_figures(format) == count
+    is_format(format) && count_specifiers(format) == count
 }
 
 /// A print: its arguments, the format, and the arguments' types.
 pub(crate) fn check_print<'a, A: Allocator + Copy>(
     names: &ScopeTable<'a, A>,
     format: &'a str,
-    at: Span,
+    span: Span,
     args: &'a [Expr<A>],
 ) -> Result<(), Violation>
-    ensures { unmet_in result ≡ first_unmet (IsTypedPrint (known_in names.now) format.now at (exprs_of args.now)) }
+    ensures { unmet_in result ≡ first_unmet (IsTypedPrint (known_in names.now) format.now span (exprs_of args.now)) }
 {
     check_numbers(names, args)?;
     let bytes = format.as_bytes();
     let right = is_right(bytes, count_of(args));
-    demand(right, Violation::BadFormat(at))?;
-    check_figures(names, bytes, args)
+    demand(right, Violation::BadFormat(span))?;
+    check_specifiers(names, bytes, args)
 }

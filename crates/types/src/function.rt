@@ -139,7 +139,7 @@ fn check_parameter<'a, A: Allocator + Copy>(
     requires { start ≤ count_in names.old }
     ensures answer { (declared : List (List ℕ)) → AreDeclared start names.old declared →
         AnswersDemands result
-        (demands_of (option_map name_of one.now.name) (λ x. demand 21 x.at (not (has_name declared x.text)))) }
+        (demands_of (option_map name_of one.now.name) (λ x. demand 21 x.span (not (has_name declared x.text)))) }
     ensures known { OnOk result
         (known_in names.new ≡ with_parameters (parameter_of one.now ∷ []) (known_in names.old)) }
     ensures declared { OnOk result

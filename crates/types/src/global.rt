@@ -16,7 +16,7 @@ use crate::symbol::ScopeSymbol;
 use crate::table::ScopeTable;
 use lex::token::Span;
 use std::alloc::{AllocError, Allocator};
-use syntax::tree::{Function, Global, Initializer, Item};
+use syntax::tree::{Function, Global, Initialiser, Item};
 
 /// The most cells of all globals.
 const MOST_CELLS: u64 = 4096;
@@ -35,16 +35,16 @@ fn check_length(length: &Option<(u64, Span)>) -> Result<(), Violation>
     ensures { unmet_in result ≡ first_unmet (IsLength length.now) }
 {
     match length {
-        Some((count, at)) => {
+        Some((count, span)) => {
             let right = 1 <= *count && *count <= MOST_CELLS;
-            demand(right, Violation::BadLength(*at))
+            demand(right, Violation::BadLength(*span))
         }
         None => Ok(()),
     }
 }
 
 /// No initialiser stands where no cell is left for it.
-fn check_first(count: u64, first: &[Initializer]) -> Result<(), Violation>
+fn check_first(count: u64, first: &[Initialiser]) -> Result<(), Violation>
     ensures { unmet_in result ≡ first_unmet (HaveCells (drop count first.now)) }
 {
     match first.get(count as usize) {

@@ -6,7 +6,7 @@ ghost use Rattle.syntax.specs.Typing.{first_unmet, IsTypedTarget, IsAssignable, 
 ghost use Rattle.types.specs.inner.Unmet.{unmet_in};
 ghost use Rattle.types.specs.inner.Known.{known_in};
 
-use crate::expr::{check_expr, check_known, check_number, place_of};
+use crate::expr::{check_expr, check_known, check_number, span_of};
 use crate::fault::{Violation, demand};
 use crate::table::ScopeTable;
 use std::alloc::Allocator;
@@ -41,7 +41,7 @@ fn check_assignable<'a, A: Allocator + Copy>(
     ensures { unmet_in result ≡ first_unmet (IsAssignable (known_in names.now) (expr_of e.now)) }
 {
     let met = may_be_assigned(names, e);
-    demand(met, Violation::NotAssignable(place_of(e)))
+    demand(met, Violation::NotAssignable(span_of(e)))
 }
 
 /// A simple statement.

@@ -65,17 +65,17 @@ fn check_return<'a, A: Allocator + Copy>(
     names: &ScopeTable<'a, A>,
     gives: Option<Scalar>,
     e: &'a Option<Expr<A>>,
-    at: Span,
+    span: Span,
 ) -> Result<(), Violation>
     ensures { unmet_in result
         ≡ first_unmet
         (demands_of (option_map expr_of e.now) (IsTyped (known_in names.now))
-        ++ demand 22 at (returns_right gives (option_map expr_of e.now))
+        ++ demand 22 span (returns_right gives (option_map expr_of e.now))
         ++ demands_of (option_map expr_of e.now) (GivesNumber (known_in names.now))) }
 {
     check_value(names, e)?;
     let right = returns_right(gives, e.is_some());
-    demand(right, Violation::WrongType(at))?;
+    demand(right, Violation::WrongType(span))?;
     gives_numbers(names, e)
 }
 
@@ -137,10 +137,10 @@ pub(crate) fn check_stmt<'a, A: Allocator + Copy>(
         Stmt::Declare(one) => check_lone(names, context.start, one),
         Stmt::Do(s) => as_failure(check_simple(names, s)),
         Stmt::Block(body) => check_block(names, body.as_slice(), context),
-        Stmt::Print(_, format, at, args) => as_failure(check_print(
+        Stmt::Print(_, format, span, args) => as_failure(check_print(
             names,
             format.as_str(),
-            *at,
+            *span,
             args.as_slice(),
         )),
         Stmt::If(c, a, b) => {
@@ -171,10 +171,10 @@ pub(crate) fn check_stmt<'a, A: Allocator + Copy>(
             names.leave(outer);
             Ok(())
         }
-        Stmt::Break(at) | Stmt::Continue(at) => {
-            as_failure(demand(context.looping, Violation::OutsideLoop(*at)))
+        Stmt::Break(span) | Stmt::Continue(span) => {
+            as_failure(demand(context.looping, Violation::OutsideLoop(*span)))
         }
-        Stmt::Return(e, at) => as_failure(check_return(names, context.gives, e, *at)),
+        Stmt::Return(e, span) => as_failure(check_return(names, context.gives, e, *span)),
         Stmt::Transaction(_, body, _) => check_block(names, body.as_slice(), context),
         Stmt::Cancel(_) | Stmt::CancelOuter(_) => Ok(()),
     }

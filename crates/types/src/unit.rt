@@ -5,7 +5,7 @@ ghost use Rattle.syntax.specs.Views.{item_of};
 ghost use Rattle.syntax.specs.Types.{file_scope};
 ghost use Rattle.syntax.specs.Typing.{is_worker};
 ghost use Rattle.syntax.specs.Typing.{demand, first_unmet, IsTypedItem, AreTypedItems, AreDefined, Meets};
-ghost use Rattle.types.specs.Answers.{Checks};
+ghost use Rattle.types.specs.Answers.{ChecksTypes};
 ghost use Rattle.types.specs.inner.Unmet.{AnswersDemands, unmet_in};
 ghost use Rattle.types.specs.inner.Known.{known_in};
 ghost use Rattle.types.specs.inner.Bodies.{AreBodies};
@@ -127,7 +127,7 @@ fn check_program<A: Allocator + Copy>(
 /// functions that are declared and not defined, and last a missing `worker`. The program is kept in what is given, or
 /// comes back in the fault. Takes memory for the names.
 pub fn check<A: Allocator + Copy>(alloc: A, unit: Unit<A>) -> Result<Typed<A>, TypeFault<A>>
-    ensures { Checks unit result }
+    ensures { ChecksTypes unit result }
 {
     match check_program(alloc, unit.key, unit.items.as_slice(), unit.end) {
         Ok(()) => Ok(Typed { unit }),

@@ -27,7 +27,7 @@ use Rattle.seats.specs.Setup.{Setup, IsWorldOf}
 use Rattle.workers.specs.declared.worker.Worker.{Worker}
 use Rattle.workers.specs.declared.close.Finished.{Finished}
 use Rattle.seats.specs.Views.{Among, ViewPart, parts_in, parts_of}
-use Rattle.seats.specs.Rule.{Fits, Leaves, SeatView}
+use Rattle.seats.specs.Rule.{Fits, LeavesCells, SeatView}
 use Rattle.workers.specs.Workers.{AreWorkersOf, IsWorkerOf}
 use Rattle.workers.specs.Closing.{AreThere, Closes, finished_back, parts_back}
 use Rattle.seats.proofs.Keeps.{at_most_one}
@@ -98,13 +98,13 @@ module _ {A : Type 0} (z : TableId) (key : Setup) where
       pub there : AreThere z key (record w { parts = parts }) heard ws all
       pub others : (n : ℕ) → parts_of n (parts_back ws) ≡ 0 → slice_get parts n ≡ slice_get w.parts n
 
-    settles : (ws : List (Worker A)) (all : AreWorkersOf z key ws) → ((n : ℕ) → parts_of n (parts_back ws) ≤ 1) → ((p : ViewPart) → Among p (parts_back ws) → Fits key w heard p) → Settled ws all
-    settles [] all once fits = record { parts = w.parts; reached = answered; there = tt; others = λ n none. refl }
-    settles (x ∷ xs) all once fits =
+    all_close : (ws : List (Worker A)) (all : AreWorkersOf z key ws) → ((n : ℕ) → parts_of n (parts_back ws) ≤ 1) → ((p : ViewPart) → Among p (parts_back ws) → Fits key w heard p) → Settled ws all
+    all_close [] all once fits = record { parts = w.parts; reached = answered; there = tt; others = λ n none. refl }
+    all_close (x ∷ xs) all once fits =
         let works = all.0.1 in
         let p : ViewPart = works.part in
         let view : x.seat.me.0 ≡ p ∷ [] = ap (λ m. m.0) works.sits in
-        let rest = settles xs all.1 (λ n. let o = once n in let a = count_front x all.0 xs n in omega arith) (λ q a. fits q (among_front q (parts_back xs) x.seat.me.0 a)) in
+        let rest = all_close xs all.1 (λ n. let o = once n in let a = count_front x all.0 xs n in omega arith) (λ q a. fits q (among_front q (parts_back xs) x.seat.me.0 a)) in
         let mine : Fits key w heard p = fits p (among_back p (parts_back xs) x.seat.me.0 (subst (Among p) (sym view) (inl refl))) in
         let alone : parts_of p.number (parts_back xs) ≡ 0 = (
         let o = once p.number in
@@ -140,13 +140,13 @@ module _ {A : Type 0} (z : TableId) (key : Setup) where
       let same : q ≡ p = ap (λ (o : Option (Part Configuration)). unwrap_or o p) both in
       ap (λ (r : Part Configuration). thread_has_lock r.thread) (sym same) ∙ ap thread_has_lock is ∙ free
 
-  pub closes : (id : ℕ) (m : SeatView) (ws : List (Worker A)) → m.0 ≡ parts_back ws → (all : AreWorkersOf z key ws) → (cells : List ℕ) → Leaves key id m cells → (threads : List (Finished A)) → threads ≡ finished_back ws
+  pub closes : (id : ℕ) (m : SeatView) (ws : List (Worker A)) → m.0 ≡ parts_back ws → (all : AreWorkersOf z key ws) → (cells : List ℕ) → LeavesCells key id m cells → (threads : List (Finished A)) → threads ≡ finished_back ws
       → Closes z key ws all cells threads
   closes id m ws same all cells left threads finished =
       let views = left.1 in
       let rule = left.2 in
       let at : get_elem? views id ≡ some (parts_back ws) = subst (λ (v : List ViewPart). get_elem? views id ≡ some v) same left.3 in
-      let s = settles rule.world rule.heard rule.answered ws all (λ n. let a = parts_in-at n views id (parts_back ws) at in let o = at_most_one (nat_lt n key.threads) (parts_in n views) (rule.once n) in omega arith) (λ p a. rule.fits id (parts_back ws) p at a) in
+      let s = all_close rule.world rule.heard rule.answered ws all (λ n. let a = parts_in-at n views id (parts_back ws) at in let o = at_most_one (nat_lt n key.threads) (parts_in n views) (rule.once n) in omega arith) (λ p a. rule.fits id (parts_back ws) p at a) in
       let r = runs_say key (record rule.world { parts = s.parts }) rule.heard rule.valid s.reached in
       record {
         world = record rule.world { parts = s.parts };

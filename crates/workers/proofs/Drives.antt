@@ -9,18 +9,18 @@ use Rattle.workers.specs.declared.run.Driven.{Driven}
 use Rattle.workers.specs.declared.run.Ending.{Ending}
 use Rattle.workers.specs.declared.run.OfHall.{OfHall}
 use Rattle.workers.specs.Workers.{AreWorkersFrom, AreWorkersOf, IsWorkerOf}
-use Rattle.workers.specs.Driving.{AllPromise, AreDrivenOf, AreEnded, AreFresh, EndsAt}
+use Rattle.workers.specs.Driving.{AllPromise, AreDrivenOf, AreEnded, AreFresh, IsEndOfLoop}
 
 module _ {A : Type 0} (z : TableId) (key : Setup) where
   pub without_last : (xs : List (Worker A)) (w : Worker A) → AreWorkersOf z key (xs ++ w ∷ []) → AreWorkersOf z key xs × IsWorkerOf z key w
   without_last [] w a = (tt, a.0)
   without_last (x ∷ xs) w a = let r = without_last xs w a.1 in ((a.0, r.0), r.1)
 
-  pub driven_more : (all : ℕ) (ds : List (Driven A)) (d : Driven A) → AreDrivenOf z key all ds → IsWorkerOf z key d.worker × EndsAt key all d.stopped d.worker → AreDrivenOf z key all (ds ++ d ∷ [])
+  pub driven_more : (all : ℕ) (ds : List (Driven A)) (d : Driven A) → AreDrivenOf z key all ds → IsWorkerOf z key d.worker × IsEndOfLoop key all d.stopped d.worker → AreDrivenOf z key all (ds ++ d ∷ [])
   driven_more all [] d a is = (is, tt)
   driven_more all (x ∷ xs) d a is = (a.0, driven_more all xs d a.1 is)
 
-  pub driven_without : (all : ℕ) (ds : List (Driven A)) (d : Driven A) → AreDrivenOf z key all (ds ++ d ∷ []) → AreDrivenOf z key all ds × (IsWorkerOf z key d.worker × EndsAt key all d.stopped d.worker)
+  pub driven_without : (all : ℕ) (ds : List (Driven A)) (d : Driven A) → AreDrivenOf z key all (ds ++ d ∷ []) → AreDrivenOf z key all ds × (IsWorkerOf z key d.worker × IsEndOfLoop key all d.stopped d.worker)
   driven_without all [] d a = (tt, a.0)
   driven_without all (x ∷ xs) d a = let r = driven_without all xs d a.1 in ((a.0, r.0), r.1)
 
@@ -36,7 +36,7 @@ pub fresh_without : {A : Type 0} (xs : List (Worker A)) (w : Worker A) → AreFr
 fresh_without [] w a = (tt, a.0)
 fresh_without (x ∷ xs) w a = let r = fresh_without xs w a.1 in ((a.0, r.0), r.1)
 
-pub ended_more : {A : Type 0} (key : Setup) (all : ℕ) (ws : List (Worker A)) (es : List Ending) (w : Worker A) (e : Ending) → AreEnded key all ws es → e.number ≡ w.number → EndsAt key all e.stopped w → AreEnded key all (ws ++ w ∷ []) (es ++ e ∷ [])
+pub ended_more : {A : Type 0} (key : Setup) (all : ℕ) (ws : List (Worker A)) (es : List Ending) (w : Worker A) (e : Ending) → AreEnded key all ws es → e.number ≡ w.number → IsEndOfLoop key all e.stopped w → AreEnded key all (ws ++ w ∷ []) (es ++ e ∷ [])
 ended_more key all [] [] w e a n s = ((n, s), tt)
 ended_more key all [] (f ∷ es) w e a n s = absurd a
 ended_more key all (x ∷ ws) [] w e a n s = absurd a

@@ -34,7 +34,7 @@ works_at key number th steps accesses n m w works e = (
 module _ (n : ℕ) (m o m' o' : SeatView) (met : MeetsBoth n m o m' o') (key : Setup) (number number' : ℕ) (th th' : Thread Configuration) (steps steps' accesses accesses' : ℕ)
     (mine : Works key number th steps accesses m) (theirs : Works key number' th' steps' accesses' o) where
   pub meets_mine : (is : Works key number th steps accesses m') × MeetsAt n mine.part mine.now is.part is.now
-  meets_mine = let f = (met mine.part theirs.part mine.sits theirs.sits).0 in let x = works_at key number th steps accesses n m m' mine f.0 in (x.0, record { part = x.1; same = x.2; settles = f.1 })
+  meets_mine = let f = (met mine.part theirs.part mine.sits theirs.sits).0 in let x = works_at key number th steps accesses n m m' mine f.0 in (x.0, record { part = x.1; same = x.2; may_be_floor = f.1 })
 
   pub meets_theirs : (is : Works key number' th' steps' accesses' o') × MeetsAt n theirs.part theirs.now is.part is.now
-  meets_theirs = let f = (met mine.part theirs.part mine.sits theirs.sits).1 in let x = works_at key number' th' steps' accesses' n o o' theirs f.0 in (x.0, record { part = x.1; same = x.2; settles = f.1 })
+  meets_theirs = let f = (met mine.part theirs.part mine.sits theirs.sits).1 in let x = works_at key number' th' steps' accesses' n o o' theirs f.0 in (x.0, record { part = x.1; same = x.2; may_be_floor = f.1 })

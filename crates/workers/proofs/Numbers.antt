@@ -4,7 +4,7 @@ use Rattle.atomic_table.specs.Seated.{TableId}
 use Rattle.seats.specs.Setup.{Setup}
 use Rattle.workers.specs.declared.worker.Worker.{Worker}
 use Rattle.workers.specs.Workers.{AreWorkersFrom}
-use Rattle.workers.specs.Closing.{AllHere, HasWorker}
+use Rattle.workers.specs.Closing.{AllHere, HasWorkerFor}
 use Rattle.workers.specs.Driving.{HasNumber}
 use Rattle.workers.specs.Seen.{worker_number}
 
@@ -47,7 +47,7 @@ from_first z key from (w ∷ ws) a n le lt = at (λ g. from_first z key (suc fro
 pub numbers_from : {A : Type 0} (z : TableId) (key : Setup) (ws : List (Worker A)) → AreWorkersFrom z key 0 ws → (count : ℕ) → length ws ≡ count → (n : ℕ) → n < count → HasNumber worker_number ws n
 numbers_from z key ws a count len n lt = from_first z key 0 ws a n (omega arith) (omega arith)
 
-has_worker : {A : Type 0} (ws : List (Worker A)) (n : ℕ) → HasNumber worker_number ws n → HasWorker ws n
+has_worker : {A : Type 0} (ws : List (Worker A)) (n : ℕ) → HasNumber worker_number ws n → HasWorkerFor ws n
 has_worker [] n a = absurd a
 has_worker (w ∷ ws) n (inl e) = (0, w, refl, e)
 has_worker (w ∷ ws) n (inr a) = let h = has_worker ws n a in (suc h.0, h.1, h.2, h.3)

@@ -5,7 +5,7 @@ use Rattle.syntax.specs.declared.numbers.Status.TheVariants.{Running}
 use Rattle.bytecode.specs.Effects.{Effect}
 use Rattle.bytecode.specs.Code.{Code, Configuration, effect, going, onward}
 use Rattle.bytecode.specs.Valid.{cells_of}
-use Rattle.frames.specs.Told.{Tells}
+use Rattle.frames.specs.Doings.{IsDoingAt}
 use Rattle.frames.specs.declared.doing.Doing.TheVariants as doing
 use Rattle.norec_core.specs.Accesses.{cost, stops}
 use Rattle.norec_core.specs.Attempts.{Attempt}
@@ -67,7 +67,7 @@ module _ (code : Code) (to lock : ℕ) (odd : lock % 2 ≡ 1) where
   no_snapshot : {S : Type 0} (now : S) → core_begin now (Value lock) ≡ idle
   no_snapshot now = other (lock % 2) _ idle odd
 
-  stays_at : (th : Thread Configuration) → th.attempt ≡ None → th.status ≡ Running → Tells code th.configuration (doing.Begin to) → (step_with (effect code) th (Value lock)).thread.configuration ≡ th.configuration
+  stays_at : (th : Thread Configuration) → th.attempt ≡ None → th.status ≡ Running → IsDoingAt code th.configuration (doing.Begin to) → (step_with (effect code) th (Value lock)).thread.configuration ≡ th.configuration
   stays_at th none running t =
       ap (λ (a : Option (Attempt Configuration)). (told_of (effect code) th a (effect code th.configuration) (Value lock)).thread.configuration) none
       ∙ ap (λ (s : Status). (told_outside (effect code) th s (effect code th.configuration) (Value lock)).thread.configuration) running
@@ -76,4 +76,4 @@ module _ (code : Code) (to lock : ℕ) (odd : lock % 2 ≡ 1) where
 
   pub begin_stands : (s t : ThreadState) → s.thread.attempt ≡ None → s.thread.status ≡ Running → StandsAt code s (doing.Begin to) → t.thread ≡ (step_with (effect code) s.thread (Value lock)).thread → StandsAt code t (doing.Begin to)
   begin_stands s t none running stands e = λ _.
-      subst (λ (c : Configuration). Tells code c (doing.Begin to)) (sym (ap (λ (th : Thread Configuration). th.configuration) e ∙ stays_at s.thread none running (stands running))) (stands running)
+      subst (λ (c : Configuration). IsDoingAt code c (doing.Begin to)) (sym (ap (λ (th : Thread Configuration). th.configuration) e ∙ stays_at s.thread none running (stands running))) (stands running)

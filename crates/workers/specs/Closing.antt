@@ -22,15 +22,15 @@ use Rattle.workers.specs.Workers.{AreWorkersOf}
 
 -- A is the allocator
 module _ {A : Type 0} where
-  abbrev pub HasWorker : List (Worker A) → ℕ → Type 0
-  HasWorker ws number = (k : ℕ) × (w : Worker A) × (get_elem? ws k ≡ some w) × (w.number ≡ number)
+  abbrev pub HasWorkerFor : List (Worker A) → ℕ → Type 0
+  HasWorkerFor ws number = (k : ℕ) × (w : Worker A) × (get_elem? ws k ≡ some w) × (w.number ≡ number)
 
   abbrev pub NoWorker : List (Worker A) → ℕ → Type 0
   NoWorker ws number = (k : ℕ) (w : Worker A) → get_elem? ws k ≡ some w → w.number ≢ number
 
   -- each thread has a worker
   abbrev pub AllHere : List (Worker A) → ℕ → Type 0
-  AllHere ws threads = (n : ℕ) → n < threads → HasWorker ws n
+  AllHere ws threads = (n : ℕ) → n < threads → HasWorkerFor ws n
 
   abbrev pub NoneHolds : List (Worker A) → Type 0
   NoneHolds ws = (k : ℕ) (w : Worker A) → get_elem? ws k ≡ some w → thread_has_lock w.thread.thread ≡ false

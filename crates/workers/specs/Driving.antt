@@ -67,14 +67,14 @@ module _ {A : Type 0} where
   handle_number h = h.promise.number
 
   -- how a worker's loop ended
-  abbrev pub EndsAt : Setup → ℕ → Option Stop → Worker A → Type 0
-  EndsAt key all stopped w =
+  abbrev pub IsEndOfLoop : Setup → ℕ → Option Stop → Worker A → Type 0
+  IsEndOfLoop key all stopped w =
       EndsBy stopped (access (effect key.code) w.thread.thread) w.thread.thread.status all w.steps
 
   abbrev pub AreDrivenOf : TableId → Setup → ℕ → List (Driven A) → Type 0
   AreDrivenOf z key all [] = Unit {0}
   AreDrivenOf z key all (d ∷ ds) =
-      (IsWorkerOf z key d.worker × EndsAt key all d.stopped d.worker) × AreDrivenOf z key all ds
+      (IsWorkerOf z key d.worker × IsEndOfLoop key all d.stopped d.worker) × AreDrivenOf z key all ds
 
   -- workers that have made no step
   abbrev pub AreFresh : List (Worker A) → Type 0
@@ -92,7 +92,7 @@ module _ {A : Type 0} where
   AreEnded key all [] (e ∷ es) = ⊥
   AreEnded key all (w ∷ ws) [] = ⊥
   AreEnded key all (w ∷ ws) (e ∷ es) =
-      ((e.number ≡ w.number) × EndsAt key all e.stopped w) × AreEnded key all ws es
+      ((e.number ≡ w.number) × IsEndOfLoop key all e.stopped w) × AreEnded key all ws es
 
   -- the words, where no worker's thread has the lock; else the thread that has it
   abbrev pub IsMemoryOf : RunMemory → List (Worker A) → List ℕ → Type 0

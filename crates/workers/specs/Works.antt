@@ -20,7 +20,7 @@ use Rattle.machine.specs.Standing.{IsThreadOf}
 use Rattle.machine.specs.States.{first_thread}
 use Rattle.seats.specs.Setup.{Setup, IsPart}
 use Rattle.seats.specs.Views.{ViewPart, with_floor}
-use Rattle.seats.specs.Rule.{SeatView, Settles}
+use Rattle.seats.specs.Rule.{SeatView, MayBeFloor}
 
 -- The seat speaks for the thread alone. The thread is what `steps` steps make of its beginning where its accesses get
 -- the view's answers in order. Some world that steps which do not stop lead to has it with its records: as of the
@@ -82,12 +82,12 @@ Because SequenceUsedUp x = stops x ≡ true
 abbrev pub StopsAt : Code → Thread Configuration → Stop → Type 0
 StopsAt code th e = (th.status ≡ Running) × Because e (access (effect code) th)
 
--- the part with a new floor, which is at least the old one, and at least all that it settles
+-- the part with a new floor, which is at least the old one, and at least all that was answered
 pub record MeetsAt (n : ℕ) (p : ViewPart) (now : Part Configuration) (q : ViewPart) (later : Part Configuration)
     : Type 0 where
   pub part : q ≡ with_floor n p
   pub same : later ≡ now
-  pub settles : Settles n p
+  pub may_be_floor : MayBeFloor n p
 
 -- after a meeting at n, an attempt that the thread begins later begins at n or later
 abbrev pub BeginsLater : Type 0

@@ -6,7 +6,7 @@ ghost use Rattle.bytecode.specs.Valid.{cells_of};
 ghost use Rattle.workers.specs.Seen.{finished_accesses, finished_number, finished_steps, finished_tally};
 ghost use Rattle.workers.specs.Seen.{finished_thread, setup_of, table_of};
 ghost use Rattle.workers.specs.Workers.{AreWorkersOf};
-ghost use Rattle.workers.specs.Closing.{reason_number, HasWorker, NoWorker, AllHere, NoneHolds, Holds, Closes};
+ghost use Rattle.workers.specs.Closing.{reason_number, HasWorkerFor, NoWorker, AllHere, NoneHolds, Holds, Closes};
 ghost use Rattle.workers.specs.Closing.{parts_back, finished_back};
 
 use crate::hall::Hall;
@@ -20,7 +20,7 @@ use syntax::numbers::Status;
 use thiserror::Error;
 
 fn has<A: Allocator>(workers: &Vec<Worker<A>, A>, number: u32) -> bool
-    ensures { MatchBool result (HasWorker workers.now.items number) (NoWorker workers.now.items number) }
+    ensures { MatchBool result (HasWorkerFor workers.now.items number) (NoWorker workers.now.items number) }
 {
     'workers: for worker in workers {
         if worker.number == number {

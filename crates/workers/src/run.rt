@@ -6,7 +6,8 @@ ghost use Rattle.bytecode.specs.Valid.{bounds_of};
 ghost use Rattle.seats.specs.Saying.{code_does};
 ghost use Rattle.workers.specs.Seen.{setup_of, table_of, worker_number};
 ghost use Rattle.workers.specs.Workers.{IsWorkerOf, AreWorkersOf, StepsOn};
-ghost use Rattle.workers.specs.Driving.{AreDrivenOf, AreFresh, AreEnded, AllPromise, EndsAt, HasNumber, IsRunRefused};
+ghost use Rattle.workers.specs.Driving.{AreDrivenOf, AreFresh, AreEnded, AllPromise, IsEndOfLoop, HasNumber};
+ghost use Rattle.workers.specs.Driving.{IsRunRefused};
 ghost use Rattle.workers.specs.Driving.{IsWorkerCount, Ran, TellsMemory, run_number, driven_number, handle_number};
 
 use crate::close::{Finished, Outcome, gather, holder};
@@ -75,7 +76,7 @@ fn drive_held<G: Gate>(hall: &Hall, mut worker: Worker, budget: u64, gate: &G) -
     requires worker { IsWorkerOf hall.now.table.shared.table_id hall.now.setup worker }
     requires room { worker.steps + budget < 2 ^ 64 }
     ensures goes_on { StepsOn hall.now.table.shared.table_id hall.now.setup worker result.worker }
-    ensures ends { EndsAt hall.now.setup (worker.steps + budget) result.stopped result.worker }
+    ensures ends { IsEndOfLoop hall.now.setup (worker.steps + budget) result.stopped result.worker }
     ensures number { result.worker.number ≡ worker.number }
 {
     let mut overheld = false;
@@ -96,7 +97,7 @@ fn drive_free(hall: &Hall, mut worker: Worker, budget: u64) -> Driven
     requires worker { IsWorkerOf hall.now.table.shared.table_id hall.now.setup worker }
     requires room { worker.steps + budget < 2 ^ 64 }
     ensures goes_on { StepsOn hall.now.table.shared.table_id hall.now.setup worker result.worker }
-    ensures ends { EndsAt hall.now.setup (worker.steps + budget) result.stopped result.worker }
+    ensures ends { IsEndOfLoop hall.now.setup (worker.steps + budget) result.stopped result.worker }
     ensures number { result.worker.number ≡ worker.number }
 {
     match worker.run(hall, budget) {
@@ -110,7 +111,7 @@ fn drive_on<G: Gate>(hall: &Hall, worker: Worker, budget: u64, gate: &G) -> Driv
     requires worker { IsWorkerOf hall.now.table.shared.table_id hall.now.setup worker }
     requires room { worker.steps + budget < 2 ^ 64 }
     ensures goes_on { StepsOn hall.now.table.shared.table_id hall.now.setup worker result.worker }
-    ensures ends { EndsAt hall.now.setup (worker.steps + budget) result.stopped result.worker }
+    ensures ends { IsEndOfLoop hall.now.setup (worker.steps + budget) result.stopped result.worker }
     ensures number { result.worker.number ≡ worker.number }
 {
     if G::HOLDS {
@@ -124,7 +125,7 @@ fn drive_on<G: Gate>(hall: &Hall, worker: Worker, budget: u64, gate: &G) -> Driv
 fn drive<G: Gate>(hall: &Hall, worker: Worker, budget: u64, gate: &G) -> Driven
     requires { IsWorkerOf hall.now.table.shared.table_id hall.now.setup worker × (worker.steps ≡ 0) }
     ensures { IsWorkerOf hall.now.table.shared.table_id hall.now.setup result.worker
-        × EndsAt hall.now.setup budget result.stopped result.worker × (result.worker.number ≡ worker.number) }
+        × IsEndOfLoop hall.now.setup budget result.stopped result.worker × (result.worker.number ≡ worker.number) }
 {
     let driven = drive_on(hall, worker, budget, gate);
     gate.ended(driven.worker.number);
@@ -141,7 +142,7 @@ pub struct OfHall<'a, A: Allocator = Global> {
 
 impl<'a> Promise<Driven> for OfHall<'a> {
     ghost kept_by = { λ p r. IsWorkerOf (table_of p.hall.now) (setup_of p.hall.now) r.worker
-        × EndsAt (setup_of p.hall.now) p.budget r.stopped r.worker × (worker_number r.worker ≡ p.number) };
+        × IsEndOfLoop (setup_of p.hall.now) p.budget r.stopped r.worker × (worker_number r.worker ≡ p.number) };
 }
 
 /// Starts a thread for each worker, and joins them.
@@ -195,7 +196,7 @@ fn start<'s, E, G: Gate + Sync>(
         move || -> Driven
             requires { IsWorkerOf hall.now.table.shared.table_id hall.now.setup worker × (worker.steps ≡ 0) }
             ensures { IsWorkerOf hall.entry.now.table.shared.table_id hall.entry.now.setup result.worker
-                × EndsAt hall.entry.now.setup budget result.stopped result.worker
+                × IsEndOfLoop hall.entry.now.setup budget result.stopped result.worker
                 × (result.worker.number ≡ worker.number) }
         { drive(hall, worker, budget, gate) },
     ) else {

@@ -107,13 +107,6 @@ distinct_from_apart (p ∷ ps) h =
 pub order-distinct : (ps order : List (ℕ × ℕ)) → IsOrderOf ps order → IsDistinct ps
 order-distinct ps order o = distinct_from_apart ps (λ i j l m e. let f = one_place ps order i j o (omega arith) m e in omega arith)
 
--- the bounds of its pairs are its own
-pub order-within : (least greatest : ℕ) (ps order : List (ℕ × ℕ)) → IsOrderOf ps order → AreBetween least greatest ps → AreWithin least greatest order
-order-within least greatest ps order o b k l =
-    let h = o.here k l in
-    let w = b (get_or order k (0, 0)).1 h.0 in
-    (omega (arith, w.0, h.1), omega (arith, w.1, h.1))
-
 -- a cell that was found
 pub found_place : (a : ℕ) (ps order : List (ℕ × ℕ)) (k : ℕ) → IsOrderOf ps order → IsSearched a order (Ok k) → IsPlace a ps (get_or order k (0, 0)).1
 found_place a ps order k o h = let p = o.here k h.0 in (p.0, p.1 ∙ h.1)

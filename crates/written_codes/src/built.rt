@@ -5,7 +5,7 @@ use bytecode::{Code, FunctionCode, Parts, validate};
 use containers::{Items, Text};
 use lex::token::{Scalar, Span};
 use std::alloc::{AllocError, Allocator};
-use syntax::tree::{Global, Initializer, Name};
+use syntax::tree::{Global, Initialiser, Name};
 
 /// Parts with nothing in them.
 pub fn no_parts<A: Allocator + Copy>(alloc: A) -> Parts<A> {
@@ -81,10 +81,10 @@ pub fn push_texts<A: Allocator + Copy>(
 fn beginning<A: Allocator + Copy>(
     alloc: A,
     value: Option<u32>,
-) -> Result<Items<Initializer, A>, AllocError> {
+) -> Result<Items<Initialiser, A>, AllocError> {
     let mut all = Items::new(alloc);
     if let Some(value) = value {
-        all.push(Initializer {
+        all.push(Initialiser {
             negative: false,
             value: u64::from(value),
             ty: Scalar::Int,

@@ -8,7 +8,7 @@ use Rattle.command.specs.declared.request.Request.{Request}
 use Rattle.command.specs.declared.request.Task.{Task}
 use Rattle.command.specs.declared.request.UsageFault.{UsageFault}
 use Rattle.command.specs.declared.request.UsageFault.TheVariants.{OutOfMemory, Help, Wrong}
-use Rattle.command.specs.Asked.{IsNumber, IsRequest, IsTask, SaysNumber}
+use Rattle.command.specs.Asked.{IsNumberInRange, IsRequest, IsTask, SaysNumber}
 
 -- no help: words that the command line has, and that are refused because this is so, or want of memory
 abbrev pub IsOwn : Type 0 → UsageFault → Type 0
@@ -28,7 +28,7 @@ IsNoNumber text = (n : ℕ) → SaysNumber text n → ⊥
 
 -- no number is given for an argument in its range, and none is the default one
 abbrev pub IsOutOfRange : List Row → Text → (default least most : ℕ) → Type 0
-IsOutOfRange given id default least most = (n : ℕ) → IsNumber given id default least most n → ⊥
+IsOutOfRange given id default least most = (n : ℕ) → IsNumberInRange given id default least most n → ⊥
 
 -- what is given for its arguments makes no task of this command, and no request
 abbrev pub AreNoTask : Text → List Row → Type 0

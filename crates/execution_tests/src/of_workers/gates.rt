@@ -184,7 +184,7 @@ fn both_added() -> &'static Wanted<'static> {
 }
 
 /// Whether two threads add, and both saw each other at their first questions.
-fn meet_at_once<R: Threads + Wait + Sync>(rt: &R, alloc: Global) -> bool {
+fn meet_concurrently<R: Threads + Wait + Sync>(rt: &R, alloc: Global) -> bool {
     let gate = Meeting {
         first: AtomicBool::new(false),
         second: AtomicBool::new(false),
@@ -199,5 +199,5 @@ fn meet_at_once<R: Threads + Wait + Sync>(rt: &R, alloc: Global) -> bool {
 
 #[test]
 fn two_threads_run_at_one_time(rt: HostRuntime) {
-    assert_that(&rt, meet_at_once(&rt, rt.alloc()));
+    assert_that(&rt, meet_concurrently(&rt, rt.alloc()));
 }

@@ -20,7 +20,7 @@ fn rows() -> &'static [&'static str] {
         "int same(int i) { return i; } void worker(int self) { for (int i; i;) { int i; same(i); } }",
         // a value that is dropped may be none
         "void f(void) { } void worker(int self) { f(); (f()); printf(\"%%\"); printf(\"\"); }",
-        // the types of figures
+        // the types of specifiers
         "unsigned u; void worker(int self) { printf(\"%d%u%d%u\", u < 1, self + u, -self, self ? u : 1); }",
         "unsigned u; void worker(int self) { printf(\"%d%u%u\", self << u, u >> 1, (unsigned)self); }",
         // loops in loops, and returns of both kinds
@@ -29,7 +29,7 @@ fn rows() -> &'static [&'static str] {
         // a transaction that is an expression has its operand's type
         "unsigned u; void worker(int self) { printf(\"%d%u%d%u\", __transaction_atomic (self), __transaction_atomic (u), __transaction_relaxed (u < 1), __transaction_atomic (self) + __transaction_relaxed (u)); }",
         "unsigned u; int f(int n) { return __transaction_atomic (n); } void worker(int self) { __transaction_atomic (1) + 1; printf(\"%u%d\", __transaction_atomic (u) >> 1, -__transaction_relaxed (f(__transaction_atomic (self ? 1 : 2)))); }",
-        // `long long`: initialisers and lengths, functions, cells and indices, conditions, figures
+        // `long long`: initialisers and lengths, functions, cells and indices, conditions, specifiers
         "int a[3LL] = {1, -2ll, 0x100000000}; unsigned b = 4294967296; long long c = -0x80000000, d[4091ll] = {1u, 2, 3LL}; void worker(int self) { }",
         "long long f(long long); int g(long long a) { return f(a); } long long f(signed long long int b) { return g(b) + b; } void worker(int self) { int v = f(self); long long w = f(1u) + g(v); }",
         "int a[2]; long long x; void worker(int self) { __transaction_atomic { a[x] = 1LL; a[0x100000000] += x; x <<= a[1LL]; x++; a[x - 1]--; } }",

@@ -60,7 +60,7 @@ constant_first {w} c = go w c.base c.before c.digits c.suffix c.whole c.written 
     first [] suffix lt = absurd (omega arith)
     first (d ∷ ds) suffix lt = refl
 
-    go : (w : List ℕ) (b : Base) (before digits suffix : List ℕ) → w ≡ before ++ (digits ++ suffix) → s.IsWritten b before digits → Only (s.is_digit_of b) digits → is_digit (slice_index w 0) ≡ true
+    go : (w : List ℕ) (b : Base) (before digits suffix : List ℕ) → w ≡ before ++ (digits ++ suffix) → s.IsInBase b before digits → Only (s.is_digit_of b) digits → is_digit (slice_index w 0) ≡ true
     go w Decimal before digits suffix e i all =
         let h : w ≡ digits ++ suffix = e ∙ ap (λ (z : List ℕ). z ++ (digits ++ suffix)) i.0 in
         ap (λ (z : List ℕ). is_digit (slice_index z 0)) h ∙ ap is_digit (first digits suffix i.1) ∙ all 0 i.1

@@ -11,7 +11,7 @@ use Rattle.std.proofs.lemmas.List.Sums.{prefix_len-le-length, prefix_len_passes}
 use Rattle.lex.specs.declared.constant.Base.{Base}
 use Rattle.lex.specs.declared.constant.Base.TheVariants.{Decimal, Octal, Hexadecimal}
 use Rattle.lex.specs.Bytes.{is_digit, is_octal, is_hexadecimal, Only}
-use Rattle.lex.specs.Pieces.{is_digit_of, radix, value_from, IsWritten, IsSuffix, Constant, Shape, Longest}
+use Rattle.lex.specs.Pieces.{is_digit_of, radix, value_from, IsInBase, IsSuffix, Constant, Shape, Longest}
 use Rattle.lex.specs.Pieces as s
 use Rattle.lex.specs.declared.constant.Suffix.{Suffix}
 use Rattle.lex.specs.declared.constant.Suffix.TheVariants as kind
@@ -119,7 +119,7 @@ take_one : (rest : List ℕ) (a : ℕ) → 1 ≤ length rest → slice_index res
 take_one [] a le e = absurd (omega arith)
 take_one (x ∷ rest) a le e = ap (λ (z : ℕ). z ∷ []) e
 
-written : (b : Base) (rest : List ℕ) → Front b rest → 0 < length rest → is_digit (slice_index rest 0) ≡ true → IsWritten b (take (before_len b) rest) (take (prefix_len (is_digit_of b) (drop (before_len b) rest)) (drop (before_len b) rest))
+written : (b : Base) (rest : List ℕ) → Front b rest → 0 < length rest → is_digit (slice_index rest 0) ≡ true → IsInBase b (take (before_len b) rest) (take (prefix_len (is_digit_of b) (drop (before_len b) rest)) (drop (before_len b) rest))
 written Decimal rest f lt h =
     let some : 0 < prefix_len is_digit rest = run_some is_digit rest lt h in
     let size : length (take (prefix_len is_digit rest) rest) ≡ prefix_len is_digit rest = length-take-le (prefix_len is_digit rest) rest (prefix_len-le-length is_digit rest) in
@@ -238,7 +238,7 @@ base_longest b rest n f le c = go b f c.base c.before c.digits c.suffix c.whole 
     hexadecimal_in Octal f x ds suffix e lt all ended h = absurd (clash ((slice_index rest 1 == 120 || slice_index rest 1 == 88) && is_hexadecimal (slice_index rest 2)) (hexed x ds suffix e lt all h) f.1)
     hexadecimal_in Hexadecimal f x ds suffix e lt all ended h = run is_hexadecimal 2 (48 ∷ x ∷ []) ds suffix e refl all ended (record { u = refl; large_u = refl; l = refl; large_l = refl })
 
-    go : (b : Base) → Front b rest → (k : Base) (before ds suffix : List ℕ) → take n rest ≡ before ++ (ds ++ suffix) → IsWritten k before ds → Only (is_digit_of k) ds → IsSuffix suffix → n ≤ before_len b + prefix_len (is_digit_of b) (drop (before_len b) rest) + suffix_len (drop (before_len b + prefix_len (is_digit_of b) (drop (before_len b) rest)) rest)
+    go : (b : Base) → Front b rest → (k : Base) (before ds suffix : List ℕ) → take n rest ≡ before ++ (ds ++ suffix) → IsInBase k before ds → Only (is_digit_of k) ds → IsSuffix suffix → n ≤ before_len b + prefix_len (is_digit_of b) (drop (before_len b) rest) + suffix_len (drop (before_len b + prefix_len (is_digit_of b) (drop (before_len b) rest)) rest)
     go Decimal f Decimal before ds suffix e w all ended = run is_digit 0 before ds suffix e (ap (λ (z : List ℕ). length z) w.0) all ended (record { u = refl; large_u = refl; l = refl; large_l = refl })
     go Octal f Decimal before ds suffix e w all ended = absurd (w.2 (sym (first_of_digits ds suffix w.1) ∙ sym (digits_first before ds suffix e w.0 w.1) ∙ f.0))
     go Hexadecimal f Decimal before ds suffix e w all ended = absurd (w.2 (sym (first_of_digits ds suffix w.1) ∙ sym (digits_first before ds suffix e w.0 w.1) ∙ f.0))

@@ -10,7 +10,7 @@ use Rattle.lex.specs.declared.token.Punctuator.{Punctuator as Own}
 use Rattle.lex.specs.declared.token.Punctuator.TheVariants as punct
 use Rattle.lex.specs.Spelling.{spelling}
 use Rattle.lex.specs.inner.Punctuators.{singles, doubles, triples, spelled_so, one, two, three, with_length, punctuator_at, NoOtherPiece}
-use Rattle.lex.specs.Pieces.{Shape, Longest, Strange}
+use Rattle.lex.specs.Pieces.{Shape, Longest, HasNoShape}
 use Rattle.lex.specs.Pieces as s
 use Rattle.lex.proofs.pieces.Runs.{front_byte}
 use Rattle.lex.proofs.pieces.Classes.{letter, slash, other, class, class_of, shape_class, slash_only, Slashed, closed, line, unclosed, fixed, other_only, front_class, classed}
@@ -244,7 +244,7 @@ empty_shape x = by (other_only [] x (sym (classed x)))
     by : (k : Fixed) × ([] ≡ spelling k) → ⊥
     by p = go p.0 p.1 (in_table_at [] 0 p.0 p.1)
 
-pub strange : (rest : List ℕ) → NoOtherPiece rest → Missing rest → Strange rest
+pub strange : (rest : List ℕ) → NoOtherPiece rest → Missing rest → HasNoShape rest
 strange rest o q zero le x = empty_shape x
 strange rest o q (suc n) le x = let k = fixed_at rest (suc n) o (omega arith) le x in by k.0 k.1 (in_table_at rest (suc n) k.0 k.1)
   where

@@ -42,7 +42,7 @@ record Found (text : List ℕ) (at : ℕ) (f : LexFault) : Type 0 where
   flaw : Flaw (take at text) (take len (drop at text)) (drop len (drop at text)) at len f
 
 data View (text : List ℕ) (at : ℕ) (f : LexFault) : Type 0 where
-  strange : at < length text → s.Strange (drop at text) → f ≡ fault.BadCharacter (record { start = at; «end» = at + wrong.character_len (drop at text) }) → View text at f
+  strange : at < length text → s.HasNoShape (drop at text) → f ≡ fault.BadCharacter (record { start = at; «end» = at + wrong.character_len (drop at text) }) → View text at f
   found : Found text at f → View text at f
 
 view : (text : List ℕ) (at : ℕ) (f : LexFault) → FaultAt text at f → View text at f

@@ -10,7 +10,7 @@ use Rattle.lex.specs.Spelling.{spelling}
 use Rattle.lex.specs.Tokens.{Terminal}
 use Rattle.lex.specs.Tokens as tokens
 use Rattle.lex.specs.Bytes.{Only, starts, is_octal}
-use Rattle.lex.specs.Pieces.{is_digit_of, IsWritten, IsSuffix, Constant, constant_type, value, value_from, radix, Says, Gap, IsString, IsWord}
+use Rattle.lex.specs.Pieces.{is_digit_of, IsInBase, IsSuffix, Constant, constant_type, value, value_from, radix, Says, Gap, IsString, IsWord}
 use Rattle.lex.specs.Pieces as s
 use Rattle.lex.specs.Bytes as bytes
 use Rattle.lex.proofs.pieces.Classes.{Class, space, letter, digit, number, quotes, slash, class, begins_fixed, no_fixed, constant_first, white_class, letter_class, digit_class, byte_class}
@@ -54,7 +54,7 @@ run_same b ds es sf tf e all more ended end =
 
 -- what a constant says, by its parts
 abbrev Whole : List ℕ → Base → List ℕ → List ℕ → List ℕ → Type 0
-Whole w b before ds sf = (w ≡ before ++ (ds ++ sf)) × IsWritten b before ds × Only (is_digit_of b) ds × IsSuffix sf
+Whole w b before ds sf = (w ≡ before ++ (ds ++ sf)) × IsInBase b before ds × Only (is_digit_of b) ds × IsSuffix sf
 
 abbrev Agree : Base → Base → (ds es sf tf : List ℕ) → Type 0
 Agree b k ds es sf tf = (b ≡ k) × (ds ≡ es) × (sf ≡ tf)

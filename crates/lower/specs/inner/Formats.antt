@@ -22,6 +22,6 @@ text_written (c ∷ cs) from l = record {
 }
 
 -- a literal text, where there is any, and a number behind it
-abbrev pub figure_written : List ℕ → Scalar → ℕ → ℕ → Lists → Written
-figure_written text t r from l =
+abbrev pub specifier_written : List ℕ → Scalar → ℕ → ℕ → Lists → Written
+specifier_written text t r from l =
     let before = text_written text from l in and_then before (one_written (printing t r) before.to before.lists)

@@ -34,8 +34,8 @@ made_once f from w =
 -- why no code is made of a definition that needs so many registers, behind which there are so many instructions
 abbrev pub IsOfDefinition : Function → (registers instructions : ℕ) → LowerFault → Type 0
 IsOfDefinition f registers instructions OutOfMemory = Unit {0}
-IsOfDefinition f registers instructions (TooManyRegisters at) = (at ≡ f.name.at) × (65535 < registers)
-IsOfDefinition f registers instructions (TooMuchCode at) = (at ≡ f.name.at) × (1048576 < instructions)
+IsOfDefinition f registers instructions (TooManyRegisters at) = (at ≡ f.name.span) × (65535 < registers)
+IsOfDefinition f registers instructions (TooMuchCode at) = (at ≡ f.name.span) × (1048576 < instructions)
 IsOfDefinition f registers instructions (NestedTooDeep at) = ⊥
 
 -- one of these codes is of this function's name and needs too many registers
@@ -45,8 +45,8 @@ NeedsTooManyIn f codes = (g : FunctionCode) × Contains codes g × (g.name ≡ f
 -- why none is made of an item that has these codes, behind which there are so many instructions
 abbrev pub IsOfItem : Item → List FunctionCode → ℕ → LowerFault → Type 0
 IsOfItem item codes instructions OutOfMemory = Unit {0}
-IsOfItem (Defines f) codes instructions (TooManyRegisters at) = (at ≡ f.name.at) × NeedsTooManyIn f codes
-IsOfItem (Defines f) codes instructions (TooMuchCode at) = (at ≡ f.name.at) × (1048576 < instructions)
+IsOfItem (Defines f) codes instructions (TooManyRegisters at) = (at ≡ f.name.span) × NeedsTooManyIn f codes
+IsOfItem (Defines f) codes instructions (TooMuchCode at) = (at ≡ f.name.span) × (1048576 < instructions)
 IsOfItem item codes instructions fault = ⊥
 
 abbrev pub IsOfCode : Program → LowerFault → Type 0

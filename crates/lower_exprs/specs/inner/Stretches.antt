@@ -13,7 +13,7 @@ use Rattle.lower_exprs.specs.declared.aim.Aim.{Aim}
 use Rattle.lower_exprs.specs.declared.fault.Failure.{Failure}
 use Rattle.lower_exprs.specs.declared.lists.Lists.{Lists as OwnLists}
 use Rattle.lower_exprs.specs.Lists.{lists_of}
-use Rattle.lower_exprs.specs.Stretches.{Stretch, Adds}
+use Rattle.lower_exprs.specs.Fragments.{Fragment, Adds}
 
 -- a value with its instructions, one whose instructions stand there already, several such ones, and a condition
 abbrev pub standing : List Instr → ValueRegister → Lists → Emitted
@@ -29,10 +29,10 @@ abbrev pub test_in_place : List Draft → ConditionRegister → Lists → Condit
 test_in_place code t l = record { code = code; lists = l; register = t.register; at_zero = t.at_zero; to = t.to }
 
 -- the first condition of `&&` and `||` and its jump, up to the place behind
-abbrev pub of_first : LogicalOp → Condition → Stretch Draft ℕ
+abbrev pub of_first : LogicalOp → Condition → Fragment Draft ℕ
 of_first op c = record { code = first_of op c; lists = c.lists; end = c.to + 1 }
 
-abbrev pub of_aim : Aimed → Stretch Instr Aim
+abbrev pub of_aim : Aimed → Fragment Instr Aim
 of_aim a = record { code = a.code; lists = a.lists; end = record { target = a.target; to = a.to } }
 
 module _ {A : Type 0} where

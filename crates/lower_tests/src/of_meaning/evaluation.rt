@@ -215,7 +215,7 @@ fn rows() -> &'static [Row] {
             "",
             3,
         ),
-        // figures of `long long`
+        // specifiers of `long long`
         (
             "int x; void worker(int self) { printf(\"a%lld%%%lldb%lld\", -1LL, 9223372036854775807, -9223372036854775807 - 1); __transaction_atomic { } }",
             "a-1%9223372036854775807b-9223372036854775808",

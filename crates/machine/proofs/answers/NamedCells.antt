@@ -18,7 +18,7 @@ use Rattle.norec_core.specs.declared.step.Outcome.{Outcome}
 use Rattle.norec_core.specs.declared.step.Outcome.TheVariants as outcome
 use Rattle.norec_core.specs.declared.step.Phase.{Phase}
 use Rattle.norec_core.specs.declared.step.Phase.TheVariants.{AtOperation, ReadsLock, Stores, ValidatesEntry, ValidatesTime}
-use Rattle.machine.specs.NamedCells.{AccessFits, AreCells, LogsFit, LogsFitIf}
+use Rattle.machine.specs.NamedCells.{AccessFits, AreOfCells, LogsFit, LogsFitIf}
 use Rattle.machine.specs.Threads.{Thread, access, access_of, inside_access, op_of, outside_access, own_step, print_inside, step_with, told_inside, told_of, told_outside, told_running}
 use Rattle.machine.proofs.Levels.{all_left}
 use Rattle.machine.proofs.parts.Part.{each_append}
@@ -33,11 +33,11 @@ all_at P [] i x all e = absurd (cc)
 all_at P (y ∷ xs) zero x all e = let r : y ≡ x = cc in subst P r all.0
 all_at P (y ∷ xs) (suc i) x all e = all_at P xs i x all.1 e
 
-put_cells : (cells ad v : ℕ) (ps : List (ℕ × ℕ)) → ad < cells → AreCells cells ps → AreCells cells (with_write ad v ps)
+put_cells : (cells ad v : ℕ) (ps : List (ℕ × ℕ)) → ad < cells → AreOfCells cells ps → AreOfCells cells (with_write ad v ps)
 put_cells cells ad v [] lt all = (lt, tt)
 put_cells cells ad v (p ∷ ps) lt all = at (p.0 == ad) (put_cells cells ad v ps lt all.1)
   where
-    at : (b : Bool) → AreCells cells (with_write ad v ps) → AreCells cells (cond b ((ad, v) ∷ ps) (p ∷ with_write ad v ps))
+    at : (b : Bool) → AreOfCells cells (with_write ad v ps) → AreOfCells cells (cond b ((ad, v) ∷ ps) (p ∷ with_write ad v ps))
     at true ih = (lt, all.1)
     at false ih = (all.0, ih)
 
@@ -69,13 +69,13 @@ module _ {C : Type 0} (cells : ℕ) where
     swap_fits b o Done g = f
     swap_fits b o (Value n) g = f
 
-    commit_fits : (inner : List (Checkpoint C)) (kept : Bool) (ws : List (ℕ × ℕ)) (answer : Answer) → AllByRecursion (λ (k : Checkpoint C). AreCells cells k.writes) inner → LogsFitIf cells (core_commit a inner kept ws answer).attempt
+    commit_fits : (inner : List (Checkpoint C)) (kept : Bool) (ws : List (ℕ × ℕ)) (answer : Answer) → AllByRecursion (λ (k : Checkpoint C). AreOfCells cells k.writes) inner → LogsFitIf cells (core_commit a inner kept ws answer).attempt
     commit_fits [] true ws answer marks = store_fits 0 (slice_get ws 0)
     commit_fits [] false [] answer marks = tt
     commit_fits [] false (q ∷ qs) answer marks = swap_fits (record a { phase = Stores 0 }) outcome.Going answer (rephased (Stores 0))
     commit_fits (l ∷ ls) kept ws answer marks = record { reads = f.reads; writes = f.writes; marks = marks.1 }
 
-    cancel_fits : (inner : List (Checkpoint C)) (kept : Bool) → AllByRecursion (λ (k : Checkpoint C). AreCells cells k.writes) inner → LogsFitIf cells (core_cancel a inner kept).attempt
+    cancel_fits : (inner : List (Checkpoint C)) (kept : Bool) → AllByRecursion (λ (k : Checkpoint C). AreOfCells cells k.writes) inner → LogsFitIf cells (core_cancel a inner kept).attempt
     cancel_fits [] false marks = tt
     cancel_fits [] true marks = f
     cancel_fits (l ∷ ls) kept marks = record { reads = f.reads; writes = marks.0; marks = marks.1 }
@@ -89,7 +89,7 @@ module _ {C : Type 0} (cells : ℕ) where
     operation_fits (op.Write ad v) answer fit = record { reads = f.reads; writes = put_cells cells ad v a.writes fit f.writes; marks = f.marks }
     operation_fits op.Commit answer fit = commit_fits a.inner a.kept a.writes answer f.marks
     operation_fits op.Cancel answer fit = cancel_fits a.inner a.kept f.marks
-    operation_fits (op.CancelOuter levels) answer fit = cancel_fits (drop (levels - 1) a.inner) a.kept (all_left (λ (k : Checkpoint C). AreCells cells k.writes) (levels - 1) a.inner f.marks)
+    operation_fits (op.CancelOuter levels) answer fit = cancel_fits (drop (levels - 1) a.inner) a.kept (all_left (λ (k : Checkpoint C). AreOfCells cells k.writes) (levels - 1) a.inner f.marks)
     operation_fits op.Irrevocable answer fit = either a.kept _ _ f (irrevocable_fits a.kept answer)
     operation_fits op.Release answer fit = tt
 
@@ -125,11 +125,11 @@ module _ {C : Type 0} (cells : ℕ) where
     entry_cell i None e = tt
     entry_cell i (Some q) e = all_at (λ (q : ℕ × ℕ). q.0 < cells) a.reads i q f.reads e
 
-    store_cell : (ws : List (ℕ × ℕ)) (i : ℕ) (o : Option (ℕ × ℕ)) → AreCells cells ws → slice_get ws i ≡ o → AccessFits cells (store_access a.snapshot o)
+    store_cell : (ws : List (ℕ × ℕ)) (i : ℕ) (o : Option (ℕ × ℕ)) → AreOfCells cells ws → slice_get ws i ≡ o → AccessFits cells (store_access a.snapshot o)
     store_cell ws i None all e = tt
     store_cell ws i (Some q) all e = all_at (λ (q : ℕ × ℕ). q.0 < cells) ws i q all e
 
-    commit_cell : (inner : List (Checkpoint C)) (kept : Bool) (ws : List (ℕ × ℕ)) → AreCells cells ws → AccessFits cells (commit_access a inner kept ws)
+    commit_cell : (inner : List (Checkpoint C)) (kept : Bool) (ws : List (ℕ × ℕ)) → AreOfCells cells ws → AccessFits cells (commit_access a inner kept ws)
     commit_cell [] true ws all = store_cell ws 0 (slice_get ws 0) all refl
     commit_cell [] false [] all = tt
     commit_cell [] false (q ∷ qs) all = tt

@@ -11,7 +11,7 @@ use Rattle.bytecode.specs.Code.{Code, Configuration, Frame, effect, return_effec
 use Rattle.frames.specs.declared.doing.Doing.{Doing}
 use Rattle.frames.specs.declared.doing.Doing.TheVariants as doing
 use Rattle.frames.specs.Open.{begin_configuration, saved_in, BeginsStayOpen}
-use Rattle.frames.specs.Told.{Tells}
+use Rattle.frames.specs.Doings.{IsDoingAt}
 use Rattle.norec_core.specs.declared.step.Op.{Op}
 use Rattle.norec_core.specs.declared.step.Op.TheVariants as op
 use Rattle.norec_core.specs.declared.step.Outcome.{Outcome}
@@ -67,16 +67,16 @@ module _ (code : Code) (c : Configuration) where
   op_traps true false cause = refl
   op_traps false t cause = refl
 
-  own_local : (x : Doing) → Tells code c x → (x ≡ doing.Local) → IsOwn (effect code c)
-  own_local x t e = let h = subst (Tells code c) e t in own_pure (effect code c) h.1 h.4
+  own_local : (x : Doing) → IsDoingAt code c x → (x ≡ doing.Local) → IsOwn (effect code c)
+  own_local x t e = let h = subst (IsDoingAt code c) e t in own_pure (effect code c) h.1 h.4
 
-  own_call : (x : Doing) → Tells code c x → (x ≡ doing.Call) → IsOwn (effect code c)
-  own_call x t e = let h = subst (Tells code c) e t in own_pure (effect code c) h.3 h.5
+  own_call : (x : Doing) → IsDoingAt code c x → (x ≡ doing.Call) → IsOwn (effect code c)
+  own_call x t e = let h = subst (IsDoingAt code c) e t in own_pure (effect code c) h.3 h.5
 
-  own_return : (w : ℕ) → Tells code c (doing.Return w) → IsOwn (effect code c)
+  own_return : (w : ℕ) → IsDoingAt code c (doing.Return w) → IsOwn (effect code c)
   own_return w t = let h = return_is c.frames w t.1 in own_pure (effect code c) h.0 (t.0 ∙ h.1)
 
-  pub op_told : (x : Doing) (k t : Bool) → Tells code c x → op_of (effect code c) k t ≡ op_by x k t
+  pub op_told : (x : Doing) (k t : Bool) → IsDoingAt code c x → op_of (effect code c) k t ≡ op_by x k t
   op_told doing.Local k t h = op_own (effect code c) k t (own_local doing.Local h refl)
   op_told (doing.Read d a) k t h = op_at _ k t _ h.0 refl
   op_told (doing.Write a w) k t h = op_at _ k t _ h.0 refl
@@ -85,7 +85,7 @@ module _ (code : Code) (c : Configuration) where
   op_told (doing.Traps cause) k t h = op_at _ k t _ h (op_traps k t cause)
   op_told x k t h = op_at _ k t _ h refl
 
-  pub out_told : (x : Doing) → Tells code c x → asks_outside Running (effect code c) ≡ op_outside x
+  pub out_told : (x : Doing) → IsDoingAt code c x → asks_outside Running (effect code c) ≡ op_outside x
   out_told doing.Local h = out_own (effect code c) (own_local doing.Local h refl)
   out_told (doing.Read d a) h = out_at _ _ h.0 refl
   out_told (doing.Write a w) h = out_at _ _ h.0 refl
@@ -93,7 +93,7 @@ module _ (code : Code) (c : Configuration) where
   out_told (doing.Return w) h = out_own (effect code c) (own_return w h)
   out_told x h = out_at _ _ h refl
 
-  writes : (x : Doing) (k t : Bool) (o : Op) → Tells code c x → op_by x k t ≡ Some o → WritesWord o
+  writes : (x : Doing) (k t : Bool) (o : Op) → IsDoingAt code c x → op_by x k t ≡ Some o → WritesWord o
   writes (doing.Read d a) k t o h e = let s : op.Read a ≡ o = cc in subst WritesWord s tt
   writes (doing.Write a w) k t o h e = let s : op.Write a w ≡ o = cc in subst WritesWord s h.1
   writes (doing.Begin to) k t o h e = let s : op.Begin ≡ o = cc in subst WritesWord s tt
@@ -110,11 +110,11 @@ module _ (code : Code) (c : Configuration) where
   writes_out x o e = absurd (cc)
 
   -- what is written is a word
-  pub writes_word : (x : Doing) (att : Option (Attempt Saved)) (t : Bool) (o : Op) → Tells code c x → op_asked x att t ≡ Some o → WritesWord o
+  pub writes_word : (x : Doing) (att : Option (Attempt Saved)) (t : Bool) (o : Op) → IsDoingAt code c x → op_asked x att t ≡ Some o → WritesWord o
   writes_word x None t o h e = writes_out x o e
   writes_word x (Some a) t o h e = writes x a.kept t o h e
 
-module _ (code : Code) (k : PlainContext) (running : k.status ≡ Running) (x : Doing) (t : Tells code k.configuration x) where
+module _ (code : Code) (k : PlainContext) (running : k.status ≡ Running) (x : Doing) (t : IsDoingAt code k.configuration x) where
   asks_at : (att : Option (Attempt Saved)) → asks_by (machine_thread k) (shown_from k.configuration att) (effect code k.configuration) ≡ op_asked x att k.trapping
   asks_at None = ap (λ (s : Status). asks_outside s (effect code k.configuration)) running ∙ out_told code k.configuration x t
   asks_at (Some a) = op_told code k.configuration x a.kept k.trapping t
@@ -156,7 +156,7 @@ pub record CoreTold (k : PlainContext) (y : Answer) (new : CoreState) (r : Outco
   pub outcome : r ≡ (core_step_with k.core y).outcome
   pub back : IfSome (core_step_with k.core y).back (λ s. new.saved ≡ s)
 
-module _ (code : Code) (law : BeginsStayOpen code) (k : PlainContext) (o : Op) (y : Answer) (running : k.status ≡ Running) (runs : RunsInContext code k) (x : Doing) (t : Tells code k.configuration x)
+module _ (code : Code) (law : BeginsStayOpen code) (k : PlainContext) (o : Op) (y : Answer) (running : k.status ≡ Running) (runs : RunsInContext code k) (x : Doing) (t : IsDoingAt code k.configuration x)
     (asked : op_asked x k.core.attempt k.trapping ≡ Some o) (r : Ready) (same_asked : r.asked ≡ k.core.asked) (same_saved : r.saved ≡ k.core.saved) (ready : IsReady code (machine_thread k) r) (word : IsWordOf code (access (effect code) (machine_thread k)) y) where
   asks_some : asks (effect code) (machine_thread k) ≡ Some o
   asks_some = asks_is code k running x t ∙ asked

@@ -14,7 +14,7 @@ use Rattle.frames.specs.declared.doing.Doing.{Doing}
 use Rattle.frames.specs.declared.doing.Doing.TheVariants as doing
 use Rattle.frames.proofs.Keeping.{begins_stay_open}
 use Rattle.frames.specs.Open.{MayStand, saved_in}
-use Rattle.frames.specs.Told.{Tells}
+use Rattle.frames.specs.Doings.{IsDoingAt}
 use Rattle.norec_core.specs.declared.step.Op.{Op}
 use Rattle.norec_core.specs.declared.step.Op.TheVariants as op
 use Rattle.norec_core.specs.declared.step.Stop.{Stop}
@@ -25,7 +25,7 @@ use Rattle.norec_core.specs.declared.step.Answer.{Answer}
 use Rattle.norec_core.specs.Accesses.{stops}
 use Rattle.norec_core.specs.Attempts.{Attempt}
 use Rattle.norec_core.specs.Phases.{core_access}
-use Rattle.norec_core.specs.Cores.{CoreState, is_kept, holds}
+use Rattle.norec_core.specs.Cores.{CoreState, is_kept, holds_lock}
 use Rattle.norec_core.specs.Cores.{has_lock as core_has_lock}
 use Rattle.norec_core.specs.declared.step.Phase.{Phase}
 use Rattle.norec_core.specs.declared.step.Phase.TheVariants.{AtOperation}
@@ -93,7 +93,7 @@ module _ (code : Code) (k : PlainContext) (running : k.status ≡ Running) where
   print_asks p d e = ap (asks_by (machine_thread k) (machine_thread k).attempt) e ∙ asks_print (machine_thread k).attempt (machine_thread k) p d running
 
   -- the core was asked
-  pub ready_operation : (r : Result Access Stop) (o : Op) (x : Doing) (new : CoreState) (rd : Ready) → Tells code c x → op_asked x k.core.attempt k.trapping ≡ Some o → rd.asked ≡ new.asked → rd.saved ≡ new.saved →
+  pub ready_operation : (r : Result Access Stop) (o : Op) (x : Doing) (new : CoreState) (rd : Ready) → IsDoingAt code c x → op_asked x k.core.attempt k.trapping ≡ Some o → rd.asked ≡ new.asked → rd.saved ≡ new.saved →
       OnOk r (new.asked ≡ Some o) → (o ≡ op.Begin → OnOk r (new.saved ≡ saved_in c)) → OnOk r (IsReady code (machine_thread k) rd)
   ready_operation (Err w) o x new rd t e a b p q = tt
   ready_operation (Ok y) o x new rd t e a b p q =
@@ -105,18 +105,13 @@ module _ (code : Code) (k : PlainContext) (running : k.status ≡ Running) where
         print = λ z d h. absurd (no_op o asked (print_asks z d h));
       }
 
-  pub access_operation : (x : Doing) (o : Op) → Tells code c x → op_asked x k.core.attempt k.trapping ≡ Some o → access (effect code) (machine_thread k) ≡ core_access k.core.attempt o
+  pub access_operation : (x : Doing) (o : Op) → IsDoingAt code c x → op_asked x k.core.attempt k.trapping ≡ Some o → access (effect code) (machine_thread k) ≡ core_access k.core.attempt o
   access_operation x o t e = access_is code k o (asks_is code k running x t ∙ e)
 
 -- a thread as its contracts see it, and what it keeps
 module _ (code : Code) (k : PlainContext) (th : Thread Configuration) (is : machine_thread k ≡ th) where
   pub runs_of : AreWithin k.configuration (begins_of k.core.attempt) → k.status ≡ Running → IsThreadOf code th → RunsInContext code k
   runs_of w s t = subst (ContextWith code k) s (kept_of code k w (subst (IsThreadOf code) (sym is) t))
-
-  running_by : (P : Attempt Saved → Type 0) → IsSomeAnd k.core.attempt P → (s : Status) → ContextWith code k s → s ≡ Running
-  running_by P some Running h = refl
-  running_by P some HasEnded h = absurd (subst (λ (o : Option (Attempt Saved)). IsSomeAnd o P) h some)
-  running_by P some (HasTrapped cause) h = absurd (subst (λ (o : Option (Attempt Saved)). IsSomeAnd o P) h some)
 
   none_by : (s : Status) → (s ≡ Running → ⊥) → ContextWith code k s → k.core.attempt ≡ None
   none_by Running ne h = absurd (ne refl)
@@ -163,7 +158,7 @@ ended_over s e f = cc
 pub trapped_over : (s : Status) (cause : Trap) → s ≡ HasTrapped cause → s ≡ Running → ⊥
 trapped_over s cause e f = cc
 
-holds_is : (b : Bool) (q : Phase) → holds b q ≡ has_lock b q
+holds_is : (b : Bool) (q : Phase) → holds_lock b q ≡ has_lock b q
 holds_is true AtOperation = refl
 holds_is false AtOperation = refl
 holds_is b q = refl

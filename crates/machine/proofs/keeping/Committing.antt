@@ -7,7 +7,7 @@ use Rattle.nesting.specs.Begins.{Saved}
 use Rattle.bytecode.specs.Code.{Code, Configuration, effect}
 use Rattle.frames.specs.declared.doing.Doing.TheVariants as doing
 use Rattle.frames.specs.Open.{begin_configuration, saved_in, BeginsStayOpen}
-use Rattle.frames.specs.Told.{Tells}
+use Rattle.frames.specs.Doings.{IsDoingAt}
 use Rattle.norec_core.specs.declared.step.Access.{Access}
 use Rattle.norec_core.specs.declared.step.Access.TheVariants.{Local, LoadLock, Swap}
 use Rattle.norec_core.specs.declared.step.Answer.{Answer}
@@ -27,7 +27,7 @@ use Rattle.machine.proofs.keeping.Makes.{Resumes, core_makes, may_go_back}
 use Rattle.machine.proofs.keeping.Reading.{some_and}
 use Rattle.machine.proofs.keeping.Words.{FitsRegister}
 
-module _ (code : Code) (law : BeginsStayOpen code) (k : PlainContext) (running : k.status ≡ Running) (runs : RunsInContext code k) (t : Tells code k.configuration doing.Commit) where
+module _ (code : Code) (law : BeginsStayOpen code) (k : PlainContext) (running : k.status ≡ Running) (runs : RunsInContext code k) (t : IsDoingAt code k.configuration doing.Commit) where
   module _ (a : Attempt Saved) (under : k.core.attempt ≡ Some a) where
     asked : asks (effect code) (machine_thread k) ≡ Some op.Commit
     asked = asks_is code k running doing.Commit t ∙ ap (λ (z : Option (Attempt Saved)). op_asked doing.Commit z k.trapping) under
@@ -99,7 +99,7 @@ module _ (code : Code) (law : BeginsStayOpen code) (k : PlainContext) (running :
     store_makes y l r e er ea z = commit_makes b storing.1 y (store_word y) l r e er ea (store_stays y l.core.saved) z
 
 -- an outermost begin
-module _ (code : Code) (law : BeginsStayOpen code) (k : PlainContext) (to : ℕ) (running : k.status ≡ Running) (runs : RunsInContext code k) (t : Tells code k.configuration (doing.Begin to)) (none : k.core.attempt ≡ None) where
+module _ (code : Code) (law : BeginsStayOpen code) (k : PlainContext) (to : ℕ) (running : k.status ≡ Running) (runs : RunsInContext code k) (t : IsDoingAt code k.configuration (doing.Begin to)) (none : k.core.attempt ≡ None) where
   begin_asked : asks (effect code) (machine_thread k) ≡ Some op.Begin
   begin_asked = asks_is code k running (doing.Begin to) t ∙ ap (λ (z : Option (Attempt Saved)). op_asked (doing.Begin to) z k.trapping) none
 

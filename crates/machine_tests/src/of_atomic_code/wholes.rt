@@ -2,14 +2,14 @@
 
 use crate::asserted::{assert_all, assert_that};
 use crate::of_atomic_code::built::code_of;
-use atomic_code::{ThreadEnd, ThreadOutcome, is_memory, thread};
+use atomic_code::{AtomicThreadEnd, AtomicThreadOutcome, is_memory, thread};
 use bytecode::{Code, Instr};
 use std::alloc::{AllocError, Global};
 use syntax::numbers::{Halt, Trap};
 
 /// What a thread leaves in the one cell in its first transaction and in its second, how it is found, and whether it has
 /// printed this.
-type Shown = (Option<u64>, Option<u64>, ThreadEnd, bool);
+type Shown = (Option<u64>, Option<u64>, AtomicThreadEnd, bool);
 
 /// The first word of the memory that was left under this number.
 fn first_word(lefts: &[Vec<u64>], number: usize) -> Option<u64> {
@@ -19,7 +19,7 @@ fn first_word(lefts: &[Vec<u64>], number: usize) -> Option<u64> {
     }
 }
 
-fn outcome_shown(outcome: &ThreadOutcome, text: &str) -> Shown {
+fn outcome_shown(outcome: &AtomicThreadOutcome, text: &str) -> Shown {
     let lefts = outcome.lefts.as_slice();
     (
         first_word(lefts, 0),
@@ -86,7 +86,7 @@ type Row = (
     u64,
     Option<u64>,
     Option<u64>,
-    ThreadEnd,
+    AtomicThreadEnd,
     &'static str,
 );
 
@@ -130,14 +130,28 @@ fn loops() -> &'static [Instr] {
 
 fn loop_rows() -> &'static [Row] {
     static ROWS: [Row; 7] = [
-        ((1, 20), 0, None, None, ThreadEnd::Stopped(Halt::Spent), ""),
-        ((1, 20), 4, None, None, ThreadEnd::Stopped(Halt::Spent), ""),
+        (
+            (1, 20),
+            0,
+            None,
+            None,
+            AtomicThreadEnd::Stopped(Halt::Spent),
+            "",
+        ),
+        (
+            (1, 20),
+            4,
+            None,
+            None,
+            AtomicThreadEnd::Stopped(Halt::Spent),
+            "",
+        ),
         (
             (1, 20),
             5,
             Some(6),
             None,
-            ThreadEnd::Stopped(Halt::Spent),
+            AtomicThreadEnd::Stopped(Halt::Spent),
             "",
         ),
         (
@@ -145,7 +159,7 @@ fn loop_rows() -> &'static [Row] {
             6,
             Some(6),
             None,
-            ThreadEnd::Stopped(Halt::Spent),
+            AtomicThreadEnd::Stopped(Halt::Spent),
             "6",
         ),
         (
@@ -153,7 +167,7 @@ fn loop_rows() -> &'static [Row] {
             14,
             Some(6),
             Some(25),
-            ThreadEnd::Stopped(Halt::Spent),
+            AtomicThreadEnd::Stopped(Halt::Spent),
             "625",
         ),
         (
@@ -161,7 +175,7 @@ fn loop_rows() -> &'static [Row] {
             15,
             Some(6),
             Some(25),
-            ThreadEnd::Stopped(Halt::Wants),
+            AtomicThreadEnd::Stopped(Halt::Wants),
             "625",
         ),
         (
@@ -169,7 +183,7 @@ fn loop_rows() -> &'static [Row] {
             1000,
             Some(6),
             Some(25),
-            ThreadEnd::Stopped(Halt::Wants),
+            AtomicThreadEnd::Stopped(Halt::Wants),
             "625",
         ),
     ];
@@ -187,7 +201,7 @@ fn ends() -> &'static [Instr] {
 }
 
 fn end_rows() -> &'static [Row] {
-    static ROWS: [Row; 1] = [((7, 8), 100, Some(7), None, ThreadEnd::Ended, "")];
+    static ROWS: [Row; 1] = [((7, 8), 100, Some(7), None, AtomicThreadEnd::Ended, "")];
     &ROWS
 }
 
@@ -210,7 +224,7 @@ fn trap_rows() -> &'static [Row] {
             100,
             Some(7),
             Some(0),
-            ThreadEnd::Stopped(Halt::Trapped(Trap::ZeroDivisor)),
+            AtomicThreadEnd::Stopped(Halt::Trapped(Trap::ZeroDivisor)),
             "",
         ),
         (
@@ -218,7 +232,7 @@ fn trap_rows() -> &'static [Row] {
             100,
             Some(0),
             None,
-            ThreadEnd::Stopped(Halt::Trapped(Trap::ZeroDivisor)),
+            AtomicThreadEnd::Stopped(Halt::Trapped(Trap::ZeroDivisor)),
             "",
         ),
     ];

@@ -1,7 +1,7 @@
 //! Threads by themselves whose words need 64 bits.
 
 use crate::asserted::{assert_all, assert_none};
-use atomic_code::{ThreadEnd, ThreadOutcome, is_memory, thread};
+use atomic_code::{AtomicThreadEnd, AtomicThreadOutcome, is_memory, thread};
 use bytecode::{Code, Instr};
 use std::alloc::Global;
 use syntax::numbers::{Halt, Trap};
@@ -10,15 +10,15 @@ use written_codes::{
 };
 
 /// Whether a thread has come to its end and has printed this, or has trapped so.
-fn is_given(outcome: &ThreadOutcome, given: Result<&str, Trap>) -> bool {
+fn is_given(outcome: &AtomicThreadOutcome, given: Result<&str, Trap>) -> bool {
     match given {
-        Ok(text) => outcome.end == ThreadEnd::Ended && outcome.text.as_str() == text,
-        Err(why) => outcome.end == ThreadEnd::Stopped(Halt::Trapped(why)),
+        Ok(text) => outcome.end == AtomicThreadEnd::Ended && outcome.text.as_str() == text,
+        Err(why) => outcome.end == AtomicThreadEnd::Stopped(Halt::Trapped(why)),
     }
 }
 
 /// Whether its transaction has left these words, where it has made one, and else 0 in each cell.
-fn leaves(outcome: &ThreadOutcome, words: [u64; 2]) -> bool {
+fn leaves(outcome: &AtomicThreadOutcome, words: [u64; 2]) -> bool {
     match outcome.lefts.as_slice().first() {
         Some(memory) => memory.as_slice() == words.as_slice(),
         None => words == [0, 0],
@@ -26,7 +26,7 @@ fn leaves(outcome: &ThreadOutcome, words: [u64; 2]) -> bool {
 }
 
 /// The outcome of thread 0 over this memory, if it is one of the code.
-fn over(alloc: Global, code: &Code, founds: &[Vec<u64>; 1]) -> Option<ThreadOutcome> {
+fn over(alloc: Global, code: &Code, founds: &[Vec<u64>; 1]) -> Option<AtomicThreadOutcome> {
     if !is_memory(code, founds[0].as_slice()) {
         return None;
     }
@@ -37,7 +37,11 @@ fn over(alloc: Global, code: &Code, founds: &[Vec<u64>; 1]) -> Option<ThreadOutc
 }
 
 /// The outcome of thread 0 of these instructions, whose transaction finds 0 in each cell.
-fn outcome(alloc: Global, instructions: &[Instr], begin: Option<u32>) -> Option<ThreadOutcome> {
+fn outcome(
+    alloc: Global,
+    instructions: &[Instr],
+    begin: Option<u32>,
+) -> Option<AtomicThreadOutcome> {
     match code_over_both(alloc, instructions, begin) {
         Some(code) => match Vec::from_slice(alloc, &[0u64, 0]) {
             Ok(memory) => over(alloc, &code, &[memory]),

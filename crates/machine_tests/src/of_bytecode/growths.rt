@@ -27,7 +27,7 @@ fn are_valid_later<A: Allocator + Copy>(alloc: A, fault: PartsFault<A>) -> Optio
 }
 
 /// Whether parts are found valid at once, or else when they come back; `None` where they are found not to be.
-fn are_valid_at_once<A: Allocator + Copy>(alloc: A, parts: Parts<A>) -> Option<bool> {
+fn are_valid<A: Allocator + Copy>(alloc: A, parts: Parts<A>) -> Option<bool> {
     match validate(alloc, parts) {
         Ok(Some(_)) => Some(true),
         Ok(None) => None,
@@ -44,7 +44,7 @@ fn tells_of<A: Allocator, B: Allocator + Copy>(
     nth: u64,
 ) -> bool {
     refusing.refuse(nth);
-    are_valid_at_once(alloc, parts) == Some(refusing.is_waiting())
+    are_valid(alloc, parts) == Some(refusing.is_waiting())
 }
 
 /// Whether the sample is valid at once just where growth `nth` does not come, which is refused.

@@ -7,7 +7,7 @@ use lex::token::{Scalar, Span};
 use refusing::{Refusing, growths};
 use std::alloc::{AllocError, Allocator, Global};
 use syntax::tree;
-use syntax::tree::Initializer;
+use syntax::tree::Initialiser;
 
 /// Appends a first word to a variable's.
 fn push_first<A: Allocator>(
@@ -15,7 +15,7 @@ fn push_first<A: Allocator>(
     negative: bool,
     value: u32,
 ) -> Result<(), AllocError> {
-    to.first.push(Initializer {
+    to.first.push(Initialiser {
         negative,
         value: u64::from(value),
         ty: Scalar::Int,

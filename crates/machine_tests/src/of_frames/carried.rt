@@ -2,7 +2,7 @@
 
 ghost use Rattle.std.specs.Prelude.{◌<◌, ◌^◌, IfOk};
 ghost use Rattle.frames.specs.Open.{IsConfigurationOf};
-ghost use Rattle.frames.specs.Told.{Tells};
+ghost use Rattle.frames.specs.Doings.{IsDoingAt};
 
 use bytecode::Code;
 use frames::{Doing, Frames, push_piece};
@@ -29,7 +29,7 @@ fn carry_out<A: Allocator + Copy>(
     text: &mut String<A>,
 ) -> Result<bool, AllocError>
     requires of { IsConfigurationOf code.now frames.old.configuration }
-    requires told { Tells code.now frames.old.configuration doing }
+    requires told { IsDoingAt code.now frames.old.configuration doing }
     ensures { IsConfigurationOf code.now frames.new.configuration }
 {
     // The prover learns here that the code is valid.
@@ -74,7 +74,7 @@ fn carry_out<A: Allocator + Copy>(
 /// Makes the call or the return that stands here, if one does: whether it did. There may be no room for a call.
 fn pass<A: Allocator + Copy>(frames: &mut Frames<A>, code: &Code<A>, doing: Doing) -> bool
     requires of { IsConfigurationOf code.now frames.old.configuration }
-    requires told { Tells code.now frames.old.configuration doing }
+    requires told { IsDoingAt code.now frames.old.configuration doing }
     ensures { IsConfigurationOf code.now frames.new.configuration }
 {
     // The prover learns here that the code is valid.

@@ -156,7 +156,7 @@ fn rows() -> &'static [Row] {
 }
 
 #[test]
-fn many_steps_at_once_are_as_many_single_ones(rt: HostRuntime) {
+fn steps_of_one_call_are_as_many_single_ones(rt: HostRuntime) {
     let alloc = rt.alloc();
     'each: for row in rows() {
         let (what, _, _) = *row;

@@ -11,8 +11,8 @@ use Rattle.syntax.specs.Meaning as meaning
 use Rattle.syntax.specs.Meaning.{expr, exprs, stmt, simple, declare, in_scope, turns}
 use Rattle.meaning.specs.inner.Calls.{begun_in}
 use Rattle.meaning.specs.Outcomes.{memories_in}
-use Rattle.meaning.specs.inner.Machine.{context_in, end_of, items_in, local_in, program_in, spot_of, state_in}
-use Rattle.meaning.specs.inner.Does.{called, does_expr, does_stmt, does_stmts, does_turn, do_turn, else_depth, does_body, depth_within, for_all, is_forbidden, joined_to, loop_depth, while_turn}
+use Rattle.meaning.specs.inner.Machine.{context_in, end_of, items_in, local_in, program_in, lvalue_of, state_in}
+use Rattle.meaning.specs.inner.Does.{caller_in, does_expr, does_stmt, does_stmts, does_turn, do_turn, else_depth, does_body, depth_within, for_all, is_forbidden, joined_to, loop_depth, while_turn}
 use Rattle.meaning.specs.inner.Word.{value_of}
 use Rattle.meaning.proofs.Stops.{err_of, stops_as}
 use Rattle.meaning.proofs.Bodies.{weight_less}
@@ -37,7 +37,7 @@ stmt::block-returns-in_err-end g t c =
 pub expr::conditional-returns : goal.expr::conditional-returns
 expr::conditional-returns g t c at done =
     let p = program_in c.args.source.now in
-    let call = called c.args.source.now c.args.frames in
+    let call = caller_in c.args.source.now c.args.frames in
     let e1 = expr_of c.args.c.now in
     let e2 = expr_of c.args.a.now in
     let e3 = expr_of c.args.b.now in
@@ -57,7 +57,7 @@ expr::conditional-returns g t c at done =
 
 pub simple::declare-declarators-preserved : goal.simple::declare-declarators-preserved
 simple::declare-declarators-preserved g t c =
-    declare_next (program_in c.args.source.now) (called c.args.source.now c.args.frames) c.args.ty c.args.ds.now c.declarators.d-index c.d-item.result (state_in c.declarators.m) (state_in c.declare_one.new.m) _ (declare (program_in c.args.source.now) (called c.args.source.now c.args.frames) c.args.ty (map declarator_of c.args.ds.now) (state_in c.args.m.now)) c.declarators-test.true c.d-item.is c.declarators.invariant (c.in_ok-declare_one.ensures tt)
+    declare_next (program_in c.args.source.now) (caller_in c.args.source.now c.args.frames) c.args.ty c.args.ds.now c.declarators.d-index c.d-item.result (state_in c.declarators.m) (state_in c.declare_one.new.m) _ (declare (program_in c.args.source.now) (caller_in c.args.source.now c.args.frames) c.args.ty (map declarator_of c.args.ds.now) (state_in c.args.m.now)) c.declarators-test.true c.d-item.is c.declarators.invariant (c.in_ok-declare_one.ensures tt)
 
 pub simple::declare-declare_one-requires : goal.simple::declare-declare_one-requires
 simple::declare-declare_one-requires g t c κs within =
@@ -66,7 +66,7 @@ simple::declare-declare_one-requires g t c κs within =
 pub simple::declare-returns-in_err-declare_one : goal.simple::declare-returns-in_err-declare_one
 simple::declare-returns-in_err-declare_one g t c =
     let is : c.from_residual.result ≡ Err c.in_err-declare_one.field-0.0 = err_of c.from_residual.result c.in_err-declare_one.field-0.0 c.from_residual.ensures.1 in
-    stops_as end_of c.from_residual.result c.in_err-declare_one.field-0.0 _ c.declare_one.new.m is (λ d. declare_halt (program_in c.args.source.now) (called c.args.source.now c.args.frames) c.args.ty c.args.ds.now c.declarators.d-index c.d-item.result (state_in c.declarators.m) (state_in c.declare_one.new.m) _ (declare (program_in c.args.source.now) (called c.args.source.now c.args.frames) c.args.ty (map declarator_of c.args.ds.now) (state_in c.args.m.now)) c.declarators-test.true c.d-item.is c.declarators.invariant (c.in_err-declare_one.ensures d))
+    stops_as end_of c.from_residual.result c.in_err-declare_one.field-0.0 _ c.declare_one.new.m is (λ d. declare_halt (program_in c.args.source.now) (caller_in c.args.source.now c.args.frames) c.args.ty c.args.ds.now c.declarators.d-index c.d-item.result (state_in c.declarators.m) (state_in c.declare_one.new.m) _ (declare (program_in c.args.source.now) (caller_in c.args.source.now c.args.frames) c.args.ty (map declarator_of c.args.ds.now) (state_in c.args.m.now)) c.declarators-test.true c.d-item.is c.declarators.invariant (c.in_err-declare_one.ensures d))
 
 pub calls::enter_function-returns : goal.calls::enter_function-returns
 calls::enter_function-returns g t c done =
@@ -86,89 +86,89 @@ calls::enter_function-stmts-requires g t c κs within =
 
 pub expr::eval-returns-in-Call : goal.expr::eval-returns-in-Call
 expr::eval-returns-in-Call g t c done =
-    ap (λ x. expr (program_in c.args.source.now) (called c.args.source.now c.args.frames) x (state_in c.args.m.now)) (call_is c.args.e.now c.in-Call.f c.in-Call.args c.as_slice.result.now c.in-Call.field-2 c.in-Call.is c.as_slice.ensures) ∙ c.call.ensures c.in-Call.field-2 done
+    ap (λ x. expr (program_in c.args.source.now) (caller_in c.args.source.now c.args.frames) x (state_in c.args.m.now)) (call_is c.args.e.now c.in-Call.f c.in-Call.args c.as_slice.result.now c.in-Call.field-2 c.in-Call.is c.as_slice.ensures) ∙ c.call.ensures c.in-Call.field-2 done
 
 pub expr::eval-returns-in-Conditional : goal.expr::eval-returns-in-Conditional
 expr::eval-returns-in-Conditional g t c done =
-    ap (λ x. expr (program_in c.args.source.now) (called c.args.source.now c.args.frames) x (state_in c.args.m.now)) (conditional_is c.args.e.now c.in-Conditional.c c.in-Conditional.a c.in-Conditional.b c.get-in-Conditional.result.now c.get-in-Conditional-2.result.now c.get-in-Conditional-3.result.now c.in-Conditional.field-3 c.in-Conditional.is c.get-in-Conditional.ensures c.get-in-Conditional-2.ensures c.get-in-Conditional-3.ensures) ∙ c.conditional.ensures c.in-Conditional.field-3 done
+    ap (λ x. expr (program_in c.args.source.now) (caller_in c.args.source.now c.args.frames) x (state_in c.args.m.now)) (conditional_is c.args.e.now c.in-Conditional.c c.in-Conditional.a c.in-Conditional.b c.get-in-Conditional.result.now c.get-in-Conditional-2.result.now c.get-in-Conditional-3.result.now c.in-Conditional.field-3 c.in-Conditional.is c.get-in-Conditional.ensures c.get-in-Conditional-2.ensures c.get-in-Conditional-3.ensures) ∙ c.conditional.ensures c.in-Conditional.field-3 done
 
 pub expr::eval-returns-in-InTransaction : goal.expr::eval-returns-in-InTransaction
 expr::eval-returns-in-InTransaction g t c done =
-    ap (λ x. expr (program_in c.args.source.now) (called c.args.source.now c.args.frames) x (state_in c.args.m.now)) (in_transaction_is c.args.e.now c.in-InTransaction.mode c.in-InTransaction.field-1 c.in-InTransaction.e c.get-in-InTransaction.result.now c.in-InTransaction.field-3 c.in-InTransaction.is c.get-in-InTransaction.ensures)
+    ap (λ x. expr (program_in c.args.source.now) (caller_in c.args.source.now c.args.frames) x (state_in c.args.m.now)) (in_transaction_is c.args.e.now c.in-InTransaction.mode c.in-InTransaction.field-1 c.in-InTransaction.e c.get-in-InTransaction.result.now c.in-InTransaction.field-3 c.in-InTransaction.is c.get-in-InTransaction.ensures)
     ∙ c.value_transaction.ensures done
 
 pub expr::eval-returns-in-Logical : goal.expr::eval-returns-in-Logical
 expr::eval-returns-in-Logical g t c done =
-    ap (λ x. expr (program_in c.args.source.now) (called c.args.source.now c.args.frames) x (state_in c.args.m.now)) (logical_is c.args.e.now c.in-Logical.op c.in-Logical.a c.in-Logical.b c.get-in-Logical.result.now c.get-in-Logical-2.result.now c.in-Logical.field-3 c.in-Logical.is c.get-in-Logical.ensures c.get-in-Logical-2.ensures) ∙ c.logical.ensures c.in-Logical.field-3 done
+    ap (λ x. expr (program_in c.args.source.now) (caller_in c.args.source.now c.args.frames) x (state_in c.args.m.now)) (logical_is c.args.e.now c.in-Logical.op c.in-Logical.a c.in-Logical.b c.get-in-Logical.result.now c.get-in-Logical-2.result.now c.in-Logical.field-3 c.in-Logical.is c.get-in-Logical.ensures c.get-in-Logical-2.ensures) ∙ c.logical.ensures c.in-Logical.field-3 done
 
 pub expr::eval-returns-in-Parenthesized : goal.expr::eval-returns-in-Parenthesized
 expr::eval-returns-in-Parenthesized g t c done =
-    ap (λ x. expr (program_in c.args.source.now) (called c.args.source.now c.args.frames) x (state_in c.args.m.now)) (parenthesized_is c.args.e.now c.in-Parenthesized.e c.get-in-Parenthesized.result.now c.in-Parenthesized.field-1 c.in-Parenthesized.is c.get-in-Parenthesized.ensures)
+    ap (λ x. expr (program_in c.args.source.now) (caller_in c.args.source.now c.args.frames) x (state_in c.args.m.now)) (parenthesized_is c.args.e.now c.in-Parenthesized.e c.get-in-Parenthesized.result.now c.in-Parenthesized.field-1 c.in-Parenthesized.is c.get-in-Parenthesized.ensures)
     ∙ c.eval.ensures done
 
 pub expr::eval-returns-in_ok-at-in-Element : goal.expr::eval-returns-in_ok-at-in-Element
 expr::eval-returns-in_ok-at-in-Element g t c done =
-    ap (λ x. expr (program_in c.args.source.now) (called c.args.source.now c.args.frames) x (state_in c.args.m.now)) (element_is c.args.e.now c.in-Element.x c.in-Element.i c.get.result.now c.in-Element.field-2 c.in-Element.is c.get.ensures)
-    ∙ twice (expr (program_in c.args.source.now) (called c.args.source.now c.args.frames) (expr_of c.get.result.now) (state_in c.args.m.now)) (meaning.element (program_in c.args.source.now) (called c.args.source.now c.args.frames) c.in-Element.x.text) meaning.fetch
+    ap (λ x. expr (program_in c.args.source.now) (caller_in c.args.source.now c.args.frames) x (state_in c.args.m.now)) (element_is c.args.e.now c.in-Element.x c.in-Element.i c.get.result.now c.in-Element.field-2 c.in-Element.is c.get.ensures)
+    ∙ twice (expr (program_in c.args.source.now) (caller_in c.args.source.now c.args.frames) (expr_of c.get.result.now) (state_in c.args.m.now)) (meaning.element (program_in c.args.source.now) (caller_in c.args.source.now c.args.frames) c.in-Element.x.text) meaning.fetch
     ∙ after _ meaning.fetch _ (state_in c.element.new.m) (c.in_ok-at-in-Element.ensures tt) ∙ c.fetch.ensures done
 
 pub expr::eval-returns-in_err-at-in-Element : goal.expr::eval-returns-in_err-at-in-Element
 expr::eval-returns-in_err-at-in-Element g t c =
     let is : c.from_residual.result ≡ Err c.in_err-at-in-Element.field-0.0 = err_of c.from_residual.result c.in_err-at-in-Element.field-0.0 c.from_residual.ensures.1 in
     stops_as value_of c.from_residual.result c.in_err-at-in-Element.field-0.0 _ c.element.new.m is
-    (λ d. ap (λ x. expr (program_in c.args.source.now) (called c.args.source.now c.args.frames) x (state_in c.args.m.now)) (element_is c.args.e.now c.in-Element.x c.in-Element.i c.get.result.now c.in-Element.field-2 c.in-Element.is c.get.ensures)
-    ∙ twice (expr (program_in c.args.source.now) (called c.args.source.now c.args.frames) (expr_of c.get.result.now) (state_in c.args.m.now)) (meaning.element (program_in c.args.source.now) (called c.args.source.now c.args.frames) c.in-Element.x.text) meaning.fetch
+    (λ d. ap (λ x. expr (program_in c.args.source.now) (caller_in c.args.source.now c.args.frames) x (state_in c.args.m.now)) (element_is c.args.e.now c.in-Element.x c.in-Element.i c.get.result.now c.in-Element.field-2 c.in-Element.is c.get.ensures)
+    ∙ twice (expr (program_in c.args.source.now) (caller_in c.args.source.now c.args.frames) (expr_of c.get.result.now) (state_in c.args.m.now)) (meaning.element (program_in c.args.source.now) (caller_in c.args.source.now c.args.frames) c.in-Element.x.text) meaning.fetch
     ∙ halts _ meaning.fetch _ (state_in c.element.new.m) (c.in_err-at-in-Element.ensures d))
 
 pub expr::eval-returns-in_ok-v-in-Cast : goal.expr::eval-returns-in_ok-v-in-Cast
 expr::eval-returns-in_ok-v-in-Cast g t c done =
-    ap (λ x. expr (program_in c.args.source.now) (called c.args.source.now c.args.frames) x (state_in c.args.m.now)) (cast_is c.args.e.now c.in-Cast.ty c.in-Cast.e c.get-in-Cast.result.now c.in-Cast.field-2 c.in-Cast.is c.get-in-Cast.ensures)
-    ∙ after (expr (program_in c.args.source.now) (called c.args.source.now c.args.frames) (expr_of c.get-in-Cast.result.now) (state_in c.args.m.now)) (λ v. act.pure (value_in_type c.in-Cast.ty v)) _ (state_in c.eval-in-Cast.new.m) (c.in_ok-v-in-Cast.ensures tt) ∙ ap (λ w. Gives w (state_in c.eval-in-Cast.new.m)) (sym c.convert_word.ensures)
+    ap (λ x. expr (program_in c.args.source.now) (caller_in c.args.source.now c.args.frames) x (state_in c.args.m.now)) (cast_is c.args.e.now c.in-Cast.ty c.in-Cast.e c.get-in-Cast.result.now c.in-Cast.field-2 c.in-Cast.is c.get-in-Cast.ensures)
+    ∙ after (expr (program_in c.args.source.now) (caller_in c.args.source.now c.args.frames) (expr_of c.get-in-Cast.result.now) (state_in c.args.m.now)) (λ v. act.pure (value_in_type c.in-Cast.ty v)) _ (state_in c.eval-in-Cast.new.m) (c.in_ok-v-in-Cast.ensures tt) ∙ ap (λ w. Gives w (state_in c.eval-in-Cast.new.m)) (sym c.convert_word.ensures)
 
 pub expr::eval-returns-in_err-v-in-Cast : goal.expr::eval-returns-in_err-v-in-Cast
 expr::eval-returns-in_err-v-in-Cast g t c =
     let is : c.from_residual-in_err-v-in-Cast.result ≡ Err c.in_err-v-in-Cast.field-0.0 = err_of c.from_residual-in_err-v-in-Cast.result c.in_err-v-in-Cast.field-0.0 c.from_residual-in_err-v-in-Cast.ensures.1 in
     stops_as value_of c.from_residual-in_err-v-in-Cast.result c.in_err-v-in-Cast.field-0.0 _ c.eval-in-Cast.new.m is
-    (λ d. ap (λ x. expr (program_in c.args.source.now) (called c.args.source.now c.args.frames) x (state_in c.args.m.now)) (cast_is c.args.e.now c.in-Cast.ty c.in-Cast.e c.get-in-Cast.result.now c.in-Cast.field-2 c.in-Cast.is c.get-in-Cast.ensures)
-    ∙ halts (expr (program_in c.args.source.now) (called c.args.source.now c.args.frames) (expr_of c.get-in-Cast.result.now) (state_in c.args.m.now)) (λ v. act.pure (value_in_type c.in-Cast.ty v)) _ (state_in c.eval-in-Cast.new.m) (c.in_err-v-in-Cast.ensures d))
+    (λ d. ap (λ x. expr (program_in c.args.source.now) (caller_in c.args.source.now c.args.frames) x (state_in c.args.m.now)) (cast_is c.args.e.now c.in-Cast.ty c.in-Cast.e c.get-in-Cast.result.now c.in-Cast.field-2 c.in-Cast.is c.get-in-Cast.ensures)
+    ∙ halts (expr (program_in c.args.source.now) (caller_in c.args.source.now c.args.frames) (expr_of c.get-in-Cast.result.now) (state_in c.args.m.now)) (λ v. act.pure (value_in_type c.in-Cast.ty v)) _ (state_in c.eval-in-Cast.new.m) (c.in_err-v-in-Cast.ensures d))
 
 pub expr::eval-returns-in_ok-v-in-Unary : goal.expr::eval-returns-in_ok-v-in-Unary
 expr::eval-returns-in_ok-v-in-Unary g t c done =
-    ap (λ x. expr (program_in c.args.source.now) (called c.args.source.now c.args.frames) x (state_in c.args.m.now)) (unary_is c.args.e.now c.in-Unary.op c.in-Unary.e c.get-in-Unary.result.now c.in-Unary.field-2 c.in-Unary.is c.get-in-Unary.ensures)
-    ∙ after (expr (program_in c.args.source.now) (called c.args.source.now c.args.frames) (expr_of c.get-in-Unary.result.now) (state_in c.args.m.now)) (λ v. act.or_trap (numbers.unary c.in-Unary.op v)) _ (state_in c.eval-in-Unary.new.m) (c.in_ok-v-in-Unary.ensures tt) ∙ c.operate_unary.ensures done
+    ap (λ x. expr (program_in c.args.source.now) (caller_in c.args.source.now c.args.frames) x (state_in c.args.m.now)) (unary_is c.args.e.now c.in-Unary.op c.in-Unary.e c.get-in-Unary.result.now c.in-Unary.field-2 c.in-Unary.is c.get-in-Unary.ensures)
+    ∙ after (expr (program_in c.args.source.now) (caller_in c.args.source.now c.args.frames) (expr_of c.get-in-Unary.result.now) (state_in c.args.m.now)) (λ v. act.or_trap (numbers.unary c.in-Unary.op v)) _ (state_in c.eval-in-Unary.new.m) (c.in_ok-v-in-Unary.ensures tt) ∙ c.operate_unary.ensures done
 
 pub expr::eval-returns-in_err-v-in-Unary : goal.expr::eval-returns-in_err-v-in-Unary
 expr::eval-returns-in_err-v-in-Unary g t c =
     let is : c.from_residual-in_err-v-in-Unary.result ≡ Err c.in_err-v-in-Unary.field-0.0 = err_of c.from_residual-in_err-v-in-Unary.result c.in_err-v-in-Unary.field-0.0 c.from_residual-in_err-v-in-Unary.ensures.1 in
     stops_as value_of c.from_residual-in_err-v-in-Unary.result c.in_err-v-in-Unary.field-0.0 _ c.eval-in-Unary.new.m is
-    (λ d. ap (λ x. expr (program_in c.args.source.now) (called c.args.source.now c.args.frames) x (state_in c.args.m.now)) (unary_is c.args.e.now c.in-Unary.op c.in-Unary.e c.get-in-Unary.result.now c.in-Unary.field-2 c.in-Unary.is c.get-in-Unary.ensures)
-    ∙ halts (expr (program_in c.args.source.now) (called c.args.source.now c.args.frames) (expr_of c.get-in-Unary.result.now) (state_in c.args.m.now)) (λ v. act.or_trap (numbers.unary c.in-Unary.op v)) _ (state_in c.eval-in-Unary.new.m) (c.in_err-v-in-Unary.ensures d))
+    (λ d. ap (λ x. expr (program_in c.args.source.now) (caller_in c.args.source.now c.args.frames) x (state_in c.args.m.now)) (unary_is c.args.e.now c.in-Unary.op c.in-Unary.e c.get-in-Unary.result.now c.in-Unary.field-2 c.in-Unary.is c.get-in-Unary.ensures)
+    ∙ halts (expr (program_in c.args.source.now) (caller_in c.args.source.now c.args.frames) (expr_of c.get-in-Unary.result.now) (state_in c.args.m.now)) (λ v. act.or_trap (numbers.unary c.in-Unary.op v)) _ (state_in c.eval-in-Unary.new.m) (c.in_err-v-in-Unary.ensures d))
 
 pub expr::eval-returns-in_ok-w-in-Binary : goal.expr::eval-returns-in_ok-w-in-Binary
 expr::eval-returns-in_ok-w-in-Binary g t c done =
-    ap (λ x. expr (program_in c.args.source.now) (called c.args.source.now c.args.frames) x (state_in c.args.m.now)) (binary_is c.args.e.now c.in-Binary.op c.in-Binary.a c.in-Binary.b c.get-in-Binary.result.now c.get-in-Binary-2.result.now c.in-Binary.field-3 c.in-Binary.is c.get-in-Binary.ensures c.get-in-Binary-2.ensures)
-    ∙ after (expr (program_in c.args.source.now) (called c.args.source.now c.args.frames) (expr_of c.get-in-Binary.result.now) (state_in c.args.m.now)) (λ v s. go_on (expr (program_in c.args.source.now) (called c.args.source.now c.args.frames) (expr_of c.get-in-Binary-2.result.now) s) (λ w. act.or_trap (numbers.binary c.in-Binary.op v w))) _ (state_in c.eval-in-Binary.new.m) (c.in_ok-v-in-Binary.ensures tt)
-    ∙ after (expr (program_in c.args.source.now) (called c.args.source.now c.args.frames) (expr_of c.get-in-Binary-2.result.now) (state_in c.eval-in-Binary.new.m)) (λ w. act.or_trap (numbers.binary c.in-Binary.op (value_of c.in_ok-v-in-Binary.v) w)) _ (state_in c.eval-in-Binary-2.new.m) (c.in_ok-w-in-Binary.ensures tt) ∙ c.operate.ensures done
+    ap (λ x. expr (program_in c.args.source.now) (caller_in c.args.source.now c.args.frames) x (state_in c.args.m.now)) (binary_is c.args.e.now c.in-Binary.op c.in-Binary.a c.in-Binary.b c.get-in-Binary.result.now c.get-in-Binary-2.result.now c.in-Binary.field-3 c.in-Binary.is c.get-in-Binary.ensures c.get-in-Binary-2.ensures)
+    ∙ after (expr (program_in c.args.source.now) (caller_in c.args.source.now c.args.frames) (expr_of c.get-in-Binary.result.now) (state_in c.args.m.now)) (λ v s. go_on (expr (program_in c.args.source.now) (caller_in c.args.source.now c.args.frames) (expr_of c.get-in-Binary-2.result.now) s) (λ w. act.or_trap (numbers.binary c.in-Binary.op v w))) _ (state_in c.eval-in-Binary.new.m) (c.in_ok-v-in-Binary.ensures tt)
+    ∙ after (expr (program_in c.args.source.now) (caller_in c.args.source.now c.args.frames) (expr_of c.get-in-Binary-2.result.now) (state_in c.eval-in-Binary.new.m)) (λ w. act.or_trap (numbers.binary c.in-Binary.op (value_of c.in_ok-v-in-Binary.v) w)) _ (state_in c.eval-in-Binary-2.new.m) (c.in_ok-w-in-Binary.ensures tt) ∙ c.operate.ensures done
 
 pub expr::eval-returns-in_err-v-in-Binary : goal.expr::eval-returns-in_err-v-in-Binary
 expr::eval-returns-in_err-v-in-Binary g t c =
     let is : c.from_residual-in_err-v-in-Binary.result ≡ Err c.in_err-v-in-Binary.field-0.0 = err_of c.from_residual-in_err-v-in-Binary.result c.in_err-v-in-Binary.field-0.0 c.from_residual-in_err-v-in-Binary.ensures.1 in
     stops_as value_of c.from_residual-in_err-v-in-Binary.result c.in_err-v-in-Binary.field-0.0 _ c.eval-in-Binary.new.m is
-    (λ d. ap (λ x. expr (program_in c.args.source.now) (called c.args.source.now c.args.frames) x (state_in c.args.m.now)) (binary_is c.args.e.now c.in-Binary.op c.in-Binary.a c.in-Binary.b c.get-in-Binary.result.now c.in-Binary.b c.in-Binary.field-3 c.in-Binary.is c.get-in-Binary.ensures refl)
-    ∙ halts (expr (program_in c.args.source.now) (called c.args.source.now c.args.frames) (expr_of c.get-in-Binary.result.now) (state_in c.args.m.now)) (λ v s. go_on (expr (program_in c.args.source.now) (called c.args.source.now c.args.frames) (expr_of c.in-Binary.b) s) (λ w. act.or_trap (numbers.binary c.in-Binary.op v w))) _ (state_in c.eval-in-Binary.new.m) (c.in_err-v-in-Binary.ensures d))
+    (λ d. ap (λ x. expr (program_in c.args.source.now) (caller_in c.args.source.now c.args.frames) x (state_in c.args.m.now)) (binary_is c.args.e.now c.in-Binary.op c.in-Binary.a c.in-Binary.b c.get-in-Binary.result.now c.in-Binary.b c.in-Binary.field-3 c.in-Binary.is c.get-in-Binary.ensures refl)
+    ∙ halts (expr (program_in c.args.source.now) (caller_in c.args.source.now c.args.frames) (expr_of c.get-in-Binary.result.now) (state_in c.args.m.now)) (λ v s. go_on (expr (program_in c.args.source.now) (caller_in c.args.source.now c.args.frames) (expr_of c.in-Binary.b) s) (λ w. act.or_trap (numbers.binary c.in-Binary.op v w))) _ (state_in c.eval-in-Binary.new.m) (c.in_err-v-in-Binary.ensures d))
 
 pub expr::eval-returns-in_err-w-in-Binary : goal.expr::eval-returns-in_err-w-in-Binary
 expr::eval-returns-in_err-w-in-Binary g t c =
     let is : c.from_residual-in_err-w-in-Binary.result ≡ Err c.in_err-w-in-Binary.field-0.0 = err_of c.from_residual-in_err-w-in-Binary.result c.in_err-w-in-Binary.field-0.0 c.from_residual-in_err-w-in-Binary.ensures.1 in
     stops_as value_of c.from_residual-in_err-w-in-Binary.result c.in_err-w-in-Binary.field-0.0 _ c.eval-in-Binary-2.new.m is
-    (λ d. ap (λ x. expr (program_in c.args.source.now) (called c.args.source.now c.args.frames) x (state_in c.args.m.now)) (binary_is c.args.e.now c.in-Binary.op c.in-Binary.a c.in-Binary.b c.get-in-Binary.result.now c.get-in-Binary-2.result.now c.in-Binary.field-3 c.in-Binary.is c.get-in-Binary.ensures c.get-in-Binary-2.ensures)
-    ∙ after (expr (program_in c.args.source.now) (called c.args.source.now c.args.frames) (expr_of c.get-in-Binary.result.now) (state_in c.args.m.now)) (λ v s. go_on (expr (program_in c.args.source.now) (called c.args.source.now c.args.frames) (expr_of c.get-in-Binary-2.result.now) s) (λ w. act.or_trap (numbers.binary c.in-Binary.op v w))) _ (state_in c.eval-in-Binary.new.m) (c.in_ok-v-in-Binary.ensures tt)
-    ∙ halts (expr (program_in c.args.source.now) (called c.args.source.now c.args.frames) (expr_of c.get-in-Binary-2.result.now) (state_in c.eval-in-Binary.new.m)) (λ w. act.or_trap (numbers.binary c.in-Binary.op (value_of c.in_ok-v-in-Binary.v) w)) _ (state_in c.eval-in-Binary-2.new.m) (c.in_err-w-in-Binary.ensures d))
+    (λ d. ap (λ x. expr (program_in c.args.source.now) (caller_in c.args.source.now c.args.frames) x (state_in c.args.m.now)) (binary_is c.args.e.now c.in-Binary.op c.in-Binary.a c.in-Binary.b c.get-in-Binary.result.now c.get-in-Binary-2.result.now c.in-Binary.field-3 c.in-Binary.is c.get-in-Binary.ensures c.get-in-Binary-2.ensures)
+    ∙ after (expr (program_in c.args.source.now) (caller_in c.args.source.now c.args.frames) (expr_of c.get-in-Binary.result.now) (state_in c.args.m.now)) (λ v s. go_on (expr (program_in c.args.source.now) (caller_in c.args.source.now c.args.frames) (expr_of c.get-in-Binary-2.result.now) s) (λ w. act.or_trap (numbers.binary c.in-Binary.op v w))) _ (state_in c.eval-in-Binary.new.m) (c.in_ok-v-in-Binary.ensures tt)
+    ∙ halts (expr (program_in c.args.source.now) (caller_in c.args.source.now c.args.frames) (expr_of c.get-in-Binary-2.result.now) (state_in c.eval-in-Binary.new.m)) (λ w. act.or_trap (numbers.binary c.in-Binary.op (value_of c.in_ok-v-in-Binary.v) w)) _ (state_in c.eval-in-Binary-2.new.m) (c.in_err-w-in-Binary.ensures d))
 
 pub loops::for_scoped-returns : goal.loops::for_scoped-returns
 loops::for_scoped-returns g t c done =
     let len : c.len-outer.result ≡ length c.args.m.now.locals.items = search (arith, c.len-outer.ensures) in
-    scoped_gives (for_all (program_in c.args.source.now) (called c.args.source.now c.args.frames) (start_of c.args.head.now.start) (option_map expr_of c.args.head.now.condition) (option_map simple_of c.args.head.now.step) (stmt_of c.args.a.now)) (state_in c.args.m.now) (state_in c.for_run.new.m) (end_of c.in_ok-end.end) _ (c.in_ok-end.ensures tt)
+    scoped_gives (for_all (program_in c.args.source.now) (caller_in c.args.source.now c.args.frames) (start_of c.args.head.now.start) (option_map expr_of c.args.head.now.condition) (option_map simple_of c.args.head.now.step) (stmt_of c.args.a.now)) (state_in c.args.m.now) (state_in c.for_run.new.m) (end_of c.in_ok-end.end) _ (c.in_ok-end.ensures tt)
     (truncated local_in c.args.m.now.locals.items c.for_run.new.m.locals.items c.truncate.new.self.items c.len-outer.result len c.truncate.ensures.items)
 
 pub transactions::nested_transaction-returns : goal.transactions::nested_transaction-returns
@@ -198,12 +198,12 @@ transactions::outermost-returns-in_default g t c done =
 
 pub stmt::print_output-returns : goal.stmt::print_output-returns
 stmt::print_output-returns g t c at format_at begun ticked done =
-    print_until (program_in c.args.source.now) (called c.args.source.now c.args.frames) at format_at c.args.format.now (exprs_of c.args.args.now) begun (state_in c.args.m.now) (state_in c.may_print.new.m) (state_in c.values.new.m) c.as_slice.result.now ticked (c.in_ok-may_print.ensures tt) (c.in_ok-values.ensures tt ∙ ap (λ vs. Gives vs (state_in c.values.new.m)) (sym c.as_slice.ensures.value)) ∙ after _ (λ _. act.pure meaning.Next) _ (state_in c.print_pieces.new.m) (c.in_ok-print_pieces.ensures tt)
+    print_until (program_in c.args.source.now) (caller_in c.args.source.now c.args.frames) at format_at c.args.format.now (exprs_of c.args.args.now) begun (state_in c.args.m.now) (state_in c.may_print.new.m) (state_in c.values.new.m) c.as_slice.result.now ticked (c.in_ok-may_print.ensures tt) (c.in_ok-values.ensures tt ∙ ap (λ vs. Gives vs (state_in c.values.new.m)) (sym c.as_slice.ensures.value)) ∙ after _ (λ _. act.pure meaning.Next) _ (state_in c.print_pieces.new.m) (c.in_ok-print_pieces.ensures tt)
 
 pub stmt::print_output-returns-in_err-print_pieces : goal.stmt::print_output-returns-in_err-print_pieces
 stmt::print_output-returns-in_err-print_pieces g t c at format_at begun ticked =
     let is : c.from_residual-in_err-print_pieces.result ≡ Err c.in_err-print_pieces.field-0.0 = err_of c.from_residual-in_err-print_pieces.result c.in_err-print_pieces.field-0.0 c.from_residual-in_err-print_pieces.ensures.1 in
-    stops_as end_of c.from_residual-in_err-print_pieces.result c.in_err-print_pieces.field-0.0 _ c.print_pieces.new.m is (λ d. print_until (program_in c.args.source.now) (called c.args.source.now c.args.frames) at format_at c.args.format.now (exprs_of c.args.args.now) begun (state_in c.args.m.now) (state_in c.may_print.new.m) (state_in c.values.new.m) c.as_slice.result.now ticked (c.in_ok-may_print.ensures tt) (c.in_ok-values.ensures tt ∙ ap (λ vs. Gives vs (state_in c.values.new.m)) (sym c.as_slice.ensures.value)) ∙ halts _ (λ _. act.pure meaning.Next) _ (state_in c.print_pieces.new.m) (c.in_err-print_pieces.ensures d))
+    stops_as end_of c.from_residual-in_err-print_pieces.result c.in_err-print_pieces.field-0.0 _ c.print_pieces.new.m is (λ d. print_until (program_in c.args.source.now) (caller_in c.args.source.now c.args.frames) at format_at c.args.format.now (exprs_of c.args.args.now) begun (state_in c.args.m.now) (state_in c.may_print.new.m) (state_in c.values.new.m) c.as_slice.result.now ticked (c.in_ok-may_print.ensures tt) (c.in_ok-values.ensures tt ∙ ap (λ vs. Gives vs (state_in c.values.new.m)) (sym c.as_slice.ensures.value)) ∙ halts _ (λ _. act.pure meaning.Next) _ (state_in c.print_pieces.new.m) (c.in_err-print_pieces.ensures d))
 
 pub loops::repeat-returns-in-Some : goal.loops::repeat-returns-in-Some
 loops::repeat-returns-in-Some g t c done =
@@ -220,21 +220,21 @@ loops::repeat-turns-preserved g t c =
 
 pub loops::turn_while-returns : goal.loops::turn_while-returns
 loops::turn_while-returns g t c done =
-    while_goes (program_in c.args.source.now) (called c.args.source.now c.args.frames) (expr_of c.args.c.now) (stmt_of c.args.a.now) (state_in c.args.m.now) (state_in c.loop_test.new.m) _ (c.in_ok-end.ensures tt) (state_in c.scoped_stmt.new.m) c.in_default.is _ _ (c.in_ok-end-2.ensures tt) (c.left_by_body.ensures (act.pure None) (state_in c.scoped_stmt.new.m))
+    while_goes (program_in c.args.source.now) (caller_in c.args.source.now c.args.frames) (expr_of c.args.c.now) (stmt_of c.args.a.now) (state_in c.args.m.now) (state_in c.loop_test.new.m) _ (c.in_ok-end.ensures tt) (state_in c.scoped_stmt.new.m) c.in_default.is _ _ (c.in_ok-end-2.ensures tt) (c.left_by_body.ensures (act.pure None) (state_in c.scoped_stmt.new.m))
 
 pub loops::turn_while-returns-in-Some : goal.loops::turn_while-returns-in-Some
 loops::turn_while-returns-in-Some g t c done =
-    while_ends (program_in c.args.source.now) (called c.args.source.now c.args.frames) (expr_of c.args.c.now) (stmt_of c.args.a.now) (state_in c.args.m.now) (state_in c.loop_test.new.m) _ (c.in_ok-end.ensures tt) c.in-Some.end c.in-Some.is
+    while_ends (program_in c.args.source.now) (caller_in c.args.source.now c.args.frames) (expr_of c.args.c.now) (stmt_of c.args.a.now) (state_in c.args.m.now) (state_in c.loop_test.new.m) _ (c.in_ok-end.ensures tt) c.in-Some.end c.in-Some.is
 
 pub loops::turn_while-returns-in_err-end : goal.loops::turn_while-returns-in_err-end
 loops::turn_while-returns-in_err-end g t c =
     let is : c.from_residual.result ≡ Err c.in_err-end.field-0.0 = err_of c.from_residual.result c.in_err-end.field-0.0 c.from_residual.ensures.1 in
-    stops_as (option_map end_of) c.from_residual.result c.in_err-end.field-0.0 _ c.loop_test.new.m is (λ d. while_stops (program_in c.args.source.now) (called c.args.source.now c.args.frames) (expr_of c.args.c.now) (stmt_of c.args.a.now) (state_in c.args.m.now) (state_in c.loop_test.new.m) _ (c.in_err-end.ensures d))
+    stops_as (option_map end_of) c.from_residual.result c.in_err-end.field-0.0 _ c.loop_test.new.m is (λ d. while_stops (program_in c.args.source.now) (caller_in c.args.source.now c.args.frames) (expr_of c.args.c.now) (stmt_of c.args.a.now) (state_in c.args.m.now) (state_in c.loop_test.new.m) _ (c.in_err-end.ensures d))
 
 pub loops::turn_while-returns-in_err-end-2 : goal.loops::turn_while-returns-in_err-end-2
 loops::turn_while-returns-in_err-end-2 g t c =
     let is : c.from_residual-in_err-end-2.result ≡ Err c.in_err-end-2.field-0.0 = err_of c.from_residual-in_err-end-2.result c.in_err-end-2.field-0.0 c.from_residual-in_err-end-2.ensures.1 in
-    stops_as (option_map end_of) c.from_residual-in_err-end-2.result c.in_err-end-2.field-0.0 _ c.scoped_stmt.new.m is (λ d. while_halts (program_in c.args.source.now) (called c.args.source.now c.args.frames) (expr_of c.args.c.now) (stmt_of c.args.a.now) (state_in c.args.m.now) (state_in c.loop_test.new.m) _ (c.in_ok-end.ensures tt) (state_in c.scoped_stmt.new.m) c.in_default.is _ (c.in_err-end-2.ensures d))
+    stops_as (option_map end_of) c.from_residual-in_err-end-2.result c.in_err-end-2.field-0.0 _ c.scoped_stmt.new.m is (λ d. while_halts (program_in c.args.source.now) (caller_in c.args.source.now c.args.frames) (expr_of c.args.c.now) (stmt_of c.args.a.now) (state_in c.args.m.now) (state_in c.loop_test.new.m) _ (c.in_ok-end.ensures tt) (state_in c.scoped_stmt.new.m) c.in_default.is _ (c.in_err-end-2.ensures d))
 
 pub stmt::scoped_stmt-returns : goal.stmt::scoped_stmt-returns
 stmt::scoped_stmt-returns g t c done =
@@ -244,24 +244,24 @@ stmt::scoped_stmt-returns g t c done =
 
 pub simple::compound_assignment-returns : goal.simple::compound_assignment-returns
 simple::compound_assignment-returns g t c done =
-    changed_gives (program_in c.args.source.now) (called c.args.source.now c.args.frames) (expr_of c.args.to.now) (expr_of c.args.e.now) c.args.op (state_in c.args.m.now) (state_in c.target.new.m) (state_in c.fetch.new.m) (state_in c.eval.new.m) (spot_of c.in_ok-at.at) (value_of c.in_ok-before.before) (value_of c.in_ok-v.v) _ (c.in_ok-at.ensures tt) (c.in_ok-before.ensures tt) (c.in_ok-v.ensures tt) (c.rewrite.ensures done)
+    changed_gives (program_in c.args.source.now) (caller_in c.args.source.now c.args.frames) (expr_of c.args.to.now) (expr_of c.args.e.now) c.args.op (state_in c.args.m.now) (state_in c.target.new.m) (state_in c.fetch.new.m) (state_in c.eval.new.m) (lvalue_of c.in_ok-at.at) (value_of c.in_ok-before.before) (value_of c.in_ok-v.v) _ (c.in_ok-at.ensures tt) (c.in_ok-before.ensures tt) (c.in_ok-v.ensures tt) (c.rewrite.ensures done)
 
 pub simple::simple-returns-in_ok-old-in-Adjust : goal.simple::simple-returns-in_ok-old-in-Adjust
 simple::simple-returns-in_ok-old-in-Adjust g t c done =
-    ap (λ x. simple (program_in c.args.source.now) (called c.args.source.now c.args.frames) (simple_of x) (state_in c.args.m.now)) c.in-Adjust.is
-    ∙ adjusted_gives (program_in c.args.source.now) (called c.args.source.now c.args.frames) (expr_of c.in-Adjust.to) c.in-Adjust.by c.operator.result (value_of c.flag.result) (state_in c.args.m.now) (state_in c.target.new.m) (state_in c.fetch.new.m) (spot_of c.in_ok-at-in-Adjust.at) (value_of c.in_ok-old-in-Adjust.old) _ c.operator.ensures c.flag.ensures (c.in_ok-at-in-Adjust.ensures tt) (c.in_ok-old-in-Adjust.ensures tt) (c.rewrite.ensures done)
+    ap (λ x. simple (program_in c.args.source.now) (caller_in c.args.source.now c.args.frames) (simple_of x) (state_in c.args.m.now)) c.in-Adjust.is
+    ∙ adjusted_gives (program_in c.args.source.now) (caller_in c.args.source.now c.args.frames) (expr_of c.in-Adjust.to) c.in-Adjust.by c.operator.result (value_of c.flag.result) (state_in c.args.m.now) (state_in c.target.new.m) (state_in c.fetch.new.m) (lvalue_of c.in_ok-at-in-Adjust.at) (value_of c.in_ok-old-in-Adjust.old) _ c.operator.ensures c.flag.ensures (c.in_ok-at-in-Adjust.ensures tt) (c.in_ok-old-in-Adjust.ensures tt) (c.rewrite.ensures done)
 
 pub simple::simple-returns-in-None : goal.simple::simple-returns-in-None
 simple::simple-returns-in-None g t c done =
-    ap (λ x. simple (program_in c.args.source.now) (called c.args.source.now c.args.frames) (simple_of x) (state_in c.args.m.now)) c.in-Assign.is ∙ ap (λ o. simple (program_in c.args.source.now) (called c.args.source.now c.args.frames) (tree.Assign (expr_of c.in-Assign.to) o (expr_of c.in-Assign.e)) (state_in c.args.m.now)) c.in-None.is ∙ c.simple_assignment.ensures done
+    ap (λ x. simple (program_in c.args.source.now) (caller_in c.args.source.now c.args.frames) (simple_of x) (state_in c.args.m.now)) c.in-Assign.is ∙ ap (λ o. simple (program_in c.args.source.now) (caller_in c.args.source.now c.args.frames) (tree.Assign (expr_of c.in-Assign.to) o (expr_of c.in-Assign.e)) (state_in c.args.m.now)) c.in-None.is ∙ c.simple_assignment.ensures done
 
 pub simple::simple-returns-in-Some : goal.simple::simple-returns-in-Some
 simple::simple-returns-in-Some g t c done =
-    ap (λ x. simple (program_in c.args.source.now) (called c.args.source.now c.args.frames) (simple_of x) (state_in c.args.m.now)) c.in-Assign.is ∙ ap (λ o. simple (program_in c.args.source.now) (called c.args.source.now c.args.frames) (tree.Assign (expr_of c.in-Assign.to) o (expr_of c.in-Assign.e)) (state_in c.args.m.now)) c.in-Some.is ∙ c.compound_assignment.ensures done
+    ap (λ x. simple (program_in c.args.source.now) (caller_in c.args.source.now c.args.frames) (simple_of x) (state_in c.args.m.now)) c.in-Assign.is ∙ ap (λ o. simple (program_in c.args.source.now) (caller_in c.args.source.now c.args.frames) (tree.Assign (expr_of c.in-Assign.to) o (expr_of c.in-Assign.e)) (state_in c.args.m.now)) c.in-Some.is ∙ c.compound_assignment.ensures done
 
 pub loops::for_start-returns-in-Declare : goal.loops::for_start-returns-in-Declare
 loops::for_start-returns-in-Declare g t c done =
-    ap (λ x. meaning.start_with (program_in c.args.source.now) (called c.args.source.now c.args.frames) (start_of x) (state_in c.args.m.now)) c.in-Declare.is ∙ ap (λ ds. declare (program_in c.args.source.now) (called c.args.source.now c.args.frames) c.in-Declare.d.ty (map declarator_of ds) (state_in c.args.m.now)) (sym c.as_slice.ensures) ∙ c.declare.ensures done
+    ap (λ x. meaning.start_with (program_in c.args.source.now) (caller_in c.args.source.now c.args.frames) (start_of x) (state_in c.args.m.now)) c.in-Declare.is ∙ ap (λ ds. declare (program_in c.args.source.now) (caller_in c.args.source.now c.args.frames) c.in-Declare.d.ty (map declarator_of ds) (state_in c.args.m.now)) (sym c.as_slice.ensures) ∙ c.declare.ensures done
 
 pub stmt::stmt-block-requires : goal.stmt::stmt-block-requires
 stmt::stmt-block-requires g t c κs within =
@@ -269,44 +269,44 @@ stmt::stmt-block-requires g t c κs within =
 
 pub stmt::stmt-returns-in-If : goal.stmt::stmt-returns-in-If
 stmt::stmt-returns-in-If g t c done =
-    ap (λ x. stmt (program_in c.args.source.now) (called c.args.source.now c.args.frames) x (state_in c.args.m.now)) (if_is c.args.s.now c.in-If.c c.in-If.a c.get.result.now c.in-If.b c.in-If.is c.get.ensures) ∙ c.either.ensures (state_in c.args.m.now) (c.in_ok-tick.ensures tt) done
+    ap (λ x. stmt (program_in c.args.source.now) (caller_in c.args.source.now c.args.frames) x (state_in c.args.m.now)) (if_is c.args.s.now c.in-If.c c.in-If.a c.get.result.now c.in-If.b c.in-If.is c.get.ensures) ∙ c.either.ensures (state_in c.args.m.now) (c.in_ok-tick.ensures tt) done
 
 pub stmt::stmt-returns-in_err-tick : goal.stmt::stmt-returns-in_err-tick
 stmt::stmt-returns-in_err-tick g t c =
     let is : c.from_residual.result ≡ Err c.in_err-tick.field-0.0 = err_of c.from_residual.result c.in_err-tick.field-0.0 c.from_residual.ensures.1 in
-    stops_as end_of c.from_residual.result c.in_err-tick.field-0.0 _ c.tick.new.m is (λ d. spent_first (program_in c.args.source.now) (called c.args.source.now c.args.frames) (stmt_of c.args.s.now) (state_in c.args.m.now) (state_in c.tick.new.m) _ (c.in_err-tick.ensures d))
+    stops_as end_of c.from_residual.result c.in_err-tick.field-0.0 _ c.tick.new.m is (λ d. spent_first (program_in c.args.source.now) (caller_in c.args.source.now c.args.frames) (stmt_of c.args.s.now) (state_in c.args.m.now) (state_in c.tick.new.m) _ (c.in_err-tick.ensures d))
 
 pub stmt::stmt-returns-in-Print : goal.stmt::stmt-returns-in-Print
 stmt::stmt-returns-in-Print g t c done =
-    ap (λ x. stmt (program_in c.args.source.now) (called c.args.source.now c.args.frames) x (state_in c.args.m.now)) (print_is c.args.s.now c.in-Print.field-0 c.in-Print.format c.as_bytes.result.now c.in-Print.field-2 c.in-Print.args c.as_slice-in-Print.result.now c.in-Print.is (c.as_bytes.ensures.value ∙ c.as_str.ensures) c.as_slice-in-Print.ensures) ∙ c.print_output.ensures c.in-Print.field-0 c.in-Print.field-2 (state_in c.args.m.now) (c.in_ok-tick.ensures tt) done
+    ap (λ x. stmt (program_in c.args.source.now) (caller_in c.args.source.now c.args.frames) x (state_in c.args.m.now)) (print_is c.args.s.now c.in-Print.field-0 c.in-Print.format c.as_bytes.result.now c.in-Print.field-2 c.in-Print.args c.as_slice-in-Print.result.now c.in-Print.is (c.as_bytes.ensures.value ∙ c.as_str.ensures) c.as_slice-in-Print.ensures) ∙ c.print_output.ensures c.in-Print.field-0 c.in-Print.field-2 (state_in c.args.m.now) (c.in_ok-tick.ensures tt) done
 
 pub stmt::stmt-returns-in-Return : goal.stmt::stmt-returns-in-Return
 stmt::stmt-returns-in-Return g t c done =
-    ap (λ x. stmt (program_in c.args.source.now) (called c.args.source.now c.args.frames) x (state_in c.args.m.now)) (return_is c.args.s.now c.in-Return.e c.in-Return.field-1 c.in-Return.is) ∙ c.return_end.ensures c.in-Return.field-1 (state_in c.args.m.now) (c.in_ok-tick.ensures tt) done
+    ap (λ x. stmt (program_in c.args.source.now) (caller_in c.args.source.now c.args.frames) x (state_in c.args.m.now)) (return_is c.args.s.now c.in-Return.e c.in-Return.field-1 c.in-Return.is) ∙ c.return_end.ensures c.in-Return.field-1 (state_in c.args.m.now) (c.in_ok-tick.ensures tt) done
 
 pub stmt::stmt-returns-in-Block : goal.stmt::stmt-returns-in-Block
 stmt::stmt-returns-in-Block g t c done =
-    ticks_then (program_in c.args.source.now) (called c.args.source.now c.args.frames) (stmt_of c.args.s.now) (tree.Block (stmts_of c.as_slice-in-Block.result.now)) (in_scope (does_stmts c.args.source.now c.args.frames c.as_slice-in-Block.result.now)) (state_in c.args.m.now) (state_in c.tick.new.m) _ (block_is c.args.s.now c.in-Block.ss c.as_slice-in-Block.result.now c.in-Block.is c.as_slice-in-Block.ensures) refl (c.in_ok-tick.ensures tt) (c.block.ensures done)
+    ticks_then (program_in c.args.source.now) (caller_in c.args.source.now c.args.frames) (stmt_of c.args.s.now) (tree.Block (stmts_of c.as_slice-in-Block.result.now)) (in_scope (does_stmts c.args.source.now c.args.frames c.as_slice-in-Block.result.now)) (state_in c.args.m.now) (state_in c.tick.new.m) _ (block_is c.args.s.now c.in-Block.ss c.as_slice-in-Block.result.now c.in-Block.is c.as_slice-in-Block.ensures) refl (c.in_ok-tick.ensures tt) (c.block.ensures done)
 
 pub stmt::stmt-returns-in-Declare : goal.stmt::stmt-returns-in-Declare
 stmt::stmt-returns-in-Declare g t c done =
-    ticks_then (program_in c.args.source.now) (called c.args.source.now c.args.frames) (stmt_of c.args.s.now) (tree.Declare (record { ty = c.in-Declare.d.ty; declarators = map declarator_of c.as_slice.result.now })) (declare (program_in c.args.source.now) (called c.args.source.now c.args.frames) c.in-Declare.d.ty (map declarator_of c.as_slice.result.now)) (state_in c.args.m.now) (state_in c.tick.new.m) _ (declare_is c.args.s.now c.in-Declare.d c.as_slice.result.now c.in-Declare.is c.as_slice.ensures) refl (c.in_ok-tick.ensures tt) (c.declare.ensures done)
+    ticks_then (program_in c.args.source.now) (caller_in c.args.source.now c.args.frames) (stmt_of c.args.s.now) (tree.Declare (record { ty = c.in-Declare.d.ty; declarators = map declarator_of c.as_slice.result.now })) (declare (program_in c.args.source.now) (caller_in c.args.source.now c.args.frames) c.in-Declare.d.ty (map declarator_of c.as_slice.result.now)) (state_in c.args.m.now) (state_in c.tick.new.m) _ (declare_is c.args.s.now c.in-Declare.d c.as_slice.result.now c.in-Declare.is c.as_slice.ensures) refl (c.in_ok-tick.ensures tt) (c.declare.ensures done)
 
 pub stmt::stmt-returns-in-DoWhile : goal.stmt::stmt-returns-in-DoWhile
 stmt::stmt-returns-in-DoWhile g t c done =
-    ticks_then (program_in c.args.source.now) (called c.args.source.now c.args.frames) (stmt_of c.args.s.now) (tree.DoWhile (stmt_of c.get-in-DoWhile.result.now) (expr_of c.in-DoWhile.c)) (meaning.loop (do_turn (program_in c.args.source.now) (called c.args.source.now c.args.frames) (stmt_of c.get-in-DoWhile.result.now) (expr_of c.in-DoWhile.c))) (state_in c.args.m.now) (state_in c.tick.new.m) _ (do_while_is c.args.s.now c.in-DoWhile.a c.get-in-DoWhile.result.now c.in-DoWhile.c c.in-DoWhile.is c.get-in-DoWhile.ensures) refl (c.in_ok-tick.ensures tt) (c.repeat-in-DoWhile.ensures done)
+    ticks_then (program_in c.args.source.now) (caller_in c.args.source.now c.args.frames) (stmt_of c.args.s.now) (tree.DoWhile (stmt_of c.get-in-DoWhile.result.now) (expr_of c.in-DoWhile.c)) (meaning.loop (do_turn (program_in c.args.source.now) (caller_in c.args.source.now c.args.frames) (stmt_of c.get-in-DoWhile.result.now) (expr_of c.in-DoWhile.c))) (state_in c.args.m.now) (state_in c.tick.new.m) _ (do_while_is c.args.s.now c.in-DoWhile.a c.get-in-DoWhile.result.now c.in-DoWhile.c c.in-DoWhile.is c.get-in-DoWhile.ensures) refl (c.in_ok-tick.ensures tt) (c.repeat-in-DoWhile.ensures done)
 
 pub stmt::stmt-returns-in-For : goal.stmt::stmt-returns-in-For
 stmt::stmt-returns-in-For g t c done =
-    ticks_then (program_in c.args.source.now) (called c.args.source.now c.args.frames) (stmt_of c.args.s.now) (tree.For (start_of c.get-in-For.result.now.start) (option_map expr_of c.get-in-For.result.now.condition) (option_map simple_of c.get-in-For.result.now.step) (stmt_of c.get-in-For-2.result.now)) (in_scope (for_all (program_in c.args.source.now) (called c.args.source.now c.args.frames) (start_of c.get-in-For.result.now.start) (option_map expr_of c.get-in-For.result.now.condition) (option_map simple_of c.get-in-For.result.now.step) (stmt_of c.get-in-For-2.result.now))) (state_in c.args.m.now) (state_in c.tick.new.m) _ (for_is c.args.s.now c.in-For.head c.get-in-For.result.now c.in-For.a c.get-in-For-2.result.now c.in-For.is c.get-in-For.ensures c.get-in-For-2.ensures) refl (c.in_ok-tick.ensures tt) (c.for_scoped.ensures done)
+    ticks_then (program_in c.args.source.now) (caller_in c.args.source.now c.args.frames) (stmt_of c.args.s.now) (tree.For (start_of c.get-in-For.result.now.start) (option_map expr_of c.get-in-For.result.now.condition) (option_map simple_of c.get-in-For.result.now.step) (stmt_of c.get-in-For-2.result.now)) (in_scope (for_all (program_in c.args.source.now) (caller_in c.args.source.now c.args.frames) (start_of c.get-in-For.result.now.start) (option_map expr_of c.get-in-For.result.now.condition) (option_map simple_of c.get-in-For.result.now.step) (stmt_of c.get-in-For-2.result.now))) (state_in c.args.m.now) (state_in c.tick.new.m) _ (for_is c.args.s.now c.in-For.head c.get-in-For.result.now c.in-For.a c.get-in-For-2.result.now c.in-For.is c.get-in-For.ensures c.get-in-For-2.ensures) refl (c.in_ok-tick.ensures tt) (c.for_scoped.ensures done)
 
 pub stmt::stmt-returns-in-Transaction : goal.stmt::stmt-returns-in-Transaction
 stmt::stmt-returns-in-Transaction g t c done =
-    ticks_then (program_in c.args.source.now) (called c.args.source.now c.args.frames) (stmt_of c.args.s.now) (tree.Transaction c.in-Transaction.kind (stmts_of c.as_slice-in-Transaction.result.now) c.in-Transaction.field-2) (meaning.transaction c.in-Transaction.kind (in_scope (does_stmts c.args.source.now c.args.frames c.as_slice-in-Transaction.result.now))) (state_in c.args.m.now) (state_in c.tick.new.m) _ (transaction_is c.args.s.now c.in-Transaction.kind c.in-Transaction.ss c.as_slice-in-Transaction.result.now c.in-Transaction.field-2 c.in-Transaction.is c.as_slice-in-Transaction.ensures) refl (c.in_ok-tick.ensures tt) (c.transaction.ensures done)
+    ticks_then (program_in c.args.source.now) (caller_in c.args.source.now c.args.frames) (stmt_of c.args.s.now) (tree.Transaction c.in-Transaction.kind (stmts_of c.as_slice-in-Transaction.result.now) c.in-Transaction.field-2) (meaning.transaction c.in-Transaction.kind (in_scope (does_stmts c.args.source.now c.args.frames c.as_slice-in-Transaction.result.now))) (state_in c.args.m.now) (state_in c.tick.new.m) _ (transaction_is c.args.s.now c.in-Transaction.kind c.in-Transaction.ss c.as_slice-in-Transaction.result.now c.in-Transaction.field-2 c.in-Transaction.is c.as_slice-in-Transaction.ensures) refl (c.in_ok-tick.ensures tt) (c.transaction.ensures done)
 
 pub stmt::stmt-returns-in-While : goal.stmt::stmt-returns-in-While
 stmt::stmt-returns-in-While g t c done =
-    ticks_then (program_in c.args.source.now) (called c.args.source.now c.args.frames) (stmt_of c.args.s.now) (tree.While (expr_of c.in-While.c) (stmt_of c.get-in-While.result.now)) (meaning.loop (while_turn (program_in c.args.source.now) (called c.args.source.now c.args.frames) (expr_of c.in-While.c) (stmt_of c.get-in-While.result.now))) (state_in c.args.m.now) (state_in c.tick.new.m) _ (while_is c.args.s.now c.in-While.c c.in-While.a c.get-in-While.result.now c.in-While.is c.get-in-While.ensures) refl (c.in_ok-tick.ensures tt) (c.repeat.ensures done)
+    ticks_then (program_in c.args.source.now) (caller_in c.args.source.now c.args.frames) (stmt_of c.args.s.now) (tree.While (expr_of c.in-While.c) (stmt_of c.get-in-While.result.now)) (meaning.loop (while_turn (program_in c.args.source.now) (caller_in c.args.source.now c.args.frames) (expr_of c.in-While.c) (stmt_of c.get-in-While.result.now))) (state_in c.args.m.now) (state_in c.tick.new.m) _ (while_is c.args.s.now c.in-While.c c.in-While.a c.get-in-While.result.now c.in-While.is c.get-in-While.ensures) refl (c.in_ok-tick.ensures tt) (c.repeat.ensures done)
 
 pub stmt::stmt-transaction-requires : goal.stmt::stmt-transaction-requires
 stmt::stmt-transaction-requires g t c κs within =
@@ -314,20 +314,20 @@ stmt::stmt-transaction-requires g t c κs within =
 
 pub stmt::stmts-returns : goal.stmt::stmts-returns
 stmt::stmts-returns g t c done =
-    stmts_end (program_in c.args.source.now) (called c.args.source.now c.args.frames) c.args.ss.now c.statements.s-index (state_in c.statements.m) (does_stmts c.args.source.now c.args.frames c.args.ss.now (state_in c.args.m.now)) c.statements-test.false c.statements.invariant
+    stmts_end (program_in c.args.source.now) (caller_in c.args.source.now c.args.frames) c.args.ss.now c.statements.s-index (state_in c.statements.m) (does_stmts c.args.source.now c.args.frames c.args.ss.now (state_in c.args.m.now)) c.statements-test.false c.statements.invariant
 
 pub stmt::stmts-returns-in_default : goal.stmt::stmts-returns-in_default
 stmt::stmts-returns-in_default g t c done =
-    stmts_left (program_in c.args.source.now) (called c.args.source.now c.args.frames) c.args.ss.now c.statements.s-index c.s-item.result (state_in c.statements.m) (state_in c.stmt.new.m) c.in_ok-end.end (does_stmts c.args.source.now c.args.frames c.args.ss.now (state_in c.args.m.now)) c.statements-test.true c.s-item.is c.statements.invariant (c.in_ok-end.ensures tt) c.in_default.not-Next
+    stmts_left (program_in c.args.source.now) (caller_in c.args.source.now c.args.frames) c.args.ss.now c.statements.s-index c.s-item.result (state_in c.statements.m) (state_in c.stmt.new.m) c.in_ok-end.end (does_stmts c.args.source.now c.args.frames c.args.ss.now (state_in c.args.m.now)) c.statements-test.true c.s-item.is c.statements.invariant (c.in_ok-end.ensures tt) c.in_default.not-Next
 
 pub stmt::stmts-returns-in_err-end : goal.stmt::stmts-returns-in_err-end
 stmt::stmts-returns-in_err-end g t c =
     let is : c.from_residual.result ≡ Err c.in_err-end.field-0.0 = err_of c.from_residual.result c.in_err-end.field-0.0 c.from_residual.ensures.1 in
-    stops_as end_of c.from_residual.result c.in_err-end.field-0.0 _ c.stmt.new.m is (λ d. stmts_halt (program_in c.args.source.now) (called c.args.source.now c.args.frames) c.args.ss.now c.statements.s-index c.s-item.result (state_in c.statements.m) (state_in c.stmt.new.m) _ (does_stmts c.args.source.now c.args.frames c.args.ss.now (state_in c.args.m.now)) c.statements-test.true c.s-item.is c.statements.invariant (c.in_err-end.ensures d))
+    stops_as end_of c.from_residual.result c.in_err-end.field-0.0 _ c.stmt.new.m is (λ d. stmts_halt (program_in c.args.source.now) (caller_in c.args.source.now c.args.frames) c.args.ss.now c.statements.s-index c.s-item.result (state_in c.statements.m) (state_in c.stmt.new.m) _ (does_stmts c.args.source.now c.args.frames c.args.ss.now (state_in c.args.m.now)) c.statements-test.true c.s-item.is c.statements.invariant (c.in_err-end.ensures d))
 
 pub stmt::stmts-statements-preserved : goal.stmt::stmts-statements-preserved
 stmt::stmts-statements-preserved g t c =
-    stmts_next (program_in c.args.source.now) (called c.args.source.now c.args.frames) c.args.ss.now c.statements.s-index c.s-item.result (state_in c.statements.m) (state_in c.stmt.new.m) c.in_ok-end.end (does_stmts c.args.source.now c.args.frames c.args.ss.now (state_in c.args.m.now)) c.statements-test.true c.s-item.is c.statements.invariant (c.in_ok-end.ensures tt) c.in-Next.is
+    stmts_next (program_in c.args.source.now) (caller_in c.args.source.now c.args.frames) c.args.ss.now c.statements.s-index c.s-item.result (state_in c.statements.m) (state_in c.stmt.new.m) c.in_ok-end.end (does_stmts c.args.source.now c.args.frames c.args.ss.now (state_in c.args.m.now)) c.statements-test.true c.s-item.is c.statements.invariant (c.in_ok-end.ensures tt) c.in-Next.is
 
 pub stmt::stmts-stmt-requires : goal.stmt::stmts-stmt-requires
 stmt::stmts-stmt-requires g t c κs within =
@@ -365,13 +365,13 @@ loops::turn-returns-in-DoWhile g t c done =
 
 pub calls::values-arguments-init : goal.calls::values-arguments-init
 calls::values-arguments-init g t c =
-    ap (λ us. go_on (exprs (program_in c.args.source.now) (called c.args.source.now c.args.frames) (exprs_of c.args.args.now) (state_in c.args.m.now)) (joined_to us)) c.new-values.ensures.items ∙ values_start (program_in c.args.source.now) (called c.args.source.now c.args.frames) c.args.args.now (state_in c.args.m.now)
+    ap (λ us. go_on (exprs (program_in c.args.source.now) (caller_in c.args.source.now c.args.frames) (exprs_of c.args.args.now) (state_in c.args.m.now)) (joined_to us)) c.new-values.ensures.items ∙ values_start (program_in c.args.source.now) (caller_in c.args.source.now c.args.frames) c.args.args.now (state_in c.args.m.now)
 
 pub calls::values-arguments-preserved : goal.calls::values-arguments-preserved
 calls::values-arguments-preserved g t c =
     let grown : c.push.new.self.items ≡ c.arguments.values.items ++ value_of c.in_ok-v.v ∷ [] =
     c.push.ensures.items ∙ ap (λ (b : Bool). if b then c.arguments.values.items ++ c.unpack.result ∷ [] else c.arguments.values.items) c.if-is_err.ensures.negation ∙ ap (λ v. c.arguments.values.items ++ v ∷ []) c.unpack.ensures in
-    values_next (program_in c.args.source.now) (called c.args.source.now c.args.frames) c.args.args.now c.arguments.e-index c.e-item.result (state_in c.arguments.m) (state_in c.eval.new.m) c.arguments.values.items c.push.new.self.items (value_of c.in_ok-v.v) (exprs (program_in c.args.source.now) (called c.args.source.now c.args.frames) (exprs_of c.args.args.now) (state_in c.args.m.now)) c.arguments-test.true c.e-item.is c.arguments.invariant (c.in_ok-v.ensures tt) grown
+    values_next (program_in c.args.source.now) (caller_in c.args.source.now c.args.frames) c.args.args.now c.arguments.e-index c.e-item.result (state_in c.arguments.m) (state_in c.eval.new.m) c.arguments.values.items c.push.new.self.items (value_of c.in_ok-v.v) (exprs (program_in c.args.source.now) (caller_in c.args.source.now c.args.frames) (exprs_of c.args.args.now) (state_in c.args.m.now)) c.arguments-test.true c.e-item.is c.arguments.invariant (c.in_ok-v.ensures tt) grown
 
 pub calls::values-eval-requires : goal.calls::values-eval-requires
 calls::values-eval-requires g t c κs within =
@@ -379,12 +379,12 @@ calls::values-eval-requires g t c κs within =
 
 pub calls::values-returns : goal.calls::values-returns
 calls::values-returns g t c done =
-    values_end (program_in c.args.source.now) (called c.args.source.now c.args.frames) c.args.args.now c.arguments.e-index (state_in c.arguments.m) c.arguments.values.items (exprs (program_in c.args.source.now) (called c.args.source.now c.args.frames) (exprs_of c.args.args.now) (state_in c.args.m.now)) c.arguments-test.false c.arguments.invariant
+    values_end (program_in c.args.source.now) (caller_in c.args.source.now c.args.frames) c.args.args.now c.arguments.e-index (state_in c.arguments.m) c.arguments.values.items (exprs (program_in c.args.source.now) (caller_in c.args.source.now c.args.frames) (exprs_of c.args.args.now) (state_in c.args.m.now)) c.arguments-test.false c.arguments.invariant
 
 pub calls::values-returns-in_err-v : goal.calls::values-returns-in_err-v
 calls::values-returns-in_err-v g t c =
     let is : c.from_residual.result ≡ Err c.in_err-v.field-0.0 = err_of c.from_residual.result c.in_err-v.field-0.0 c.from_residual.ensures.1 in
-    stops_as (λ v. v.items) c.from_residual.result c.in_err-v.field-0.0 _ c.eval.new.m is (λ d. values_halt (program_in c.args.source.now) (called c.args.source.now c.args.frames) c.args.args.now c.arguments.e-index c.e-item.result (state_in c.arguments.m) (state_in c.eval.new.m) c.arguments.values.items _ (exprs (program_in c.args.source.now) (called c.args.source.now c.args.frames) (exprs_of c.args.args.now) (state_in c.args.m.now)) c.arguments-test.true c.e-item.is c.arguments.invariant (c.in_err-v.ensures d))
+    stops_as (λ v. v.items) c.from_residual.result c.in_err-v.field-0.0 _ c.eval.new.m is (λ d. values_halt (program_in c.args.source.now) (caller_in c.args.source.now c.args.frames) c.args.args.now c.arguments.e-index c.e-item.result (state_in c.arguments.m) (state_in c.eval.new.m) c.arguments.values.items _ (exprs (program_in c.args.source.now) (caller_in c.args.source.now c.args.frames) (exprs_of c.args.args.now) (state_in c.args.m.now)) c.arguments-test.true c.e-item.is c.arguments.invariant (c.in_err-v.ensures d))
 
 -- ---- each call goes down
 
@@ -596,8 +596,8 @@ pub loops::turn_do-loop_test-requires : goal.loops::turn_do-loop_test-requires
 loops::turn_do-loop_test-requires g t c κs within =
     (omega (arith, c.decreases), within)
 
-pub loops::turn_for-holds-requires : goal.loops::turn_for-holds-requires
-loops::turn_for-holds-requires g t c κs within =
+pub loops::turn_for-for_condition-requires : goal.loops::turn_for-for_condition-requires
+loops::turn_for-for_condition-requires g t c κs within =
     (omega (arith, c.decreases), within)
 
 pub loops::turn_for-scoped_stmt-requires : goal.loops::turn_for-scoped_stmt-requires
@@ -608,8 +608,8 @@ pub loops::turn_for-for_step-requires : goal.loops::turn_for-for_step-requires
 loops::turn_for-for_step-requires g t c κs within =
     (omega (arith, c.decreases), within)
 
-pub loops::holds-eval-requires : goal.loops::holds-eval-requires
-loops::holds-eval-requires g t c κs within =
+pub loops::for_condition-eval-requires : goal.loops::for_condition-eval-requires
+loops::for_condition-eval-requires g t c κs within =
     (omega (arith, ap (λ o. optional_depth (option_map expr_of o)) c.in-Some.is, c.decreases), within)
 
 pub loops::for_step-simple-requires : goal.loops::for_step-simple-requires

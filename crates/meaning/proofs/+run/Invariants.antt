@@ -4,7 +4,7 @@ use Rattle.syntax.specs.Depth.{expr_depth, deepest, optional_depth, simple_depth
 use Rattle.syntax.specs.Actions.{go_on}
 use Rattle.syntax.specs.Meaning.{turns, exprs, declare}
 use Rattle.meaning.specs.inner.Machine.{program_in, state_in}
-use Rattle.meaning.specs.inner.Does.{weight, loop_depth, depth_within, else_depth, head_depth, called, does_stmts, does_turn, joined_to}
+use Rattle.meaning.specs.inner.Does.{weight, loop_depth, depth_within, else_depth, head_depth, caller_in, does_stmts, does_turn, joined_to}
 use Rattle.meaning.proofs.+run.Given as goal
 
 abbrev pub decreases-expr::eval : goal.decreases-expr::eval
@@ -79,8 +79,8 @@ decreases-loops::turn_do g l = weight (program_in l.source.now) l.frames + (8 * 
 abbrev pub decreases-loops::turn_for : goal.decreases-loops::turn_for
 decreases-loops::turn_for g l = weight (program_in l.source.now) l.frames + (8 * (max (optional_depth (option_map expr_of l.head.now.condition)) (max (optional_simple_depth (option_map simple_of l.head.now.step)) (stmt_depth (stmt_of l.a.now)))) + 5)
 
-abbrev pub decreases-loops::holds : goal.decreases-loops::holds
-decreases-loops::holds g l = weight (program_in l.source.now) l.frames + (8 * (optional_depth (option_map expr_of l.c.now)) + 2)
+abbrev pub decreases-loops::for_condition : goal.decreases-loops::for_condition
+decreases-loops::for_condition g l = weight (program_in l.source.now) l.frames + (8 * (optional_depth (option_map expr_of l.c.now)) + 2)
 
 abbrev pub decreases-loops::for_step : goal.decreases-loops::for_step
 decreases-loops::for_step g l = weight (program_in l.source.now) l.frames + (8 * (optional_simple_depth (option_map simple_of l.step.now)) + 2)
@@ -118,7 +118,7 @@ decreases-transactions::value_transaction g l = weight (program_in l.source.now)
 -- what is left of the arguments goes behind their values so far
 abbrev pub invariant-calls::values-arguments : goal.invariant-calls::values-arguments
 invariant-calls::values-arguments g l =
-    go_on (exprs (program_in l.source) (called l.source l.frames) (exprs_of (drop l.e-index l.args)) (state_in l.m)) (joined_to l.values.items) ≡ exprs (program_in l.source) (called l.source l.frames) (exprs_of l.args) (state_in l.initial.m)
+    go_on (exprs (program_in l.source) (caller_in l.source l.frames) (exprs_of (drop l.e-index l.args)) (state_in l.m)) (joined_to l.values.items) ≡ exprs (program_in l.source) (caller_in l.source l.frames) (exprs_of l.args) (state_in l.initial.m)
 
 -- what is left of the statements does what all of them do
 abbrev pub invariant-stmt::stmts-statements : goal.invariant-stmt::stmts-statements
@@ -131,4 +131,4 @@ invariant-loops::repeat-turns g l = turns (l.most - l.counter) (does_turn l.sour
 -- what is left of the declarators does what all of them do
 abbrev pub invariant-simple::declare-declarators : goal.invariant-simple::declare-declarators
 invariant-simple::declare-declarators g l =
-    declare (program_in l.source) (called l.source l.frames) l.ty (map declarator_of (drop l.d-index l.ds)) (state_in l.m) ≡ declare (program_in l.source) (called l.source l.frames) l.ty (map declarator_of l.ds) (state_in l.initial.m)
+    declare (program_in l.source) (caller_in l.source l.frames) l.ty (map declarator_of (drop l.d-index l.ds)) (state_in l.m) ≡ declare (program_in l.source) (caller_in l.source l.frames) l.ty (map declarator_of l.ds) (state_in l.initial.m)

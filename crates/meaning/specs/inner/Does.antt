@@ -13,8 +13,9 @@ use Rattle.syntax.specs.Depth.{program_depth, expr_depth, stmt_depth, block_dept
 use Rattle.syntax.specs.Depth.{optional_simple_depth}
 use Rattle.syntax.specs.Views.{start_of}
 use Rattle.syntax.specs.Actions.{Action, Gives, pure, locals, put_locals, ◌>>=◌, ◌>>◌}
-use Rattle.syntax.specs.Meaning.{Caller, Completion, Next, calls, expr, stmt, stmts, in_scope, after_body, holds}
-use Rattle.syntax.specs.Meaning.{stepped}
+use Rattle.syntax.specs.Meaning.{Caller, Completion, Next, calls, expr, stmt, stmts, in_scope, after_body}
+use Rattle.syntax.specs.Meaning.{for_condition}
+use Rattle.syntax.specs.Meaning.{optional_step}
 use Rattle.syntax.specs.Meaning.{first_value, InLocal, start_with, loop, Returns}
 use Rattle.meaning.specs.declared.machine.StmtCompletion.{StmtCompletion as OwnEnd}
 use Rattle.meaning.specs.declared.program.ProgramTables.{ProgramTables}
@@ -49,8 +50,8 @@ do_turn p call a c = in_scope (stmt p call a) >>= after_body (loop_condition p c
 abbrev pub for_turn : Program → Caller → Option Expr → Option Simple → Stmt → Action (Option Completion)
 for_turn p call c step a =
     do
-      more ← holds p call c
-      if more then (in_scope (stmt p call a) >>= after_body (stepped p call step)) else pure (Some Next)
+      more ← for_condition p call c
+      if more then (in_scope (stmt p call a) >>= after_body (optional_step p call step)) else pure (Some Next)
 
 -- what a `for` begins with, and then its turns
 abbrev pub for_all : Program → Caller → Start → Option Expr → Option Simple → Stmt → Action Completion
@@ -81,17 +82,17 @@ unfoldable pub weight : Program → ℕ → ℕ
 weight p frames = frames * (8 * program_depth p + 16)
 
 module _ {A : Type 0} where
-  abbrev pub called : ProgramTables A → ℕ → Caller
-  called source frames = calls (program_in source) frames
+  abbrev pub caller_in : ProgramTables A → ℕ → Caller
+  caller_in source frames = calls (program_in source) frames
 
   abbrev pub does_expr : ProgramTables A → ℕ → OwnExpr A → Action Value
-  does_expr source frames e = expr (program_in source) (called source frames) (expr_of e)
+  does_expr source frames e = expr (program_in source) (caller_in source frames) (expr_of e)
 
   abbrev pub does_stmt : ProgramTables A → ℕ → OwnStmt A → Action Completion
-  does_stmt source frames s = stmt (program_in source) (called source frames) (stmt_of s)
+  does_stmt source frames s = stmt (program_in source) (caller_in source frames) (stmt_of s)
 
   abbrev pub does_stmts : ProgramTables A → ℕ → List (OwnStmt A) → Action Completion
-  does_stmts source frames ss = stmts (program_in source) (called source frames) (stmts_of ss)
+  does_stmts source frames ss = stmts (program_in source) (caller_in source frames) (stmts_of ss)
 
   -- what a transaction does: its statements have names of their own, and an operand's value is its end
   abbrev pub does_body : ProgramTables A → ℕ → Body A → Action Completion
@@ -104,11 +105,11 @@ module _ {A : Type 0} where
 
   abbrev pub does_turn : ProgramTables A → ℕ → Loop A → Action (Option Completion)
   does_turn source frames (kind.While c a) =
-      while_turn (program_in source) (called source frames) (expr_of c.now) (stmt_of a.now)
+      while_turn (program_in source) (caller_in source frames) (expr_of c.now) (stmt_of a.now)
   does_turn source frames (kind.DoWhile a c) =
-      do_turn (program_in source) (called source frames) (stmt_of a.now) (expr_of c.now)
+      do_turn (program_in source) (caller_in source frames) (stmt_of a.now) (expr_of c.now)
   does_turn source frames (kind.For head a) =
-      for_turn (program_in source) (called source frames) (option_map expr_of head.now.condition)
+      for_turn (program_in source) (caller_in source frames) (option_map expr_of head.now.condition)
       (option_map simple_of head.now.step) (stmt_of a.now)
 
   abbrev pub loop_depth : Loop A → ℕ

@@ -11,7 +11,7 @@ use Rattle.syntax.specs.Names as Names
 use Rattle.syntax.specs.Actions.{State, Gives, Action, pure, stop, tick, trap, locals, put_locals, go_on, ◌>>=◌, ◌>>◌}
 use Rattle.syntax.specs.Meaning.{Caller, Completion, Next, expr, exprs, stmt, stmts, in_scope, on_next, after_body}
 use Rattle.syntax.specs.Meaning.{after_turn}
-use Rattle.syntax.specs.Meaning.{turns, holds, stepped, start_with, result_of, calls}
+use Rattle.syntax.specs.Meaning.{turns, for_condition, optional_step, start_with, result_of, calls}
 use Rattle.meaning.specs.Frames.{IsFramed}
 use Rattle.meaning.specs.inner.Calls.{Begins, begin_call}
 use Rattle.meaning.specs.inner.Does.{do_turn, for_turn, loop_condition, while_turn}
@@ -70,9 +70,9 @@ module _ (p : Program) (call : Caller) where
   turn_of s = pure (Some Next)
 
   abbrev pub test_of : Stmt → Action Bool
-  test_of (While c a) = holds p call (Some c)
+  test_of (While c a) = for_condition p call (Some c)
   test_of (DoWhile a c) = pure true
-  test_of (For start c step a) = holds p call c
+  test_of (For start c step a) = for_condition p call c
   test_of s = pure false
 
   abbrev pub body_of : Stmt → Action Completion
@@ -81,16 +81,16 @@ module _ (p : Program) (call : Caller) where
   body_of (For start c step a) = in_scope (stmt p call a)
   body_of s = pure Next
 
-  abbrev pub behind_of : Stmt → Action (Option Completion)
-  behind_of (DoWhile a c) = loop_condition p call c
-  behind_of (For start c step a) = stepped p call step
-  behind_of s = pure None
+  abbrev pub turn_end_of : Stmt → Action (Option Completion)
+  turn_end_of (DoWhile a c) = loop_condition p call c
+  turn_end_of (For start c step a) = optional_step p call step
+  turn_end_of s = pure None
 
   -- a turn behind its tick: where the test holds comes the body, behind which so many turns are left
   abbrev pub turn_begun : Stmt → ℕ → Action Follow
   turn_begun s n = do
     goes ← test_of s
-    pure (if goes then Nests (body_left (behind_of s) (turns n (turn_of s))) (body_of s) else Ends Next)
+    pure (if goes then Nests (body_left (turn_end_of s) (turns n (turn_of s))) (body_of s) else Ends Next)
 
   abbrev pub turns_begun : Stmt → ℕ → Action Follow
   turns_begun s zero = stop Spent

@@ -21,10 +21,10 @@ use Rattle.meaning.specs.declared.machine.Halted.{Halted}
 use Rattle.meaning.specs.declared.machine.Machine.{Machine}
 use Rattle.meaning.specs.declared.program.ProgramTables.{ProgramTables}
 use Rattle.meaning.specs.inner.Machine.{MeansAs, end_of, items_in, program_in}
-use Rattle.meaning.specs.inner.Does.{called, does_stmts, if_of}
+use Rattle.meaning.specs.inner.Does.{caller_in, does_stmts, if_of}
 use Rattle.meaning.specs.inner.Going.{Follow, Ends, Goes, Nests, drop_names, call_left, when_next, scope_begun}
 use Rattle.meaning.specs.inner.Going.{loop_begun}
-use Rattle.meaning.specs.inner.Going.{turn_of, behind_of, turns_begun, body_left, follow_turn, apart_begun}
+use Rattle.meaning.specs.inner.Going.{turn_of, turn_end_of, turns_begun, body_left, follow_turn, apart_begun}
 use Rattle.meaning.specs.inner.Going.{either_begun}
 use Rattle.meaning.specs.inner.Going.{for_begun, gone_on}
 
@@ -50,75 +50,77 @@ module _ {A : Type 0} where
 module _ {A : Type 0} (source : ProgramTables A) where
   -- what a statement does in a way, and its first step
   abbrev pub does_by : Direction → ℕ → Stmt → Action Completion
-  does_by way.Whole frames s = stmt (program_in source) (called source frames) s
-  does_by way.Scoped frames s = in_scope (stmt (program_in source) (called source frames) s)
-  does_by (way.Turns n) frames s = turns n (turn_of (program_in source) (called source frames) s)
+  does_by way.Whole frames s = stmt (program_in source) (caller_in source frames) s
+  does_by way.Scoped frames s = in_scope (stmt (program_in source) (caller_in source frames) s)
+  does_by (way.Turns n) frames s = turns n (turn_of (program_in source) (caller_in source frames) s)
 
   abbrev pub begun_by : Direction → ℕ → Stmt → Action Follow
-  begun_by way.Whole frames s = do end ← stmt (program_in source) (called source frames) s; pure (Ends end)
-  begun_by way.Scoped frames s = scope_begun (stmt (program_in source) (called source frames) s)
-  begun_by (way.Turns n) frames s = turns_begun (program_in source) (called source frames) s n
+  begun_by way.Whole frames s = do end ← stmt (program_in source) (caller_in source frames) s; pure (Ends end)
+  begun_by way.Scoped frames s = scope_begun (stmt (program_in source) (caller_in source frames) s)
+  begun_by (way.Turns n) frames s = turns_begun (program_in source) (caller_in source frames) s n
 
   -- what a task does, and its first step
   abbrev pub does_task : Task A → Action Completion
   does_task (task.Apart frames ss) = does_stmts source frames ss.now
   does_task (task.Alone w frames s) = does_by w frames (stmt_of s.now)
 
-  abbrev pub begun : Task A → Action Follow
-  begun (task.Apart frames ss) = pure (apart_begun (program_in source) (called source frames) (stmts_of ss.now))
-  begun (task.Alone w frames s) = begun_by w frames (stmt_of s.now)
+  abbrev pub first_step_of : Task A → Action Follow
+  first_step_of (task.Apart frames ss) =
+      pure (apart_begun (program_in source) (caller_in source frames) (stmts_of ss.now))
+  first_step_of (task.Alone w frames s) = begun_by w frames (stmt_of s.now)
 
   -- the first step of a statement by its parts, behind its tick; of a loop by its turn
   abbrev pub loop_opened : ℕ → Action (Option Completion) → Loop A → Action Follow
   loop_opened frames turn (kind.While c a) = loop_begun turn
   loop_opened frames turn (kind.DoWhile a c) = loop_begun turn
   loop_opened frames turn (kind.For head a) =
-      for_begun (program_in source) (called source frames) (start_of head.now.start) turn
+      for_begun (program_in source) (caller_in source frames) (start_of head.now.start) turn
 
-  abbrev pub parted : ℕ → Stmt → Parts A → Action Follow
-  parted frames s (parts.Block ss) = scope_begun (does_stmts source frames ss.now)
-  parted frames s (parts.Either c a b) =
-      either_begun (program_in source) (called source frames) (expr_of c.now) (stmt_of a.now)
+  abbrev pub step_by_parts : ℕ → Stmt → Parts A → Action Follow
+  step_by_parts frames s (parts.Block ss) = scope_begun (does_stmts source frames ss.now)
+  step_by_parts frames s (parts.Either c a b) =
+      either_begun (program_in source) (caller_in source frames) (expr_of c.now) (stmt_of a.now)
       (option_map stmt_of b.now)
-  parted frames s (parts.Repeats w) = loop_opened frames (turn_of (program_in source) (called source frames) s) w
+  step_by_parts frames s (parts.Repeats w) =
+      loop_opened frames (turn_of (program_in source) (caller_in source frames) s) w
 
-  abbrev pub opened : ℕ → Stmt → Parts A → Action Follow
-  opened frames s q = tick >> parted frames s q
+  abbrev pub first_step : ℕ → Stmt → Parts A → Action Follow
+  first_step frames s q = tick >> step_by_parts frames s q
 
   -- so many turns of a loop, and what is left behind the body of one
   abbrev pub turns_in : ℕ → Stmt → ℕ → Action Completion
-  turns_in frames s n = turns n (turn_of (program_in source) (called source frames) s)
+  turns_in frames s n = turns n (turn_of (program_in source) (caller_in source frames) s)
 
   abbrev pub body_rest : ℕ → Stmt → ℕ → Completion → Action Completion
-  body_rest frames s n = body_left (behind_of (program_in source) (called source frames) s) (turns_in frames s n)
+  body_rest frames s n = body_left (turn_end_of (program_in source) (caller_in source frames) s) (turns_in frames s n)
 
   -- what is done behind something, by its end
-  abbrev pub resumed : Left A → Completion → Action Completion
-  resumed (left.Next t) = on_next (does_task t)
-  resumed (left.Body frames s n) = body_rest frames (stmt_of s.now) n
-  resumed (left.Scope n) = drop_names n
-  resumed (left.Call ty outer) = call_left ty (items_in outer)
+  abbrev pub continue_with : Left A → Completion → Action Completion
+  continue_with (left.Next t) = on_next (does_task t)
+  continue_with (left.Body frames s n) = body_rest frames (stmt_of s.now) n
+  continue_with (left.Scope n) = drop_names n
+  continue_with (left.Call ty outer) = call_left ty (items_in outer)
 
   -- what is left, the innermost piece at the list's end
   abbrev pub left_gone_on : List (Left A) → Completion → Action Completion
-  left_gone_on ls = gone_on (map resumed ls)
+  left_gone_on ls = gone_on (map continue_with ls)
 
   abbrev pub follow_of : Stepped A → Follow
   follow_of (to.Ends end) = Ends (end_of end)
   follow_of (to.Goes t) = Goes (does_task t)
-  follow_of (to.Nests outer inner) = Nests (resumed outer) (does_task inner)
+  follow_of (to.Nests outer inner) = Nests (continue_with outer) (does_task inner)
 
   abbrev pub MeansStepped : Result (Stepped A) Halted → Answer Follow → Machine A → Type 0
   MeansStepped = MeansAs follow_of
 
   abbrev pub body_step : ℕ → Stmt → ℕ → Completion → Action Follow
   body_step frames s n end =
-      after_body (behind_of (program_in source) (called source frames) s) end
+      after_body (turn_end_of (program_in source) (caller_in source frames) s) end
       >>= (λ next. pure (follow_turn (turns_in frames s n) next))
 
   -- one step, by the end of what was done before
   abbrev pub step_of : Left A → Completion → Action Follow
-  step_of (left.Next t) = when_next (begun t)
+  step_of (left.Next t) = when_next (first_step_of t)
   step_of (left.Body frames s n) = body_step frames (stmt_of s.now) n
   step_of (left.Scope n) = λ end. do then_ ← drop_names n end; pure (Ends then_)
   step_of (left.Call ty outer) = λ end. do then_ ← call_left ty (items_in outer) end; pure (Ends then_)

@@ -17,8 +17,8 @@ use Rattle.meaning.specs.declared.program.ProgramTables.{ProgramTables}
 use Rattle.meaning.specs.declared.machine.Context.{Context}
 use Rattle.meaning.specs.declared.machine.Halted.{Halted}
 use Rattle.meaning.specs.declared.machine.Context.TheVariants as context
-use Rattle.meaning.specs.declared.machine.Spot.{Spot}
-use Rattle.meaning.specs.declared.machine.Spot.TheVariants as spot
+use Rattle.meaning.specs.declared.machine.Lvalue.{Lvalue}
+use Rattle.meaning.specs.declared.machine.Lvalue.TheVariants as lvalue
 use Rattle.meaning.specs.declared.machine.StmtCompletion.{StmtCompletion}
 use Rattle.meaning.specs.declared.machine.StmtCompletion.TheVariants as end
 use Rattle.meaning.specs.declared.word.Word.{Word}
@@ -32,9 +32,9 @@ end_of (end.Returns w) = Meaning.Returns (value_of w)
 end_of end.Cancels = Meaning.Cancels
 end_of end.CancelsOuter = Meaning.CancelsOuter
 
-abbrev pub spot_of : Spot → Meaning.Spot
-spot_of (spot.InLocal i t) = Meaning.InLocal i t
-spot_of (spot.InCell c t) = Meaning.InCell c t
+abbrev pub lvalue_of : Lvalue → Meaning.Lvalue
+lvalue_of (lvalue.InLocal i t) = Meaning.InLocal i t
+lvalue_of (lvalue.InCell c t) = Meaning.InCell c t
 
 abbrev pub local_in : Local → Names.Local
 local_in l = record { name = l.name.now; ty = l.ty; word = l.word }
@@ -97,8 +97,8 @@ module _ {A : Type 0} where
   abbrev pub MeansWords : Result (Vec Value A) Halted → Answer (List Value) → Machine A → Type 0
   MeansWords = MeansAs (λ v. v.items)
 
-  abbrev pub MeansSpot : Result Spot Halted → Answer Meaning.Spot → Machine A → Type 0
-  MeansSpot = MeansAs spot_of
+  abbrev pub MeansLvalue : Result Lvalue Halted → Answer Meaning.Lvalue → Machine A → Type 0
+  MeansLvalue = MeansAs lvalue_of
 
   abbrev pub MeansEnd : Result StmtCompletion Halted → Answer Meaning.Completion → Machine A → Type 0
   MeansEnd = MeansAs end_of

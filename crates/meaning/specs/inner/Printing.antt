@@ -15,9 +15,9 @@ push_byte true c = write (c ∷ [])
 push_byte false c = tick >> write (c ∷ [])
 
 -- the first value, as a number of this type
-abbrev pub figure : Scalar → List Value → Action (Unit {0})
-figure t [] = stop Astray
-figure t (v ∷ vs) = print_piece (signed_decimal (number t v.word))
+abbrev pub specifier : Scalar → List Value → Action (Unit {0})
+specifier t [] = stop Astray
+specifier t (v ∷ vs) = print_piece (signed_decimal (number t v.word))
 
 -- pieces of which the first, where it is literal, may be open already
 abbrev pub print_from : Bool → List Piece → List Value → Action (Unit {0})

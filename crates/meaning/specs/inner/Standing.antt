@@ -8,7 +8,7 @@ use Rattle.meaning.specs.Outcomes.{memories_in}
 use Rattle.meaning.specs.declared.standing.Point.{Point}
 use Rattle.meaning.specs.declared.standing.Shown.{Shown}
 use Rattle.meaning.specs.declared.standing.Thread.{Thread}
-use Rattle.meaning.specs.declared.standing.Stop.{Stop}
+use Rattle.meaning.specs.declared.standing.StoppedThread.{StoppedThread}
 use Rattle.meaning.specs.declared.standing.Gone.{Gone}
 use Rattle.meaning.specs.declared.standing.Gone.TheVariants as gone
 use Rattle.meaning.specs.declared.program.ProgramTables.{ProgramTables}
@@ -58,7 +58,7 @@ module _ {A : Type 0} where
       (λ _. tick)
 
   -- what is seen of a thread that goes no further
-  abbrev pub seen_of : Thread A → Stop A → Outcome
+  abbrev pub seen_of : Thread A → StoppedThread A → Outcome
   seen_of thread stop = record {
     lefts = memories_in thread.shown.lefts.items ++ memories_in stop.shown.lefts.items;
     text = thread.shown.text.items ++ stop.shown.text.items;
@@ -66,5 +66,5 @@ module _ {A : Type 0} where
   }
 
   -- a thread goes no further so
-  abbrev pub IsStop : ProgramTables A → Thread A → Stop A → Type 0
+  abbrev pub IsStop : ProgramTables A → Thread A → StoppedThread A → Type 0
   IsStop source thread stop = outcome_of (rest source thread []) ≡ seen_of thread stop

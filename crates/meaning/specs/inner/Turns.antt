@@ -10,7 +10,7 @@ use Rattle.meaning.specs.declared.program.ProgramTables.{ProgramTables}
 use Rattle.meaning.specs.inner.Machine.{program_in}
 use Rattle.meaning.specs.inner.Standing.{rest}
 use Rattle.meaning.specs.declared.orders.Standing.{Standing}
-use Rattle.meaning.specs.declared.orders.Direction.{Direction}
+use Rattle.meaning.specs.declared.orders.OrderProgress.{OrderProgress}
 
 -- what a program's threads do; only the prover needs it to be a word of its own
 unfoldable pub does_in : Program → Behaviour
@@ -51,5 +51,5 @@ module _ {A : Type 0} where
   founds_in threads = map (λ s. memories_in s.founds.items) threads
 
   -- the memory at hand, and the memories that each thread has found
-  abbrev pub progress : Direction A → Progress
+  abbrev pub progress : OrderProgress A → Progress
   progress way = record { memory = way.memory.items; founds = founds_in way.threads.items }

@@ -14,8 +14,8 @@ use Rattle.syntax.specs.Views.{exprs_from}
 use Rattle.syntax.specs.Grammar.{the_name}
 use Rattle.parse.specs.declared.lead.Infix.{Infix}
 use Rattle.parse.specs.declared.lead.Infix.TheVariants.{Computing, Choosing}
-use Rattle.parse.specs.inner.Reading.{Fault, deep, ◌>>=◌, Parser, across, behind, bind, climb_loop, either, expect, give, head, is_next, map_parser, in_front, seq, spot, too_deep_at, take}
-use Rattle.parse.specs.inner.Expressions.{call_from, cast_from, conditional_at, element_from, expr_at, group_from, infix_node, named, named_from, opened, operand, operators, outcomes, scalar, starts_expr, starts_type, whole_at}
+use Rattle.parse.specs.inner.Reading.{Fault, deep, ◌>>=◌, Parser, across, behind, bind, climb_loop, either, expect, give, head, is_next, map_parser, in_front, seq, expect_span, too_deep_at, take}
+use Rattle.parse.specs.inner.Expressions.{call_from, cast_from, conditional_at, element_from, expr_at, group_from, infix_node, name_or_call, named_from, cast_or_group_expr, operand, operators, outcomes, scalar, starts_expr, starts_type, whole_at}
 
 -- ---- levels
 
@@ -111,66 +111,66 @@ deepest_push [] e = omega arith
 deepest_push (x ∷ es) e = let rest = deepest_push es e in omega (arith, rest)
 
 -- between two punctuators, the last of which is missing
-pub unclosed : {A B : Type 0} (first last : Fixed) (P : Parser A) (make : A × Span → B) (ts r s : List Tok) (x : A) (f : Fault) → expect first ts ≡ Ok (tt, r) → P r ≡ Ok (x, s) → spot last s ≡ Err f → map_parser make (behind first (seq P (spot last))) ts ≡ Err f
+pub unclosed : {A B : Type 0} (first last : Fixed) (P : Parser A) (make : A × Span → B) (ts r s : List Tok) (x : A) (f : Fault) → expect first ts ≡ Ok (tt, r) → P r ≡ Ok (x, s) → expect_span last s ≡ Err f → map_parser make (behind first (seq P (expect_span last))) ts ≡ Err f
 unclosed first last P make ts r s x f e a k = rw (e, a, k) refl
 
 -- where the first part is missing
-pub unread : {A B : Type 0} (first last : Fixed) (P : Parser A) (make : A × Span → B) (ts r : List Tok) (f : Fault) → expect first ts ≡ Ok (tt, r) → P r ≡ Err f → map_parser make (behind first (seq P (spot last))) ts ≡ Err f
+pub unread : {A B : Type 0} (first last : Fixed) (P : Parser A) (make : A × Span → B) (ts r : List Tok) (f : Fault) → expect first ts ≡ Ok (tt, r) → P r ≡ Err f → map_parser make (behind first (seq P (expect_span last))) ts ≡ Err f
 unread first last P make ts r f e a = rw (e, a) refl
 
 -- ---- parentheses
 
 module _ (W T : Parser Expr) (ts : List Tok) where
-  pub opened_none : (f : Fault) → spot (Punctuator punct.OpenParen) ts ≡ Err f → opened W T ts ≡ Err f
+  pub opened_none : (f : Fault) → expect_span (Punctuator punct.OpenParen) ts ≡ Err f → cast_or_group_expr W T ts ≡ Err f
   opened_none f e = rw e refl
 
-  module _ (at : Span) (r : List Tok) (open_at : spot (Punctuator punct.OpenParen) ts ≡ Ok (at, r)) where
-    opened_goes : opened W T ts ≡ either starts_type (cast_from W T at) (group_from W T at) r
+  module _ (at : Span) (r : List Tok) (open_at : expect_span (Punctuator punct.OpenParen) ts ≡ Ok (at, r)) where
+    opened_goes : cast_or_group_expr W T ts ≡ either starts_type (cast_from W T at) (group_from W T at) r
     opened_goes = rw open_at (alone at (either starts_type (cast_from W T at) (group_from W T at) r))
 
     module _ (typed : starts_type (head r) ≡ true) where
-      cast_goes : opened W T ts ≡ cast_from W T at r
+      cast_goes : cast_or_group_expr W T ts ≡ cast_from W T at r
       cast_goes = opened_goes ∙ rw typed refl
 
-      pub cast_none : (f : Fault) → scalar r ≡ Err f → opened W T ts ≡ Err f
+      pub cast_none : (f : Fault) → scalar r ≡ Err f → cast_or_group_expr W T ts ≡ Err f
       cast_none f e = cast_goes ∙ rw e refl
 
       module _ (to : Scalar) (s : List Tok) (read : scalar r ≡ Ok (to, s)) where
-        pub cast_open : (f : Fault) → expect (Punctuator punct.CloseParen) s ≡ Err f → opened W T ts ≡ Err f
+        pub cast_open : (f : Fault) → expect (Punctuator punct.CloseParen) s ≡ Err f → cast_or_group_expr W T ts ≡ Err f
         cast_open f e = cast_goes ∙ rw (read, e) refl
 
         module _ (u : List Tok) (close : expect (Punctuator punct.CloseParen) s ≡ Ok (tt, u)) where
-          pub cast_fails : (f : Fault) → T u ≡ Err f → opened W T ts ≡ Err f
+          pub cast_fails : (f : Fault) → T u ≡ Err f → cast_or_group_expr W T ts ≡ Err f
           cast_fails f e = cast_goes ∙ rw (read, close, e) refl
 
-          pub cast_is : (x : Expr) (v : List Tok) → T u ≡ Ok (x, v) → opened W T ts ≡ Ok (Cast to x (across at (span_of x)), v)
+          pub cast_is : (x : Expr) (v : List Tok) → T u ≡ Ok (x, v) → cast_or_group_expr W T ts ≡ Ok (Cast to x (across at (span_of x)), v)
           cast_is x v e = cast_goes ∙ rw (read, close, e) refl
 
     module _ (untyped : starts_type (head r) ≡ false) where
-      group_goes : opened W T ts ≡ group_from W T at r
+      group_goes : cast_or_group_expr W T ts ≡ group_from W T at r
       group_goes = opened_goes ∙ rw untyped refl
 
-      pub group_none : (f : Fault) → W r ≡ Err f → opened W T ts ≡ Err f
+      pub group_none : (f : Fault) → W r ≡ Err f → cast_or_group_expr W T ts ≡ Err f
       group_none f e = group_goes ∙ rw e refl
 
       module _ (x : Expr) (s : List Tok) (read : W r ≡ Ok (x, s)) where
-        pub group_open : (f : Fault) → spot (Punctuator punct.CloseParen) s ≡ Err f → opened W T ts ≡ Err f
+        pub group_open : (f : Fault) → expect_span (Punctuator punct.CloseParen) s ≡ Err f → cast_or_group_expr W T ts ≡ Err f
         group_open f e = group_goes ∙ rw (read, e) refl
 
 -- ---- names
 
-pub named_none : (W T : Parser Expr) (ts : List Tok) (f : Fault) → take the_name ts ≡ Err f → named W T ts ≡ Err f
+pub named_none : (W T : Parser Expr) (ts : List Tok) (f : Fault) → take the_name ts ≡ Err f → name_or_call W T ts ≡ Err f
 named_none W T ts f e = rw e refl
 
 module _ (W T : Parser Expr) (ts after : List Tok) (x : Name) (read : take the_name ts ≡ Ok (x, after)) where
-  named_goes : named W T ts ≡ named_from W T x after
+  named_goes : name_or_call W T ts ≡ named_from W T x after
   named_goes = rw read (alone x (named_from W T x after))
 
-  pub variable_goes : is_next (Punctuator punct.OpenBracket) (head after) ≡ false → is_next (Punctuator punct.OpenParen) (head after) ≡ false → named W T ts ≡ Ok (Variable x, after)
+  pub variable_goes : is_next (Punctuator punct.OpenBracket) (head after) ≡ false → is_next (Punctuator punct.OpenParen) (head after) ≡ false → name_or_call W T ts ≡ Ok (Variable x, after)
   variable_goes p q = named_goes ∙ rw (p, q) refl
 
-  pub call_goes : is_next (Punctuator punct.OpenBracket) (head after) ≡ false → is_next (Punctuator punct.OpenParen) (head after) ≡ true → named W T ts ≡ call_from W T x after
+  pub call_goes : is_next (Punctuator punct.OpenBracket) (head after) ≡ false → is_next (Punctuator punct.OpenParen) (head after) ≡ true → name_or_call W T ts ≡ call_from W T x after
   call_goes p q = named_goes ∙ rw (p, q) refl
 
-  pub element_goes : is_next (Punctuator punct.OpenBracket) (head after) ≡ true → named W T ts ≡ element_from W T x after
+  pub element_goes : is_next (Punctuator punct.OpenBracket) (head after) ≡ true → name_or_call W T ts ≡ element_from W T x after
   element_goes p = named_goes ∙ rw p refl

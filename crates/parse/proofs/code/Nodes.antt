@@ -7,15 +7,15 @@ use Rattle.lex.specs.declared.token.Punctuator.TheVariants as punct
 use Rattle.lex.specs.declared.token.Span.{Span}
 use Rattle.lex.specs.Tokens.{fixed, Tok}
 use Rattle.syntax.specs.declared.tree.Expr as E
-use Rattle.syntax.specs.declared.tree.Kind.{Kind}
+use Rattle.syntax.specs.declared.tree.TransactionKind.{TransactionKind}
 use Rattle.syntax.specs.declared.tree.Mode.{Mode}
 use Rattle.syntax.specs.declared.tree.Stmt as S
 use Rattle.syntax.specs.Tree.{Expr, Simple, Start, Stmt, Do, Print, While, DoWhile, For, Transaction}
 use Rattle.syntax.specs.Views.{exprs_from, stmts_from, expr_of, stmt_of}
 use Rattle.syntax.specs.Grammar.{the_text, mode_keyword}
-use Rattle.syntax.specs.Phrases.{place_of}
+use Rattle.syntax.specs.Phrases.{fixed_span}
 use Rattle.syntax.proofs.Seen as seen
-use Rattle.parse.specs.inner.Reading.{Fault, deep, ◌>>=◌, head, is_next, map_parser, take, expect, spot, perhaps, behind, before, unless}
+use Rattle.parse.specs.inner.Reading.{Fault, deep, ◌>>=◌, head, is_next, map_parser, take, expect, expect_span, perhaps, behind, before, unless}
 use Rattle.parse.specs.inner.Expressions.{whole_at, starts_type}
 use Rattle.parse.specs.inner.Statements as read
 use Rattle.parse.proofs.combinators.Exact.{taken_ok}
@@ -24,15 +24,15 @@ use Rattle.parse.proofs.combinators.Parts.{place_fixed}
 use Rattle.parse.proofs.code.ExprSteps.{alone}
 use Rattle.parse.proofs.code.Made.{second_is_left}
 
-pub print_stmt_is : (d : ℕ) (ts t1 t2 t3 r : List Tok) (at : Span) (x : List ℕ × Span) (es : List Expr) → spot (Keyword key.Printf) ts ≡ Ok (at, t1) → expect (Punctuator punct.OpenParen) t1 ≡ Ok (tt, t2) → take the_text t2 ≡ Ok (x, t3) → read.printed d t3 ≡ Ok (es, r)
+pub print_stmt_is : (d : ℕ) (ts t1 t2 t3 r : List Tok) (at : Span) (x : List ℕ × Span) (es : List Expr) → expect_span (Keyword key.Printf) ts ≡ Ok (at, t1) → expect (Punctuator punct.OpenParen) t1 ≡ Ok (tt, t2) → take the_text t2 ≡ Ok (x, t3) → read.print_arguments d t3 ≡ Ok (es, r)
     → read.print_stmt d ts ≡ Ok (Print at x.0 x.1 (exprs_from es), r)
 print_stmt_is d ts t1 t2 t3 r at x es a b c e = rw (a, b, c, e) refl
 
 -- a fixed token that was read, at its place
-spot_is : (k : Fixed) (ts : List Tok) (at : Span) (r : List Tok) → spot k ts ≡ Ok (at, r) → ts ≡ record { terminal = fixed k; span = at } ∷ r
-spot_is k [] at r e = absurd cc
-spot_is k (t ∷ ts) at r e =
-    let one = taken_ok (place_of k t) t ts at r e in
+expect_span_is : (k : Fixed) (ts : List Tok) (at : Span) (r : List Tok) → expect_span k ts ≡ Ok (at, r) → ts ≡ record { terminal = fixed k; span = at } ∷ r
+expect_span_is k [] at r e = absurd cc
+expect_span_is k (t ∷ ts) at r e =
+    let one = taken_ok (fixed_span k t) t ts at r e in
     let both = place_fixed k t at one.0 in
     let terminal = fixed_is k t tt both.0 in
     rw (← terminal, ← both.1, ← one.1) refl
@@ -87,7 +87,7 @@ module _ (d : ℕ) (ts : List Tok) where
   pub for_stmt_unless : (t1 : List Tok) (f : Fault) → expect (Keyword key.For) ts ≡ Ok (tt, t1) → read.head_of_for d t1 ≡ Err f → read.for_stmt d (read.stmt_at d) (read.block_at d) ts ≡ Err f
   for_stmt_unless t1 f a e = rw (a, e) refl
 
-  pub transaction_stmt_none : (mode : Mode) (f : Fault) → spot (mode_keyword mode) ts ≡ Err f → read.transaction_stmt d (read.stmt_at d) (read.block_at d) mode ts ≡ Err f
+  pub transaction_stmt_none : (mode : Mode) (f : Fault) → expect_span (mode_keyword mode) ts ≡ Err f → read.transaction_stmt d (read.stmt_at d) (read.block_at d) mode ts ≡ Err f
   transaction_stmt_none mode f e = rw e refl
 
   pub entry_stmt : starts_type (head ts) ≡ false → read.entry d (read.stmt_at d) ts ≡ read.stmt_at d ts
@@ -122,7 +122,7 @@ branches_left d ts t1 s a = rw a refl
 -- ---- whole statements
 
 -- behind the keyword of a transaction
-module _ (d : ℕ) (mode : Mode) (ts t1 : List Tok) (at : Span) (keyword : spot (mode_keyword mode) ts ≡ Ok (at, t1)) where
+module _ (d : ℕ) (mode : Mode) (ts t1 : List Tok) (at : Span) (keyword : expect_span (mode_keyword mode) ts ≡ Ok (at, t1)) where
   abbrev transaction : Result (Stmt × List Tok) Fault
   transaction = read.transaction_stmt d (read.stmt_at d) (read.block_at d) mode ts
 
@@ -137,13 +137,13 @@ module _ (d : ℕ) (mode : Mode) (ts t1 : List Tok) (at : Span) (keyword : spot 
     value_stmt_is b e =
         let n : d ≡ suc b = omega (arith, e) in
         let m : d + 1 ≡ suc (suc b) = omega (arith, e) in
-        transaction_goes ∙ rw (here, m, spot_is (mode_keyword mode) ts at t1 keyword) (rw n refl)
+        transaction_goes ∙ rw (here, m, expect_span_is (mode_keyword mode) ts at t1 keyword) (rw n refl)
 
   module _ (other : is_next (Punctuator punct.OpenParen) (head t1) ≡ false) where
     pub kind_fails : (f : Fault) → read.kind mode t1 ≡ Err f → transaction ≡ Err f
     kind_fails f e = transaction_goes ∙ rw (other, e) refl
 
-    module _ (k : Kind) (t2 : List Tok) (marked : read.kind mode t1 ≡ Ok (k, t2)) where
+    module _ (k : TransactionKind) (t2 : List Tok) (marked : read.kind mode t1 ≡ Ok (k, t2)) where
       pub transaction_stmt_fails : (f : Fault) → read.block_at d t2 ≡ Err f → transaction ≡ Err f
       transaction_stmt_fails f e = transaction_goes ∙ rw (other, marked, e) refl
 

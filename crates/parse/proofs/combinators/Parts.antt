@@ -4,7 +4,7 @@ use Rattle.std.proofs.lemmas.List.{append-nil}
 use Rattle.lex.specs.declared.token.Fixed.{Fixed}
 use Rattle.lex.specs.declared.token.Span.{Span}
 use Rattle.lex.specs.Tokens.{fixed, Tok}
-use Rattle.syntax.specs.Phrases.{Phrase, Seq, One, Is, Begins, is_fixed, the_fixed, place_of}
+use Rattle.syntax.specs.Phrases.{Phrase, Seq, One, Is, Begins, is_fixed, the_fixed, fixed_span}
 use Rattle.syntax.specs.Grammar.{optional}
 use Rattle.parse.specs.inner.Reading.{Parser, head, give, is_next, if_there, perhaps, behind, before}
 use Rattle.parse.proofs.combinators.Exact.{Exact, Always, Comes, Two, Empty, give_exact, take_exact, choice_exact, relabel, two, value_of}
@@ -67,19 +67,19 @@ pub seq_not_here : (k j : Fixed) (M : Phrase) (p q : List Tok) → is_fixed j (f
 seq_not_here k j M p q apart s = subst (λ (z : List Tok). is_next j (head z) ≡ false) (sym (ap (λ (z : List Tok). z ++ q) s.whole ∙ append_assoc s.front s.back q)) (is_not_here k j s.front (s.back ++ q) apart s.first)
 
 -- the place of a fixed token
-pub fixed_place : (k : Fixed) (t : Tok) → the_fixed k t ≡ Some tt → place_of k t ≡ Some t.span
+pub fixed_place : (k : Fixed) (t : Tok) → the_fixed k t ≡ Some tt → fixed_span k t ≡ Some t.span
 fixed_place k t e = go (is_fixed k t.terminal) refl
   where
-    go : (b : Bool) → is_fixed k t.terminal ≡ b → place_of k t ≡ Some t.span
+    go : (b : Bool) → is_fixed k t.terminal ≡ b → fixed_span k t ≡ Some t.span
     go true is = rw is refl
     go false is = absurd (let n : the_fixed k t ≡ None = rw is refl in cc)
 
-pub place_fixed : (k : Fixed) (t : Tok) (at : Span) → place_of k t ≡ Some at → (the_fixed k t ≡ Some tt) × (t.span ≡ at)
+pub place_fixed : (k : Fixed) (t : Tok) (at : Span) → fixed_span k t ≡ Some at → (the_fixed k t ≡ Some tt) × (t.span ≡ at)
 place_fixed k t at e = go (is_fixed k t.terminal) refl
   where
     go : (b : Bool) → is_fixed k t.terminal ≡ b → (the_fixed k t ≡ Some tt) × (t.span ≡ at)
-    go true is = (rw is refl, let h : place_of k t ≡ Some t.span = rw is refl in cc)
-    go false is = absurd (let n : place_of k t ≡ None = rw is refl in cc)
+    go true is = (rw is refl, let h : fixed_span k t ≡ Some t.span = rw is refl in cc)
+    go false is = absurd (let n : fixed_span k t ≡ None = rw is refl in cc)
 
 -- ---- behind and before a fixed token
 

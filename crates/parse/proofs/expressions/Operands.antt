@@ -18,7 +18,7 @@ use Rattle.syntax.specs.Tree.{Name, Expr, Exprs, Variable, Constant, Element, Ca
 use Rattle.syntax.specs.Depth.{expr_depth, deepest}
 use Rattle.syntax.specs.Typing.{span_of}
 use Rattle.syntax.specs.Views.{exprs_from}
-use Rattle.syntax.specs.Phrases.{Phrase, Seq, One, Is, Many, Listed, Begins, Covers, place_of}
+use Rattle.syntax.specs.Phrases.{Phrase, Seq, One, Is, Many, Listed, Begins, Covers, fixed_span}
 use Rattle.syntax.specs.Grammar.{IntegerConstant, integer_constant_in, the_name, the_unary, precedence, logical_precedence, mode_keyword, expr, further}
 use Rattle.syntax.specs.Grammar as Grammar
 use Rattle.parse.specs.declared.lead.Infix.{Infix}
@@ -26,7 +26,7 @@ use Rattle.parse.specs.declared.lead.Infix.TheVariants.{Computing, Choosing}
 use Rattle.parse.specs.declared.lead.Operand.{Operand}
 use Rattle.parse.specs.declared.lead.Operand.TheVariants as kind
 use Rattle.parse.specs.inner.Reading.{Parser, head, give, map_parser, either, take, is_next, is_other, at_least, op_at, across}
-use Rattle.parse.specs.inner.Expressions.{starts_type, the_infix, operators, with_span, the_prefix, constant_in, the_constant, prefixed, cast_from, group_from, opened, transaction, arguments, element_from, call_from, named_from, named, operand_of, operand_at, operand}
+use Rattle.parse.specs.inner.Expressions.{starts_type, the_infix, operators, with_span, the_prefix, constant_in, the_constant, prefix_expr, cast_from, group_from, cast_or_group_expr, transaction, arguments, element_from, call_from, named_from, name_or_call, operand_of, operand_at, operand}
 use Rattle.parse.proofs.combinators.Exact.{Exact, Always, Nothing, Comes, Two, Dep, Empty, take_exact, give_exact, none_exact, chained_one, two, value_of, restated}
 use Rattle.parse.proofs.combinators.Many.{ManyFit}
 use Rattle.parse.proofs.combinators.FixedTokens.{that_fixed, fixed_is, fixed_has, a_fixed, one_head}
@@ -75,19 +75,19 @@ one_covers : {A : Type 0} {f : Tok → Option A} {x : A} {p : List Tok} (o : One
 one_covers o = subst (Covers o.token.span) (sym o.whole) refl
 
 abbrev Spot : Fixed → Span → Phrase
-Spot k = One (place_of k)
+Spot k = One (fixed_span k)
 
-spot_of : (k : Fixed) {p : List Tok} (o : Is k p) → Spot k o.token.span p
-spot_of k o = record { token = o.token; has = fixed_place k o.token o.has; whole = o.whole }
+expect_span_of : (k : Fixed) {p : List Tok} (o : Is k p) → Spot k o.token.span p
+expect_span_of k o = record { token = o.token; has = fixed_place k o.token o.has; whole = o.whole }
 
-spot_is : (k : Fixed) (at : Span) (p : List Tok) → Spot k at p → Is k p
-spot_is k at p o = record { token = o.token; has = (place_fixed k o.token at o.has).0; whole = o.whole }
+expect_span_is : (k : Fixed) (at : Span) (p : List Tok) → Spot k at p → Is k p
+expect_span_is k at p o = record { token = o.token; has = (place_fixed k o.token at o.has).0; whole = o.whole }
 
-spot_covers : (k : Fixed) (at : Span) (p : List Tok) → Spot k at p → Covers at p
-spot_covers k at p o = subst (λ (z : Span). Covers z p) (place_fixed k o.token at o.has).1 (one_covers o)
+expect_span_covers : (k : Fixed) (at : Span) (p : List Tok) → Spot k at p → Covers at p
+expect_span_covers k at p o = subst (λ (z : Span). Covers z p) (place_fixed k o.token at o.has).1 (one_covers o)
 
-abbrev spot_begins : (k : Fixed) → Begins (Spot k) []
-spot_begins k = record { value = (a_fixed k).span; more = a_fixed k ∷ []; spelled = record { token = a_fixed k; has = fixed_place k (a_fixed k) (fixed_has k (a_fixed k) refl); whole = refl } }
+abbrev expect_span_begins : (k : Fixed) → Begins (Spot k) []
+expect_span_begins k = record { value = (a_fixed k).span; more = a_fixed k ∷ []; spelled = record { token = a_fixed k; has = fixed_place k (a_fixed k) (fixed_has k (a_fixed k) refl); whole = refl } }
 
 -- ---- what the depth allows and what may follow
 
@@ -224,10 +224,10 @@ constant_goes e p o = go o.token.terminal refl o.has
     go (fixed k) is h = absurd cc
     go reserved is h = absurd cc
 
-constant_is : (k : Terminal) (at : Span) (n : ℕ) (t : Scalar) (v : Span) → integer_constant_in k at ≡ Some (record { value = n; ty = t; at = v }) → constant_in k at ≡ Some (Constant n t v)
+constant_is : (k : Terminal) (at : Span) (n : ℕ) (t : Scalar) (v : Span) → integer_constant_in k at ≡ Some (record { value = n; ty = t; span = v }) → constant_in k at ≡ Some (Constant n t v)
 constant_is (constant i u) at n t v h =
-    let same : ◌≡◌ {A = IntegerConstant} (record { value = i; ty = u; at = at }) (record { value = n; ty = t; at = v }) = cc in
-    ap (λ (z : IntegerConstant). Some (Constant z.value z.ty z.at)) same
+    let same : ◌≡◌ {A = IntegerConstant} (record { value = i; ty = u; span = at }) (record { value = n; ty = t; span = v }) = cc in
+    ap (λ (z : IntegerConstant). Some (Constant z.value z.ty z.span)) same
 constant_is k at n t v h = absurd cc
 
 constant_comes : (e : Expr) (p : List Tok) → ConstantL e p → One the_constant e p
@@ -281,7 +281,7 @@ prefix_comes _ p l = absurd l
 
 -- whole: any expression; tight: an operand
 module _ (whole tight : ℕ → Parser Expr) (d : ℕ) (EW : Exact whole expr Fits WholeS WholeS d) (ET : Exact tight TightL Fits TightS TightS d) where
-  prefix_exact : Exact (λ D. prefixed (whole D) (tight D)) PrefixL Deeper Calm Calm d
+  prefix_exact : Exact (λ D. prefix_expr (whole D) (tight D)) PrefixL Deeper Calm Calm d
   prefix_exact =
       restated PrefixL Deeper Calm Calm
       (imaged prefix_tree Deeper Calm Calm (two (take_exact the_prefix d) ET (λ a b p q l h. tt) name_tight) (λ x w. (tt, deeper x.1 w)) (λ x w. fitting x.1 w.1) (λ x h s. (none_tight h, s)) (λ x h c. c.1))
@@ -304,7 +304,7 @@ module _ (whole tight : ℕ → Parser Expr) (d : ℕ) (EW : Exact whole expr Fi
   value_begins : Begins (Two (λ e. Seq (Is (Punctuator punct.OpenParen)) (expr e)) (Spot (Punctuator punct.CloseParen))) []
   value_begins =
       let w = head_begins (Punctuator punct.OpenParen) expr whole_begins in
-      let c = spot_begins (Punctuator punct.CloseParen) in
+      let c = expect_span_begins (Punctuator punct.CloseParen) in
       record { value = (w.value, c.value); more = w.more ++ c.more; spelled = record { front = w.more; back = c.more; first = w.spelled; second = c.spelled; whole = refl } }
 
   value_goes : (mode : Mode) (e : Expr) (p : List Tok) → Image (ValueP mode) (ValueL mode) e p → TransactionL mode e p
@@ -314,8 +314,8 @@ module _ (whole tight : ℕ → Parser Expr) (d : ℕ) (EW : Exact whole expr Fi
       subst (λ (z : Expr). TransactionL mode z p) (sym same) (
         refl,
         (
-          span_covers x.0 x.1.1 p s.front i.front i.back parts (spot_covers (mode_keyword mode) x.0 s.front s.first) (spot_covers (Punctuator punct.CloseParen) x.1.1 i.back i.second),
-          record { front = s.front; back = s.back; first = s.first; second = seq_right (record { front = i.front; back = i.back; first = i.first; second = spot_is (Punctuator punct.CloseParen) x.1.1 i.back i.second; whole = i.whole }); whole = s.whole },
+          span_covers x.0 x.1.1 p s.front i.front i.back parts (expect_span_covers (mode_keyword mode) x.0 s.front s.first) (expect_span_covers (Punctuator punct.CloseParen) x.1.1 i.back i.second),
+          record { front = s.front; back = s.back; first = s.first; second = seq_right (record { front = i.front; back = i.back; first = i.first; second = expect_span_is (Punctuator punct.CloseParen) x.1.1 i.back i.second; whole = i.whole }); whole = s.whole },
         ),
       )
 
@@ -327,8 +327,8 @@ module _ (whole tight : ℕ → Parser Expr) (d : ℕ) (EW : Exact whole expr Fi
       let parts : p ≡ s.front ++ (i.front ++ i.back) = s.whole ∙ ap (λ (z : List Tok). s.front ++ z) i.whole in (
         (keyword, (e, c)),
         ap (λ (z : Mode). InTransaction z keyword e at) l.0
-            ∙ ap (InTransaction mode keyword e) (span_is at keyword c p s.front i.front i.back parts l.1.0 (spot_covers (mode_keyword of) keyword s.front s.first) (one_covers i.second)),
-        record { front = s.front; back = s.back; first = subst (λ (z : Mode). Spot (mode_keyword z) keyword s.front) l.0 s.first; second = record { front = i.front; back = i.back; first = i.first; second = spot_of (Punctuator punct.CloseParen) i.second; whole = i.whole }; whole = s.whole },
+            ∙ ap (InTransaction mode keyword e) (span_is at keyword c p s.front i.front i.back parts l.1.0 (expect_span_covers (mode_keyword of) keyword s.front s.first) (one_covers i.second)),
+        record { front = s.front; back = s.back; first = subst (λ (z : Mode). Spot (mode_keyword z) keyword s.front) l.0 s.first; second = record { front = i.front; back = i.back; first = i.first; second = expect_span_of (Punctuator punct.CloseParen) i.second; whole = i.whole }; whole = s.whole },
       )
   value_comes mode _ p l = absurd l
 
@@ -336,8 +336,8 @@ module _ (whole tight : ℕ → Parser Expr) (d : ℕ) (EW : Exact whole expr Fi
   transaction_exact mode =
       restated (TransactionL mode) Deeper Calm Calm
       (imaged (ValueP mode) Deeper Calm Calm
-      (two (take_exact (place_of (mode_keyword mode)) d)
-      (two (behind_exact (Punctuator punct.OpenParen) EW whole_begins) (take_exact (place_of (Punctuator punct.CloseParen)) d) (λ a c p q o h. closes_with (Punctuator punct.CloseParen) a c p q o (λ t is. closing_follows a t (Punctuator punct.CloseParen) is refl)) (spot_begins (Punctuator punct.CloseParen)))
+      (two (take_exact (fixed_span (mode_keyword mode)) d)
+      (two (behind_exact (Punctuator punct.OpenParen) EW whole_begins) (take_exact (fixed_span (Punctuator punct.CloseParen)) d) (λ a c p q o h. closes_with (Punctuator punct.CloseParen) a c p q o (λ t is. closing_follows a t (Punctuator punct.CloseParen) is refl)) (expect_span_begins (Punctuator punct.CloseParen)))
       (λ a b p q l h. tt) value_begins)
       (λ x w. (tt, (deeper x.1.0 w, tt))) (λ x w. fitting x.1.0 w.1.0) (λ x h s. tt) (λ x h c. tt))
       (value_goes mode) (value_comes mode) (λ x p l w. w) (λ x p l w. w) (λ x p h l s. s) (λ x p h l c. c)
@@ -377,7 +377,7 @@ module _ (whole tight : ℕ → Parser Expr) (d : ℕ) (EW : Exact whole expr Fi
   group_exact : (at : Span) → Exact (λ D. group_from (whole D) (tight D) at) (GroupL at) Deeper Calm Calm d
   group_exact at =
       imaged (GroupP at) Deeper Calm Calm
-      (two EW (take_exact (place_of (Punctuator punct.CloseParen)) d) (λ a c p q o h. closes_with (Punctuator punct.CloseParen) a c p q o (λ t is. closing_follows a t (Punctuator punct.CloseParen) is refl)) (spot_begins (Punctuator punct.CloseParen)))
+      (two EW (take_exact (fixed_span (Punctuator punct.CloseParen)) d) (λ a c p q o h. closes_with (Punctuator punct.CloseParen) a c p q o (λ t is. closing_follows a t (Punctuator punct.CloseParen) is refl)) (expect_span_begins (Punctuator punct.CloseParen)))
       (λ x w. (deeper x.0 w, tt)) (λ x w. fitting x.0 w.0) (λ x h s. tt) (λ x h c. tt)
     where
       deeper : (e : Expr) → expr_depth e + 1 ≤ suc d → expr_depth e ≤ d
@@ -403,7 +403,7 @@ module _ (whole tight : ℕ → Parser Expr) (d : ℕ) (EW : Exact whole expr Fi
   inner_begins : (at : Span) → Begins (InnerL at) []
   inner_begins at =
       let w = whole_begins in
-      let c = spot_begins (Punctuator punct.CloseParen) in
+      let c = expect_span_begins (Punctuator punct.CloseParen) in
       record {
         value = GroupP at (w.value, c.value);
         more = w.more ++ c.more;
@@ -417,7 +417,7 @@ module _ (whole tight : ℕ → Parser Expr) (d : ℕ) (EW : Exact whole expr Fi
   opened_goes (at, e) p l = go l.second
     where
       here : Covers at l.front
-      here = spot_covers (Punctuator punct.OpenParen) at l.front l.first
+      here = expect_span_covers (Punctuator punct.OpenParen) at l.front l.first
 
       go : InnerL at e l.back → OpenL e p
       go (inl (x, same, s)) =
@@ -426,14 +426,14 @@ module _ (whole tight : ℕ → Parser Expr) (d : ℕ) (EW : Exact whole expr Fi
             s.second.1,
             (
               span_covers at (span_of x.1) p l.front s.front s.back parts here (expr_covers x.1 s.back s.second.0),
-              record { front = l.front; back = l.back; first = spot_is (Punctuator punct.OpenParen) at l.front l.first; second = seq_right (record { front = s.front; back = s.back; first = s.first; second = s.second.0; whole = s.whole }); whole = l.whole },
+              record { front = l.front; back = l.back; first = expect_span_is (Punctuator punct.OpenParen) at l.front l.first; second = seq_right (record { front = s.front; back = s.back; first = s.first; second = s.second.0; whole = s.whole }); whole = l.whole },
             ),
           )
       go (inr (x, same, s)) =
           let parts : p ≡ l.front ++ (s.front ++ s.back) = l.whole ∙ ap (λ (z : List Tok). l.front ++ z) s.whole in
           subst (λ (z : Expr). OpenL z p) (sym same) (
-            span_covers at x.1 p l.front s.front s.back parts here (spot_covers (Punctuator punct.CloseParen) x.1 s.back s.second),
-            record { front = l.front; back = l.back; first = spot_is (Punctuator punct.OpenParen) at l.front l.first; second = record { front = s.front; back = s.back; first = s.first; second = spot_is (Punctuator punct.CloseParen) x.1 s.back s.second; whole = s.whole }; whole = l.whole },
+            span_covers at x.1 p l.front s.front s.back parts here (expect_span_covers (Punctuator punct.CloseParen) x.1 s.back s.second),
+            record { front = l.front; back = l.back; first = expect_span_is (Punctuator punct.OpenParen) at l.front l.first; second = record { front = s.front; back = s.back; first = s.first; second = expect_span_is (Punctuator punct.CloseParen) x.1 s.back s.second; whole = s.whole }; whole = l.whole },
           )
 
   opened_comes : (e : Expr) (p : List Tok) → OpenL e p → Comes (λ (x : Span × Expr). x.1) OpenedL (λ x. Unit {0} × Deeper d x.1) (Deeper d) (λ x h. Calm x.1 h) Calm e p
@@ -449,11 +449,11 @@ module _ (whole tight : ℕ → Parser Expr) (d : ℕ) (EW : Exact whole expr Fi
         spelled = record {
           front = s.front;
           back = s.back;
-          first = spot_of (Punctuator punct.OpenParen) s.first;
+          first = expect_span_of (Punctuator punct.OpenParen) s.first;
           second = inr (
             (e, c.span),
             ap (Parenthesized e) (span_is at o.span c.span p s.front i.front i.back parts l.0 (one_covers s.first) (one_covers i.second)),
-            record { front = i.front; back = i.back; first = i.first; second = spot_of (Punctuator punct.CloseParen) i.second; whole = i.whole },
+            record { front = i.front; back = i.back; first = i.first; second = expect_span_of (Punctuator punct.CloseParen) i.second; whole = i.whole },
           );
           whole = s.whole;
         };
@@ -471,7 +471,7 @@ module _ (whole tight : ℕ → Parser Expr) (d : ℕ) (EW : Exact whole expr Fi
         spelled = record {
           front = s.front;
           back = s.back;
-          first = spot_of (Punctuator punct.OpenParen) s.first;
+          first = expect_span_of (Punctuator punct.OpenParen) s.first;
           second = inl (
             (t, e),
             ap (Cast t e) (span_is at o.span (span_of e) p s.front i.front i.back parts l.1.0 (one_covers s.first) (expr_covers e i.back i.second)),
@@ -484,10 +484,10 @@ module _ (whole tight : ℕ → Parser Expr) (d : ℕ) (EW : Exact whole expr Fi
       }
   opened_comes _ p l = absurd l
 
-  opened_exact : Exact (λ D. opened (whole D) (tight D)) OpenL Deeper Calm Calm d
+  opened_exact : Exact (λ D. cast_or_group_expr (whole D) (tight D)) OpenL Deeper Calm Calm d
   opened_exact =
       value_of (λ x. x.1) OpenL Deeper Calm Calm
-      (chained_one (take_exact (place_of (Punctuator punct.OpenParen)) d) inner_exact (λ a b p q l h. tt) inner_begins)
+      (chained_one (take_exact (fixed_span (Punctuator punct.OpenParen)) d) inner_exact (λ a b p q l h. tt) inner_begins)
       opened_comes opened_goes (λ x w. w.1) (λ x h c. c)
 
   -- ---- names
@@ -518,10 +518,10 @@ module _ (whole tight : ℕ → Parser Expr) (d : ℕ) (EW : Exact whole expr Fi
       none_first (λ x p q l s. some_first x p q l) (λ x p r l e c. tt) (λ x p r l e c. tt)
 
   abbrev ElementP : Name → Expr × Span → Expr
-  ElementP x y = Element x y.0 (across x.at y.1)
+  ElementP x y = Element x y.0 (across x.span y.1)
 
   abbrev CallP : Name → List Expr × Span → Expr
-  CallP x y = Call x (exprs_from y.0) (across x.at y.1)
+  CallP x y = Call x (exprs_from y.0) (across x.span y.1)
 
   abbrev ElementL : Name → Expr → Phrase
   ElementL x = Image (ElementP x) (λ y. Seq (Is (Punctuator punct.OpenBracket)) (Two expr (Spot (Punctuator punct.CloseBracket)) y))
@@ -532,18 +532,18 @@ module _ (whole tight : ℕ → Parser Expr) (d : ℕ) (EW : Exact whole expr Fi
   element_begins : Begins (Two expr (Spot (Punctuator punct.CloseBracket))) []
   element_begins =
       let w = whole_begins in
-      let c = spot_begins (Punctuator punct.CloseBracket) in
+      let c = expect_span_begins (Punctuator punct.CloseBracket) in
       record { value = (w.value, c.value); more = w.more ++ c.more; spelled = record { front = w.more; back = c.more; first = w.spelled; second = c.spelled; whole = refl } }
 
   call_begins : Begins (Two ArgsL (Spot (Punctuator punct.CloseParen))) []
   call_begins =
-      let c = spot_begins (Punctuator punct.CloseParen) in
+      let c = expect_span_begins (Punctuator punct.CloseParen) in
       record { value = ([], c.value); more = c.more; spelled = record { front = []; back = c.more; first = inl (refl, refl); second = c.spelled; whole = refl } }
 
   element_exact : (x : Name) → Exact (λ D. element_from (whole D) (tight D) x) (ElementL x) Deeper Calm Always d
   element_exact x =
       imaged (ElementP x) Deeper Calm Always
-      (behind_exact (Punctuator punct.OpenBracket) (two EW (take_exact (place_of (Punctuator punct.CloseBracket)) d) (λ a c p q o h. closes_with (Punctuator punct.CloseBracket) a c p q o (λ t is. closing_follows a t (Punctuator punct.CloseBracket) is refl)) (spot_begins (Punctuator punct.CloseBracket))) element_begins)
+      (behind_exact (Punctuator punct.OpenBracket) (two EW (take_exact (fixed_span (Punctuator punct.CloseBracket)) d) (λ a c p q o h. closes_with (Punctuator punct.CloseBracket) a c p q o (λ t is. closing_follows a t (Punctuator punct.CloseBracket) is refl)) (expect_span_begins (Punctuator punct.CloseBracket))) element_begins)
       (λ y w. (deeper y.0 w, tt)) (λ y w. fitting y.0 w.0) (λ y h s. tt) (λ y h c. tt)
     where
       deeper : (e : Expr) → expr_depth e + 1 ≤ suc d → expr_depth e ≤ d
@@ -553,12 +553,12 @@ module _ (whole tight : ℕ → Parser Expr) (d : ℕ) (EW : Exact whole expr Fi
       fitting e w = omega arith
 
   closes_list : (es : List Expr) (c : Span) (p q : List Tok) → Spot (Punctuator punct.CloseParen) c p → is_next (Punctuator punct.CloseParen) (head (p ++ q)) ≡ true
-  closes_list es c p q o = is_here (Punctuator punct.CloseParen) p q (spot_is (Punctuator punct.CloseParen) c p o)
+  closes_list es c p q o = is_here (Punctuator punct.CloseParen) p q (expect_span_is (Punctuator punct.CloseParen) c p o)
 
   call_exact : (x : Name) → Exact (λ D. call_from (whole D) (tight D) x) (CallL x) Deeper Calm Always d
   call_exact x =
       imaged (CallP x) Deeper Calm Always
-      (behind_exact (Punctuator punct.OpenParen) (two args_exact (take_exact (place_of (Punctuator punct.CloseParen)) d) (λ a c p q o h. closes_list a c p q o) (spot_begins (Punctuator punct.CloseParen))) call_begins)
+      (behind_exact (Punctuator punct.OpenParen) (two args_exact (take_exact (fixed_span (Punctuator punct.CloseParen)) d) (λ a c p q o h. closes_list a c p q o) (expect_span_begins (Punctuator punct.CloseParen))) call_begins)
       (λ y w. (deeper y.0 w, tt)) (λ y w. fitting y.0 w.0) (λ y h s. tt) (λ y h c. tt)
     where
       deeper : (es : List Expr) → deepest (exprs_from es) + 1 ≤ suc d → ManyFit Fits d es
@@ -613,7 +613,7 @@ module _ (whole tight : ℕ → Parser Expr) (d : ℕ) (EW : Exact whole expr Fi
   named_goes : (x : Name × Expr) (p : List Tok) → NameL x p → NamedL x.1 p
   named_goes (x, e) p l = go l.second
     where
-      here : Covers x.at l.front
+      here : Covers x.span l.front
       here = name_covers x l.front l.first
 
       go : TailL x e l.back → NamedL e p
@@ -621,15 +621,15 @@ module _ (whole tight : ℕ → Parser Expr) (d : ℕ) (EW : Exact whole expr Fi
           let i = s.second in
           let parts : p ≡ l.front ++ ((s.front ++ i.front) ++ i.back) = l.whole ∙ ap (λ (z : List Tok). l.front ++ z) (s.whole ∙ ap (λ (z : List Tok). s.front ++ z) i.whole ∙ sym (append_assoc s.front i.front i.back)) in
           subst (λ (z : Expr). NamedL z p) (sym same) (
-            span_covers x.at y.1 p l.front (s.front ++ i.front) i.back parts here (spot_covers (Punctuator punct.CloseBracket) y.1 i.back i.second),
-            record { front = l.front; back = l.back; first = l.first; second = record { front = s.front; back = s.back; first = s.first; second = record { front = i.front; back = i.back; first = i.first; second = spot_is (Punctuator punct.CloseBracket) y.1 i.back i.second; whole = i.whole }; whole = s.whole }; whole = l.whole },
+            span_covers x.span y.1 p l.front (s.front ++ i.front) i.back parts here (expect_span_covers (Punctuator punct.CloseBracket) y.1 i.back i.second),
+            record { front = l.front; back = l.back; first = l.first; second = record { front = s.front; back = s.back; first = s.first; second = record { front = i.front; back = i.back; first = i.first; second = expect_span_is (Punctuator punct.CloseBracket) y.1 i.back i.second; whole = i.whole }; whole = s.whole }; whole = l.whole },
           )
       go (inr (inl (y, same, s))) =
           let i = s.second in
           let parts : p ≡ l.front ++ ((s.front ++ i.front) ++ i.back) = l.whole ∙ ap (λ (z : List Tok). l.front ++ z) (s.whole ∙ ap (λ (z : List Tok). s.front ++ z) i.whole ∙ sym (append_assoc s.front i.front i.back)) in
           subst (λ (z : Expr). NamedL z p) (sym same) (
-            span_covers x.at y.1 p l.front (s.front ++ i.front) i.back parts here (spot_covers (Punctuator punct.CloseParen) y.1 i.back i.second),
-            record { front = l.front; back = l.back; first = l.first; second = record { front = s.front; back = s.back; first = s.first; second = record { front = i.front; back = i.back; first = arguments_goes y.0 i.front i.first; second = spot_is (Punctuator punct.CloseParen) y.1 i.back i.second; whole = i.whole }; whole = s.whole }; whole = l.whole },
+            span_covers x.span y.1 p l.front (s.front ++ i.front) i.back parts here (expect_span_covers (Punctuator punct.CloseParen) y.1 i.back i.second),
+            record { front = l.front; back = l.back; first = l.first; second = record { front = s.front; back = s.back; first = s.first; second = record { front = i.front; back = i.back; first = arguments_goes y.0 i.front i.first; second = expect_span_is (Punctuator punct.CloseParen) y.1 i.back i.second; whole = i.whole }; whole = s.whole }; whole = l.whole },
           )
       go (inr (inr (same, nil))) =
           let whole : p ≡ l.front = l.whole ∙ ap (λ (z : List Tok). l.front ++ z) nil ∙ append-nil l.front in
@@ -657,8 +657,8 @@ module _ (whole tight : ℕ → Parser Expr) (d : ℕ) (EW : Exact whole expr Fi
           first = n.first;
           second = inl (
             (e, i.second.token.span),
-            ap (Element x e) (span_is at x.at i.second.token.span p n.front (s.front ++ i.front) i.back parts l.0 (name_covers x n.front n.first) (one_covers i.second)),
-            record { front = s.front; back = s.back; first = s.first; second = record { front = i.front; back = i.back; first = i.first; second = spot_of (Punctuator punct.CloseBracket) i.second; whole = i.whole }; whole = s.whole },
+            ap (Element x e) (span_is at x.span i.second.token.span p n.front (s.front ++ i.front) i.back parts l.0 (name_covers x n.front n.first) (one_covers i.second)),
+            record { front = s.front; back = s.back; first = s.first; second = record { front = i.front; back = i.back; first = i.first; second = expect_span_of (Punctuator punct.CloseBracket) i.second; whole = i.whole }; whole = s.whole },
           );
           whole = n.whole;
         };
@@ -671,7 +671,7 @@ module _ (whole tight : ℕ → Parser Expr) (d : ℕ) (EW : Exact whole expr Fi
       let i = s.second in
       let c = i.second.token.span in
       let parts : p ≡ n.front ++ ((s.front ++ i.front) ++ i.back) = n.whole ∙ ap (λ (z : List Tok). n.front ++ z) (s.whole ∙ ap (λ (z : List Tok). s.front ++ z) i.whole ∙ sym (append_assoc s.front i.front i.back)) in
-      let place : at ≡ across x.at c = span_is at x.at c p n.front (s.front ++ i.front) i.back parts l.0 (name_covers x n.front n.first) (one_covers i.second) in
+      let place : at ≡ across x.span c = span_is at x.span c p n.front (s.front ++ i.front) i.back parts l.0 (name_covers x n.front n.first) (one_covers i.second) in
       record {
         value = (x, Call x es at);
         same = refl;
@@ -681,8 +681,8 @@ module _ (whole tight : ℕ → Parser Expr) (d : ℕ) (EW : Exact whole expr Fi
           first = n.first;
           second = inr (inl (
             (exprs_list es, c),
-            ap (Call x es) place ∙ ap (λ (z : Exprs). Call x z (across x.at c)) (list_exprs es),
-            record { front = s.front; back = s.back; first = s.first; second = record { front = i.front; back = i.back; first = arguments_comes (exprs_list es) i.front (subst (λ (z : Exprs). Grammar.arguments z i.front) (list_exprs es) i.first); second = spot_of (Punctuator punct.CloseParen) i.second; whole = i.whole }; whole = s.whole },
+            ap (Call x es) place ∙ ap (λ (z : Exprs). Call x z (across x.span c)) (list_exprs es),
+            record { front = s.front; back = s.back; first = s.first; second = record { front = i.front; back = i.back; first = arguments_comes (exprs_list es) i.front (subst (λ (z : Exprs). Grammar.arguments z i.front) (list_exprs es) i.first); second = expect_span_of (Punctuator punct.CloseParen) i.second; whole = i.whole }; whole = s.whole },
           ));
           whole = n.whole;
         };
@@ -691,7 +691,7 @@ module _ (whole tight : ℕ → Parser Expr) (d : ℕ) (EW : Exact whole expr Fi
       }
   named_comes _ p l = absurd l
 
-  named_exact : Exact (λ D. named (whole D) (tight D)) NamedL Deeper Calm Calm d
+  named_exact : Exact (λ D. name_or_call (whole D) (tight D)) NamedL Deeper Calm Calm d
   named_exact =
       value_of (λ x. x.1) NamedL Deeper Calm Calm
       (chained_one (take_exact the_name d) tail_exact (λ a b p q l h. tt) tail_begins)

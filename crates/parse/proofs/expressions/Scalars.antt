@@ -24,7 +24,7 @@ use Rattle.parse.proofs.combinators.Choices.{either_exact}
 -- ---- names
 
 abbrev pub some_name : Name
-some_name = record { text = []; at = record { start = 0; «end» = 0 } }
+some_name = record { text = []; span = record { start = 0; «end» = 0 } }
 
 abbrev pub some_name_token : Tok
 some_name_token = record { terminal = name []; span = record { start = 0; «end» = 0 } }

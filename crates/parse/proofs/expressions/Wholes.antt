@@ -199,7 +199,7 @@ seq_heads s q = ap head (ap (λ (z : List Tok). z ++ q) s.whole ∙ append_assoc
 
 pub first_kind : (e : Expr) (p q : List Tok) → expr e p → operand_at (head (p ++ q)) ≡ lead_kind e
 first_kind (Variable x) p q l = ap operand_at (one_head l q) ∙ name_kind l.token.terminal l.token.span x l.has
-first_kind (Constant n t at) p q l = ap operand_at (one_head l q) ∙ number_kind l.token.terminal l.token.span (record { value = n; ty = t; at = at }) l.has
+first_kind (Constant n t at) p q l = ap operand_at (one_head l q) ∙ number_kind l.token.terminal l.token.span (record { value = n; ty = t; span = at }) l.has
 first_kind (Element x i at) p q l = let o = l.1.first in ap operand_at (seq_head l.1 q) ∙ name_kind o.token.terminal o.token.span x o.has
 first_kind (Call f es at) p q l = let o = l.1.first in ap operand_at (seq_head l.1 q) ∙ name_kind o.token.terminal o.token.span f o.has
 first_kind (Parenthesized e at) p q l = ap operand_at (seq_head l.1 q) ∙ open_kind l.1.first.token tt l.1.first.has
@@ -268,22 +268,22 @@ pub positive : (e : Expr) → 1 ≤ expr_depth e
 positive (Variable x) = omega arith
 positive e = omega arith
 
-name_place : (k : Terminal) (at : Span) (x : Name) → name_in k at ≡ Some x → x.at ≡ at
-name_place (name s) at x h = let same : record { text = s; at = at } ≡ x = cc in ap (λ (z : Name). z.at) (sym same)
+name_place : (k : Terminal) (at : Span) (x : Name) → name_in k at ≡ Some x → x.span ≡ at
+name_place (name s) at x h = let same : record { text = s; span = at } ≡ x = cc in ap (λ (z : Name). z.span) (sym same)
 name_place k at x h = absurd cc
 
-number_place : (k : Terminal) (at : Span) (x : IntegerConstant) → integer_constant_in k at ≡ Some x → x.at ≡ at
-number_place (constant n t) at x h = let same : record { value = n; ty = t; at = at } ≡ x = cc in ap (λ (z : IntegerConstant). z.at) (sym same)
+number_place : (k : Terminal) (at : Span) (x : IntegerConstant) → integer_constant_in k at ≡ Some x → x.span ≡ at
+number_place (constant n t) at x h = let same : record { value = n; ty = t; span = at } ≡ x = cc in ap (λ (z : IntegerConstant). z.span) (sym same)
 number_place k at x h = absurd cc
 
 -- a name stands where its token does
-pub name_covers : (x : Name) (p : List Tok) → One the_name x p → Covers x.at p
-name_covers x p l = subst (Covers x.at) (sym l.whole) (name_place l.token.terminal l.token.span x l.has)
+pub name_covers : (x : Name) (p : List Tok) → One the_name x p → Covers x.span p
+name_covers x p l = subst (Covers x.span) (sym l.whole) (name_place l.token.terminal l.token.span x l.has)
 
 -- an expression stands where its tokens do
 pub expr_covers : (e : Expr) (p : List Tok) → expr e p → Covers (span_of e) p
 expr_covers (Variable x) p l = name_covers x p l
-expr_covers (Constant n t at) p l = subst (Covers at) (sym l.whole) (number_place l.token.terminal l.token.span (record { value = n; ty = t; at = at }) l.has)
+expr_covers (Constant n t at) p l = subst (Covers at) (sym l.whole) (number_place l.token.terminal l.token.span (record { value = n; ty = t; span = at }) l.has)
 expr_covers (Element x i at) p l = l.0
 expr_covers (Call f es at) p l = l.0
 expr_covers (Parenthesized e at) p l = l.0
@@ -381,7 +381,7 @@ tight_begins t e = go t.terminal refl e
     at_fixed _ is e = absurd cc
 
     go : (k : Terminal) → t.terminal ≡ k → is_operand (operand_terminal k) ≡ true → Begins TightL (t ∷ [])
-    go (name s) is e = record { value = Variable (record { text = s; at = t.span }); more = []; spelled = (record { token = t; has = ap (λ (k : Terminal). name_in k t.span) is; whole = refl }, lit≤ tt) }
+    go (name s) is e = record { value = Variable (record { text = s; span = t.span }); more = []; spelled = (record { token = t; has = ap (λ (k : Terminal). name_in k t.span) is; whole = refl }, lit≤ tt) }
     go (constant n ty) is e = record { value = Constant n ty t.span; more = []; spelled = (record { token = t; has = ap (λ (k : Terminal). integer_constant_in k t.span) is; whole = refl }, lit≤ tt) }
     go (string_literal s) is e = absurd cc
     go (fixed k) is e = at_fixed k is e

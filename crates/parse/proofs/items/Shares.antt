@@ -8,13 +8,13 @@ use Rattle.lex.specs.declared.token.Scalar.{Scalar}
 use Rattle.lex.specs.declared.token.Scalar.TheVariants.{Int}
 use Rattle.lex.specs.declared.token.Span.{Span}
 use Rattle.lex.specs.Tokens.{Terminal, name, constant, string_literal, fixed, reserved, Tok}
-use Rattle.syntax.specs.declared.tree.Initializer.{Initializer}
+use Rattle.syntax.specs.declared.tree.Initialiser.{Initialiser}
 use Rattle.syntax.specs.Tree.{Name, Global, Item}
-use Rattle.syntax.specs.Phrases.{Phrase, Seq, One, Is, Begins, Many, Covers, is_fixed, place_of}
+use Rattle.syntax.specs.Phrases.{Phrase, Seq, One, Is, Begins, Many, Covers, is_fixed, fixed_span}
 use Rattle.syntax.specs.Grammar.{the_name, the_value, the_length, minus, initialiser, first_value, first_values, optional, global_phrase, global}
 use Rattle.syntax.specs.Grammar as grammar
 use Rattle.parse.specs.inner.Reading.{head, take, is_next, is_other, across, map_parser, seq, many_until, behind, before, in_front}
-use Rattle.parse.specs.inner.Items.{value_in, the_placed_value, first_tree, one_first, further_values, Size, array_tree, variable_tree, global_tree, globals_tree, globals_from}
+use Rattle.parse.specs.inner.Items.{value_in, value_with_span, first_tree, one_first, further_values, Size, array_tree, variable_tree, global_tree, globals_tree, globals_from}
 use Rattle.parse.specs.inner.Items as read
 use Rattle.parse.proofs.combinators.Exact.{Exact, Always, Shallow, Comes, Two, Empty, take_exact, give_exact, restated, two, value_of}
 use Rattle.parse.proofs.combinators.Many.{ManyFit}
@@ -39,7 +39,7 @@ without_place (constant n t) at x h =
 without_place k at x h = absurd cc
 
 abbrev SignedL : Option Span × ((ℕ × Scalar) × Span) → Phrase
-SignedL = Two (optional (One (place_of (Punctuator punct.Minus)))) (One the_placed_value)
+SignedL = Two (optional (One (fixed_span (Punctuator punct.Minus)))) (One value_with_span)
 
 first_goes : (x : Option Span × ((ℕ × Scalar) × Span)) (p : List Tok) → SignedL x p → initialiser (first_tree x) p
 first_goes (None, n) p s =
@@ -57,7 +57,7 @@ first_goes (Some at, n) p s =
     subst (initialiser (first_tree (Some at, n))) (sym whole)
     (covers, record { front = s.first.token ∷ []; back = o.token ∷ []; first = record { token = s.first.token; has = h.0; whole = refl }; second = record { token = o.token; has = i.0; whole = refl }; whole = refl })
 
-first_comes : (d : ℕ) (i : Initializer) (p : List Tok) → initialiser i p → Comes first_tree SignedL (λ x. MaybeW (λ D. Shallow D) d x.0 × Unit {0}) (λ x. Unit {0}) (λ x h. Unit {0}) Always i p
+first_comes : (d : ℕ) (i : Initialiser) (p : List Tok) → initialiser i p → Comes first_tree SignedL (λ x. MaybeW (λ D. Shallow D) d x.0 × Unit {0}) (λ x. Unit {0}) (λ x h. Unit {0}) Always i p
 first_comes d i p l = go i.negative refl l.1
   where
     go : (b : Bool) → i.negative ≡ b → Seq (minus b) (One the_value (i.value, i.ty)) p → Comes first_tree SignedL (λ x. MaybeW (λ D. Shallow D) d x.0 × Unit {0}) (λ x. Unit {0}) (λ x h. Unit {0}) Always i p
@@ -65,7 +65,7 @@ first_comes d i p l = go i.negative refl l.1
         let o = s.second in
         let whole : p ≡ s.first.token ∷ o.token ∷ [] = rw (s.whole, s.first.whole, o.whole) refl in
         let covers : Covers i.span (s.first.token ∷ o.token ∷ []) = subst (Covers i.span) whole l.0 in
-        let same : ◌≡◌ {A = Initializer} (record { negative = i.negative; value = i.value; ty = i.ty; span = i.span }) (first_tree (Some s.first.token.span, ((i.value, i.ty), o.token.span))) = rw (is, covers) refl in
+        let same : ◌≡◌ {A = Initialiser} (record { negative = i.negative; value = i.value; ty = i.ty; span = i.span }) (first_tree (Some s.first.token.span, ((i.value, i.ty), o.token.span))) = rw (is, covers) refl in
         record {
           value = (Some s.first.token.span, ((i.value, i.ty), o.token.span));
           same = same;
@@ -77,7 +77,7 @@ first_comes d i p l = go i.negative refl l.1
         let o = s.second in
         let whole : p ≡ o.token ∷ [] = s.whole ∙ ap (λ (z : List Tok). z ++ s.back) s.first ∙ o.whole in
         let covers : Covers i.span (o.token ∷ []) = subst (Covers i.span) whole l.0 in
-        let same : ◌≡◌ {A = Initializer} (record { negative = i.negative; value = i.value; ty = i.ty; span = i.span }) (first_tree (None, ((i.value, i.ty), o.token.span))) = rw (is, covers) refl in
+        let same : ◌≡◌ {A = Initialiser} (record { negative = i.negative; value = i.value; ty = i.ty; span = i.span }) (first_tree (None, ((i.value, i.ty), o.token.span))) = rw (is, covers) refl in
         record {
           value = (None, ((i.value, i.ty), o.token.span));
           same = same;
@@ -87,22 +87,22 @@ first_comes d i p l = go i.negative refl l.1
         }
 
 -- a place says its fixed token
-spot_here : (k : Fixed) (at : Span) (p q : List Tok) → One (place_of k) at p → is_next k (head (p ++ q)) ≡ true
-spot_here k at p q o = let pm = place_fixed k o.token at o.has in is_here k p q (record { token = o.token; has = pm.0; whole = o.whole })
+expect_span_here : (k : Fixed) (at : Span) (p q : List Tok) → One (fixed_span k) at p → is_next k (head (p ++ q)) ≡ true
+expect_span_here k at p q o = let pm = place_fixed k o.token at o.has in is_here k p q (record { token = o.token; has = pm.0; whole = o.whole })
 
 abbrev some_constant : Tok
 some_constant = record { terminal = constant 0 Int; span = record { start = 0; «end» = 0 } }
 
-abbrev value_begins : Begins (One the_placed_value) []
+abbrev value_begins : Begins (One value_with_span) []
 value_begins = record { value = ((0, Int), record { start = 0; «end» = 0 }); more = some_constant ∷ []; spelled = record { token = some_constant; has = refl; whole = refl } }
 
 first_exact : (d : ℕ) → Exact (λ D. read.initialiser) initialiser (λ D. Shallow D) Always Always d
 first_exact d =
     value_of first_tree initialiser (λ D. Shallow D) Always Always
-    (two (perhaps_exact (Punctuator punct.Minus) (take_exact (place_of (Punctuator punct.Minus)) d) (spot_here (Punctuator punct.Minus))) (take_exact the_placed_value d) follow value_begins)
+    (two (perhaps_exact (Punctuator punct.Minus) (take_exact (fixed_span (Punctuator punct.Minus)) d) (expect_span_here (Punctuator punct.Minus))) (take_exact value_with_span d) follow value_begins)
     (first_comes d) first_goes (λ x w. tt) (λ x h c. tt)
   where
-    follow : (a : Option Span) (b : (ℕ × Scalar) × Span) (p q : List Tok) → One the_placed_value b p → Unit {0} → MaybeS (Punctuator punct.Minus) Always a (head (p ++ q))
+    follow : (a : Option Span) (b : (ℕ × Scalar) × Span) (p q : List Tok) → One value_with_span b p → Unit {0} → MaybeS (Punctuator punct.Minus) Always a (head (p ++ q))
     follow None b p q o h = ap (is_next (Punctuator punct.Minus)) (one_head o q) ∙ (without_place o.token.terminal o.token.span b o.has).2
     follow (Some x) b p q o h = tt
 
@@ -110,7 +110,7 @@ abbrev first_begins : Begins initialiser []
 first_begins = let b = value_begins in record { value = first_tree (None, b.value); more = b.more; spelled = first_goes (None, b.value) b.more (record { front = []; back = b.more; first = refl; second = b.spelled; whole = refl }) }
 
 -- a value does not begin with a brace
-first_inside : (i : Initializer) (p q : List Tok) → initialiser i p → is_next (Punctuator punct.CloseBrace) (head (p ++ q)) ≡ false
+first_inside : (i : Initialiser) (p q : List Tok) → initialiser i p → is_next (Punctuator punct.CloseBrace) (head (p ++ q)) ≡ false
 first_inside i p q l = go i.negative l.1
   where
     no_brace : (k : Terminal) (x : ℕ × Scalar) → grammar.value_in k ≡ Some x → is_fixed (Punctuator punct.CloseBrace) k ≡ false
@@ -127,7 +127,7 @@ first_inside i p q l = go i.negative l.1
         ap (is_next (Punctuator punct.CloseBrace)) (one_head o q) ∙ no_brace o.token.terminal (i.value, i.ty) o.has
 
 -- one value behind `=`
-abbrev OneL : List Initializer → Phrase
+abbrev OneL : List Initialiser → Phrase
 OneL [] p = ⊥
 OneL (i ∷ []) p = Seq (Is (Punctuator punct.Assign)) (initialiser i) p
 OneL (i ∷ j ∷ is) p = ⊥
@@ -137,34 +137,34 @@ value_exact d =
     one_of (is_next (Punctuator punct.Assign)) first_value
     (value_of one_first OneL (λ D. Shallow D) (λ x. Parted (Punctuator punct.Semicolon) x) Always (behind_exact (Punctuator punct.Assign) (first_exact d) first_begins) comes (λ x p l. l) (λ x w. tt) (λ x h c. tt))
     (give_exact [] (λ D. Shallow D) (λ x. Parted (Punctuator punct.Semicolon) x) Always d tt (λ h. tt))
-    here nothing_here one_is (λ x p l. subst (λ (z : List Initializer). first_value z p) (sym l.0) l.1) from
+    here nothing_here one_is (λ x p l. subst (λ (z : List Initialiser). first_value z p) (sym l.0) l.1) from
   where
-    comes : (y : List Initializer) (p : List Tok) → OneL y p → Comes one_first (λ i. Seq (Is (Punctuator punct.Assign)) (initialiser i)) (λ x. Unit {0}) (λ x. Unit {0}) (λ x h. Unit {0}) (λ x. Parted (Punctuator punct.Semicolon) x) y p
+    comes : (y : List Initialiser) (p : List Tok) → OneL y p → Comes one_first (λ i. Seq (Is (Punctuator punct.Assign)) (initialiser i)) (λ x. Unit {0}) (λ x. Unit {0}) (λ x h. Unit {0}) (λ x. Parted (Punctuator punct.Semicolon) x) y p
     comes [] p l = absurd l
     comes (i ∷ []) p l = record { value = i; same = refl; spelled = l; within = λ w. tt; stops = λ h s. tt }
     comes (i ∷ j ∷ is) p l = absurd l
 
-    here : (x : List Initializer) (p q : List Tok) → OneL x p → Parted (Punctuator punct.Semicolon) x (head q) → is_next (Punctuator punct.Assign) (head (p ++ q)) ≡ true
+    here : (x : List Initialiser) (p q : List Tok) → OneL x p → Parted (Punctuator punct.Semicolon) x (head q) → is_next (Punctuator punct.Assign) (head (p ++ q)) ≡ true
     here [] p q l h = absurd l
     here (i ∷ []) p q l h = seq_here (Punctuator punct.Assign) _ p q l
     here (i ∷ j ∷ is) p q l h = absurd l
 
-    nothing_here : (x : List Initializer) (p q : List Tok) → Empty [] x p → Parted (Punctuator punct.Semicolon) x (head q) → is_next (Punctuator punct.Assign) (head (p ++ q)) ≡ false
+    nothing_here : (x : List Initialiser) (p q : List Tok) → Empty [] x p → Parted (Punctuator punct.Semicolon) x (head q) → is_next (Punctuator punct.Assign) (head (p ++ q)) ≡ false
     nothing_here x p q l h = ap (λ (z : List Tok). is_next (Punctuator punct.Assign) (head (z ++ q))) l.1 ∙ parted_not (Punctuator punct.Semicolon) (Punctuator punct.Assign) x refl refl (head q) h
 
-    one_is : (x : List Initializer) (p : List Tok) → OneL x p → first_value x p
+    one_is : (x : List Initialiser) (p : List Tok) → OneL x p → first_value x p
     one_is [] p l = absurd l
     one_is (i ∷ []) p l = l
     one_is (i ∷ j ∷ is) p l = absurd l
 
-    from : (x : List Initializer) (p : List Tok) → first_value x p → OneL x p ⊎ Empty [] x p
+    from : (x : List Initialiser) (p : List Tok) → first_value x p → OneL x p ⊎ Empty [] x p
     from [] p l = inr (refl, l)
     from (i ∷ []) p l = inl l
     from (i ∷ j ∷ is) p l = absurd l
 
 -- ---- the values of an array
 
-abbrev FurtherL : List Initializer → Phrase
+abbrev FurtherL : List Initialiser → Phrase
 FurtherL = Trailed initialiser
 
 further_exact : (d : ℕ) → Exact (λ D. further_values) FurtherL (λ D. Shallow D) (λ x. Next (Punctuator punct.CloseBrace) x) Always d
@@ -173,7 +173,7 @@ further_exact d =
     (trailing_exact (first_exact d) first_inside (λ x t is. tt) (λ x t is. tt))
     (λ x p l. l) (λ x p l. l) (λ x p l w. tt) (λ x p l w. all_shallow d x) (λ x p h l s. s) (λ x p h l c. tt)
 
-abbrev ListL : List Initializer → Phrase
+abbrev ListL : List Initialiser → Phrase
 ListL [] p = ⊥
 ListL (i ∷ is) p = Seq (initialiser i) (FurtherL is) p
 
@@ -183,12 +183,12 @@ list_exact d =
     (two (first_exact d) (further_exact d) (λ a b p q l h. tt) (record { value = []; more = []; spelled = record { front = []; back = []; first = refl; second = inl refl; whole = refl } }))
     comes (λ x p l. l) (λ x w. tt) (λ x h c. tt)
   where
-    comes : (y : List Initializer) (p : List Tok) → ListL y p → Comes in_front (Two initialiser FurtherL) (λ x. Unit {0} × Unit {0}) (λ x. Unit {0}) (λ x h. Next (Punctuator punct.CloseBrace) x.1 h) (λ x. Next (Punctuator punct.CloseBrace) x) y p
+    comes : (y : List Initialiser) (p : List Tok) → ListL y p → Comes in_front (Two initialiser FurtherL) (λ x. Unit {0} × Unit {0}) (λ x. Unit {0}) (λ x h. Next (Punctuator punct.CloseBrace) x.1 h) (λ x. Next (Punctuator punct.CloseBrace) x) y p
     comes [] p l = absurd l
     comes (i ∷ is) p l = record { value = (i, is); same = refl; spelled = l; within = λ w. (tt, tt); stops = λ h s. s }
 
 -- what stands behind `=`
-abbrev InBracesL : List Initializer → Phrase
+abbrev InBracesL : List Initialiser → Phrase
 InBracesL is = Seq (Is (Punctuator punct.OpenBrace)) (Seq (ListL is) (Is (Punctuator punct.CloseBrace)))
 
 list_begins : Begins ListL []
@@ -203,16 +203,16 @@ values_exact d =
     one_of (is_next (Punctuator punct.Assign)) first_values
     (restated (λ is. Seq (Is (Punctuator punct.Assign)) (InBracesL is)) (λ D. Shallow D) (λ x. Parted (Punctuator punct.Semicolon) x) Always assigned (λ x p l. l) (λ x p l. l) (λ x p l w. w) (λ x p l w. w) (λ x p h l s. tt) (λ x p h l c. c))
     (give_exact [] (λ D. Shallow D) (λ x. Parted (Punctuator punct.Semicolon) x) Always d tt (λ h. tt))
-    (λ x p q l h. seq_here (Punctuator punct.Assign) _ p q l) nothing_here values_are (λ x p l. subst (λ (z : List Initializer). first_values z p) (sym l.0) l.1) from
+    (λ x p q l h. seq_here (Punctuator punct.Assign) _ p q l) nothing_here values_are (λ x p l. subst (λ (z : List Initialiser). first_values z p) (sym l.0) l.1) from
   where
-    nothing_here : (x : List Initializer) (p q : List Tok) → Empty [] x p → Parted (Punctuator punct.Semicolon) x (head q) → is_next (Punctuator punct.Assign) (head (p ++ q)) ≡ false
+    nothing_here : (x : List Initialiser) (p q : List Tok) → Empty [] x p → Parted (Punctuator punct.Semicolon) x (head q) → is_next (Punctuator punct.Assign) (head (p ++ q)) ≡ false
     nothing_here x p q l h = ap (λ (z : List Tok). is_next (Punctuator punct.Assign) (head (z ++ q))) l.1 ∙ parted_not (Punctuator punct.Semicolon) (Punctuator punct.Assign) x refl refl (head q) h
 
-    values_are : (x : List Initializer) (p : List Tok) → Seq (Is (Punctuator punct.Assign)) (InBracesL x) p → first_values x p
+    values_are : (x : List Initialiser) (p : List Tok) → Seq (Is (Punctuator punct.Assign)) (InBracesL x) p → first_values x p
     values_are [] p l = absurd l.second.second.first
     values_are (i ∷ is) p l = seq_map l (λ q o. o) (λ q a. seq_map a (λ r o. o) (λ r b. seq_right (seq_map b (λ u c. seq_left c) (λ u o. o))))
 
-    from : (x : List Initializer) (p : List Tok) → first_values x p → Seq (Is (Punctuator punct.Assign)) (InBracesL x) p ⊎ Empty [] x p
+    from : (x : List Initialiser) (p : List Tok) → first_values x p → Seq (Is (Punctuator punct.Assign)) (InBracesL x) p ⊎ Empty [] x p
     from [] p l = inr (refl, l)
     from (i ∷ is) p l = inl (seq_map l (λ q o. o) (λ q a. seq_map a (λ r o. o) (λ r b. seq_map (seq_left b) (λ u c. seq_right c) (λ u o. o))))
 
@@ -256,7 +256,7 @@ sized_exact d = one_of (is_next (Punctuator punct.OpenBracket)) SizedL (array_ex
     array_here (None, is) p q l h = absurd l
     array_here (Some n, is) p q l h = seq_here (Punctuator punct.OpenBracket) _ p q (seq_right l)
 
-    value_not : (is : List Initializer) (p q : List Tok) → first_value is p → is_next (Punctuator punct.OpenBracket) (head q) ≡ false → is_next (Punctuator punct.OpenBracket) (head (p ++ q)) ≡ false
+    value_not : (is : List Initialiser) (p q : List Tok) → first_value is p → is_next (Punctuator punct.OpenBracket) (head q) ≡ false → is_next (Punctuator punct.OpenBracket) (head (p ++ q)) ≡ false
     value_not [] p q l h = ap (λ (z : List Tok). is_next (Punctuator punct.OpenBracket) (head (z ++ q))) l ∙ h
     value_not (i ∷ []) p q l h = seq_not_here (Punctuator punct.Assign) (Punctuator punct.OpenBracket) _ p q refl l
     value_not (i ∷ j ∷ is) p q l h = absurd l

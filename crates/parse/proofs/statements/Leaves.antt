@@ -10,7 +10,7 @@ use Rattle.syntax.specs.Tree as Tree
 use Rattle.syntax.specs.Tree.{Expr, Exprs, Stmt, Empty, Do, Print, Break, Continue, Return, Cancel, CancelOuter}
 use Rattle.syntax.specs.Depth.{expr_depth, deepest, optional_depth, simple_depth, stmt_depth}
 use Rattle.syntax.specs.Views.{exprs_from}
-use Rattle.syntax.specs.Phrases.{Phrase, Seq, One, Is, Begins, Many, the_fixed, place_of}
+use Rattle.syntax.specs.Phrases.{Phrase, Seq, One, Is, Begins, Many, the_fixed, fixed_span}
 use Rattle.syntax.specs.Grammar.{the_text, expr, further, optional, simple, stmt}
 use Rattle.parse.specs.inner.Reading.{head, is_next, is_other}
 use Rattle.parse.specs.inner.Statements.{cancel_tree, cancel_stmt, print_tree, print_stmt, alone_stmt, return_stmt, simple_stmt, empty_stmt}
@@ -67,7 +67,7 @@ abbrev PrintedL : List Expr → Phrase
 PrintedL es = Seq (Seq (Many (Behind expr) es) (Is (Punctuator punct.CloseParen))) (Is (Punctuator punct.Semicolon))
 
 abbrev PartsL : Span × ((List ℕ × Span) × List Expr) → Phrase
-PartsL = Two (One (place_of (Keyword key.Printf))) (λ x. Seq (Is (Punctuator punct.OpenParen)) (Two (One the_text) PrintedL x))
+PartsL = Two (One (fixed_span (Keyword key.Printf))) (λ x. Seq (Is (Punctuator punct.OpenParen)) (Two (One the_text) PrintedL x))
 
 text_begins : Begins (One the_text) []
 text_begins = record { value = ([], nowhere); more = record { terminal = string_literal []; span = nowhere } ∷ []; spelled = record { token = record { terminal = string_literal []; span = nowhere }; has = refl; whole = refl } }
@@ -101,7 +101,7 @@ print_stmt_comes d _ p l = absurd l
 pub print_stmt_exact : (d : ℕ) → Exact print_stmt PrintL StmtW Always Always d
 print_stmt_exact d =
     value_of print_tree PrintL StmtW Always Always
-    (two (take_exact (place_of (Keyword key.Printf)) d)
+    (two (take_exact (fixed_span (Keyword key.Printf)) d)
     (behind_exact (Punctuator punct.OpenParen)
     (two (take_exact the_text d)
     (before_exact (Punctuator punct.Semicolon)
@@ -125,7 +125,7 @@ print_stmt_exact d =
 -- ---- jumps
 
 abbrev JumpPart : Fixed → Span → Phrase
-JumpPart k at = Seq (One (place_of k) at) (Is (Punctuator punct.Semicolon))
+JumpPart k at = Seq (One (fixed_span k) at) (Is (Punctuator punct.Semicolon))
 
 alone_stmt_exact : (k : Fixed) (tree : Span → Stmt) (L : Stmt → Phrase) (d : ℕ)
     → ((s : Stmt) (p : List Tok) → L s p → (at : Span) × (s ≡ tree at) × JumpPart k at p)
@@ -133,7 +133,7 @@ alone_stmt_exact : (k : Fixed) (tree : Span → Stmt) (L : Stmt → Phrase) (d :
     → ((at : Span) → stmt_depth (tree at) ≡ 1)
     → Exact (λ D. alone_stmt D k tree) L StmtW Always Always d
 alone_stmt_exact k tree L d comes goes depth =
-    value_of tree L StmtW Always Always (before_exact (Punctuator punct.Semicolon) (take_exact (place_of k) d) (λ a t is. tt))
+    value_of tree L StmtW Always Always (before_exact (Punctuator punct.Semicolon) (take_exact (fixed_span k) d) (λ a t is. tt))
     (λ y p l. let c = comes y p l in record { value = c.0; same = c.1; spelled = c.2; within = λ w. tt; stops = λ h s. tt })
     goes (λ at w. let e = depth at in omega arith) (λ x h c. tt)
 
@@ -165,12 +165,12 @@ continue_exact d = alone_stmt_exact (Keyword key.Continue) Continue ContinueL d 
     comes _ p l = absurd l
 
 abbrev CancelPart : Span × Bool → Phrase
-CancelPart = Two (One (place_of (Keyword key.Cancel))) (λ b. Seq (MarkedL b) (Is (Punctuator punct.Semicolon)))
+CancelPart = Two (One (fixed_span (Keyword key.Cancel))) (λ b. Seq (MarkedL b) (Is (Punctuator punct.Semicolon)))
 
 pub cancel_exact : (d : ℕ) → Exact (λ D. cancel_stmt) CancelL StmtW Always Always d
 cancel_exact d =
     value_of cancel_tree CancelL StmtW Always Always
-    (two (take_exact (place_of (Keyword key.Cancel)) d) (before_exact (Punctuator punct.Semicolon) (marked_exact d) ends) (λ a b p q l h. tt) (tail_begins (Punctuator punct.Semicolon) MarkedL marked_begins))
+    (two (take_exact (fixed_span (Keyword key.Cancel)) d) (before_exact (Punctuator punct.Semicolon) (marked_exact d) ends) (λ a b p q l h. tt) (tail_begins (Punctuator punct.Semicolon) MarkedL marked_begins))
     comes goes (λ x w. flat x) (λ x h c. tt)
   where
     ends : (b : Bool) (t : Tok) → t.terminal ≡ fixed (Punctuator punct.Semicolon) → MarkedS b (Some t)
@@ -197,12 +197,12 @@ ReturnL (Return e at) p = stmt (Return e at) p
 ReturnL _ p = ⊥
 
 abbrev ReturnPart : Span × Option Expr → Phrase
-ReturnPart = Two (One (place_of (Keyword key.Return))) (λ e. Seq (optional expr e) (Is (Punctuator punct.Semicolon)))
+ReturnPart = Two (One (fixed_span (Keyword key.Return))) (λ e. Seq (optional expr e) (Is (Punctuator punct.Semicolon)))
 
 pub return_stmt_exact : (d : ℕ) → Exact return_stmt ReturnL StmtW Always Always d
 return_stmt_exact d =
     value_of (λ (x : Span × Option Expr). Return x.1 x.0) ReturnL StmtW Always Always
-    (two (take_exact (place_of (Keyword key.Return)) d)
+    (two (take_exact (fixed_span (Keyword key.Return)) d)
     (before_exact (Punctuator punct.Semicolon) (unless_exact (Punctuator punct.Semicolon) (whole_exact d) other) semicolon)
     (λ a b p q l h. tt) (tail_begins (Punctuator punct.Semicolon) (optional expr) (record { value = None; more = []; spelled = refl })))
     comes (λ x p l. l) (λ x w. deepens x.1 w.1) (λ x h c. tt)

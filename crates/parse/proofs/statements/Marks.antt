@@ -5,8 +5,8 @@ use Rattle.lex.specs.declared.token.Fixed.TheVariants.{Keyword, Punctuator}
 use Rattle.lex.specs.declared.token.Keyword.TheVariants as key
 use Rattle.lex.specs.declared.token.Punctuator.TheVariants as punct
 use Rattle.lex.specs.Tokens.{name, fixed, Tok}
-use Rattle.syntax.specs.declared.tree.Kind.{Kind}
-use Rattle.syntax.specs.declared.tree.Kind.TheVariants.{Plain, Outer}
+use Rattle.syntax.specs.declared.tree.TransactionKind.{TransactionKind}
+use Rattle.syntax.specs.declared.tree.TransactionKind.TheVariants.{Plain, Outer}
 use Rattle.syntax.specs.declared.tree.Mode.{Mode}
 use Rattle.syntax.specs.declared.tree.Mode.TheVariants.{Atomic, Relaxed}
 use Rattle.syntax.specs.Phrases.{Phrase, Seq, One, Is, Begins, is_fixed}
@@ -132,12 +132,12 @@ marked_exact d =
 -- ---- the kind of a transaction
 
 -- behind the keyword of this mode
-abbrev pub KindL : Mode → Kind → Phrase
+abbrev pub KindL : Mode → TransactionKind → Phrase
 KindL mode (Plain of) p = (of ≡ mode) × (p ≡ [])
 KindL Atomic Outer p = Grammar.outer_phrase p
 KindL Relaxed Outer p = ⊥
 
-abbrev pub KindS : Kind → Option Tok → Type 0
+abbrev pub KindS : TransactionKind → Option Tok → Type 0
 KindS k h = begins_outer_attribute h ≡ false
 
 pub kind_exact : (mode : Mode) (d : ℕ) → Exact (λ D. kind mode) (KindL mode) (λ D. Shallow D) KindS Always d
@@ -147,7 +147,7 @@ kind_exact Atomic d = value_of atomic_kind (KindL Atomic) (λ D. Shallow D) Kind
     stops true h s = tt
     stops false h s = s
 
-    comes : (k : Kind) (p : List Tok) → KindL Atomic k p → Comes atomic_kind MarkedL (λ b. Unit {0}) (λ k. Unit {0}) MarkedS KindS k p
+    comes : (k : TransactionKind) (p : List Tok) → KindL Atomic k p → Comes atomic_kind MarkedL (λ b. Unit {0}) (λ k. Unit {0}) MarkedS KindS k p
     comes (Plain of) p l = record { value = false; same = ap Plain l.0; spelled = l.1; within = λ w. tt; stops = stops false }
     comes Outer p l = record { value = true; same = refl; spelled = l; within = λ w. tt; stops = stops true }
 
@@ -158,9 +158,9 @@ kind_exact Relaxed d =
     restated (KindL Relaxed) (λ D. Shallow D) KindS Always (give_exact (Plain Relaxed) (λ D. Shallow D) KindS Always d tt (λ h. tt))
     goes comes (λ k p l w. tt) (λ k p l w. tt) (λ k p h l s. s) (λ k p h l c. tt)
   where
-    goes : (k : Kind) (p : List Tok) → Empty (Plain Relaxed) k p → KindL Relaxed k p
-    goes k p l = subst (λ (z : Kind). KindL Relaxed z p) (sym l.0) (refl, l.1)
+    goes : (k : TransactionKind) (p : List Tok) → Empty (Plain Relaxed) k p → KindL Relaxed k p
+    goes k p l = subst (λ (z : TransactionKind). KindL Relaxed z p) (sym l.0) (refl, l.1)
 
-    comes : (k : Kind) (p : List Tok) → KindL Relaxed k p → Empty (Plain Relaxed) k p
+    comes : (k : TransactionKind) (p : List Tok) → KindL Relaxed k p → Empty (Plain Relaxed) k p
     comes (Plain of) p l = (ap Plain l.0, l.1)
     comes Outer p l = absurd l

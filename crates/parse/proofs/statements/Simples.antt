@@ -13,7 +13,7 @@ use Rattle.syntax.specs.Phrases.{Phrase, Seq, One, Begins, is_fixed}
 use Rattle.syntax.specs.Grammar.{by_fixed, expr, assigning_of, the_assigning, step_of, the_step, simple}
 use Rattle.parse.specs.inner.Reading.{wrong, head, bind, map_parser, is_next}
 use Rattle.parse.specs.inner.Expressions.{type_of_fixed, says, starts_type, is_operand, operand_terminal, starts_expr, whole_at}
-use Rattle.parse.specs.inner.Statements.{assigned_from, changed_from, simple_from, stepped, starts_simple, simple_at}
+use Rattle.parse.specs.inner.Statements.{assigned_from, changed_from, simple_from, prefix_step, starts_simple, simple_at}
 use Rattle.parse.specs.inner.Statements as S
 use Rattle.parse.proofs.combinators.Exact.{Exact, Always, Comes, Two, Dep, Empty, take_exact, give_exact, relabel, two, chained_one, value_of}
 use Rattle.parse.proofs.combinators.Choices.{either_exact}
@@ -169,7 +169,7 @@ RestL (Adjust to by) p = Seq (expr to) (One the_step by) p
 abbrev PartW : ℕ → Simple → Type 0
 PartW d s = simple_depth s ≤ suc d
 
-stepped_exact : (d : ℕ) → Exact (λ D. stepped (whole_at D)) StepL PartW EndS Always d
+stepped_exact : (d : ℕ) → Exact (λ D. prefix_step (whole_at D)) StepL PartW EndS Always d
 stepped_exact d =
     value_of (λ (x : IncDec × Expr). Adjust x.1 x.0) StepL PartW EndS Always
     (two (take_exact the_step d) (whole_exact d) (λ a b p q l h. tt) whole_begins)

@@ -5,17 +5,17 @@ use Rattle.lex.specs.declared.token.Keyword.TheVariants as key
 use Rattle.lex.specs.declared.token.Punctuator.TheVariants as punct
 use Rattle.lex.specs.declared.token.Span.{Span}
 use Rattle.lex.specs.Tokens.{Terminal, fixed, Tok}
-use Rattle.syntax.specs.declared.tree.Kind.{Kind}
-use Rattle.syntax.specs.declared.tree.Kind.TheVariants.{Plain, Outer}
+use Rattle.syntax.specs.declared.tree.TransactionKind.{TransactionKind}
+use Rattle.syntax.specs.declared.tree.TransactionKind.TheVariants.{Plain, Outer}
 use Rattle.syntax.specs.declared.tree.Mode.{Mode}
 use Rattle.syntax.specs.declared.tree.Mode.TheVariants.{Atomic, Relaxed}
 use Rattle.syntax.specs.Tree.{Expr, Evaluate, Assign, Adjust, Stmt, Stmts, Do, Transaction}
 use Rattle.syntax.specs.Depth.{stmt_depth, block_depth}
 use Rattle.syntax.specs.Views.{stmts_from}
 use Rattle.syntax.specs.Meaning.{mode_of}
-use Rattle.syntax.specs.Phrases.{Phrase, Seq, One, IsAt, Begins, place_of}
+use Rattle.syntax.specs.Phrases.{Phrase, Seq, One, IsAt, Begins, fixed_span}
 use Rattle.syntax.specs.Grammar.{the_step, mode_keyword, stmt, block, ends_open}
-use Rattle.parse.specs.inner.Reading.{Fault, wrong, Parser, head, none, seq, map_parser, either, spot, is_next}
+use Rattle.parse.specs.inner.Reading.{Fault, wrong, Parser, head, none, seq, map_parser, either, expect_span, is_next}
 use Rattle.parse.specs.inner.Expressions.{says, expr_at, whole_at, operand, transaction}
 use Rattle.parse.specs.inner.Statements.{kind, simple_stmt, mode_token, value_stmt, transaction_from, transaction_stmt}
 use Rattle.parse.proofs.combinators.Exact.{Exact, Always, Comes, Two, Dep, take_exact, two, chained_one, value_of, restated}
@@ -68,7 +68,7 @@ module _ (mode : Mode) (at : Span) (ts : List Tok) (other : is_next (Punctuator 
   abbrev here : List Tok
   here = mode_token mode at ∷ ts
 
-  here_at : spot (mode_keyword mode) here ≡ Ok (at, ts)
+  here_at : expect_span (mode_keyword mode) here ≡ Ok (at, ts)
   here_at = let place = fixed_place (mode_keyword mode) (mode_token mode at) (fixed_has (mode_keyword mode) (mode_token mode at) refl) in rw place refl
 
   no_value : (whole tight : Parser Expr) → operand whole tight here ≡ Err (wrong ts)
@@ -95,19 +95,19 @@ module _ (mode : Mode) (at : Span) (ts : List Tok) (other : is_next (Punctuator 
 -- ---- a mark, if any, and a block
 
 -- neither begins with `(`
-not_paren : (mode : Mode) (k : Kind) (ss : Stmts) (p q : List Tok) → Seq (KindL mode k) (block ss) p → is_next (Punctuator punct.OpenParen) (head (p ++ q)) ≡ false
+not_paren : (mode : Mode) (k : TransactionKind) (ss : Stmts) (p q : List Tok) → Seq (KindL mode k) (block ss) p → is_next (Punctuator punct.OpenParen) (head (p ++ q)) ≡ false
 not_paren mode (Plain of) ss p q l = seq_not_here (Punctuator punct.OpenBrace) (Punctuator punct.OpenParen) _ p q refl (un_seq_left (seq_map l (λ r o. o.1) (λ r o. o)))
 not_paren Atomic Outer ss p q l = first_of (λ h. is_next (Punctuator punct.OpenParen) h ≡ false) p q l (mark_not_here (Punctuator punct.OpenParen) refl refl)
 not_paren Relaxed Outer ss p q l = absurd l.first
 
-kind_goes : (mode : Mode) (k : Kind) (ss : Stmts) (at : Span) (p : List Tok) → Seq (IsAt (mode_keyword mode) at) (Seq (KindL mode k) (block ss)) p → (mode_of k ≡ mode) × stmt (Transaction k ss at) p
+kind_goes : (mode : Mode) (k : TransactionKind) (ss : Stmts) (at : Span) (p : List Tok) → Seq (IsAt (mode_keyword mode) at) (Seq (KindL mode k) (block ss)) p → (mode_of k ≡ mode) × stmt (Transaction k ss at) p
 kind_goes mode (Plain of) ss at p l =
     let e = l.second.first.0 in
     (e, seq_map l (λ q o. subst (λ (z : Mode). IsAt (mode_keyword z) at q) (sym e) o) (λ q o. un_seq_left (seq_map o (λ r x. x.1) (λ r x. x))))
 kind_goes Atomic Outer ss at p l = (refl, seq_left l)
 kind_goes Relaxed Outer ss at p l = absurd l.second.first
 
-kind_comes : (mode : Mode) (k : Kind) (ss : Stmts) (at : Span) (p : List Tok) → mode_of k ≡ mode → stmt (Transaction k ss at) p → Seq (IsAt (mode_keyword mode) at) (Seq (KindL mode k) (block ss)) p
+kind_comes : (mode : Mode) (k : TransactionKind) (ss : Stmts) (at : Span) (p : List Tok) → mode_of k ≡ mode → stmt (Transaction k ss at) p → Seq (IsAt (mode_keyword mode) at) (Seq (KindL mode k) (block ss)) p
 kind_comes mode (Plain of) ss at p e l = seq_map l (λ q o. subst (λ (z : Mode). IsAt (mode_keyword z) at q) e o) (λ q o. record { front = []; back = q; first = (e, refl); second = o; whole = refl })
 kind_comes Atomic Outer ss at p e l = seq_right l
 kind_comes Relaxed Outer ss at p e l = absurd cc
@@ -181,11 +181,11 @@ module _ (mode : Mode) (at : Span) where
           let read = (simple_stmt_exact (suc n)).again s (mode_token mode at ∷ p) q l (omega arith) tt in
           absurd (no_both (simple_stmt (suc n) (mode_token mode at ∷ (p ++ q))) (s, q) (wrong (p ++ q)) read (value_stops mode at (p ++ q) is n))
 
-  abbrev block_tree : Kind × List Stmt → Stmt
+  abbrev block_tree : TransactionKind × List Stmt → Stmt
   block_tree x = Transaction x.0 (stmts_from x.1) at
 
   -- a mark, if any, and a block
-  abbrev MarkedBlockL : Kind × List Stmt → Phrase
+  abbrev MarkedBlockL : TransactionKind × List Stmt → Phrase
   MarkedBlockL = Two (KindL mode) BlockL
 
   abbrev FromL : Stmt → Phrase
@@ -203,13 +203,13 @@ module _ (mode : Mode) (at : Span) where
     block_exact : Exact (λ D. map_parser block_tree (seq (kind mode) (B D))) (Image block_tree MarkedBlockL) Below Always Always d
     block_exact = imaged block_tree Below Always Always (two (kind_exact mode d) E no_mark_follows block_begins) shallower deepens (λ x h s. tt) (λ x h c. tt)
       where
-        no_mark_follows : (k : Kind) (ss : List Stmt) (p q : List Tok) → BlockL ss p → Unit {0} → KindS k (head (p ++ q))
+        no_mark_follows : (k : TransactionKind) (ss : List Stmt) (p q : List Tok) → BlockL ss p → Unit {0} → KindS k (head (p ++ q))
         no_mark_follows k ss p q l h = not_marked (head (p ++ q)) (seq_not_here (Punctuator punct.OpenBrace) (Punctuator punct.OpenBracket) _ p q refl l) (seq_not_here (Punctuator punct.OpenBrace) (Keyword key.Attribute) _ p q refl l)
 
-        shallower : (x : Kind × List Stmt) → Below d (block_tree x) → Unit {0} × BlockW d x.1
+        shallower : (x : TransactionKind × List Stmt) → Below d (block_tree x) → Unit {0} × BlockW d x.1
         shallower x w = let h : block_depth (stmts_from x.1) + 1 ≤ suc d = w in (tt, omega arith)
 
-        deepens : (x : Kind × List Stmt) → Unit {0} × BlockW d x.1 → Below d (block_tree x)
+        deepens : (x : TransactionKind × List Stmt) → Unit {0} × BlockW d x.1 → Below d (block_tree x)
         deepens x w = let h : block_depth (stmts_from x.1) ≤ d = w.1 in omega arith
 
     from_exact : Exact (λ D. transaction_from D (P D) (B D) mode at) FromL Below Always Always d
@@ -224,7 +224,7 @@ module _ (mode : Mode) (at : Span) where
 
 module _ (mode : Mode) where
   abbrev PartsL : Span × Stmt → Phrase
-  PartsL = Dep (One (place_of (mode_keyword mode))) (FromL mode)
+  PartsL = Dep (One (fixed_span (mode_keyword mode))) (FromL mode)
 
   -- a token of the keyword is that keyword at its place
   token_is : (t : Tok) → t.terminal ≡ fixed (mode_keyword mode) → t ≡ mode_token mode t.span
@@ -289,5 +289,5 @@ module _ (mode : Mode) where
   pub transaction_stmt_exact : (P : ℕ → Parser Stmt) (B : ℕ → Parser (List Stmt)) (d : ℕ) → Exact B BlockL BlockW Always Always d → Exact (λ D. transaction_stmt D (P D) (B D) mode) (BegunL mode) Below Always Always d
   transaction_stmt_exact P B d E =
       value_of (λ x. x.1) (BegunL mode) Below Always Always
-      (chained_one (take_exact (place_of (mode_keyword mode)) d) (λ at. from_exact mode at P B d E) (λ a b p q l h. tt) (from_begins mode))
+      (chained_one (take_exact (fixed_span (mode_keyword mode)) d) (λ at. from_exact mode at P B d E) (λ a b p q l h. tt) (from_begins mode))
       (comes d) goes (λ x w. w.1) (λ x h c. tt)

@@ -29,7 +29,8 @@ use Rattle.parse.specs.declared.scalar.TypeWord.{TypeWord}
 use Rattle.parse.specs.declared.scalar.TypeWord.TheVariants as word
 use Rattle.parse.specs.inner.Reading.{deep, ◌>>=◌, Parser, none, give, bind, seq, map_parser, choice, either}
 use Rattle.parse.specs.inner.Reading.{too_deep_at}
-use Rattle.parse.specs.inner.Reading.{comma_list, take, expect, spot, is_next, perhaps, behind, before, Operators}
+use Rattle.parse.specs.inner.Reading.{comma_list, take, expect, expect_span, is_next, perhaps, behind, before}
+use Rattle.parse.specs.inner.Reading.{Operators}
 use Rattle.parse.specs.inner.Reading.{climb_loop, across}
 
 -- ---- types
@@ -114,8 +115,8 @@ the_constant t = constant_in t.terminal t.span
 
 -- whole: any expression; tight: an operand
 module _ (whole tight : Parser Expr) where
-  abbrev pub prefixed : Parser Expr
-  prefixed = map_parser (λ x. Unary x.0.0 x.1 (across x.0.1 (span_of x.1))) (seq (take the_prefix) tight)
+  abbrev pub prefix_expr : Parser Expr
+  prefix_expr = map_parser (λ x. Unary x.0.0 x.1 (across x.0.1 (span_of x.1))) (seq (take the_prefix) tight)
 
   -- behind `(`, which stands at a place
   abbrev pub cast_from : Span → Parser Expr
@@ -123,18 +124,19 @@ module _ (whole tight : Parser Expr) where
       map_parser (λ x. Cast x.0 x.1 (across at (span_of x.1))) (seq (before (Punctuator punct.CloseParen) scalar) tight)
 
   abbrev pub group_from : Span → Parser Expr
-  group_from at = map_parser (λ x. Parenthesized x.0 (across at x.1)) (seq whole (spot (Punctuator punct.CloseParen)))
+  group_from at = map_parser (λ x. Parenthesized x.0 (across at x.1))
+      (seq whole (expect_span (Punctuator punct.CloseParen)))
 
-  abbrev pub opened : Parser Expr
-  opened =
+  abbrev pub cast_or_group_expr : Parser Expr
+  cast_or_group_expr =
       map_parser (λ x. x.1)
-      (bind (spot (Punctuator punct.OpenParen)) (λ at. either starts_type (cast_from at) (group_from at)))
+      (bind (expect_span (Punctuator punct.OpenParen)) (λ at. either starts_type (cast_from at) (group_from at)))
 
   abbrev pub transaction : Mode → Parser Expr
   transaction mode =
       map_parser (λ x. InTransaction mode x.0 x.1.0 (across x.0 x.1.1))
-      (seq (spot (mode_keyword mode))
-      (seq (behind (Punctuator punct.OpenParen) whole) (spot (Punctuator punct.CloseParen))))
+      (seq (expect_span (mode_keyword mode))
+      (seq (behind (Punctuator punct.OpenParen) whole) (expect_span (Punctuator punct.CloseParen))))
 
   abbrev pub arguments : Parser (List Expr)
   arguments = either (is_next (Punctuator punct.CloseParen)) (give []) (comma_list whole)
@@ -142,27 +144,27 @@ module _ (whole tight : Parser Expr) where
   -- behind a name
   abbrev pub element_from : Name → Parser Expr
   element_from x =
-      map_parser (λ y. Element x y.0 (across x.at y.1))
-      (behind (Punctuator punct.OpenBracket) (seq whole (spot (Punctuator punct.CloseBracket))))
+      map_parser (λ y. Element x y.0 (across x.span y.1))
+      (behind (Punctuator punct.OpenBracket) (seq whole (expect_span (Punctuator punct.CloseBracket))))
 
   abbrev pub call_from : Name → Parser Expr
   call_from x =
-      map_parser (λ y. Call x (exprs_from y.0) (across x.at y.1))
-      (behind (Punctuator punct.OpenParen) (seq arguments (spot (Punctuator punct.CloseParen))))
+      map_parser (λ y. Call x (exprs_from y.0) (across x.span y.1))
+      (behind (Punctuator punct.OpenParen) (seq arguments (expect_span (Punctuator punct.CloseParen))))
 
   abbrev pub named_from : Name → Parser Expr
   named_from x =
       either (is_next (Punctuator punct.OpenBracket)) (element_from x)
       (either (is_next (Punctuator punct.OpenParen)) (call_from x) (give (Variable x)))
 
-  abbrev pub named : Parser Expr
-  named = map_parser (λ x. x.1) (bind (take the_name) named_from)
+  abbrev pub name_or_call : Parser Expr
+  name_or_call = map_parser (λ x. x.1) (bind (take the_name) named_from)
 
   abbrev pub operand_of : Operand → Parser Expr
-  operand_of kind.Name = named
+  operand_of kind.Name = name_or_call
   operand_of kind.Constant = take the_constant
-  operand_of kind.Open = opened
-  operand_of kind.Prefix = prefixed
+  operand_of kind.Open = cast_or_group_expr
+  operand_of kind.Prefix = prefix_expr
   operand_of (kind.Transaction mode) = transaction mode
   operand_of kind.None = none
 

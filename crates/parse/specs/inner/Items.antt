@@ -8,12 +8,13 @@ use Rattle.lex.specs.declared.token.Scalar.{Scalar}
 use Rattle.lex.specs.declared.token.Span.{Span}
 use Rattle.lex.specs.Tokens.{Terminal, name, constant, string_literal, fixed, reserved, Tok}
 use Rattle.syntax.specs.declared.tree.Attribute.{Attribute}
-use Rattle.syntax.specs.declared.tree.Initializer.{Initializer}
+use Rattle.syntax.specs.declared.tree.Initialiser.{Initialiser}
 use Rattle.syntax.specs.Tree.{Name, Stmts, Parameter, Global, Item, Defines, Shares, Program}
 use Rattle.syntax.specs.Views.{stmts_from}
 use Rattle.syntax.specs.Grammar.{the_name, the_attribute, the_length, attributes_of}
 use Rattle.parse.specs.inner.Reading.{Fault, ◌>>=◌, Parser, none, give, bind, seq, map_parser, either, many_until}
-use Rattle.parse.specs.inner.Reading.{in_front, trailing, comma_list, take, expect, spot, is_next, is_other, perhaps}
+use Rattle.parse.specs.inner.Reading.{in_front, trailing, comma_list, take, expect, expect_span, is_next, is_other}
+use Rattle.parse.specs.inner.Reading.{perhaps}
 use Rattle.parse.specs.inner.Reading.{behind, before, across, whole_input}
 use Rattle.parse.specs.inner.Expressions.{says, scalar}
 use Rattle.parse.specs.inner.Statements.{block_at}
@@ -110,37 +111,37 @@ value_in (fixed k) at = None
 value_in reserved at = None
 
 -- a constant, and its place
-abbrev pub the_placed_value : Tok → Option ((ℕ × Scalar) × Span)
-the_placed_value t = value_in t.terminal t.span
+abbrev pub value_with_span : Tok → Option ((ℕ × Scalar) × Span)
+value_with_span t = value_in t.terminal t.span
 
-abbrev pub first_tree : Option Span × ((ℕ × Scalar) × Span) → Initializer
+abbrev pub first_tree : Option Span × ((ℕ × Scalar) × Span) → Initialiser
 first_tree (None, x) = record { negative = false; value = x.0.0; ty = x.0.1; span = x.1 }
 first_tree (Some at, x) = record { negative = true; value = x.0.0; ty = x.0.1; span = across at x.1 }
 
-abbrev pub initialiser : Parser Initializer
+abbrev pub initialiser : Parser Initialiser
 initialiser =
-    map_parser first_tree (seq (perhaps (Punctuator punct.Minus) (spot (Punctuator punct.Minus)))
-    (take the_placed_value))
+    map_parser first_tree (seq (perhaps (Punctuator punct.Minus) (expect_span (Punctuator punct.Minus)))
+    (take value_with_span))
 
-abbrev pub one_first : Initializer → List Initializer
+abbrev pub one_first : Initialiser → List Initialiser
 one_first i = i ∷ []
 
 -- the first value of a variable
-abbrev pub first_value : Parser (List Initializer)
+abbrev pub first_value : Parser (List Initialiser)
 first_value =
     either (is_next (Punctuator punct.Assign)) (map_parser one_first (behind (Punctuator punct.Assign) initialiser))
     (give [])
 
 -- further ones up to the closing brace: as many as there are tokens suffice
-abbrev pub further_values : Parser (List Initializer)
+abbrev pub further_values : Parser (List Initialiser)
 further_values ts = trailing (length ts) initialiser ts
 
 -- those between an array's braces
-abbrev pub value_list : Parser (List Initializer)
+abbrev pub value_list : Parser (List Initialiser)
 value_list = map_parser in_front (seq initialiser further_values)
 
 -- those of an array
-abbrev pub first_values : Parser (List Initializer)
+abbrev pub first_values : Parser (List Initialiser)
 first_values =
     either (is_next (Punctuator punct.Assign))
     (behind (Punctuator punct.Assign)
@@ -148,12 +149,12 @@ first_values =
     (give [])
 
 abbrev pub Size : Type 0
-Size = Option (ℕ × Span) × List Initializer
+Size = Option (ℕ × Span) × List Initialiser
 
-abbrev pub array_tree : (ℕ × Span) × List Initializer → Size
+abbrev pub array_tree : (ℕ × Span) × List Initialiser → Size
 array_tree x = (Some x.0, x.1)
 
-abbrev pub variable_tree : List Initializer → Size
+abbrev pub variable_tree : List Initialiser → Size
 variable_tree is = (None, is)
 
 -- what stands behind a global's name

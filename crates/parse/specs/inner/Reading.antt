@@ -8,7 +8,7 @@ use Rattle.lex.specs.declared.token.Punctuator.TheVariants as punct
 use Rattle.lex.specs.declared.token.Span.{Span}
 use Rattle.lex.specs.declared.token.Token.{Token}
 use Rattle.lex.specs.Tokens.{Tok, toks}
-use Rattle.syntax.specs.Phrases.{is_fixed, the_fixed, place_of}
+use Rattle.syntax.specs.Phrases.{is_fixed, the_fixed, fixed_span}
 use Rattle.parse.specs.declared.fault.Failure.{Failure}
 use Rattle.parse.specs.declared.fault.Failure.TheVariants.{Memory, Wrong, Deep}
 
@@ -79,9 +79,9 @@ abbrev pub too_deep_at : {A : Type 0} → (Option Tok → Bool) → Parser A
 too_deep_at starts ts = if starts (head ts) then Err (deep ts) else Err (wrong ts)
 
 -- too deep, where no depth is left
-abbrev pub unless_sunk : {A : Type 0} → ℕ → Parser A → Parser A
-unless_sunk zero P ts = Err (deep ts)
-unless_sunk (suc d) P ts = P ts
+abbrev pub unless_too_deep : {A : Type 0} → ℕ → Parser A → Parser A
+unless_too_deep zero P ts = Err (deep ts)
+unless_too_deep (suc d) P ts = P ts
 
 -- at most n, up to a token that stops
 abbrev pub many : {A : Type 0} → (Option Tok → Bool) → ℕ → Parser A → Parser (List A)
@@ -113,8 +113,8 @@ GivesBefore k (Ok x) other =
 GivesBefore k (Err e) other = other ≡ Err e
 
 -- a fixed token, by its place
-abbrev pub spot : Fixed → Parser Span
-spot m = take (place_of m)
+abbrev pub expect_span : Fixed → Parser Span
+expect_span m = take (fixed_span m)
 
 -- this fixed token is the first
 abbrev pub is_next : Fixed → Option Tok → Bool
@@ -195,15 +195,15 @@ module _ {E Op : Type 0} (ops : Operators E Op) where
   op_at min None = None
   op_at min (Some t) = at_least min (ops.the t)
 
-  abbrev pub turned : Option (Op × List Tok) → E → List Tok → (Op → List Tok → Result (E × List Tok) Fault) →
+  abbrev pub operand_or : Option (Op × List Tok) → E → List Tok → (Op → List Tok → Result (E × List Tok) Fault) →
       Result (E × List Tok) Fault
-  turned None left ts go = Ok (left, ts)
-  turned (Some x) left ts go = go x.0 x.1
+  operand_or None left ts go = Ok (left, ts)
+  operand_or (Some x) left ts go = go x.0 x.1
 
   -- further operands of a chain within depth d, at most n
   unfoldable pub climb_loop : (ℕ → Parser E) → ℕ → ℕ → ℕ → E → Parser E
-  climb_loop below min d zero left ts = turned (next_op min ts) left ts (λ op after. Err (deep ts))
-  climb_loop below min d (suc n) left ts = turned (next_op min ts) left ts (λ op after.
+  climb_loop below min d zero left ts = operand_or (next_op min ts) left ts (λ op after. Err (deep ts))
+  climb_loop below min d (suc n) left ts = operand_or (next_op min ts) left ts (λ op after.
       if nat_lt (ops.depth left) d then
       (below (suc (ops.precedence op)) after >>= λ b. climb_loop below min d n (ops.node op left b.0) b.1)
       else Err (deep ts))

@@ -9,8 +9,8 @@ use Rattle.lex.specs.declared.token.Scalar.{Scalar}
 use Rattle.lex.specs.declared.token.Span.{Span}
 use Rattle.lex.specs.declared.token.Token.{Token}
 use Rattle.lex.specs.Tokens.{Terminal, name, constant, string_literal, fixed, reserved, Tok, toks}
-use Rattle.syntax.specs.declared.tree.Kind.{Kind}
-use Rattle.syntax.specs.declared.tree.Kind.TheVariants.{Plain, Outer}
+use Rattle.syntax.specs.declared.tree.TransactionKind.{TransactionKind}
+use Rattle.syntax.specs.declared.tree.TransactionKind.TheVariants.{Plain, Outer}
 use Rattle.syntax.specs.declared.tree.Mode.{Mode}
 use Rattle.syntax.specs.declared.tree.Mode.TheVariants.{Atomic, Relaxed}
 use Rattle.syntax.specs.Tree.{Name, Expr, Simple, Evaluate, Assign, Adjust, Declarator, Declaration, Start, Nothing}
@@ -21,8 +21,9 @@ use Rattle.syntax.specs.Grammar.{the_name, the_text, the_outer, the_assigning, t
 use Rattle.parse.specs.declared.lead.Lead.{Lead}
 use Rattle.parse.specs.declared.lead.Lead.TheVariants as lead
 use Rattle.parse.specs.inner.Reading.{Parser, head, give, bind, seq, map_parser, choice, either, too_deep_at}
-use Rattle.parse.specs.inner.Reading.{unless_sunk}
-use Rattle.parse.specs.inner.Reading.{many_until, unless, comma_list, take, expect, spot, is_next, is_other, perhaps}
+use Rattle.parse.specs.inner.Reading.{unless_too_deep}
+use Rattle.parse.specs.inner.Reading.{many_until, unless, comma_list, take, expect, expect_span, is_next, is_other}
+use Rattle.parse.specs.inner.Reading.{perhaps}
 use Rattle.parse.specs.inner.Reading.{behind, before}
 use Rattle.parse.specs.inner.Expressions.{says, starts_type, scalar, starts_expr, whole_at}
 
@@ -35,8 +36,8 @@ GivesToken f ts (Some x) = (says f (head ts) ≡ true) × (take f ts ≡ Ok (x.0
 
 module _ (whole : Parser Expr) where
   -- `++e` and `--e`
-  abbrev pub stepped : Parser Simple
-  stepped = map_parser (λ x. Adjust x.1 x.0) (seq (take the_step) whole)
+  abbrev pub prefix_step : Parser Simple
+  prefix_step = map_parser (λ x. Adjust x.1 x.0) (seq (take the_step) whole)
 
   -- behind an expression
   abbrev pub assigned_from : Expr → Parser Simple
@@ -50,7 +51,7 @@ module _ (whole : Parser Expr) where
       either (says the_assigning) (assigned_from to) (either (says the_step) (changed_from to) (give (Evaluate to)))
 
   abbrev pub simple : Parser Simple
-  simple = either (says the_step) stepped (map_parser (λ x. x.1) (bind whole simple_from))
+  simple = either (says the_step) prefix_step (map_parser (λ x. x.1) (bind whole simple_from))
 
 abbrev pub starts_simple : Option Tok → Bool
 starts_simple h = if says the_step h then true else starts_expr h
@@ -136,12 +137,12 @@ outer_attribute =
 abbrev pub outer_attribute_if_any : Parser Bool
 outer_attribute_if_any = either begins_outer_attribute (map_parser (λ x. true) outer_attribute) (give false)
 
-abbrev pub atomic_kind : Bool → Kind
+abbrev pub atomic_kind : Bool → TransactionKind
 atomic_kind true = Outer
 atomic_kind false = Plain Atomic
 
 -- behind the keyword of a transaction: what kind it is
-abbrev pub kind : Mode → Parser Kind
+abbrev pub kind : Mode → Parser TransactionKind
 kind Atomic = map_parser atomic_kind outer_attribute_if_any
 kind Relaxed = give (Plain Relaxed)
 
@@ -152,7 +153,7 @@ cancel_tree (at, false) = Cancel at
 abbrev pub cancel_stmt : Parser Stmt
 cancel_stmt =
     map_parser cancel_tree
-    (seq (spot (Keyword key.Cancel)) (before (Punctuator punct.Semicolon) outer_attribute_if_any))
+    (seq (expect_span (Keyword key.Cancel)) (before (Punctuator punct.Semicolon) outer_attribute_if_any))
 
 -- ---- statements
 
@@ -193,8 +194,8 @@ module _ (d : ℕ) where
   empty_stmt = map_parser (λ x. Empty) (expect (Punctuator punct.Semicolon))
 
   -- what follows the format
-  abbrev pub printed : Parser (List Expr)
-  printed =
+  abbrev pub print_arguments : Parser (List Expr)
+  print_arguments =
       before (Punctuator punct.Semicolon)
       (before (Punctuator punct.CloseParen)
       (many_until (is_other (Punctuator punct.Comma)) (behind (Punctuator punct.Comma) (whole_at d))))
@@ -202,7 +203,8 @@ module _ (d : ℕ) where
   abbrev pub print_stmt : Parser Stmt
   print_stmt =
       map_parser print_tree
-      (seq (spot (Keyword key.Printf)) (behind (Punctuator punct.OpenParen) (seq (take the_text) printed)))
+      (seq (expect_span (Keyword key.Printf))
+      (behind (Punctuator punct.OpenParen) (seq (take the_text) print_arguments)))
 
   abbrev pub start : Parser Start
   start =
@@ -224,12 +226,12 @@ module _ (d : ℕ) where
   end_of_do = behind (Keyword key.While) (before (Punctuator punct.Semicolon) (in_parens (whole_at d)))
 
   abbrev pub alone_stmt : Fixed → (Span → Stmt) → Parser Stmt
-  alone_stmt k tree = map_parser tree (before (Punctuator punct.Semicolon) (spot k))
+  alone_stmt k tree = map_parser tree (before (Punctuator punct.Semicolon) (expect_span k))
 
   abbrev pub return_stmt : Parser Stmt
   return_stmt =
       map_parser (λ x. Return x.1 x.0)
-      (seq (spot (Keyword key.Return))
+      (seq (expect_span (Keyword key.Return))
       (before (Punctuator punct.Semicolon) (unless (Punctuator punct.Semicolon) (whole_at d))))
 
   abbrev pub simple_stmt : Parser Stmt
@@ -237,7 +239,7 @@ module _ (d : ℕ) where
 
   -- behind the keyword of a transaction, which stands at a place: an expression begins with it
   abbrev pub value_stmt : Mode → Span → Parser Stmt
-  value_stmt mode at = unless_sunk d (λ ts. simple_stmt (mode_token mode at ∷ ts))
+  value_stmt mode at = unless_too_deep d (λ ts. simple_stmt (mode_token mode at ∷ ts))
 
   -- stmt: a statement; block: statements in braces
   module _ (stmt : Parser Stmt) (block : Parser (List Stmt)) where
@@ -260,7 +262,7 @@ module _ (d : ℕ) where
         (map_parser (λ x. Transaction x.0 (stmts_from x.1) at) (seq (kind mode) block))
 
     abbrev pub transaction_stmt : Mode → Parser Stmt
-    transaction_stmt mode = map_parser (λ x. x.1) (bind (spot (mode_keyword mode)) (transaction_from mode))
+    transaction_stmt mode = map_parser (λ x. x.1) (bind (expect_span (mode_keyword mode)) (transaction_from mode))
 
     abbrev pub block_stmt : Parser Stmt
     block_stmt = map_parser (λ x. Block (stmts_from x)) (block_items (entry stmt))

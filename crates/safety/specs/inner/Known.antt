@@ -7,7 +7,12 @@ use Rattle.safety.specs.Sites.{Around}
 
 -- these locals and transactions are round a place
 abbrev pub around : List (List ℕ) → TransactionsAround → Around
-around names place = record { locals = names; atomic = place.atomic; outer = place.outer; in_any = place.in_any }
+around names surroundings = record {
+  locals = names;
+  atomic = surroundings.atomic;
+  outer = surroundings.outer;
+  in_any = surroundings.in_any;
+}
 
 module _ {A : Type 0} where
   -- their names, in order of declaration
@@ -15,4 +20,4 @@ module _ {A : Type 0} where
   names_in l = map (λ n. n.0) (locals_in l.scope)
 
   abbrev pub around_in : Locals A → TransactionsAround → Around
-  around_in l place = around (names_in l) place
+  around_in l surroundings = around (names_in l) surroundings

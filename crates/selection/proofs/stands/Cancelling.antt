@@ -5,8 +5,8 @@ use Rattle.std.proofs.Math.Logic.{∥∥₁_elim, ∥∥₁_prop}
 use Rattle.std.proofs.lemmas.List.Elements.{All-contains, Contains-append_left, Contains-append_right}
 use Rattle.syntax.specs.declared.tree.Mode.{Mode}
 use Rattle.syntax.specs.declared.tree.Mode.TheVariants.{Atomic, Relaxed}
-use Rattle.syntax.specs.declared.tree.Kind.{Kind}
-use Rattle.syntax.specs.declared.tree.Kind.TheVariants.{Plain, Outer}
+use Rattle.syntax.specs.declared.tree.TransactionKind.{TransactionKind}
+use Rattle.syntax.specs.declared.tree.TransactionKind.TheVariants.{Plain, Outer}
 use Rattle.syntax.specs.Tree as Tree
 use Rattle.syntax.specs.Tree.{Stmt, Stmts, Empty, Declare, Do, Block, Print, If, IfElse, While, DoWhile, For, Break, Continue, Return, Transaction, Cancel, CancelOuter, Function, Program}
 use Rattle.syntax.specs.Names.{definition_of}
@@ -38,10 +38,10 @@ module _ (p : Program) where
   one_deeper None inside = inside
   one_deeper (Some n) inside = tt
 
-  in_kind : (kind : Kind) (a : Around) (m : Enclosing) (at : Tree.Span) → AllKeep (kind_site kind a at) → Encloses a m → Encloses (in_transaction kind a) (enclosed_in kind m)
+  in_kind : (kind : TransactionKind) (a : Around) (m : Enclosing) (at : Tree.Span) → AllKeep (kind_site kind a at) → Encloses a m → Encloses (in_transaction kind a) (enclosed_in kind m)
   in_kind (Plain Atomic) a m at h n = record { innermost = λ e. refl; in_outer = λ e. one_deeper m.in_outer (n.in_outer e) }
   in_kind (Plain Relaxed) a m at h n = record {
-    innermost = λ e. absurd ((h.each (record { construct = Relaxes; at = at; atomic = a.atomic; outer = a.outer; in_any = a.in_any }) (0, omega arith, refl)).0.0 e);
+    innermost = λ e. absurd ((h.each (record { construct = Relaxes; span = at; atomic = a.atomic; outer = a.outer; in_any = a.in_any }) (0, omega arith, refl)).0.0 e);
     in_outer = λ e. one_deeper m.in_outer (n.in_outer e);
   }
   in_kind Outer a m at h n = record { innermost = λ e. refl; in_outer = λ e. tt }
@@ -70,9 +70,9 @@ module _ (p : Program) where
         let a' = in_transaction kind a in
         all_cancels_fit ss a' (enclosed_in kind m) (in_kind kind a m at (before (kind_site kind a at) (stmts_sites ss a') h) n) (after (kind_site kind a at) (stmts_sites ss a') h)
     cancels_fit (Cancel at) a m n h =
-        n.innermost ((h.each (record { construct = Cancels; at = at; atomic = a.atomic; outer = a.outer; in_any = a.in_any }) (0, omega arith, refl)).0.1 refl)
+        n.innermost ((h.each (record { construct = Cancels; span = at; atomic = a.atomic; outer = a.outer; in_any = a.in_any }) (0, omega arith, refl)).0.1 refl)
     cancels_fit (CancelOuter at) a m n h =
-        n.in_outer ((h.each (record { construct = CancelsOuter; at = at; atomic = a.atomic; outer = a.outer; in_any = a.in_any }) (0, omega arith, refl)).1.1 refl)
+        n.in_outer ((h.each (record { construct = CancelsOuter; span = at; atomic = a.atomic; outer = a.outer; in_any = a.in_any }) (0, omega arith, refl)).1.1 refl)
 
     all_cancels_fit : (ss : Stmts) (a : Around) (m : Enclosing) → Encloses a m → AllKeep (stmts_sites ss a) → AllCancelsFit ss m
     all_cancels_fit Tree.[] a m n h = tt

@@ -14,16 +14,16 @@ use Rattle.bytecode.specs.declared.instr.Instr.{Instr}
 use Rattle.bytecode.specs.declared.instr.Instr.TheVariants as own
 use Rattle.bytecode.specs.Code.{Code}
 use Rattle.bytecode.specs.Views.{instr_of}
-use Rattle.lower_spec.specs.Expressions.{Coded, Layout, Branching, InstructionAt, LeadsTo, MayTake, Branches, BothHold, EitherHolds, IsNought, ComparedWithZero, TruthCode, ConditionalCode}
+use Rattle.lower_spec.specs.Expressions.{Coded, Layout, Branching, InstructionAt, LeadsTo, MayTake, Branches, BothHold, EitherHolds, IsZeroConstant, ComparedWithZero, TruthCode, ConditionalCode}
 use Rattle.selection.specs.declared.draft.Draft.TheVariants as draft
 use Rattle.selection.specs.Lists.{Lists, with_register}
-use Rattle.selection.specs.Conditions.{Condition, test_in, jump_if, jump_if_not, instruction_of_draft, going_on, going_back, opposite_draft, by_value, opposite, first_of, logical_condition, is_nought, zero_test, zero_tested}
+use Rattle.selection.specs.Conditions.{Condition, test_in, jump_if, jump_if_not, instruction_of_draft, going_on, going_back, opposite_draft, by_value, opposite, first_of, logical_condition, is_zero_constant, zero_test, zero_tested}
 use Rattle.selection.specs.Expressions.{Emitted, condition_value, conditional_value, condition_of}
 use Rattle.selection.proofs.Drafted.{opposite_if, opposite_if_not, whole_are, turned_are, first_and, first_or, completed_length, on_length, back_length, first_length}
 use Rattle.selection.proofs.stands.Standing.{Stand, front, behind, Grows, grows_same, grows_further, grows_used, Fits, fits_before, is_register, given}
 use Rattle.selection.proofs.stands.Emitting.{Emits}
 
-nought : (e : Expr) → is_nought e ≡ true → IsNought e
+nought : (e : Expr) → is_zero_constant e ≡ true → IsZeroConstant e
 nought (Constant zero t at) h = (t, at, refl)
 nought e h = absurd (cc)
 
@@ -145,14 +145,14 @@ module _ (code : Code) (arguments : List ℕ) (layout : Layout) where
   -- a comparison with 0
   pub zero_decides : (op : BinaryOp) (b : Expr) (A : Branching) (T : Branching) (from free : ℕ) (l : Lists) (other : Condition) → Decides A from free l other →
       ((met unmet : ℕ) → ComparedWithZero code layout op b A from met unmet free → T from met unmet free) → IfSome (zero_tested (zero_test op b) other) (Decides T from free l)
-  zero_decides Equal b A T from free l other h make = by (is_nought b) refl
+  zero_decides Equal b A T from free l other h make = by (is_zero_constant b) refl
     where
-      by : (n : Bool) → is_nought b ≡ n → IfSome (zero_tested (if n then Some true else None) other) (Decides T from free l)
+      by : (n : Bool) → is_zero_constant b ≡ n → IfSome (zero_tested (if n then Some true else None) other) (Decides T from free l)
       by true n = opposite_decides A T from free l other (λ met unmet t. make met unmet (nought b n, inr (refl, t))) h
       by false n = tt
-  zero_decides NotEqual b A T from free l other h make = by (is_nought b) refl
+  zero_decides NotEqual b A T from free l other h make = by (is_zero_constant b) refl
     where
-      by : (n : Bool) → is_nought b ≡ n → IfSome (zero_tested (if n then Some false else None) other) (Decides T from free l)
+      by : (n : Bool) → is_zero_constant b ≡ n → IfSome (zero_tested (if n then Some false else None) other) (Decides T from free l)
       by true n = same_decides A T from free l other (λ met unmet t. make met unmet (nought b n, inl (refl, t))) h
       by false n = tt
   zero_decides op b A T from free l other h make = tt

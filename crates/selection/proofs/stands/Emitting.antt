@@ -17,7 +17,7 @@ use Rattle.bytecode.specs.Views.{instr_of}
 use Rattle.lower_spec.specs.Expressions as Lowered
 use Rattle.lower_spec.specs.Expressions.{Coded, Due, Layout, MayTake, constant_in, GivenBy, Converts, ConvertedCode, DueCode, TypedCode, LocalIs, WordCode, OperandCode, VariableCode, ElementCode, CastCode, ValueTransactionCode, UnaryCode, NotCode, BinaryCode, MovedCode, BranchCode, HandedCode}
 use Rattle.selection.specs.Lists.{Lists, with_register}
-use Rattle.selection.specs.Expressions.{computing, negating, complementing, Emitted, above, one, then_one, constant, ready_from, ready, constant_ready, ready_or, in_local, converting, converted_by, in_type, in_first_type, in_own_transaction, negation, complement, logical_negation, both, value_into}
+use Rattle.selection.specs.Expressions.{computing, negating, complementing, Emitted, above, one, then_one, constant, preloaded_from, preloaded, preloaded_constant, preloaded_or, in_local, converting, converted_by, in_type, in_first_type, in_own_transaction, negation, complement, logical_negation, both, value_into}
 use Rattle.selection.proofs.stands.Standing.{Stand, front, behind, Grows, grows_same, grows_further, grows_used, max_left, max_right, Fits, fits_before, is_register, given}
 
 -- operators have the instructions of the relation
@@ -230,23 +230,23 @@ module _ (code : Code) (arguments : List ℕ) (layout : Layout) where
 
   -- a word that is preloaded, or else is set
   pub word_emits : (w : ℕ) (u : Scalar) (from free : ℕ) (l : Lists) →
-      Emits (λ from to free r x. WordCode code layout w u from to free r) from free l (ready_or (ready l.layout w u from) l (constant w u from free l))
-  word_emits w u from free l = by (ready_from l.layout.writable l.layout.constants w) refl
+      Emits (λ from to free r x. WordCode code layout w u from to free r) from free l (preloaded_or (preloaded l.layout w u from) l (constant w u from free l))
+  word_emits w u from free l = by (preloaded_from l.layout.writable l.layout.constants w) refl
     where
-      by : (o : Option ℕ) → ready_from l.layout.writable l.layout.constants w ≡ o →
-          Emits (λ from to free r x. WordCode code layout w u from to free r) from free l (ready_or (option_map (λ r. record { register = r; ty = u; to = from }) o) l (constant w u from free l))
+      by : (o : Option ℕ) → preloaded_from l.layout.writable l.layout.constants w ≡ o →
+          Emits (λ from to free r x. WordCode code layout w u from to free r) from free l (preloaded_or (option_map (λ r. record { register = r; ty = u; to = from }) o) l (constant w u from free l))
       by None n =
           let g = one_emits None (λ r. Plain.Constant r w) (own.Constant free w) u from free free l refl (omega arith) in
           record { to_is = g.to_is; grows = g.grows; stands = λ f st. inl (g.stands f st) }
       by (Some r) n = record {
         to_is = omega arith;
         grows = grows_same l;
-        stands = λ f st. inr (let k = f.ready w r n in record { number = k.number; known = k.known; to_is = refl; register = k.register; type_is = refl });
+        stands = λ f st. inr (let k = f.preloaded w r n in record { number = k.number; known = k.known; to_is = refl; register = k.register; type_is = refl });
       }
 
   -- the right side of an operator, and its left side
   pub operand_emits : (b : Expr) (A : Coded) (s u : Scalar) (from free : ℕ) (l : Lists) (e : Emitted) → Emits A from free l e → e.location.ty ≡ s → OwnIs b s →
-      Emits (λ from to free r x. OperandCode code layout b A u from to free r s) from free l (ready_or (constant_ready l.layout u b from) l (in_type s u b e from free l))
+      Emits (λ from to free r x. OperandCode code layout b A u from to free r s) from free l (preloaded_or (preloaded_constant l.layout u b from) l (in_type s u b e from free l))
   operand_emits (Constant n t at) A s u from free l e h q o =
       let g = word_emits (constant_in u t n) u from free l in
       record { to_is = g.to_is; grows = g.grows; stands = λ f st. (o, g.stands f st) }
@@ -292,10 +292,10 @@ module _ (code : Code) (arguments : List ℕ) (layout : Layout) where
       }
 
   -- a value in this very register: it came there, or it is moved
-  pub settled_emits : (home : Option ℕ) (e' : Expr) (A : Option ℕ → Coded) (t : Scalar) (from into free : ℕ) (l : Lists) (e : Emitted) → Emits (λ from to free r x. TypedCode code layout home e' (A home) t from to free r) from free l e →
+  pub into_emits : (home : Option ℕ) (e' : Expr) (A : Option ℕ → Coded) (t : Scalar) (from into free : ℕ) (l : Lists) (e : Emitted) → Emits (λ from to free r x. TypedCode code layout home e' (A home) t from to free r) from free l e →
       (Emits (λ from to free r x. TypedCode code layout None e' (A None) t from to free r) from free l e ⊎ (e.location.register ≡ into)) → MayTake home free into →
       Emits (λ from to free r x. BranchCode code layout home e' A from to free into t) from free l (value_into into e)
-  settled_emits home e' A t from into free l e h o m = by (e.location.register == into) refl
+  into_emits home e' A t from into free l e h o m = by (e.location.register == into) refl
     where
       there : e.location.register ≡ into → Emits (λ from to free r x. BranchCode code layout home e' A from to free into t) from free l e
       there same = record {

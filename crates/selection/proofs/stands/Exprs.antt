@@ -25,14 +25,14 @@ use Rattle.bytecode.specs.declared.instr.Instr.TheVariants as own
 use Rattle.bytecode.specs.Code.{Code, FunctionCode, Instr as Plain}
 use Rattle.bytecode.specs.Views.{args_of, instr_of}
 use Rattle.lower_spec.specs.Expressions.{LocalScope, Layout, IsLike, Coded, Branching, MayTake, GivenBy, TypedCode, BranchCode, VariableCode, ElementAt, BothHold, EitherHolds, CallCode, argument_order, types_left, OperandCode, ExprCode, OwnTests, ArgsCode, CondCode}
-use Rattle.selection.specs.Lists.{Lists, with_register, holding}
+use Rattle.selection.specs.Lists.{Lists, with_register, with_registers}
 use Rattle.selection.specs.Names.{Callee, callee_at, callee_of}
 use Rattle.selection.specs.Conditions.{Condition, logical_condition}
-use Rattle.selection.specs.Expressions.{Emitted, AllEmitted, above, variable, element, call_code, value_into, converting, where_same, in_type, in_first_type, variable_type, element_type, called_type, taken_types, emitted_type, emitted, due, operand, own_condition, condition, all_emitted}
+use Rattle.selection.specs.Expressions.{Emitted, AllEmitted, above, variable, element, call_code, value_into, converting, where_same, in_type, in_first_type, variable_type, element_type, called_type, taken_types, emitted_type, emit, as_type, operand, own_condition, condition, emit_all}
 use Rattle.selection.proofs.stands.Standing.{Stand, front, behind, front_same, front_more, max_left, Grows, grows_same, grows_further, grows_used, Fits, fits_before, is_register, given}
 use Rattle.selection.proofs.stands.Named.{VariableFound, variable_found, array_found, function_found, known_number, known_array, known_callable}
 use Rattle.selection.proofs.stands.Kinds.{in_type_of, emitted_is}
-use Rattle.selection.proofs.stands.Emitting.{above_free, above_it, Emits, one_emits, in_local_emits, element_emits, OwnIs, in_type_emits, in_type_elsewhere, typed_emits, cast_emits, in_first_emits, in_own_emits, negated_emits, complemented_emits, compared_emits, operand_emits, left_emits, both_emits, settled_emits}
+use Rattle.selection.proofs.stands.Emitting.{above_free, above_it, Emits, one_emits, in_local_emits, element_emits, OwnIs, in_type_emits, in_type_elsewhere, typed_emits, cast_emits, in_first_emits, in_own_emits, negated_emits, complemented_emits, compared_emits, operand_emits, left_emits, both_emits, into_emits}
 use Rattle.selection.proofs.stands.Conds.{Decides, opposite_decides, and_decides, or_decides, tested_decides, zero_decides, answered_emits, chosen_emits}
 
 -- a callee's number is that of a function of its name
@@ -178,7 +178,7 @@ module _ (p : Program) (code : Code) (arguments : List ℕ) (layout : Layout) (t
             let handed : List ℕ = argument_order f.parameters args.registers in
             let i : Instr = own.Call into (length handed) c.number (length made) in
             let more : Lists = record args.lists { arguments = made ++ handed } in
-            let lists : Lists = holding (length handed) more in
+            let lists : Lists = with_registers (length handed) more in
             let grows_more : Grows args.lists more = record { arguments = front_more made handed; texts = front_same args.lists.texts; registers = omega arith; layout = refl } in
             let grows_lists : Grows more lists = record { arguments = front_same (made ++ handed); texts = front_same args.lists.texts; registers = max_left args.lists.registers (length handed); layout = refl } in
             let all : Grows args.lists (with_register into lists) = grows_used args.lists lists into (grows_further args.lists more lists grows_more grows_lists) in
@@ -209,7 +209,7 @@ module _ (p : Program) (code : Code) (arguments : List ℕ) (layout : Layout) (t
 
     -- a value that did not come into the register that was asked for lies in a local's own
     elsewhere : (e : Expr) → TypedExpr known e → (from into free : ℕ) (l : Lists) →
-        Emits code arguments layout (ExprCode code layout p None scope e) from free l (emitted p scope e from into free l) ⊎ ((emitted p scope e from into free l).location.register ≡ into)
+        Emits code arguments layout (ExprCode code layout p None scope e) from free l (emit p scope e from into free l) ⊎ ((emit p scope e from into free l).location.register ≡ into)
     elsewhere (Variable x) h from into free l =
         let k = known_number (known x.text) h.0 h.1 in
         by (newest scope x.text) (global_of p x.text) k.0 (variable_found p scope x.text k.0 (agrees x.text h.0 ∙ k.1))
@@ -219,25 +219,25 @@ module _ (p : Program) (code : Code) (arguments : List ℕ) (layout : Layout) (t
         by (Some x) g t f = inl (in_local_emits code arguments layout (length scope) x.0 x.1 from free l f.0)
         by None (Some g) t f = inr refl
         by None None t f = absurd f
-    elsewhere (Element x i at) h from into free l = inr (element_into (global_of p x.text) (emitted p scope i from free free l) from into l)
-    elsewhere (Call f es at) h from into free l = inr (called_into (callee_of p f.text) (all_emitted p scope (taken_types (callee_of p f.text)) es from free l) from into l)
+    elsewhere (Element x i at) h from into free l = inr (element_into (global_of p x.text) (emit p scope i from free free l) from into l)
+    elsewhere (Call f es at) h from into free l = inr (called_into (callee_of p f.text) (emit_all p scope (taken_types (callee_of p f.text)) es from free l) from into l)
     elsewhere (Parenthesized e at) h from into free l = elsewhere e h from into free l
     elsewhere (Cast t e at) h from into free l =
         let s = emitted_type p scope e in
-        let x = emitted p scope e from into free l in
+        let x = emit p scope e from into free l in
         ⊎_elim (λ g. inl (cast_emits code arguments layout None e (ExprCode code layout p None scope e) s t from free l (in_type s t e x from into l) (in_type_of s t e x from into l) g)) (λ g. inr g)
         (in_type_elsewhere code arguments layout e (ExprCode code layout p None scope e) s t from free into l x (elsewhere e h from into free l) (emitted_is p scope e from into free l))
     elsewhere (Unary Keep e at) h from into free l = elsewhere e h.0 from into free l
     elsewhere (InTransaction mode keyword e at) h from into free l =
-        ⊎_elim (λ g. inl (in_own_emits code arguments layout (ExprCode code layout p None scope e) from free l (emitted p scope e (from + 1) into free l) g)) (λ g. inr g) (elsewhere e h.0 (from + 1) into free l)
+        ⊎_elim (λ g. inl (in_own_emits code arguments layout (ExprCode code layout p None scope e) from free l (emit p scope e (from + 1) into free l) g)) (λ g. inr g) (elsewhere e h.0 (from + 1) into free l)
     elsewhere e h from into free l = inr refl
 
     -- a branch's value in the type of both
     branch_elsewhere : (t : Scalar) (e : Expr) → TypedExpr known e → (from into free : ℕ) (l : Lists) →
-        Emits code arguments layout (λ from to free r x. TypedCode code layout None e (ExprCode code layout p None scope e) t from to free r) from free l (due p scope t e from into free l) ⊎ ((due p scope t e from into free l).location.register ≡ into)
+        Emits code arguments layout (λ from to free r x. TypedCode code layout None e (ExprCode code layout p None scope e) t from to free r) from free l (as_type p scope t e from into free l) ⊎ ((as_type p scope t e from into free l).location.register ≡ into)
     branch_elsewhere t e h from into free l =
         let s = emitted_type p scope e in
-        let x = emitted p scope e from into free l in
+        let x = emit p scope e from into free l in
         ⊎_elim (λ g. inl (typed_emits code arguments layout None e (ExprCode code layout p None scope e) s t from free l (in_type s t e x from into l) g)) (λ g. inr g)
         (in_type_elsewhere code arguments layout e (ExprCode code layout p None scope e) s t from free into l x (elsewhere e h from into free l) (emitted_is p scope e from into free l))
 
@@ -248,47 +248,47 @@ module _ (p : Program) (code : Code) (arguments : List ℕ) (layout : Layout) (t
     abbrev Tests : Expr → Branching
     Tests e = CondCode code layout p scope e
 
-    by_parts : (e : Expr) (from free : ℕ) (l : Lists) → IfSome (own_condition p scope e from free l) (Decides code arguments layout (OwnTests code layout p scope e) from free l) → Emits code arguments layout (ExprCode code layout p None scope e) from free l (emitted p scope e from free free l) →
+    by_parts : (e : Expr) (from free : ℕ) (l : Lists) → IfSome (own_condition p scope e from free l) (Decides code arguments layout (OwnTests code layout p scope e) from free l) → Emits code arguments layout (ExprCode code layout p None scope e) from free l (emit p scope e from free free l) →
         Decides code arguments layout (Tests e) from free l (condition p scope e from free l)
-    by_parts e from free l h g = tested_decides code arguments layout (ExprCode code layout p None scope e) (OwnTests code layout p scope e) from free l (own_condition p scope e from free l) (emitted p scope e from free free l) h g
+    by_parts e from free l h g = tested_decides code arguments layout (ExprCode code layout p None scope e) (OwnTests code layout p scope e) from free l (own_condition p scope e from free l) (emit p scope e from free free l) h g
 
     mutual
       pub expr_emits : (home : Option ℕ) (e : Expr) → TypedExpr known e → (from into free : ℕ) (l : Lists) → MayTake home free into →
-          Emits code arguments layout (ExprCode code layout p home scope e) from free l (emitted p scope e from into free l)
+          Emits code arguments layout (ExprCode code layout p home scope e) from free l (emit p scope e from into free l)
       expr_emits home (Variable x) h from into free l m =
           let k = known_number (known x.text) h.0 h.1 in
           variable_emits home (newest scope x.text) (global_of p x.text) k.0 (variable_found p scope x.text k.0 (agrees x.text h.0 ∙ k.1)) from into free l m
       expr_emits home (Constant n t at) h from into free l m = one_emits code arguments layout home (λ r. Plain.Constant r (word_of t (pos n))) (own.Constant into (word_of t (pos n))) t from free into l refl m
       expr_emits home (Element x i at) h from into free l m =
           let k = known_array (known x.text) h.0 h.2 in
-          element_at_emits home (ExprCode code layout p None scope i) (global_of p x.text) k.0 (array_found p scope x.text k.0 k.1 (agrees x.text h.0 ∙ k.2)) from into free l (emitted p scope i from free free l)
+          element_at_emits home (ExprCode code layout p None scope i) (global_of p x.text) k.0 (array_found p scope x.text k.0 k.1 (agrees x.text h.0 ∙ k.2)) from into free l (emit p scope i from free free l)
           (expr_emits None i h.1 from free free l (omega arith)) m
       expr_emits home (Call f es at) h from into free l m =
           let c = calls f h.0 h.2 in
-          call_emits home f.text (λ ts. ArgsCode code layout p scope ts es) c (callee_of p f.text) c.callee from into free l (all_emitted p scope (taken_types (callee_of p f.text)) es from free l)
-          (subst (λ ts. AllEmits (ArgsCode code layout p scope ts es) from free l (all_emitted p scope (taken_types (callee_of p f.text)) es from free l)) (taken_of (callee_of p f.text) c.number c.definition.0 c.callee) (all_emits (taken_types (callee_of p f.text)) es h.1 from free l)) m
+          call_emits home f.text (λ ts. ArgsCode code layout p scope ts es) c (callee_of p f.text) c.callee from into free l (emit_all p scope (taken_types (callee_of p f.text)) es from free l)
+          (subst (λ ts. AllEmits (ArgsCode code layout p scope ts es) from free l (emit_all p scope (taken_types (callee_of p f.text)) es from free l)) (taken_of (callee_of p f.text) c.number c.definition.0 c.callee) (all_emits (taken_types (callee_of p f.text)) es h.1 from free l)) m
       expr_emits home (Parenthesized e at) h from into free l m = expr_emits home e h from into free l m
       expr_emits home (Cast t e at) h from into free l m =
           let s = emitted_type p scope e in
-          let x = emitted p scope e from into free l in
+          let x = emit p scope e from into free l in
           cast_emits code arguments layout home e (ExprCode code layout p home scope e) s t from free l (in_type s t e x from into l) (in_type_of s t e x from into l)
           (in_type_emits code arguments layout home e (ExprCode code layout p home scope e) s t from free into l x (expr_emits home e h from into free l m) (emitted_is p scope e from into free l) (own_is e) m)
       expr_emits home (Unary Negate e at) h from into free l m =
-          negated_emits code arguments layout home (ExprCode code layout p None scope e) from free into l (emitted p scope e from free free l) (expr_emits None e h.0 from free free l (omega arith)) m
+          negated_emits code arguments layout home (ExprCode code layout p None scope e) from free into l (emit p scope e from free free l) (expr_emits None e h.0 from free free l (omega arith)) m
       expr_emits home (Unary Keep e at) h from into free l m = expr_emits home e h.0 from into free l m
       expr_emits home (Unary Not e at) h from into free l m =
-          compared_emits code arguments layout home (ExprCode code layout p None scope e) from free into l (emitted p scope e from free free l) (expr_emits None e h.0 from free free l (omega arith)) m
+          compared_emits code arguments layout home (ExprCode code layout p None scope e) from free into l (emit p scope e from free free l) (expr_emits None e h.0 from free free l (omega arith)) m
       expr_emits home (Unary Complement e at) h from into free l m =
-          complemented_emits code arguments layout home (ExprCode code layout p None scope e) from free into l (emitted p scope e from free free l) (expr_emits None e h.0 from free free l (omega arith)) m
+          complemented_emits code arguments layout home (ExprCode code layout p None scope e) from free into l (emit p scope e from free free l) (expr_emits None e h.0 from free free l (omega arith)) m
       expr_emits home (Binary op a b at) h from into free l m =
           let ta = emitted_type p scope a in
           let tb = emitted_type p scope b in
           let t = operand_type op ta tb in
           let u = operand_type op tb ta in
-          let x = emitted p scope a from free free l in
+          let x = emit p scope a from free free l in
           let left = in_type ta t a x from free l in
           let later : ℕ = above free left.location.register in
-          let y = emitted p scope b left.location.to later later left.lists in
+          let y = emit p scope b left.location.to later later left.lists in
           both_emits code arguments layout home op (OperandCode code layout a (ExprCode code layout p None scope a)) (OperandCode code layout b (ExprCode code layout p None scope b)) ta tb from free into l left (operand p scope u b left.location.to later left.lists)
           (left_emits code arguments layout a (ExprCode code layout p None scope a) ta t from free l x (expr_emits None a h.0 from free free l (omega arith)) (emitted_is p scope a from free free l) (own_is a))
           (operand_emits code arguments layout b (ExprCode code layout p None scope b) tb u left.location.to later left.lists y (expr_emits None b h.2 left.location.to later later left.lists (omega arith)) (emitted_is p scope b left.location.to later later left.lists) (own_is b)) m
@@ -311,10 +311,10 @@ module _ (p : Program) (code : Code) (arguments : List ℕ) (layout : Layout) (t
           let ta = emitted_type p scope a in
           let tb = emitted_type p scope b in
           let t : Scalar = common ta tb in
-          let x = emitted p scope a (test.to + 1) into free test.lists in
+          let x = emit p scope a (test.to + 1) into free test.lists in
           let x1 = in_type ta t a x (test.to + 1) into test.lists in
           let first = value_into into x1 in
-          let y = emitted p scope b (first.location.to + 1) into free first.lists in
+          let y = emit p scope b (first.location.to + 1) into free first.lists in
           let y1 = in_type tb t b y (first.location.to + 1) into first.lists in
           let second = value_into into y1 in
           let A : Option ℕ → Coded = λ k. ExprCode code layout p k scope a in
@@ -325,8 +325,8 @@ module _ (p : Program) (code : Code) (arguments : List ℕ) (layout : Layout) (t
           (in_type_emits code arguments layout home b (B home) tb t (first.location.to + 1) free into first.lists y (expr_emits home b h.3 (first.location.to + 1) into free first.lists m) (emitted_is p scope b (first.location.to + 1) into free first.lists) (own_is b) m) in
           let whole = chosen_emits code arguments layout home (Tests c) (BranchCode code layout home a A) (BranchCode code layout home b B) t from into free l test first second
           (by_parts c from free l (own_decides c h.0 from free l) (expr_emits None c h.0 from free free l (omega arith)))
-          (settled_emits code arguments layout home a A t (test.to + 1) into free test.lists x1 left (branch_elsewhere t a h.1 (test.to + 1) into free test.lists) m)
-          (settled_emits code arguments layout home b B t (first.location.to + 1) into free first.lists y1 right (branch_elsewhere t b h.3 (first.location.to + 1) into free first.lists) m) in
+          (into_emits code arguments layout home a A t (test.to + 1) into free test.lists x1 left (branch_elsewhere t a h.1 (test.to + 1) into free test.lists) m)
+          (into_emits code arguments layout home b B t (first.location.to + 1) into free first.lists y1 right (branch_elsewhere t b h.3 (first.location.to + 1) into free first.lists) m) in
           record {
             to_is = whole.to_is;
             grows = whole.grows;
@@ -338,7 +338,7 @@ module _ (p : Program) (code : Code) (arguments : List ℕ) (layout : Layout) (t
             );
           }
       expr_emits home (InTransaction mode keyword e at) h from into free l m =
-          in_own_emits code arguments layout (ExprCode code layout p home scope e) from free l (emitted p scope e (from + 1) into free l) (expr_emits home e h.0 (from + 1) into free l m)
+          in_own_emits code arguments layout (ExprCode code layout p home scope e) from free l (emit p scope e (from + 1) into free l) (expr_emits home e h.0 (from + 1) into free l m)
 
       own_decides : (e : Expr) → TypedExpr known e → (from free : ℕ) (l : Lists) → IfSome (own_condition p scope e from free l) (Decides code arguments layout (OwnTests code layout p scope e) from free l)
       own_decides (Parenthesized e at) h from free l = own_decides e h from free l
@@ -365,14 +365,14 @@ module _ (p : Program) (code : Code) (arguments : List ℕ) (layout : Layout) (t
           (by_parts b (first.to + 1) free first.lists (own_decides b h.1 (first.to + 1) free first.lists) (expr_emits None b h.1 (first.to + 1) free free first.lists (omega arith)))
       own_decides e h from free l = tt
 
-      pub all_emits : (ts : List Scalar) (es : Exprs) → TypedExprs known es → (from free : ℕ) (l : Lists) → AllEmits (ArgsCode code layout p scope ts es) from free l (all_emitted p scope ts es from free l)
+      pub all_emits : (ts : List Scalar) (es : Exprs) → TypedExprs known es → (from free : ℕ) (l : Lists) → AllEmits (ArgsCode code layout p scope ts es) from free l (emit_all p scope ts es from free l)
       all_emits ts Exprs.[] h from free l = record { to_is = omega arith; grows = grows_same l; stands = λ f st. (refl, refl) }
       all_emits ts (Exprs.◌∷◌ e es) h from free l =
           let s = emitted_type p scope e in
-          let x = emitted p scope e from free free l in
+          let x = emit p scope e from free free l in
           let first = in_first_type s ts e x from free l in
           let later : ℕ = above free first.location.register in
-          let rest = all_emitted p scope (types_left ts) es first.location.to later first.lists in
+          let rest = emit_all p scope (types_left ts) es first.location.to later first.lists in
           let one = in_first_emits code arguments layout ts e (ExprCode code layout p None scope e) s from free l x (expr_emits None e h.0 from free free l (omega arith)) (emitted_is p scope e from free free l) (own_is e) in
           let others = all_emits (types_left ts) es h.1 first.location.to later first.lists in
           record {
@@ -393,17 +393,17 @@ module _ (p : Program) (code : Code) (arguments : List ℕ) (layout : Layout) (t
 
     -- an expression's value in the type that is due
     pub due_emits : (home : Option ℕ) (u : Scalar) (e : Expr) → TypedExpr known e → (from into free : ℕ) (l : Lists) → MayTake home free into →
-        Emits code arguments layout (λ from to free r x. TypedCode code layout home e (ExprCode code layout p home scope e) u from to free r) from free l (due p scope u e from into free l)
+        Emits code arguments layout (λ from to free r x. TypedCode code layout home e (ExprCode code layout p home scope e) u from to free r) from free l (as_type p scope u e from into free l)
     due_emits home u e h from into free l m =
         let s = emitted_type p scope e in
-        typed_emits code arguments layout home e (ExprCode code layout p home scope e) s u from free l (due p scope u e from into free l)
-        (in_type_emits code arguments layout home e (ExprCode code layout p home scope e) s u from free into l (emitted p scope e from into free l) (expr_emits home e h from into free l m) (emitted_is p scope e from into free l) (own_is e) m)
+        typed_emits code arguments layout home e (ExprCode code layout p home scope e) s u from free l (as_type p scope u e from into free l)
+        (in_type_emits code arguments layout home e (ExprCode code layout p home scope e) s u from free into l (emit p scope e from into free l) (expr_emits home e h from into free l m) (emitted_is p scope e from into free l) (own_is e) m)
 
     -- the right side of an operator
     pub right_emits : (u : Scalar) (e : Expr) → TypedExpr known e → (from free : ℕ) (l : Lists) →
         Emits code arguments layout (λ from to free r x. OperandCode code layout e (ExprCode code layout p None scope e) u from to free r (emitted_type p scope e)) from free l (operand p scope u e from free l)
     right_emits u e h from free l =
-        operand_emits code arguments layout e (ExprCode code layout p None scope e) (emitted_type p scope e) u from free l (emitted p scope e from free free l)
+        operand_emits code arguments layout e (ExprCode code layout p None scope e) (emitted_type p scope e) u from free l (emit p scope e from free free l)
         (expr_emits None e h from free free l (omega arith)) (emitted_is p scope e from free free l) (own_is e)
 
     pub cond_decides : (e : Expr) → TypedExpr known e → (from free : ℕ) (l : Lists) → Decides code arguments layout (CondCode code layout p scope e) from free l (condition p scope e from free l)

@@ -30,10 +30,10 @@ use Rattle.lower_spec.specs.Programs.{parameter_locals, FunctionIsLowered, IsLow
 use Rattle.selection.specs.Lists.{Lists}
 use Rattle.selection.specs.Names.{Callee, callee_at, callee_first, callee_from}
 use Rattle.selection.specs.Simples.{Written}
-use Rattle.selection.specs.Statements.{all_written}
+use Rattle.selection.specs.Statements.{stmts_code}
 use Rattle.selection.specs.Loops.{in_loops}
-use Rattle.selection.specs.Programs.{no_exits, body_with, nothing_ready, all_set, body_ready, body_better, body_written, FunctionCodes, function_code, put_before, made_first, all_made, made_of, picked_code}
-use Rattle.selection.proofs.stands.Standing.{Stand, front, behind, IsFront, front_same, front_front, IsReadyIn, nothing_is_found, all_are_found}
+use Rattle.selection.specs.Programs.{no_exits, body_with, nothing_preloaded, all_set, body_preloaded, body_better, body_written, FunctionCodes, function_code, put_before, made_first, all_made, made_of, picked_code}
+use Rattle.selection.proofs.stands.Standing.{Stand, front, behind, IsFront, front_same, front_front, IsPreloadedIn, nothing_is_found, all_are_found}
 use Rattle.selection.proofs.stands.Exprs.{CalleesStand, DefinedAreCallees}
 use Rattle.selection.proofs.Leaner.{body_leaner}
 use Rattle.selection.proofs.stands.Writing.{Writes}
@@ -92,7 +92,7 @@ callee_is_there p n (Defines f ∷ items) from l x c e = by f.body (λ h. callee
 
 pub callees_stand : (p : Program) → CalleesStand p (picked_code p)
 callees_stand p x c e =
-    let r = callee_is_there p 0 p 0 (record { arguments = []; texts = []; registers = 0; layout = nothing_ready }) x c e in
+    let r = callee_is_there p 0 p 0 (record { arguments = []; texts = []; registers = 0; layout = nothing_preloaded }) x c e in
     let same : r.number ≡ c.number = (let k = r.is in omega (arith, k)) in
     (r.function, subst (λ n. slice_get (made_of p).functions n ≡ Some r.function) same r.there, r.named)
 
@@ -153,7 +153,7 @@ module _ (p : Program) (typed : IsTypedProgram p) (cancels : CancelsAreFit p) wh
     to_is : w.to ≡ from + length w.code
     goes_on : GoesOn l w.lists
     named : length f.parameters ≤ w.lists.registers
-    stands : (layout : Layout) → IsReadyIn layout found → w.lists.registers ≤ layout.writable → GoesOn w.lists final → Stand code final.arguments from w.code →
+    stands : (layout : Layout) → IsPreloadedIn layout found → w.lists.registers ≤ layout.writable → GoesOn w.lists final → Stand code final.arguments from w.code →
         StmtsCode code layout p (Lowered.no_exits f.result) (parameter_locals f.parameters) body from last × InstructionAt code last (Plain.Return None)
 
   body_runs : (found : Layout) (f : Function) (body : Stmts) → definition_of p f.name.text ≡ Some (f, body) → (from : ℕ) (l : Lists) → BodyRuns found f body from l (body_with found p f body from l)
@@ -166,7 +166,7 @@ module _ (p : Program) (typed : IsTypedProgram p) (cancels : CancelsAreFit p) wh
       let enters = all_enter f.parameters vs (length-replicate n (record { ty = Int; word = 0 })) in
       let agrees : IsSubscope known (running_scope p scope) = agrees_by_shape p known scope (subst (λ m. IsSubscope known (scope_in p m)) (entered_shapes f.parameters vs enters.0 enters.1 ∙ sym (parameters_are f.parameters)) (shape_agrees p known enters.0 (t.fits vs enters.0 enters.1))) in
       let first : Lists = record l { registers = n; layout = found } in
-      let made = all_written p body (no_exits f.result) scope from first in
+      let made = stmts_code p body (no_exits f.result) scope from first in
       let writes : (layout : Layout) → Writes p code final.arguments layout (StmtsCode code layout p (Lowered.no_exits f.result) scope body) from first made = (λ layout.
       stmts_write p code final.arguments layout typed (callees_stand p) (defined_are_callees p) body known false scope (no_exits f.result) (Lowered.no_exits f.result) agrees
       (record { break_to = refl; continue_to = refl; in_loop = refl; in_function = refl; gives = refl; to_outer = refl })
@@ -178,12 +178,12 @@ module _ (p : Program) (typed : IsTypedProgram p) (cancels : CancelsAreFit p) wh
         goes_on = record { arguments = w.grows.arguments; texts = w.grows.texts };
         named = w.grows.registers;
         stands = λ layout ready room g st. (
-          (writes layout).stands (record { arguments = g.arguments; texts = g.texts; registers = room; ready = subst (IsReadyIn layout) (sym w.grows.layout) ready }) (front code final.arguments from made.code (own.Return ∷ []) st),
+          (writes layout).stands (record { arguments = g.arguments; texts = g.texts; registers = room; preloaded = subst (IsPreloadedIn layout) (sym w.grows.layout) ready }) (front code final.arguments from made.code (own.Return ∷ []) st),
           (behind code final.arguments from made.to made.code (own.Return ∷ []) w.to_is st).0,
         );
       }
 
-  plain_stands : (f : Function) (body : Stmts) (from : ℕ) (l : Lists) (w : Written) → BodyRuns nothing_ready f body from l w → BodyStands f body from l w
+  plain_stands : (f : Function) (body : Stmts) (from : ℕ) (l : Lists) (w : Written) → BodyRuns nothing_preloaded f body from l w → BodyStands f body from l w
   plain_stands f body from l w b = record {
     to_is = b.to_is;
     goes_on = b.goes_on;
@@ -199,7 +199,7 @@ module _ (p : Program) (typed : IsTypedProgram p) (cancels : CancelsAreFit p) wh
 
   -- a body behind the instructions that set its constants
   ready_stands : (layout : Layout) (f : Function) (body : Stmts) → definition_of p f.name.text ≡ Some (f, body) → (from : ℕ) (l : Lists) → length f.parameters ≤ layout.writable →
-      (body_with layout p f body (from + length layout.constants) l).lists.registers ≤ layout.writable → BodyStands f body from l (body_ready layout p f body from l)
+      (body_with layout p f body (from + length layout.constants) l).lists.registers ≤ layout.writable → BodyStands f body from l (body_preloaded layout p f body from l)
   ready_stands layout f body e from l named room =
       let begins : ℕ = from + length layout.constants in
       let made = body_with layout p f body begins l in
@@ -229,12 +229,12 @@ module _ (p : Program) (typed : IsTypedProgram p) (cancels : CancelsAreFit p) wh
   body_stands f body e from l = by (in_loops from plain.code)
     where
       plain : Written
-      plain = body_with nothing_ready p f body from l
+      plain = body_with nothing_preloaded p f body from l
 
-      runs : BodyRuns nothing_ready f body from l plain
-      runs = body_runs nothing_ready f body e from l
+      runs : BodyRuns nothing_preloaded f body from l plain
+      runs = body_runs nothing_preloaded f body e from l
 
-      by_room : (layout : Layout) → plain.lists.registers ≡ layout.writable → (b : Bool) → BodyStands f body from l (if b then body_ready layout p f body from l else plain)
+      by_room : (layout : Layout) → plain.lists.registers ≡ layout.writable → (b : Bool) → BodyStands f body from l (if b then body_preloaded layout p f body from l else plain)
       by_room layout same true =
           let named = runs.named in
           let leaner = body_leaner p f body layout from (from + length layout.constants) l l in
@@ -296,10 +296,10 @@ module _ (p : Program) (typed : IsTypedProgram p) (cancels : CancelsAreFit p) wh
       own =
           let met = may_be_function (file_scope earlier f.name.text) && (is_none f.body || not (has_name (defined_names earlier) f.name.text)) in
           let all : AreMet (IsTypedFunction earlier f) = met_before (IsTypedFunction earlier f) (AreTypedItems (earlier ++ Defines f ∷ []) items) h in
-          let type = demand 22 f.name.at (agrees f (file_scope earlier f.name.text)) in
-          let two = met_before (demand 21 f.name.at met ++ type ++ AreDistinct [] f.parameters) (IsTypedBody earlier f f.body) all in
-          let one = met_before (demand 21 f.name.at met ++ type) (AreDistinct [] f.parameters) two in
-          is_met 21 f.name.at met (met_before (demand 21 f.name.at met) type one)
+          let type = demand 22 f.name.span (agrees f (file_scope earlier f.name.text)) in
+          let two = met_before (demand 21 f.name.span met ++ type ++ AreDistinct [] f.parameters) (IsTypedBody earlier f f.body) all in
+          let one = met_before (demand 21 f.name.span met ++ type) (AreDistinct [] f.parameters) two in
+          is_met 21 f.name.span met (met_before (demand 21 f.name.span met) type one)
 
   pub items_met : AreMet (AreTypedItems [] p)
   items_met =
@@ -342,7 +342,7 @@ module _ (p : Program) (typed : IsTypedProgram p) (cancels : CancelsAreFit p) wh
 
   each_is_one : (number : ℕ) (g : FunctionCode) → slice_get code.functions number ≡ Some g → IsOne g
   each_is_one number g e =
-      (made_stands p (firsts_from [] p items_met (λ x n. refl)) 0 (record { arguments = []; texts = []; registers = 0; layout = nothing_ready })).stands (on_same final) (all_stand code final.arguments [] (made_of p).code refl) number g e
+      (made_stands p (firsts_from [] p items_met (λ x n. refl)) 0 (record { arguments = []; texts = []; registers = 0; layout = nothing_preloaded })).stands (on_same final) (all_stand code final.arguments [] (made_of p).code refl) number g e
 
   some_same : (a b : Function × Stmts) → Some a ≡ Some b → a ≡ b
   some_same a b e = ap (λ o. unwrap_or o a) e

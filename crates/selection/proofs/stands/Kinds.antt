@@ -8,7 +8,7 @@ use Rattle.bytecode.specs.declared.instr.Instr.{Instr}
 use Rattle.lower_spec.specs.Expressions.{LocalScope}
 use Rattle.selection.specs.Lists.{Lists}
 use Rattle.selection.specs.Names.{Callee, callee_of}
-use Rattle.selection.specs.Expressions.{Emitted, AllEmitted, converting, converted_by, in_type, variable, element, call_code, variable_type, element_type, called_type, taken_types, emitted_type, emitted, all_emitted}
+use Rattle.selection.specs.Expressions.{Emitted, AllEmitted, converting, converted_by, in_type, variable, element, call_code, variable_type, element_type, called_type, taken_types, emitted_type, emit, emit_all}
 
 pub converted_of : (o : Option (ℕ → ℕ → Instr)) (u : Scalar) (e : Emitted) (into : ℕ) → (converted_by o u e into).location.ty ≡ u
 converted_of None u e into = refl
@@ -31,13 +31,13 @@ called_is : (o : Option Callee) (args : AllEmitted) (from into : ℕ) (l : Lists
 called_is None args from into l = refl
 called_is (Some f) args from into l = refl
 
-pub emitted_is : (p : Program) (scope : LocalScope) (e : Expr) (from into free : ℕ) (l : Lists) → (emitted p scope e from into free l).location.ty ≡ emitted_type p scope e
+pub emitted_is : (p : Program) (scope : LocalScope) (e : Expr) (from into free : ℕ) (l : Lists) → (emit p scope e from into free l).location.ty ≡ emitted_type p scope e
 emitted_is p scope (Variable x) from into free l = variable_is (newest scope x.text) (global_of p x.text) from into l
 emitted_is p scope (Constant n t at) from into free l = refl
-emitted_is p scope (Element x i at) from into free l = element_is (global_of p x.text) (emitted p scope i from free free l) from into l
-emitted_is p scope (Call f es at) from into free l = called_is (callee_of p f.text) (all_emitted p scope (taken_types (callee_of p f.text)) es from free l) from into l
+emitted_is p scope (Element x i at) from into free l = element_is (global_of p x.text) (emit p scope i from free free l) from into l
+emitted_is p scope (Call f es at) from into free l = called_is (callee_of p f.text) (emit_all p scope (taken_types (callee_of p f.text)) es from free l) from into l
 emitted_is p scope (Parenthesized e at) from into free l = emitted_is p scope e from into free l
-emitted_is p scope (Cast t e at) from into free l = in_type_of (emitted_type p scope e) t e (emitted p scope e from into free l) from into l
+emitted_is p scope (Cast t e at) from into free l = in_type_of (emitted_type p scope e) t e (emit p scope e from into free l) from into l
 emitted_is p scope (Unary Negate e at) from into free l = emitted_is p scope e from free free l
 emitted_is p scope (Unary Keep e at) from into free l = emitted_is p scope e from into free l
 emitted_is p scope (Unary Not e at) from into free l = refl

@@ -23,8 +23,8 @@ use Rattle.lower_spec.specs.Expressions.{LocalScope, Coded, Due, Layout, Convert
 use Rattle.lower_spec.specs.Statements.{Target, LocalAt, CellAt, ElementOf, home_of, with_local, with_declared, locals_of_start, VariableTarget, CheckedAt, UncheckedAt, TargetCode, ReadTarget, FetchCode, ExprStored, AssignCode, ChangeCode, Operating, OneCode, SimpleCode, FirstValueCode, DeclareCode, StartCode}
 use Rattle.selection.specs.declared.locations.AssignmentTarget.{AssignmentTarget as OwnTarget}
 use Rattle.selection.specs.Lists.{Lists, with_register}
-use Rattle.selection.specs.Expressions.{Emitted, above, converting, converted_by, both, emitted_type, emitted}
-use Rattle.selection.specs.Simples.{Written, Aimed, variable_target, element_target, above_target, target_value, home_or, type_at, expr_fitting, then_stored, behind as aimed_then, aimed, value_or_one, type_or_int, changed, assigned, adjusted, simple_written, first_written, declared_written, start_written}
+use Rattle.selection.specs.Expressions.{Emitted, above, converting, converted_by, both, emitted_type, emit}
+use Rattle.selection.specs.Simples.{Written, Aimed, variable_target, element_target, above_target, target_value, home_or, type_at, expr_fitting, then_stored, behind as aimed_then, target_code, value_or_one, type_or_int, compound_value, assignment_code, compound_code, simple_written, first_written, declared_written, start_written}
 use Rattle.selection.proofs.stands.Standing.{Stand, front, behind, Grows, grows_same, grows_further, grows_used, Fits, fits_before, is_register}
 use Rattle.selection.proofs.stands.Named.{VariableFound, variable_found, array_found, known_number, known_array}
 use Rattle.selection.proofs.stands.Kinds.{emitted_is}
@@ -120,13 +120,13 @@ module _ (p : Program) (code : Code) (arguments : List ℕ) (layout : Layout) (t
       }));
     }
 
-    aims : (check : Bool) (lhs : Expr) → TypedTarget known lhs → IsTrue (may_be_assigned known lhs) → (from : ℕ) (l : Lists) → Aims check lhs from l (aimed p scope check lhs from (length scope) l)
+    aims : (check : Bool) (lhs : Expr) → TypedTarget known lhs → IsTrue (may_be_assigned known lhs) → (from : ℕ) (l : Lists) → Aims check lhs from l (target_code p scope check lhs from (length scope) l)
     aims check (Variable x) h m from l =
         let k = known_number (known x.text) h m in
         variable_aims check x (newest scope x.text) (global_of p x.text) k.0 refl refl (variable_found p scope x.text k.0 (agrees x.text h ∙ k.1)) from l
     aims check (Element x i at) h m from l =
         let k = known_array (known x.text) h.0 h.2 in
-        element_aims check x i at (global_of p x.text) k.0 refl (array_found p scope x.text k.0 k.1 (agrees x.text h.0 ∙ k.2)) from l (emitted p scope i from (length scope) (length scope) l)
+        element_aims check x i at (global_of p x.text) k.0 refl (array_found p scope x.text k.0 k.1 (agrees x.text h.0 ∙ k.2)) from l (emit p scope i from (length scope) (length scope) l)
         (expr_emits p code arguments layout typed stand defined known scope agrees None i h.1 from (length scope) (length scope) l (omega arith))
     aims check lhs h m from l = absurd (cc)
 
@@ -145,12 +145,12 @@ module _ (p : Program) (code : Code) (arguments : List ℕ) (layout : Layout) (t
         let later : ℕ = above_target (own_of goal) (length scope) in
         let home : ℕ = home_or (own_of goal) later in
         Writes p code arguments layout (AssignCode code layout p scope lhs e) from l
-        (aimed_then (with_target a (own_of goal)) (then_stored (own_of goal) (expr_fitting (own_of goal) (emitted_type p scope e) e (emitted p scope e a.to home later a.lists) a.to home a.lists)))
+        (aimed_then (with_target a (own_of goal)) (then_stored (own_of goal) (expr_fitting (own_of goal) (emitted_type p scope e) e (emit p scope e a.to home later a.lists) a.to home a.lists)))
     assigned_to lhs e h from l a goal to_is grows stands =
         let later : ℕ = above_target (own_of goal) (length scope) in
         let home : ℕ = home_or (own_of goal) later in
         let s : Scalar = emitted_type p scope e in
-        let v = emitted p scope e a.to home later a.lists in
+        let v = emit p scope e a.to home later a.lists in
         aimed_writes true lhs from l (with_target a (own_of goal)) goal to_is grows stands
         (λ from to. ExprStored code layout p scope goal e from to later) (AssignCode code layout p scope lhs e) (then_stored (own_of goal) (expr_fitting (own_of goal) s e v a.to home a.lists))
         (expr_stored p code arguments layout scope e goal s a.to later a.lists v
@@ -165,14 +165,14 @@ module _ (p : Program) (code : Code) (arguments : List ℕ) (layout : Layout) (t
           stores = s;
         })
 
-    assigned_writes : (lhs e : Expr) → TypedTarget known lhs → TypedExpr known e → IsTrue (may_be_assigned known lhs) → (from : ℕ) (l : Lists) → Writes p code arguments layout (SimpleCode code layout p scope (Assign lhs None e)) from l (assigned p scope lhs e from (length scope) l)
+    assigned_writes : (lhs e : Expr) → TypedTarget known lhs → TypedExpr known e → IsTrue (may_be_assigned known lhs) → (from : ℕ) (l : Lists) → Writes p code arguments layout (SimpleCode code layout p scope (Assign lhs None e)) from l (assignment_code p scope lhs e from (length scope) l)
     assigned_writes lhs e ht he m from l =
-        let a = aimed p scope true lhs from (length scope) l in
+        let a = target_code p scope true lhs from (length scope) l in
         let g = aims true lhs ht m from l in
         let result : OwnTarget → Type 0 = λ x.
         let later : ℕ = above_target x (length scope) in
         let home : ℕ = home_or x later in
-        Writes p code arguments layout (SimpleCode code layout p scope (Assign lhs None e)) from l (aimed_then (with_target a x) (then_stored x (expr_fitting x (emitted_type p scope e) e (emitted p scope e a.to home later a.lists) a.to home a.lists))) in
+        Writes p code arguments layout (SimpleCode code layout p scope (Assign lhs None e)) from l (aimed_then (with_target a x) (then_stored x (expr_fitting x (emitted_type p scope e) e (emit p scope e a.to home later a.lists) a.to home a.lists))) in
         subst result (sym g.same) (assigned_to lhs e he from l a g.goal g.to_is g.grows g.stands)
 
     -- the right side of an operator
@@ -186,7 +186,7 @@ module _ (p : Program) (code : Code) (arguments : List ℕ) (layout : Layout) (t
 
     changed_emits : (op : BinaryOp) (by : Option Expr) (B : Due) → RightEmits by B → (goal : Target) (from free : ℕ) (l : Lists) →
         Emits code arguments layout (λ from to free r x. Fitted p code arguments layout (BinaryCode code layout (home_of goal) op (ConvertedCode code layout None (FetchCode code layout p goal)) B) goal (result_type op (operand_type op (type_at (own_of goal)) (type_or_int p scope by))) from to free r)
-        from free l (changed p scope op by (own_of goal) from free l)
+        from free l (compound_value p scope op by (own_of goal) from free l)
     changed_emits op by B other goal from free l =
         let s : Scalar = type_at (own_of goal) in
         let t : Scalar = type_or_int p scope by in
@@ -202,12 +202,12 @@ module _ (p : Program) (code : Code) (arguments : List ℕ) (layout : Layout) (t
 
     adjusted_to : (op : BinaryOp) (lhs : Expr) (by : Option Expr) (B : Due) → RightEmits by B → (from : ℕ) (l : Lists) (a : Aimed) (goal : Target) → a.to ≡ from + length a.code → Grows l a.lists → (Fits code arguments layout a.lists → Stand code arguments from a.code → Goes false lhs from a.to goal) →
         Writes p code arguments layout (ChangeCode code layout p scope lhs op B) from l
-        (aimed_then (with_target a (own_of goal)) (then_stored (own_of goal) (changed p scope op by (own_of goal) a.to (above_target (own_of goal) (length scope)) a.lists)))
+        (aimed_then (with_target a (own_of goal)) (then_stored (own_of goal) (compound_value p scope op by (own_of goal) a.to (above_target (own_of goal) (length scope)) a.lists)))
     adjusted_to op lhs by B other from l a goal to_is grows stands =
         let later : ℕ = above_target (own_of goal) (length scope) in
         let t : Scalar = result_type op (operand_type op (type_at (own_of goal)) (type_or_int p scope by)) in
         let A : Coded = BinaryCode code layout (home_of goal) op (ConvertedCode code layout None (FetchCode code layout p goal)) B in
-        let whole = changed p scope op by (own_of goal) a.to later a.lists in
+        let whole = compound_value p scope op by (own_of goal) a.to later a.lists in
         aimed_writes false lhs from l (with_target a (own_of goal)) goal to_is grows stands
         (ValueStored p code arguments layout (λ from to free r x. Fitted p code arguments layout A goal t from to free r) later goal) (ChangeCode code layout p scope lhs op B) (then_stored (own_of goal) whole)
         (then_stored_writes p code arguments layout (λ from to free r x. Fitted p code arguments layout A goal t from to free r) goal a.to later a.lists whole (changed_emits op by B other goal a.to later a.lists))
@@ -226,13 +226,13 @@ module _ (p : Program) (code : Code) (arguments : List ℕ) (layout : Layout) (t
         })
 
     adjusted_writes : (op : BinaryOp) (lhs : Expr) (by : Option Expr) (B : Due) → RightEmits by B → TypedTarget known lhs → IsTrue (may_be_assigned known lhs) → (from : ℕ) (l : Lists) →
-        Writes p code arguments layout (ChangeCode code layout p scope lhs op B) from l (adjusted p scope op lhs by from (length scope) l)
+        Writes p code arguments layout (ChangeCode code layout p scope lhs op B) from l (compound_code p scope op lhs by from (length scope) l)
     adjusted_writes op lhs by B other ht m from l =
-        let a = aimed p scope false lhs from (length scope) l in
+        let a = target_code p scope false lhs from (length scope) l in
         let g = aims false lhs ht m from l in
         let result : OwnTarget → Type 0 = λ x.
         Writes p code arguments layout (ChangeCode code layout p scope lhs op B) from l
-        (aimed_then (with_target a x) (then_stored x (changed p scope op by x a.to (above_target x (length scope)) a.lists))) in
+        (aimed_then (with_target a x) (then_stored x (compound_value p scope op by x a.to (above_target x (length scope)) a.lists))) in
         subst result (sym g.same) (adjusted_to op lhs by B other from l a g.goal g.to_is g.grows g.stands)
 
     one_is_emitted : RightEmits None (OneCode code layout p)
@@ -245,7 +245,7 @@ module _ (p : Program) (code : Code) (arguments : List ℕ) (layout : Layout) (t
 
     pub simple_writes : (s : Simple) → TypedSimple known s → (from : ℕ) (l : Lists) → Writes p code arguments layout (SimpleCode code layout p scope s) from l (simple_written p scope s from (length scope) l)
     simple_writes (Evaluate e) h from l =
-        let v = emitted p scope e from (length scope) (length scope) l in
+        let v = emit p scope e from (length scope) (length scope) l in
         let g = expr_emits p code arguments layout typed stand defined known scope agrees None e h from (length scope) (length scope) l (omega arith) in
         record {
           to_is = g.to_is;
@@ -263,7 +263,7 @@ module _ (p : Program) (code : Code) (arguments : List ℕ) (layout : Layout) (t
       Writes p code arguments layout (FirstValueCode code layout p scope (i, t) first) from l (first_written p scope i t first from l)
   first_writes known scope agrees i t None n h from l = nothing_writes p code arguments layout from l
   first_writes known scope agrees i t (Some e) n h from l =
-      let v = emitted p scope e from i (suc i) l in
+      let v = emit p scope e from i (suc i) l in
       let w = expr_stored p code arguments layout scope e (LocalAt (i, t)) (emitted_type p scope e) from (suc i) l v
       (expr_emits p code arguments layout typed stand defined known scope agrees (Some i) e h from i (suc i) l (inr refl)) (emitted_is p scope e from i (suc i) l) in
       record {

@@ -8,8 +8,8 @@ use Rattle.bytecode.specs.Views.{instr_of}
 use Rattle.bytecode.specs.declared.limits.TheConstants.{MOST_REGISTERS}
 use Rattle.lower_spec.specs.Expressions.{Layout, InstructionAt, MayTake, GivenBy}
 use Rattle.selection.specs.Lists.{Lists, with_register}
-use Rattle.selection.specs.Expressions.{ready_from}
-use Rattle.selection.specs.Programs.{nothing_ready}
+use Rattle.selection.specs.Expressions.{preloaded_from}
+use Rattle.selection.specs.Programs.{nothing_preloaded}
 
 -- instructions stand in a code from a place on
 module _ (code : Code) (arguments : List ℕ) where
@@ -76,24 +76,24 @@ pub record IsFound (layout : Layout) (w r : ℕ) : Type 0 where
   pub known : slice_get layout.constants number ≡ Some w
   pub register : r ≡ layout.writable + number
 
--- what is found ready by one layout is preloaded in another
-abbrev pub IsReadyIn : Layout → Layout → Type 0
-IsReadyIn layout own = (w r : ℕ) → ready_from own.writable own.constants w ≡ Some r → IsFound layout w r
+-- what is found preloaded by one layout is preloaded in another
+abbrev pub IsPreloadedIn : Layout → Layout → Type 0
+IsPreloadedIn layout own = (w r : ℕ) → preloaded_from own.writable own.constants w ≡ Some r → IsFound layout w r
 
-pub nothing_is_found : (layout : Layout) → IsReadyIn layout nothing_ready
+pub nothing_is_found : (layout : Layout) → IsPreloadedIn layout nothing_preloaded
 nothing_is_found layout w r e = absurd (cc)
 
-found_from : (n : ℕ) (ws : List ℕ) → IsReadyIn (record { writable = n; constants = ws }) (record { writable = n; constants = ws })
+found_from : (n : ℕ) (ws : List ℕ) → IsPreloadedIn (record { writable = n; constants = ws }) (record { writable = n; constants = ws })
 found_from n [] w r e = absurd (cc)
 found_from n (x ∷ ws) w r e = by (x == w) refl (n == MOST_REGISTERS) (λ h. found_from (suc n) ws w r h) e
   where
-    by : (same : Bool) → (x == w) ≡ same → (last : Bool) → (ready_from (suc n) ws w ≡ Some r → IsFound (record { writable = suc n; constants = ws }) w r) → (if same then Some n else if last then None else ready_from (suc n) ws w) ≡ Some r →
+    by : (same : Bool) → (x == w) ≡ same → (last : Bool) → (preloaded_from (suc n) ws w ≡ Some r → IsFound (record { writable = suc n; constants = ws }) w r) → (if same then Some n else if last then None else preloaded_from (suc n) ws w) ≡ Some r →
         IsFound (record { writable = n; constants = x ∷ ws }) w r
     by true s last rest h = record { number = 0; known = ap Some (eqb-true x w s); register = let k : n ≡ r = ap (λ o. unwrap_or o n) h in omega (arith, k) }
     by false s true rest h = absurd (cc)
     by false s false rest h = let k = rest h in record { number = suc k.number; known = k.known; register = let i = k.register in omega (arith, i) }
 
-pub all_are_found : (layout : Layout) → IsReadyIn layout layout
+pub all_are_found : (layout : Layout) → IsPreloadedIn layout layout
 all_are_found layout = found_from layout.writable layout.constants
 
 -- what a finished code has for its lists, in a function whose registers are used so
@@ -101,7 +101,7 @@ pub record Fits (code : Code) (all : List ℕ) (layout : Layout) (l : Lists) : T
   pub arguments : IsFront l.arguments all
   pub texts : IsFront l.texts code.texts
   pub registers : l.registers ≤ layout.writable
-  pub ready : IsReadyIn layout l.layout
+  pub preloaded : IsPreloadedIn layout l.layout
 
 module _ (code : Code) (arguments : List ℕ) (layout : Layout) where
   pub fits_before : (l m : Lists) → Grows l m → Fits code arguments layout m → Fits code arguments layout l
@@ -109,7 +109,7 @@ module _ (code : Code) (arguments : List ℕ) (layout : Layout) where
     arguments = front_front l.arguments m.arguments arguments h.arguments g.arguments;
     texts = front_front l.texts m.texts code.texts h.texts g.texts;
     registers = let a = h.registers in let b = g.registers in omega (arith, a, b);
-    ready = subst (IsReadyIn layout) h.layout g.ready;
+    preloaded = subst (IsPreloadedIn layout) h.layout g.preloaded;
   }
 
   pub is_register : (l : Lists) (r : ℕ) → Fits code arguments layout (with_register r l) → r < layout.writable

@@ -7,11 +7,11 @@ use Rattle.lex.specs.declared.token.Scalar.{Scalar}
 use Rattle.lex.specs.declared.token.Scalar.TheVariants.{Int, Unsigned, LongLong}
 use Rattle.syntax.specs.declared.tree.Mode.{Mode}
 use Rattle.syntax.specs.declared.tree.Mode.TheVariants.{Atomic}
-use Rattle.syntax.specs.declared.tree.Kind.{Kind}
-use Rattle.syntax.specs.declared.tree.Kind.TheVariants as kinds
+use Rattle.syntax.specs.declared.tree.TransactionKind.{TransactionKind}
+use Rattle.syntax.specs.declared.tree.TransactionKind.TheVariants as kinds
 use Rattle.syntax.specs.Tree.{Expr, Exprs, Simple, Stmt, Stmts, Empty, Declare, Do, Block, Print, If, IfElse, While, DoWhile, For, Break, Continue, Return, Transaction, Cancel, CancelOuter, Program}
 use Rattle.syntax.specs.Meaning.{mode_of}
-use Rattle.syntax.specs.Formats.{Piece, Literal, Figure, pieces, figures}
+use Rattle.syntax.specs.Formats.{Piece, Literal, Specifier, pieces, specifiers}
 use Rattle.syntax.specs.Types.{Scope, running_scope}
 use Rattle.syntax.specs.Typing as Typing
 use Rattle.syntax.specs.Typing.{IsTypedProgram, count, scope_of_start}
@@ -26,11 +26,11 @@ use Rattle.lower_spec.specs.Statements as Lowered
 use Rattle.lower_spec.specs.Statements.{StartCode, IfCode, IfElseCode, WhileCode, DoWhileCode, ForCode, PrintCode, TransactionCode, OuterCancelCode, Exits, with_level, in_transaction, cancelling, looping, locals_of_start, locals_after, Leaves, ResultCode, TestCode, HoldsCode, SteppedCode, PiecesCode, StmtCode, StmtsCode}
 use Rattle.selection.specs.declared.locations.Exits.{Exits as OwnExits}
 use Rattle.selection.specs.Lists.{Lists}
-use Rattle.selection.specs.Expressions.{above, in_first_type, emitted_type, emitted, due, all_emitted, condition}
+use Rattle.selection.specs.Expressions.{above, in_first_type, emitted_type, emit, as_type, emit_all, condition}
 use Rattle.selection.specs.Conditions.{Condition, test_in, going_on}
 use Rattle.selection.specs.Simples.{Written, one_written, code_of_value, start_written}
 use Rattle.selection.specs.Statements as Own
-use Rattle.selection.specs.Statements.{left_by, if_code, branched_twice, tested_back, while_written, do_written, for_written, transaction_code, return_code, printing, pieces_written, print_written, for_test, for_step, written, all_written}
+use Rattle.selection.specs.Statements.{left_by, if_code, branched_twice, tested_back, while_written, do_written, for_written, transaction_code, return_code, printing, pieces_written, print_written, for_test, for_step, stmt_code, stmts_code}
 use Rattle.selection.proofs.stands.Standing.{Stand, front, behind, front_same, front_more, Grows, grows_same, grows_further, Fits, fits_before}
 use Rattle.selection.proofs.stands.Exprs.{CalleesStand, DefinedAreCallees, all_emits, due_emits, cond_decides}
 use Rattle.selection.proofs.stands.Conds.{Decides, on_is, goes_on, back_is, goes_back}
@@ -46,7 +46,7 @@ pub record Enclosing : Type 0 where
 abbrev pub not_enclosed : Enclosing
 not_enclosed = record { innermost = None; in_outer = None }
 
-abbrev pub enclosed_in : Kind → Enclosing → Enclosing
+abbrev pub enclosed_in : TransactionKind → Enclosing → Enclosing
 enclosed_in kind m = record { innermost = Some (mode_of kind); in_outer = with_level kind m.in_outer }
 
 abbrev pub enclosing : Exits → Enclosing
@@ -80,7 +80,7 @@ abbrev pub level_of : Option ℕ → ℕ
 level_of None = 0
 level_of (Some n) = suc n
 
-pub level_inside : (kind : Kind) (levels : Option ℕ) → Own.level_in kind (level_of levels) ≡ level_of (with_level kind levels)
+pub level_inside : (kind : TransactionKind) (levels : Option ℕ) → Own.level_in kind (level_of levels) ≡ level_of (with_level kind levels)
 level_inside kinds.Outer levels = refl
 level_inside (kinds.Plain mode) None = refl
 level_inside (kinds.Plain mode) (Some n) = refl
@@ -94,7 +94,7 @@ pub record SameExits (x : OwnExits) (y : Exits) : Type 0 where
   pub gives : y.gives ≡ x.gives
   pub to_outer : x.to_outer ≡ level_of y.in_outer
 
-same_in_transaction : (kind : Kind) (x : OwnExits) (y : Exits) → SameExits x y → SameExits (Own.in_transaction kind x) (in_transaction kind y)
+same_in_transaction : (kind : TransactionKind) (x : OwnExits) (y : Exits) → SameExits x y → SameExits (Own.in_transaction kind x) (in_transaction kind y)
 same_in_transaction kind x y h = record {
   break_to = h.break_to;
   continue_to = h.continue_to;
@@ -108,10 +108,10 @@ same_looping : (x : OwnExits) (y : Exits) (b c : ℕ) → SameExits x y → Same
 same_looping x y b c h = record { break_to = refl; continue_to = refl; in_loop = refl; in_function = h.in_function; gives = h.gives; to_outer = h.to_outer }
 
 -- as many registers as arguments
-pub registers_are : (p : Program) (scope : LocalScope) (ts : List Scalar) (es : Exprs) (from free : ℕ) (l : Lists) → length (all_emitted p scope ts es from free l).registers ≡ count es
+pub registers_are : (p : Program) (scope : LocalScope) (ts : List Scalar) (es : Exprs) (from free : ℕ) (l : Lists) → length (emit_all p scope ts es from free l).registers ≡ count es
 registers_are p scope ts Exprs.[] from free l = refl
 registers_are p scope ts (Exprs.◌∷◌ e es) from free l =
-    let first = in_first_type (emitted_type p scope e) ts e (emitted p scope e from free free l) from free l in
+    let first = in_first_type (emitted_type p scope e) ts e (emit p scope e from free free l) from free l in
     let h = registers_are p scope (types_left ts) es first.location.to (above free first.location.register) first.lists in
     omega (arith, h)
 
@@ -160,7 +160,7 @@ module _ (p : Program) (code : Code) (arguments : List ℕ) (layout : Layout) wh
   at_length [] ys x = refl
   at_length (y ∷ xs) ys x = at_length xs ys x
 
-  pieces_write : (ps : List Piece) (rs : List ℕ) → length (figures ps) ≤ length rs → (from : ℕ) (l : Lists) → Writes p code arguments layout (λ from to. PiecesCode code layout p ps rs from to) from l (pieces_written ps rs from l)
+  pieces_write : (ps : List Piece) (rs : List ℕ) → length (specifiers ps) ≤ length rs → (from : ℕ) (l : Lists) → Writes p code arguments layout (λ from to. PiecesCode code layout p ps rs from to) from l (pieces_written ps rs from l)
   pieces_write [] rs h from l = nothing_writes p code arguments layout from l
   pieces_write (Literal text ∷ ps) rs h from l =
       let more : Lists = record l { texts = l.texts ++ text ∷ [] } in
@@ -180,8 +180,8 @@ module _ (p : Program) (code : Code) (arguments : List ℕ) (layout : Layout) wh
               subst (λ q. PiecesCode code layout p ps rs q rest.to) (omega arith) (g.stands f (subst (λ q. Stand code arguments q rest.code) (omega arith) st.1)),
             );
       }
-  pieces_write (Figure t ∷ ps) [] h from l = absurd (omega (arith, h))
-  pieces_write (Figure t ∷ ps) (r ∷ rs) h from l =
+  pieces_write (Specifier t ∷ ps) [] h from l = absurd (omega (arith, h))
+  pieces_write (Specifier t ∷ ps) (r ∷ rs) h from l =
       let g = pieces_write ps rs (omega (arith, h)) (from + 1) l in
       let rest = pieces_written ps rs (from + 1) l in
       record {
@@ -271,7 +271,7 @@ module _ (p : Program) (code : Code) (arguments : List ℕ) (layout : Layout) (t
               };
         }
 
-  -- loops: jumps and pads, and the parts behind them
+  -- loops: jumps, and the parts behind them
   jump_at : (n q to : ℕ) → n ≡ q → InstructionAt code n (Plain.Jump to) → InstructionAt code q (Plain.Jump to)
   jump_at n q to e h = subst (λ m. InstructionAt code m (Plain.Jump to)) e h
 
@@ -280,13 +280,13 @@ module _ (p : Program) (code : Code) (arguments : List ℕ) (layout : Layout) (t
       Writes p code arguments layout (λ from' to. TestCode code layout p scope (CondCode code layout p scope c) from' (from + 2) to) a.to a.lists test →
       Writes p code arguments layout (λ from to. WhileCode code layout p x scope (CondCode code layout p scope c) A from to) from l (while_written a test)
   loop_writes x scope c A from l a test g w =
-      let pads : List Instr = own.Jump a.to ∷ own.Jump test.to ∷ a.code in
-      let last_is : a.to ≡ from + length pads = (let y = g.to_is in omega (arith, y)) in
+      let jumps : List Instr = own.Jump a.to ∷ own.Jump test.to ∷ a.code in
+      let last_is : a.to ≡ from + length jumps = (let y = g.to_is in omega (arith, y)) in
       record {
-        to_is = let z = w.to_is in let u : length (pads ++ test.code) ≡ length pads + length test.code = length-append pads test.code in omega (arith, last_is, z, u);
+        to_is = let z = w.to_is in let u : length (jumps ++ test.code) ≡ length jumps + length test.code = length-append jumps test.code in omega (arith, last_is, z, u);
         grows = grows_further l a.lists test.lists g.grows w.grows;
         stands = λ f st.
-            let first = front code arguments from pads test.code st in
+            let first = front code arguments from jumps test.code st in
             record {
               test_at = a.to;
               body_at = from + 2;
@@ -295,7 +295,7 @@ module _ (p : Program) (code : Code) (arguments : List ℕ) (layout : Layout) (t
               break_to = from + 1;
               continue_to = from;
               enters = inr first.0;
-              tests = w.stands f (behind code arguments from a.to pads test.code last_is st);
+              tests = w.stands f (behind code arguments from a.to jumps test.code last_is st);
               ends = inl refl;
               body = g.stands (fits_before code arguments layout a.lists test.lists w.grows f) (subst (λ q. Stand code arguments q a.code) (omega arith) first.1.1);
               again = inl refl;
@@ -309,13 +309,13 @@ module _ (p : Program) (code : Code) (arguments : List ℕ) (layout : Layout) (t
       Writes p code arguments layout (λ from' to. TestCode code layout p scope (CondCode code layout p scope c) from' (from + 3) to) a.to a.lists test →
       Writes p code arguments layout (λ from to. DoWhileCode code layout p x scope (CondCode code layout p scope c) A from to) from l (do_written (from + 3) a test)
   do_writes x scope c A from l a test g w =
-      let pads : List Instr = own.Jump (from + 3) ∷ own.Jump test.to ∷ own.Jump a.to ∷ a.code in
-      let last_is : a.to ≡ from + length pads = (let y = g.to_is in omega (arith, y)) in
+      let jumps : List Instr = own.Jump (from + 3) ∷ own.Jump test.to ∷ own.Jump a.to ∷ a.code in
+      let last_is : a.to ≡ from + length jumps = (let y = g.to_is in omega (arith, y)) in
       record {
-        to_is = let z = w.to_is in let u : length (pads ++ test.code) ≡ length pads + length test.code = length-append pads test.code in omega (arith, last_is, z, u);
+        to_is = let z = w.to_is in let u : length (jumps ++ test.code) ≡ length jumps + length test.code = length-append jumps test.code in omega (arith, last_is, z, u);
         grows = grows_further l a.lists test.lists g.grows w.grows;
         stands = λ f st.
-            let first = front code arguments from pads test.code st in
+            let first = front code arguments from jumps test.code st in
             record {
               body_at = from + 3;
               last = a.to;
@@ -327,7 +327,7 @@ module _ (p : Program) (code : Code) (arguments : List ℕ) (layout : Layout) (t
               enters = inr first.0;
               body = g.stands (fits_before code arguments layout a.lists test.lists w.grows f) (subst (λ q. Stand code arguments q a.code) (omega arith) first.1.1.1);
               goes_on = inl refl;
-              tests = w.stands f (behind code arguments from a.to pads test.code last_is st);
+              tests = w.stands f (behind code arguments from a.to jumps test.code last_is st);
               again = inl refl;
               ends = inl refl;
               breaks = inr (jump_at (suc from) (from + 1) test.to (omega arith) first.1.0);
@@ -342,10 +342,10 @@ module _ (p : Program) (code : Code) (arguments : List ℕ) (layout : Layout) (t
       Writes p code arguments layout (λ from' to. HoldsCode code layout p inner c from' (start.to + 3) to) next.to next.lists test →
       Writes p code arguments layout (λ from to. ForCode code layout p x inner S c step A from to) from l (for_written start a next test)
   for_writes x inner S c step A from l start a next test s g n w =
-      let pads : List Instr = own.Jump next.to ∷ own.Jump test.to ∷ own.Jump a.to ∷ a.code in
-      let one : List Instr = start.code ++ pads in
+      let jumps : List Instr = own.Jump next.to ∷ own.Jump test.to ∷ own.Jump a.to ∷ a.code in
+      let one : List Instr = start.code ++ jumps in
       let two : List Instr = one ++ next.code in
-      let one_is : a.to ≡ from + length one = (let y = s.to_is in let z = g.to_is in let u : length one ≡ length start.code + length pads = length-append start.code pads in omega (arith, y, z, u)) in
+      let one_is : a.to ≡ from + length one = (let y = s.to_is in let z = g.to_is in let u : length one ≡ length start.code + length jumps = length-append start.code jumps in omega (arith, y, z, u)) in
       let two_is : next.to ≡ from + length two = (let y = n.to_is in let u : length two ≡ length one + length next.code = length-append one next.code in omega (arith, one_is, y, u)) in
       let to_next : Grows a.lists test.lists = grows_further a.lists next.lists test.lists n.grows w.grows in
       let to_body : Grows start.lists test.lists = grows_further start.lists a.lists test.lists g.grows to_next in
@@ -355,7 +355,7 @@ module _ (p : Program) (code : Code) (arguments : List ℕ) (layout : Layout) (t
         stands = λ f st.
             let st2 = front code arguments from two test.code st in
             let st1 = front code arguments from one next.code st2 in
-            let at = behind code arguments from start.to start.code pads s.to_is st1 in
+            let at = behind code arguments from start.to start.code jumps s.to_is st1 in
             record {
               started = start.to;
               test_at = next.to;
@@ -366,7 +366,7 @@ module _ (p : Program) (code : Code) (arguments : List ℕ) (layout : Layout) (t
               stepped = next.to;
               break_to = start.to + 1;
               continue_to = start.to + 2;
-              start_code = s.stands (fits_before code arguments layout start.lists test.lists to_body f) (front code arguments from start.code pads st1);
+              start_code = s.stands (fits_before code arguments layout start.lists test.lists to_body f) (front code arguments from start.code jumps st1);
               enters = inr at.0;
               tests = w.stands f (behind code arguments from next.to two test.code two_is st);
               ends = inl refl;
@@ -391,9 +391,9 @@ module _ (p : Program) (code : Code) (arguments : List ℕ) (layout : Layout) (t
 
   return_writes : (known : Scope) (scope : LocalScope) → IsSubscope known (running_scope p scope) → (e : Expr) → TypedExpr known e → (u v : Scalar) (n m from : ℕ) → u ≡ v → m ≡ n → (l : Lists) →
       Writes p code arguments layout (λ from to. (mid : ℕ) × (r : ℕ) × ResultCode code layout p scope u e from mid r × Leaves code layout p mid m (Plain.Return (Some r))) from l
-      (return_code n (due p scope v e from (length scope) (length scope) l))
+      (return_code n (as_type p scope v e from (length scope) (length scope) l))
   return_writes known scope agrees e h u v n m from gives same l =
-      let x = due p scope v e from (length scope) (length scope) l in
+      let x = as_type p scope v e from (length scope) (length scope) l in
       let i : Instr = own.ReturnValue x.location.register in
       let A : Coded = λ from to free r t. TypedCode code layout None e (ExprCode code layout p None scope e) v from to free r in
       then_writes p code arguments layout (λ from to. A from to (length scope) x.location.register x.location.ty) (λ from to. Leaves code layout p from n (Plain.Return (Some x.location.register)))
@@ -402,12 +402,12 @@ module _ (p : Program) (code : Code) (arguments : List ℕ) (layout : Layout) (t
       (left_writes p code arguments layout n i x.location.to x.lists)
       (λ a b. (x.location.to, x.location.register, record { free = length scope; room = omega arith; computes = subst (λ t. TypedCode code layout None e (ExprCode code layout p None scope e) t from x.location.to (length scope) x.location.register) (sym gives) a }, subst (λ k. Leaves code layout p x.location.to k (Plain.Return (Some x.location.register))) (sym same) b))
 
-  print_writes : (known : Scope) (scope : LocalScope) → IsSubscope known (running_scope p scope) → (format : List ℕ) (es : Exprs) → TypedExprs known es → IsTrue (length (figures (pieces format)) == count es) → (from : ℕ) (l : Lists) →
-      Writes p code arguments layout (PrintCode code layout p scope format es) from l (print_written (all_emitted p scope [] es (from + 1) (length scope) l) (pieces format))
+  print_writes : (known : Scope) (scope : LocalScope) → IsSubscope known (running_scope p scope) → (format : List ℕ) (es : Exprs) → TypedExprs known es → IsTrue (length (specifiers (pieces format)) == count es) → (from : ℕ) (l : Lists) →
+      Writes p code arguments layout (PrintCode code layout p scope format es) from l (print_written (emit_all p scope [] es (from + 1) (length scope) l) (pieces format))
   print_writes known scope agrees format es h n from l =
-      let args = all_emitted p scope [] es (from + 1) (length scope) l in
+      let args = emit_all p scope [] es (from + 1) (length scope) l in
       let g = all_emits p code arguments layout typed stand defined known scope agrees [] es h (from + 1) (length scope) l in
-      let number : length (figures (pieces format)) ≡ count es = eqb-true (length (figures (pieces format))) (count es) n in
+      let number : length (specifiers (pieces format)) ≡ count es = eqb-true (length (specifiers (pieces format))) (count es) n in
       let many = registers_are p scope [] es (from + 1) (length scope) l in
       let w = pieces_write p code arguments layout (pieces format) args.registers (omega (arith, number, many)) args.to args.lists in
       let rest = pieces_written (pieces format) args.registers args.to args.lists in
@@ -430,7 +430,7 @@ module _ (p : Program) (code : Code) (arguments : List ℕ) (layout : Layout) (t
             };
       }
 
-  transaction_writes : (kind : Kind) (x : Exits) (A : Exits → ℕ → ℕ → Type 0) (from : ℕ) (l : Lists) (a : Written) → Writes p code arguments layout (A (in_transaction kind x)) (from + 1) l a →
+  transaction_writes : (kind : TransactionKind) (x : Exits) (A : Exits → ℕ → ℕ → Type 0) (from : ℕ) (l : Lists) (a : Written) → Writes p code arguments layout (A (in_transaction kind x)) (from + 1) l a →
       Writes p code arguments layout (λ from to. TransactionCode code layout p kind x A from to) from l (transaction_code a)
   transaction_writes kind x A from l a g =
       let begins : List Instr = own.Begin (a.to + 1) ∷ a.code in
@@ -463,7 +463,7 @@ module _ (p : Program) (code : Code) (arguments : List ℕ) (layout : Layout) (t
 
   mutual
     pub stmt_writes : (s : Stmt) (known : Scope) (looping : Bool) (scope : LocalScope) (x : OwnExits) (y : Exits) → IsSubscope known (running_scope p scope) → SameExits x y → TypedStmt s known looping → CancelsFit s (enclosing y) → (from : ℕ) (l : Lists) →
-        Writes p code arguments layout (StmtCode code layout p y scope s) from l (written p s x scope from l)
+        Writes p code arguments layout (StmtCode code layout p y scope s) from l (stmt_code p s x scope from l)
     stmt_writes Empty known looping scope x y agrees same h c from l = nothing_writes p code arguments layout from l
     stmt_writes (Declare d) known looping scope x y agrees same h c from l = declared_writes p code arguments layout typed stand defined d.ty d.declarators known scope agrees h from l
     stmt_writes (Do s) known looping scope x y agrees same h c from l = simple_writes p code arguments layout typed stand defined known scope agrees s h from l
@@ -471,21 +471,21 @@ module _ (p : Program) (code : Code) (arguments : List ℕ) (layout : Layout) (t
     stmt_writes (Print at format format_at es) known looping scope x y agrees same h c from l = print_writes known scope agrees format es h.0 h.1 from l
     stmt_writes (If e a) known looping scope x y agrees same h c from l =
         let k = condition p scope e from (length scope) l in
-        if_writes known scope agrees e h.0 from l (StmtCode code layout p y scope a) (written p a x scope (k.to + 1) k.lists)
+        if_writes known scope agrees e h.0 from l (StmtCode code layout p y scope a) (stmt_code p a x scope (k.to + 1) k.lists)
         (stmt_writes a known looping scope x y agrees same h.1 c (k.to + 1) k.lists)
     stmt_writes (IfElse e a b) known looping scope x y agrees same h c from l =
         let k = condition p scope e from (length scope) l in
-        let first = written p a x scope (k.to + 1) k.lists in
-        if_else_writes known scope agrees e h.0 from l (StmtCode code layout p y scope a) (StmtCode code layout p y scope b) first (written p b x scope (first.to + 1) first.lists)
+        let first = stmt_code p a x scope (k.to + 1) k.lists in
+        if_else_writes known scope agrees e h.0 from l (StmtCode code layout p y scope a) (StmtCode code layout p y scope b) first (stmt_code p b x scope (first.to + 1) first.lists)
         (stmt_writes a known looping scope x y agrees same h.1 c.0 (k.to + 1) k.lists)
         (stmt_writes b known looping scope x y agrees same h.2 c.1 (first.to + 1) first.lists)
     stmt_writes (While e a) known looping scope x y agrees same h c from l =
-        let body = written p a (Own.looping x (from + 1) from) scope (from + 2) l in
+        let body = stmt_code p a (Own.looping x (from + 1) from) scope (from + 2) l in
         loop_writes y scope e (λ z. StmtCode code layout p z scope a) from l body (tested_back (condition p scope e body.to (length scope) body.lists) (from + 2))
         (stmt_writes a known true scope (Own.looping x (from + 1) from) (Lowered.looping y (from + 1) from) agrees (same_looping x y (from + 1) from same) h.1 c (from + 2) l)
         (back_writes known scope agrees e h.0 (from + 2) body.to body.lists)
     stmt_writes (DoWhile a e) known looping scope x y agrees same h c from l =
-        let body = written p a (Own.looping x (from + 1) (from + 2)) scope (from + 3) l in
+        let body = stmt_code p a (Own.looping x (from + 1) (from + 2)) scope (from + 3) l in
         do_writes y scope e (λ z. StmtCode code layout p z scope a) from l body (tested_back (condition p scope e body.to (length scope) body.lists) (from + 3))
         (stmt_writes a known true scope (Own.looping x (from + 1) (from + 2)) (Lowered.looping y (from + 1) (from + 2)) agrees (same_looping x y (from + 1) (from + 2) same) h.0 c (from + 3) l)
         (back_writes known scope agrees e h.1 (from + 3) body.to body.lists)
@@ -494,7 +494,7 @@ module _ (p : Program) (code : Code) (arguments : List ℕ) (layout : Layout) (t
         let known' = scope_of_start start known in
         let ahead = start_agrees p start known scope agrees in
         let first = start_written p start scope from l in
-        let body = written p a (Own.looping x (first.to + 1) (first.to + 2)) inner (first.to + 3) first.lists in
+        let body = stmt_code p a (Own.looping x (first.to + 1) (first.to + 2)) inner (first.to + 3) first.lists in
         let next = for_step p inner step body.to body.lists in
         for_writes y inner (StartCode code layout p scope start) e step (λ z. StmtCode code layout p z inner a) from l first body next (for_test p inner e (first.to + 3) next.to next.lists)
         (start_writes p code arguments layout typed stand defined start known scope agrees h.0 from l)
@@ -514,17 +514,17 @@ module _ (p : Program) (code : Code) (arguments : List ℕ) (layout : Layout) (t
         (left_writes p code arguments layout x.in_function own.Return from l)
     stmt_writes (Return (Some e) at) known looping scope x y agrees same h c from l = return_writes known scope agrees e h y.gives x.gives x.in_function y.in_function from same.gives same.in_function l
     stmt_writes (Transaction kind ss at) known looping scope x y agrees same h c from l =
-        transaction_writes kind y (λ z. StmtsCode code layout p z scope ss) from l (all_written p ss (Own.in_transaction kind x) scope (from + 1) l)
+        transaction_writes kind y (λ z. StmtsCode code layout p z scope ss) from l (stmts_code p ss (Own.in_transaction kind x) scope (from + 1) l)
         (stmts_write ss known looping scope (Own.in_transaction kind x) (Lowered.in_transaction kind y) agrees (same_in_transaction kind x y same) h c (from + 1) l)
     stmt_writes (Cancel at) known looping scope x y agrees same h c from l = one_writes p code arguments layout (StmtCode code layout p y scope (Cancel at)) own.Cancel from l (λ a. (c, a))
     stmt_writes (CancelOuter at) known looping scope x y agrees same h c from l = outer_cancel_writes y.in_outer c x.to_outer same.to_outer from l
 
     pub stmts_write : (ss : Stmts) (known : Scope) (looping : Bool) (scope : LocalScope) (x : OwnExits) (y : Exits) → IsSubscope known (running_scope p scope) → SameExits x y → TypedStmts ss known looping → AllCancelsFit ss (enclosing y) → (from : ℕ) (l : Lists) →
-        Writes p code arguments layout (StmtsCode code layout p y scope ss) from l (all_written p ss x scope from l)
+        Writes p code arguments layout (StmtsCode code layout p y scope ss) from l (stmts_code p ss x scope from l)
     stmts_write Stmts.[] known looping scope x y agrees same h c from l = nothing_writes p code arguments layout from l
     stmts_write (Stmts.◌∷◌ s ss) known looping scope x y agrees same h c from l =
-        let first = written p s x scope from l in
-        then_writes p code arguments layout (StmtCode code layout p y scope s) (StmtsCode code layout p y (locals_after s scope) ss) (StmtsCode code layout p y scope (Stmts.◌∷◌ s ss)) from l first (all_written p ss x (locals_after s scope) first.to first.lists)
+        let first = stmt_code p s x scope from l in
+        then_writes p code arguments layout (StmtCode code layout p y scope s) (StmtsCode code layout p y (locals_after s scope) ss) (StmtsCode code layout p y scope (Stmts.◌∷◌ s ss)) from l first (stmts_code p ss x (locals_after s scope) first.to first.lists)
         (stmt_writes s known looping scope x y agrees same h.0 c.0 from l)
         (stmts_write ss (Typing.scope_after s known) looping (locals_after s scope) x y (after_agrees p s known scope agrees) same h.1 c.1 first.to first.lists)
         (λ a b. (first.to, a, b))

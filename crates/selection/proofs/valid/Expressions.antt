@@ -20,13 +20,13 @@ use Rattle.bytecode.specs.Valid.{cells_of, Takes}
 use Rattle.lower_spec.specs.Expressions.{LocalScope, types_left}
 use Rattle.selection.specs.Lists.{Lists}
 use Rattle.selection.specs.Names.{Callee, callee_at, callee_of}
-use Rattle.selection.specs.Expressions.{Emitted, AllEmitted, above, converting, where_same, in_type, in_first_type, variable, element, call_code, value_into, taken_types, emitted_type, emitted, due, operand, own_condition, condition, all_emitted}
+use Rattle.selection.specs.Expressions.{Emitted, AllEmitted, above, converting, where_same, in_type, in_first_type, variable, element, call_code, value_into, taken_types, emitted_type, emit, as_type, operand, own_condition, condition, emit_all}
 use Rattle.selection.specs.Conditions.{Condition, logical_condition, zero_test}
 use Rattle.selection.proofs.stands.Standing.{grows_same}
 use Rattle.selection.proofs.stands.Named.{known_number, known_callable, function_found}
 use Rattle.selection.proofs.stands.Exprs.{DefinedAreCallees}
 use Rattle.selection.proofs.stands.Statements.{registers_are}
-use Rattle.selection.proofs.valid.Sounds.{settled_into, Sound, TestSound, AllSound, one_sound, in_local_sound, then_sound, constant_sound, in_type_sound, in_first_sound, in_own_sound, negated_sound, complemented_sound, compared_sound, operand_sound, both_sound, opposite_sound, joined_sound, tested_sound, zero_sound, answered_sound, settled_sound, chosen_sound, followed_sound, called_sound}
+use Rattle.selection.proofs.valid.Sounds.{into_into, Sound, TestSound, AllSound, one_sound, in_local_sound, then_sound, constant_sound, in_type_sound, in_first_sound, in_own_sound, negated_sound, complemented_sound, compared_sound, operand_sound, both_sound, opposite_sound, joined_sound, tested_sound, zero_sound, answered_sound, into_sound, chosen_sound, followed_sound, called_sound}
 use Rattle.selection.proofs.valid.Shared.{cells_lie, variable_has_one}
 
 -- a callee's number is that of a function of so many parameters
@@ -75,40 +75,40 @@ module _ (p : Program) (code : Code) (arguments : List ℕ) (f : FunctionCode) (
     call_sound None x e from into l args h many = one_sound code arguments f end (own.Constant into 0) from into Int l (λ q bs. (refl, tt)) (λ r s. (r, omega arith))
     call_sound (Some c) x e from into l args h many = called_sound code arguments f end c into from l args h (many c refl) (takes x c e)
 
-    by_parts : (e : Expr) (from free : ℕ) (l : Lists) → IfSome (own_condition p scope e from free l) (TestSound code arguments f end from l) → Sound code arguments f end from l (emitted p scope e from free free l) →
+    by_parts : (e : Expr) (from free : ℕ) (l : Lists) → IfSome (own_condition p scope e from free l) (TestSound code arguments f end from l) → Sound code arguments f end from l (emit p scope e from free free l) →
         TestSound code arguments f end from l (condition p scope e from free l)
-    by_parts e from free l h g = tested_sound code arguments f end from l (own_condition p scope e from free l) (emitted p scope e from free free l) h g
+    by_parts e from free l h g = tested_sound code arguments f end from l (own_condition p scope e from free l) (emit p scope e from free free l) h g
 
     same_sound : (i : Option (ℕ → ℕ → Instr)) (from : ℕ) (l : Lists) (o : Option Condition) → IfSome o (TestSound code arguments f end from l) → IfSome (where_same i o) (TestSound code arguments f end from l)
     same_sound None from l o h = h
     same_sound (Some i) from l o h = tt
 
     mutual
-      pub expr_sound : (e : Expr) → TypedExpr known e → (from into free : ℕ) (l : Lists) → Sound code arguments f end from l (emitted p scope e from into free l)
+      pub expr_sound : (e : Expr) → TypedExpr known e → (from into free : ℕ) (l : Lists) → Sound code arguments f end from l (emit p scope e from into free l)
       expr_sound (Variable x) h from into free l =
           let k = known_number (known x.text) h.0 h.1 in
           variable_sound (newest scope x.text) (global_of p x.text) (cell_is x k.0 h.0 k.1) from into l
       expr_sound (Constant n t at) h from into free l = constant_sound code arguments f end (pos n) t from into l
-      expr_sound (Element x i at) h from into free l = element_sound (global_of p x.text) (cells_are x.text) from into l (emitted p scope i from free free l) (expr_sound i h.1 from free free l)
+      expr_sound (Element x i at) h from into free l = element_sound (global_of p x.text) (cells_are x.text) from into l (emit p scope i from free free l) (expr_sound i h.1 from free free l)
       expr_sound (Call g es at) h from into free l =
           let counts = call_counts g (count es) h.0 h.2 h.3 in
           let ts = taken_types (callee_of p g.text) in
-          call_sound (callee_of p g.text) g.text refl from into l (all_emitted p scope ts es from free l) (all_sound ts es h.1 from free l) (λ c e. registers_are p scope ts es from free l ∙ counts c e)
+          call_sound (callee_of p g.text) g.text refl from into l (emit_all p scope ts es from free l) (all_sound ts es h.1 from free l) (λ c e. registers_are p scope ts es from free l ∙ counts c e)
       expr_sound (Parenthesized e at) h from into free l = expr_sound e h from into free l
-      expr_sound (Cast t e at) h from into free l = in_type_sound code arguments f end (emitted_type p scope e) t e (emitted p scope e from into free l) from into l (expr_sound e h from into free l)
-      expr_sound (Unary Negate e at) h from into free l = negated_sound code arguments f end into from l (emitted p scope e from free free l) (expr_sound e h.0 from free free l)
+      expr_sound (Cast t e at) h from into free l = in_type_sound code arguments f end (emitted_type p scope e) t e (emit p scope e from into free l) from into l (expr_sound e h from into free l)
+      expr_sound (Unary Negate e at) h from into free l = negated_sound code arguments f end into from l (emit p scope e from free free l) (expr_sound e h.0 from free free l)
       expr_sound (Unary Keep e at) h from into free l = expr_sound e h.0 from into free l
-      expr_sound (Unary Not e at) h from into free l = compared_sound code arguments f end into free from l (emitted p scope e from free free l) (expr_sound e h.0 from free free l)
-      expr_sound (Unary Complement e at) h from into free l = complemented_sound code arguments f end into from l (emitted p scope e from free free l) (expr_sound e h.0 from free free l)
+      expr_sound (Unary Not e at) h from into free l = compared_sound code arguments f end into free from l (emit p scope e from free free l) (expr_sound e h.0 from free free l)
+      expr_sound (Unary Complement e at) h from into free l = complemented_sound code arguments f end into from l (emit p scope e from free free l) (expr_sound e h.0 from free free l)
       expr_sound (Binary op a b at) h from into free l =
           let ta = emitted_type p scope a in
           let tb = emitted_type p scope b in
           let t = operand_type op ta tb in
           let u = operand_type op tb ta in
-          let x = emitted p scope a from free free l in
+          let x = emit p scope a from free free l in
           let left = in_type ta t a x from free l in
           let later : ℕ = above free left.location.register in
-          let y = emitted p scope b left.location.to later later left.lists in
+          let y = emit p scope b left.location.to later later left.lists in
           both_sound code arguments f end op t into from l left (operand p scope u b left.location.to later left.lists)
           (in_type_sound code arguments f end ta t a x from free l (expr_sound a h.0 from free free l))
           (operand_sound code arguments f end b tb u left.location.to later left.lists y (expr_sound b h.2 left.location.to later later left.lists))
@@ -124,17 +124,17 @@ module _ (p : Program) (code : Code) (arguments : List ℕ) (f : FunctionCode) (
           let ta = emitted_type p scope a in
           let tb = emitted_type p scope b in
           let t = common ta tb in
-          let x = emitted p scope a (test.to + 1) into free test.lists in
+          let x = emit p scope a (test.to + 1) into free test.lists in
           let x1 = in_type ta t a x (test.to + 1) into test.lists in
           let first = value_into into x1 in
-          let y = emitted p scope b (first.location.to + 1) into free first.lists in
+          let y = emit p scope b (first.location.to + 1) into free first.lists in
           let y1 = in_type tb t b y (first.location.to + 1) into first.lists in
           chosen_sound code arguments f end t into from l test first (value_into into y1)
           (by_parts c from free l (own_sound c h.0 from free l) (expr_sound c h.0 from free free l))
-          (settled_sound code arguments f end into (test.to + 1) test.lists x1 (in_type_sound code arguments f end ta t a x (test.to + 1) into test.lists (expr_sound a h.1 (test.to + 1) into free test.lists)))
-          (settled_sound code arguments f end into (first.location.to + 1) first.lists y1 (in_type_sound code arguments f end tb t b y (first.location.to + 1) into first.lists (expr_sound b h.3 (first.location.to + 1) into free first.lists))) (settled_into into y1)
+          (into_sound code arguments f end into (test.to + 1) test.lists x1 (in_type_sound code arguments f end ta t a x (test.to + 1) into test.lists (expr_sound a h.1 (test.to + 1) into free test.lists)))
+          (into_sound code arguments f end into (first.location.to + 1) first.lists y1 (in_type_sound code arguments f end tb t b y (first.location.to + 1) into first.lists (expr_sound b h.3 (first.location.to + 1) into free first.lists))) (into_into into y1)
       expr_sound (InTransaction mode keyword e at) h from into free l =
-          in_own_sound code arguments f end from l (emitted p scope e (from + 1) into free l) (expr_sound e h.0 (from + 1) into free l)
+          in_own_sound code arguments f end from l (emit p scope e (from + 1) into free l) (expr_sound e h.0 (from + 1) into free l)
 
       own_sound : (e : Expr) → TypedExpr known e → (from free : ℕ) (l : Lists) → IfSome (own_condition p scope e from free l) (TestSound code arguments f end from l)
       own_sound (Parenthesized e at) h from free l = own_sound e h from free l
@@ -151,18 +151,18 @@ module _ (p : Program) (code : Code) (arguments : List ℕ) (f : FunctionCode) (
           (by_parts b (first.to + 1) free first.lists (own_sound b h.1 (first.to + 1) free first.lists) (expr_sound b h.1 (first.to + 1) free free first.lists))
       own_sound e h from free l = tt
 
-      pub all_sound : (ts : List Scalar) (es : Exprs) → TypedExprs known es → (from free : ℕ) (l : Lists) → AllSound code arguments f end from l (all_emitted p scope ts es from free l)
+      pub all_sound : (ts : List Scalar) (es : Exprs) → TypedExprs known es → (from free : ℕ) (l : Lists) → AllSound code arguments f end from l (emit_all p scope ts es from free l)
       all_sound ts Exprs.[] h from free l = record { to_is = omega arith; grows = grows_same l; location = tt; balanced = λ q bs. refl; goods = λ o bs k run. tt }
       all_sound ts (Exprs.◌∷◌ e es) h from free l =
-          let x = emitted p scope e from free free l in
+          let x = emit p scope e from free free l in
           let first = in_first_type (emitted_type p scope e) ts e x from free l in
           let later : ℕ = above free first.location.register in
-          followed_sound code arguments f end from l first (all_emitted p scope (types_left ts) es first.location.to later first.lists)
+          followed_sound code arguments f end from l first (emit_all p scope (types_left ts) es first.location.to later first.lists)
           (in_first_sound code arguments f end (emitted_type p scope e) ts e x from free l (expr_sound e h.0 from free free l)) (all_sound (types_left ts) es h.1 first.location.to later first.lists)
 
     -- an expression's value in the type that is due
-    pub due_sound : (u : Scalar) (e : Expr) → TypedExpr known e → (from into free : ℕ) (l : Lists) → Sound code arguments f end from l (due p scope u e from into free l)
-    due_sound u e h from into free l = in_type_sound code arguments f end (emitted_type p scope e) u e (emitted p scope e from into free l) from into l (expr_sound e h from into free l)
+    pub due_sound : (u : Scalar) (e : Expr) → TypedExpr known e → (from into free : ℕ) (l : Lists) → Sound code arguments f end from l (as_type p scope u e from into free l)
+    due_sound u e h from into free l = in_type_sound code arguments f end (emitted_type p scope e) u e (emit p scope e from into free l) from into l (expr_sound e h from into free l)
 
     pub test_sound : (e : Expr) → TypedExpr known e → (from free : ℕ) (l : Lists) → TestSound code arguments f end from l (condition p scope e from free l)
     test_sound e h from free l = by_parts e from free l (own_sound e h from free l) (expr_sound e h from free free l)

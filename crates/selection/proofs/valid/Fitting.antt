@@ -4,15 +4,15 @@ use Rattle.std.proofs.lemmas.Option.{slice_get_within}
 use Rattle.bytecode.specs.Code.{Code}
 use Rattle.lower_spec.specs.Expressions.{Layout}
 use Rattle.selection.specs.Lists.{Lists, with_register}
-use Rattle.selection.specs.Expressions.{ready_from}
-use Rattle.selection.specs.Programs.{nothing_ready}
+use Rattle.selection.specs.Expressions.{preloaded_from}
+use Rattle.selection.specs.Programs.{nothing_preloaded}
 use Rattle.selection.proofs.stands.Standing.{IsFront, front_front, Grows, max_right, all_are_found}
 
--- what is found ready lies in registers below a number
+-- what is found preloaded lies in registers below a number
 abbrev pub AreFoundBelow : ℕ → Layout → Type 0
-AreFoundBelow n layout = (w r : ℕ) → ready_from layout.writable layout.constants w ≡ Some r → r < n
+AreFoundBelow n layout = (w r : ℕ) → preloaded_from layout.writable layout.constants w ≡ Some r → r < n
 
-pub nothing_below : (n : ℕ) → AreFoundBelow n nothing_ready
+pub nothing_below : (n : ℕ) → AreFoundBelow n nothing_preloaded
 nothing_below n w r e = absurd (cc)
 
 pub all_below : (layout : Layout) → AreFoundBelow (layout.writable + length layout.constants) layout
@@ -26,7 +26,7 @@ pub record Fits (code : Code) (all : List ℕ) (size : ℕ) (l : Lists) : Type 0
   pub arguments : IsFront l.arguments all
   pub texts : IsFront l.texts code.texts
   pub registers : l.registers ≤ size
-  pub ready : AreFoundBelow size l.layout
+  pub preloaded : AreFoundBelow size l.layout
 
 module _ (code : Code) (arguments : List ℕ) (size : ℕ) where
   pub fits_before : (l m : Lists) → Grows l m → Fits code arguments size m → Fits code arguments size l
@@ -34,7 +34,7 @@ module _ (code : Code) (arguments : List ℕ) (size : ℕ) where
     arguments = front_front l.arguments m.arguments arguments h.arguments g.arguments;
     texts = front_front l.texts m.texts code.texts h.texts g.texts;
     registers = let a = h.registers in let b = g.registers in omega (arith, a, b);
-    ready = subst (AreFoundBelow size) h.layout g.ready;
+    preloaded = subst (AreFoundBelow size) h.layout g.preloaded;
   }
 
   pub is_register : (l : Lists) (r : ℕ) → Fits code arguments size (with_register r l) → r < size

@@ -3,8 +3,8 @@ use Rattle.std.proofs.Common.{◌≡◌, refl, sym, ap, subst, ◌∙◌, ℕ, z
 use Rattle.std.specs.List.{AllByRecursion}
 use Rattle.std.proofs.lemmas.List.{length-append, length-replicate}
 use Rattle.syntax.specs.declared.tree.Mode.TheVariants.{Atomic}
-use Rattle.syntax.specs.declared.tree.Kind.{Kind}
-use Rattle.syntax.specs.declared.tree.Kind.TheVariants as kinds
+use Rattle.syntax.specs.declared.tree.TransactionKind.{TransactionKind}
+use Rattle.syntax.specs.declared.tree.TransactionKind.TheVariants as kinds
 use Rattle.bytecode.specs.declared.instr.Instr.{Instr}
 use Rattle.bytecode.specs.declared.instr.Instr.TheVariants as own
 use Rattle.bytecode.specs.Code.{Code, FunctionCode, Instr as Plain}
@@ -189,13 +189,13 @@ module _ (code : Code) (arguments : List ℕ) (f : FunctionCode) (end : ℕ) whe
   cancelled_here o b to bs begins out =
       (omega arith, subst (λ s. AllByRecursion (Meets code arguments f end o) (cancel_of s [] (λ (to : ℕ). (to, bs) ∷ []))) (sym begins) (out, tt))
 
-  outer_inside : (open_at : ℕ → List ℕ) (kind : Kind) (levels : Option ℕ) (b : ℕ) (bs : List ℕ) → IsCancelled 0 (b ∷ bs) open_at → IsOuterCancelled levels bs open_at → IsOuterCancelled (with_level kind levels) (b ∷ bs) open_at
+  outer_inside : (open_at : ℕ → List ℕ) (kind : TransactionKind) (levels : Option ℕ) (b : ℕ) (bs : List ℕ) → IsCancelled 0 (b ∷ bs) open_at → IsOuterCancelled levels bs open_at → IsOuterCancelled (with_level kind levels) (b ∷ bs) open_at
   outer_inside o kinds.Outer levels b bs here there = here
   outer_inside o (kinds.Plain mode) None b bs here there = tt
   outer_inside o (kinds.Plain mode) (Some n) b bs here there = let low = there.0 in (omega (arith, low), there.1)
 
   -- a transaction
-  pub transaction_part : (bs : List ℕ) (x : Exits) (loops : Bool) (m : Enclosing) (kind : Kind) (from : ℕ) (l : Lists) (a : Written) → Part (Exiting (from ∷ bs) (in_transaction kind x) loops (enclosed_in kind m)) (from ∷ bs) (from + 1) l a → Part (Exiting bs x loops m) bs from l (transaction_code a)
+  pub transaction_part : (bs : List ℕ) (x : Exits) (loops : Bool) (m : Enclosing) (kind : TransactionKind) (from : ℕ) (l : Lists) (a : Written) → Part (Exiting (from ∷ bs) (in_transaction kind x) loops (enclosed_in kind m)) (from ∷ bs) (from + 1) l a → Part (Exiting bs x loops m) bs from l (transaction_code a)
   transaction_part bs x loops m kind from l a h =
       let begin : Instr = own.Begin (a.to + 1) in
       let last_begins : List (List ℕ) = (from ∷ bs) ∷ [] in

@@ -28,9 +28,9 @@ use Rattle.lower_spec.specs.Programs.{parameter_locals}
 use Rattle.selection.specs.Lists.{Lists}
 use Rattle.selection.specs.Names.{callee_at}
 use Rattle.selection.specs.Simples.{Written}
-use Rattle.selection.specs.Statements.{all_written}
+use Rattle.selection.specs.Statements.{stmts_code}
 use Rattle.selection.specs.Loops.{Looped, is_more, one_more, looped_by, looped_from, in_loops}
-use Rattle.selection.specs.Programs.{no_exits, body_with, nothing_ready, all_set, body_ready, body_better, body_written, FunctionCodes, function_code, put_before, made_first, all_made, made_of, picked_code}
+use Rattle.selection.specs.Programs.{no_exits, body_with, nothing_preloaded, all_set, body_preloaded, body_better, body_written, FunctionCodes, function_code, put_before, made_first, all_made, made_of, picked_code}
 use Rattle.selection.specs.Laws.{IsWithinLimits}
 use Rattle.selection.proofs.Leaner.{body_leaner}
 use Rattle.selection.proofs.stands.Standing.{Stand, front, behind, IsFront, front_same}
@@ -48,7 +48,7 @@ use Rattle.selection.proofs.valid.Statements.{stmts_part}
 use Rattle.selection.proofs.valid.Ways.{opened, are_opened, all_written as are_all_written, keeps_open}
 
 abbrev none_made : Lists
-none_made = record { arguments = []; texts = []; registers = 0; layout = nothing_ready }
+none_made = record { arguments = []; texts = []; registers = 0; layout = nothing_preloaded }
 
 pub callees_take : (p : Program) → CalleesTake p (picked_code p)
 callees_take p x c e =
@@ -87,11 +87,11 @@ new_name : (earlier items : Program) (f : Function) (body : Stmts) → f.body �
 new_name earlier items f body e h p typed cancels =
     let met = may_be_function (file_scope earlier f.name.text) && (is_none f.body || not (has_name (defined_names earlier) f.name.text)) in
     let all : AreMet (IsTypedFunction earlier f) = met_before (IsTypedFunction earlier f) (AreTypedItems (earlier ++ Defines f ∷ []) items) h in
-    let type = demand 22 f.name.at (agrees f (file_scope earlier f.name.text)) in
-    let two = met_before (demand 21 f.name.at met ++ type ++ AreDistinct [] f.parameters) (IsTypedBody earlier f f.body) all in
-    let one = met_before (demand 21 f.name.at met ++ type) (AreDistinct [] f.parameters) two in
+    let type = demand 22 f.name.span (agrees f (file_scope earlier f.name.text)) in
+    let two = met_before (demand 21 f.name.span met ++ type ++ AreDistinct [] f.parameters) (IsTypedBody earlier f f.body) all in
+    let one = met_before (demand 21 f.name.span met ++ type) (AreDistinct [] f.parameters) two in
     own_first p typed cancels f body (may_be_function (file_scope earlier f.name.text)) (has_name (defined_names earlier) f.name.text) e
-    (is_met 21 f.name.at met (met_before (demand 21 f.name.at met) type one))
+    (is_met 21 f.name.span met (met_before (demand 21 f.name.span met) type one))
 
 module _ (code : Code) (arguments : List ℕ) (g : FunctionCode) (end : ℕ) (open_at : ℕ → List ℕ) where
   -- the constants of loops are words
@@ -139,7 +139,7 @@ module _ (p : Program) (typed : IsTypedProgram p) (cancels : CancelsAreFit p) (c
       let enters = all_enter f.parameters vs (length-replicate n (record { ty = Int; word = 0 })) in
       let agrees : IsSubscope known (running_scope p scope) = agrees_by_shape p known scope (subst (λ m. IsSubscope known (scope_in p m)) (entered_shapes f.parameters vs enters.0 enters.1 ∙ sym (parameters_are f.parameters)) (shape_agrees p known enters.0 (t.fits vs enters.0 enters.1))) in
       let first : Lists = record l { registers = n; layout = layout } in
-      let made = all_written p body (no_exits f.result) scope from first in
+      let made = stmts_code p body (no_exits f.result) scope from first in
       let end : ℕ = made.to + 1 in
       let part = stmts_part code arguments g end p typed takes (defined_are_callees p) shares body known false scope (no_exits f.result) not_enclosed agrees
       (stmts_parts f.result body known (parameter_names f.parameters) false t.body) (cancels f.name.text (f, body) e) [] from first in
@@ -158,7 +158,7 @@ module _ (p : Program) (typed : IsTypedProgram p) (cancels : CancelsAreFit p) (c
         goods = λ o are low few ready handed texts st.
             let at_end = (are_behind o from made.to part.opens last_list opens_is are).0 in
             let exits : Exiting code arguments g end [] (no_exits f.result) false not_enclosed o = (record { in_function = refl; in_loop = λ t. absurd (cc); breaks = λ t. absurd (cc); continues = λ t. absurd (cc); cancels = λ t. absurd (cc); to_outer = refl; outer_cancels = tt }) in
-            let fits : Fits code arguments g.registers made.lists = (record { arguments = handed; texts = texts; registers = few; ready = subst (AreFoundBelow g.registers) (sym part.grows.layout) ready }) in
+            let fits : Fits code arguments g.registers made.lists = (record { arguments = handed; texts = texts; registers = few; preloaded = subst (AreFoundBelow g.registers) (sym part.grows.layout) ready }) in
             good_append code arguments g end o from made.to made.code (own.Return ∷ []) a
             (part.goods o fits (front code arguments from made.code (own.Return ∷ []) st) low (omega arith) (are_front o from part.opens last_list are) at_end exits)
             (record { begins = []; are = at_end; written = tt; asks = refl; leads = tt }, tt);
@@ -178,11 +178,11 @@ module _ (p : Program) (typed : IsTypedProgram p) (cancels : CancelsAreFit p) wh
     goes_on : GoesOn l w.lists
     valid : GoesOn w.lists final → Stand code final.arguments from w.code → w.lists.registers ≤ MOST_REGISTERS → IsValidFunction code (function_code f from w) w.to
 
-  plain_valid : (f : Function) (body : Stmts) → definition_of p f.name.text ≡ Some (f, body) → (from : ℕ) (l : Lists) → BodyValid f from l (body_with nothing_ready p f body from l)
+  plain_valid : (f : Function) (body : Stmts) → definition_of p f.name.text ≡ Some (f, body) → (from : ℕ) (l : Lists) → BodyValid f from l (body_with nothing_preloaded p f body from l)
   plain_valid f body e from l =
-      let w = body_with nothing_ready p f body from l in
+      let w = body_with nothing_preloaded p f body from l in
       let g : FunctionCode = function_code f from w in
-      let b = body_good p typed cancels code final.arguments (callees_take p) refl g nothing_ready f body e from l in
+      let b = body_good p typed cancels code final.arguments (callees_take p) refl g nothing_preloaded f body e from l in
       let open_at : ℕ → List ℕ = opened b.opens from in
       let are = are_opened b.opens from in
       let starts = b.enters open_at are in
@@ -202,13 +202,13 @@ module _ (p : Program) (typed : IsTypedProgram p) (cancels : CancelsAreFit p) wh
       }
 
   -- the constants of a body's loops are words, as the body shows in a code of its own
-  loops_are_words : (f : Function) (body : Stmts) → definition_of p f.name.text ≡ Some (f, body) → (from : ℕ) (l : Lists) → AreBelow (2 ^ 64) (in_loops from (body_with nothing_ready p f body from l).code)
+  loops_are_words : (f : Function) (body : Stmts) → definition_of p f.name.text ≡ Some (f, body) → (from : ℕ) (l : Lists) → AreBelow (2 ^ 64) (in_loops from (body_with nothing_preloaded p f body from l).code)
   loops_are_words f body e from l =
-      let w = body_with nothing_ready p f body from l in
+      let w = body_with nothing_preloaded p f body from l in
       let before : List Instr = replicate from own.Return in
       let alone : Code = record code { instructions = map (instr_of w.lists.arguments) (before ++ w.code); texts = w.lists.texts } in
       let g : FunctionCode = function_code f from w in
-      let b = body_good p typed cancels alone w.lists.arguments (callees_take p) refl g nothing_ready f body e from l in
+      let b = body_good p typed cancels alone w.lists.arguments (callees_take p) refl g nothing_preloaded f body e from l in
       let open_at : ℕ → List ℕ = opened b.opens from in
       let many : length before ≡ from = length-replicate from own.Return in
       let st : Stand alone w.lists.arguments from w.code = subst (λ q. Stand alone w.lists.arguments q w.code) many (all_stand alone w.lists.arguments before w.code refl) in
@@ -217,13 +217,13 @@ module _ (p : Program) (typed : IsTypedProgram p) (cancels : CancelsAreFit p) wh
 
   -- a body behind the instructions that set its constants
   ready_valid : (layout : Layout) (f : Function) (body : Stmts) → definition_of p f.name.text ≡ Some (f, body) → (from : ℕ) (l : Lists) →
-      (body_with layout p f body (from + length layout.constants) l).lists.registers ≤ layout.writable → AreBelow (2 ^ 64) layout.constants → BodyValid f from l (body_ready layout p f body from l)
+      (body_with layout p f body (from + length layout.constants) l).lists.registers ≤ layout.writable → AreBelow (2 ^ 64) layout.constants → BodyValid f from l (body_preloaded layout p f body from l)
   ready_valid layout f body e from l room words =
       let n : ℕ = length layout.constants in
       let begins : ℕ = from + n in
       let made = body_with layout p f body begins l in
       let sets : List Instr = all_set layout.writable layout.constants in
-      let w = body_ready layout p f body from l in
+      let w = body_preloaded layout p f body from l in
       let g : FunctionCode = function_code f from w in
       let b = body_good p typed cancels code final.arguments (callees_take p) refl g layout f body e begins l in
       let flat : List (List ℕ) = opens_along final.arguments from [] sets in
@@ -263,9 +263,9 @@ module _ (p : Program) (typed : IsTypedProgram p) (cancels : CancelsAreFit p) wh
   body_valid f body e from l = by (in_loops from plain.code) (loops_are_words f body e from l)
     where
       plain : Written
-      plain = body_with nothing_ready p f body from l
+      plain = body_with nothing_preloaded p f body from l
 
-      by_room : (layout : Layout) → plain.lists.registers ≡ layout.writable → AreBelow (2 ^ 64) layout.constants → (b : Bool) → BodyValid f from l (if b then body_ready layout p f body from l else plain)
+      by_room : (layout : Layout) → plain.lists.registers ≡ layout.writable → AreBelow (2 ^ 64) layout.constants → (b : Bool) → BodyValid f from l (if b then body_preloaded layout p f body from l else plain)
       by_room layout same words true =
           let leaner = body_leaner p f body layout from (from + length layout.constants) l l in
           ready_valid layout f body e from l (omega (arith, same, leaner)) words

@@ -10,7 +10,7 @@ use Rattle.std.proofs.lemmas.List.Sums.{sum_by-cons}
 use Rattle.std.proofs.lemmas.List.{length-append, length-replicate, length-map, length-take}
 use Rattle.lex.specs.declared.token.Span.{Span}
 use Rattle.lex.specs.declared.token.Scalar.{Scalar}
-use Rattle.syntax.specs.declared.tree.Initializer.{Initializer}
+use Rattle.syntax.specs.declared.tree.Initialiser.{Initialiser}
 use Rattle.syntax.specs.Tree.{Global, Item, Defines, Shares, Program}
 use Rattle.syntax.specs.Names.{GlobalCells, cells, globals, global_from, first_word, first_words, initial_from}
 use Rattle.syntax.specs.Types.{Number, Array, Scope, known_global, known_among, known_function, file_scope}
@@ -77,13 +77,13 @@ record Fit (taken : ℕ) (gs : List Global) : Type 0 where
 globals_fit : (earlier : List Item) (before : List Global) (taken : ℕ) (gs : List Global) → taken ≤ 4096 → AreMet (AreTypedGlobals earlier before taken gs) → Fit taken gs
 globals_fit earlier before taken [] low h = record { words = refl; few = omega (arith, low) }
 globals_fit earlier before taken (g ∷ gs) low h =
-    let new = demand 21 g.name.at (is_unknown (file_scope (earlier ++ Shares before ∷ []) g.name.text)) in
+    let new = demand 21 g.name.span (is_unknown (file_scope (earlier ++ Shares before ∷ []) g.name.text)) in
     let size = IsLength g.length in
     let room = HaveCells (drop (cells g) g.first) in
-    let few = demand 25 g.name.at (nat_le (taken + cells g) 4096) in
+    let few = demand 25 g.name.span (nat_le (taken + cells g) 4096) in
     let others = AreTypedGlobals earlier (before ++ g ∷ []) (taken + cells g) gs in
     let all = met_before (new ++ size ++ room ++ few) others h in
-    let low' : taken + cells g ≤ 4096 = leb-true (taken + cells g) 4096 (is_met 25 g.name.at (nat_le (taken + cells g) 4096) (met_behind (new ++ size ++ room) few all)) in
+    let low' : taken + cells g ≤ 4096 = leb-true (taken + cells g) 4096 (is_met 25 g.name.span (nat_le (taken + cells g) 4096) (met_behind (new ++ size ++ room) few all)) in
     let rest = globals_fit earlier (before ++ g ∷ []) (taken + cells g) gs low' (met_behind (new ++ size ++ room ++ few) others h) in
     let own = words_are g in
     let whole : length (initial_from (g ∷ gs)) ≡ length (first_words g) + length (initial_from gs) = length-append (first_words g) (initial_from gs) in
@@ -130,7 +130,7 @@ sized None h = omega arith
 sized (Some n) h = leb-true 1 n.0 (both (nat_le 1 n.0) (nat_le n.0 4096) (is_met 25 n.1 (nat_le 1 n.0 && nat_le n.0 4096) h)).0
 
 -- a typed global has no more initialisers than cells
-firsts_fit : (n : ℕ) (is : List Initializer) → AreMet (HaveCells (drop n is)) → length is ≤ n
+firsts_fit : (n : ℕ) (is : List Initialiser) → AreMet (HaveCells (drop n is)) → length is ≤ n
 firsts_fit zero [] h = omega arith
 firsts_fit zero (i ∷ is) h = absurd (let g = is_met 25 i.span false h in cc)
 firsts_fit (suc n) [] h = omega arith
@@ -147,15 +147,15 @@ shaped_so g some few enough =
 globals_shaped : (earlier : List Item) (before : List Global) (taken : ℕ) (gs : List Global) → AreMet (AreTypedGlobals earlier before taken gs) → list_all is_shaped gs ≡ true
 globals_shaped earlier before taken [] h = refl
 globals_shaped earlier before taken (g ∷ gs) h =
-    let new = demand 21 g.name.at (is_unknown (file_scope (earlier ++ Shares before ∷ []) g.name.text)) in
+    let new = demand 21 g.name.span (is_unknown (file_scope (earlier ++ Shares before ∷ []) g.name.text)) in
     let size = IsLength g.length in
     let room = HaveCells (drop (cells g) g.first) in
-    let few = demand 25 g.name.at (nat_le (taken + cells g) 4096) in
+    let few = demand 25 g.name.span (nat_le (taken + cells g) 4096) in
     let others = AreTypedGlobals earlier (before ++ g ∷ []) (taken + cells g) gs in
     let all = met_before (new ++ size ++ room ++ few) others h in
     let some : 1 ≤ cells g = sized g.length (met_behind new size (met_before (new ++ size) room (met_before (new ++ size ++ room) few all))) in
     let fits = firsts_fit (cells g) g.first (met_behind (new ++ size) room (met_before (new ++ size ++ room) few all)) in
-    let low : taken + cells g ≤ 4096 = leb-true (taken + cells g) 4096 (is_met 25 g.name.at (nat_le (taken + cells g) 4096) (met_behind (new ++ size ++ room) few all)) in
+    let low : taken + cells g ≤ 4096 = leb-true (taken + cells g) 4096 (is_met 25 g.name.span (nat_le (taken + cells g) 4096) (met_behind (new ++ size ++ room) few all)) in
     both_true (shaped_so g some (omega (arith, low)) fits) (globals_shaped earlier (before ++ g ∷ []) (taken + cells g) gs (met_behind (new ++ size ++ room ++ few) others h))
 
 pub all_shaped : (earlier items : List Item) → AreMet (AreTypedItems earlier items) → list_all is_shaped (globals items) ≡ true

@@ -24,8 +24,8 @@ use Rattle.lower_spec.specs.Statements.{with_local}
 use Rattle.selection.specs.declared.locations.AssignmentTarget.{AssignmentTarget}
 use Rattle.selection.specs.declared.locations.AssignmentTarget.TheVariants as target
 use Rattle.selection.specs.Lists.{Lists, with_register}
-use Rattle.selection.specs.Expressions.{Emitted, above, constant, converting, converted_by, both, emitted_type, emitted}
-use Rattle.selection.specs.Simples.{Written, Aimed, aimed_at, variable_target, element_target, above_target, target_value, home_or, one_written, target_store, type_at, fitting, expr_fitting, and_then, code_of_value, then_stored, behind as aimed_then, aimed, value_or_one, type_or_int, changed, adjusted, simple_written, nothing_written, first_written, declarator_written, declared_written, start_written}
+use Rattle.selection.specs.Expressions.{Emitted, above, constant, converting, converted_by, both, emitted_type, emit}
+use Rattle.selection.specs.Simples.{Written, Aimed, aimed_at, variable_target, element_target, above_target, target_value, home_or, one_written, target_store, type_at, fitting, expr_fitting, and_then, code_of_value, then_stored, behind as aimed_then, target_code, value_or_one, type_or_int, compound_value, compound_code, simple_written, nothing_written, first_written, declarator_written, declared_written, start_written}
 use Rattle.selection.proofs.stands.Standing.{Grows, grows_same, grows_further, grows_used, max_right}
 use Rattle.selection.proofs.stands.Named.{known_number}
 use Rattle.selection.proofs.stands.Exprs.{DefinedAreCallees}
@@ -175,23 +175,23 @@ module _ (code : Code) (arguments : List ℕ) (f : FunctionCode) (end : ℕ) whe
 
   module _ (p : Program) (typed : IsTypedProgram p) (takes : CalleesTake p code) (defined : DefinedAreCallees p) (shares : code.globals ≡ globals p) where
     module _ (known : Scope) (scope : LocalScope) (agrees : IsSubscope known (running_scope p scope)) where
-      sound : (e : Expr) → TypedExpr known e → (from into free : ℕ) (l : Lists) → Sound code arguments f end from l (emitted p scope e from into free l)
+      sound : (e : Expr) → TypedExpr known e → (from into free : ℕ) (l : Lists) → Sound code arguments f end from l (emit p scope e from into free l)
       sound e h from into free l = expr_sound p code arguments f end typed takes defined shares known scope agrees e h from into free l
 
-      aims : (check : Bool) (lhs : Expr) → TypedTarget known lhs → IsTrue (may_be_assigned known lhs) → (from : ℕ) (l : Lists) → Aims from l (aimed p scope check lhs from (length scope) l)
+      aims : (check : Bool) (lhs : Expr) → TypedTarget known lhs → IsTrue (may_be_assigned known lhs) → (from : ℕ) (l : Lists) → Aims from l (target_code p scope check lhs from (length scope) l)
       aims check (Variable x) h m from l =
           let k = known_number (known x.text) h m in
           variable_aims (newest scope x.text) (global_of p x.text) (cell_is p code arguments f end typed takes defined shares known scope agrees x k.0 h k.1) from l
       aims check (Element x i at) h m from l =
-          element_aims check (global_of p x.text) (cells_are p code arguments f end typed takes defined shares x.text) from l (emitted p scope i from (length scope) (length scope) l) (sound i h.1 from (length scope) (length scope) l)
+          element_aims check (global_of p x.text) (cells_are p code arguments f end typed takes defined shares x.text) from l (emit p scope i from (length scope) (length scope) l) (sound i h.1 from (length scope) (length scope) l)
       aims check lhs h m from l = nowhere_aims from l
 
       value_or_one_sound : (u : Scalar) (by : Option Expr) → IfSome by (TypedExpr known) → (from free : ℕ) (l : Lists) → OperandSound code arguments f end from l (value_or_one p scope u by from free l)
       value_or_one_sound u None h from free l =
           ready_or_sound code arguments f end 1 u from l (constant 1 u from free l) (one_sound code arguments f end (own.Constant free 1) from free u l (λ q bs. (refl, tt)) (λ r s. (r, omega arith)))
-      value_or_one_sound u (Some e) h from free l = operand_sound code arguments f end e (emitted_type p scope e) u from free l (emitted p scope e from free free l) (sound e h from free free l)
+      value_or_one_sound u (Some e) h from free l = operand_sound code arguments f end e (emitted_type p scope e) u from free l (emit p scope e from free free l) (sound e h from free free l)
 
-      changed_sound : (op : BinaryOp) (by : Option Expr) → IfSome by (TypedExpr known) → (t : AssignmentTarget) (from free : ℕ) (l : Lists) → IsIn l.registers t → Sound code arguments f end from l (changed p scope op by t from free l)
+      changed_sound : (op : BinaryOp) (by : Option Expr) → IfSome by (TypedExpr known) → (t : AssignmentTarget) (from free : ℕ) (l : Lists) → IsIn l.registers t → Sound code arguments f end from l (compound_value p scope op by t from free l)
       changed_sound op by hb t from free l i =
           let s = type_at t in
           let u = operand_type op s (type_or_int p scope by) in
@@ -204,24 +204,24 @@ module _ (code : Code) (arguments : List ℕ) (f : FunctionCode) (end : ℕ) whe
           (both_sound code arguments f end op u home from l old other (converted_sound code arguments f end s u free from l first (fetched_sound t from free l i))
           (value_or_one_sound v by hb old.location.to (above free old.location.register) old.lists))
 
-      adjusted_flat : (op : BinaryOp) (lhs : Expr) (by : Option Expr) → TypedTarget known lhs → IfSome by (TypedExpr known) → IsTrue (may_be_assigned known lhs) → (from : ℕ) (l : Lists) → Flat from l (adjusted p scope op lhs by from (length scope) l)
+      adjusted_flat : (op : BinaryOp) (lhs : Expr) (by : Option Expr) → TypedTarget known lhs → IfSome by (TypedExpr known) → IsTrue (may_be_assigned known lhs) → (from : ℕ) (l : Lists) → Flat from l (compound_code p scope op lhs by from (length scope) l)
       adjusted_flat op lhs by ht hb m from l =
-          let a = aimed p scope false lhs from (length scope) l in
+          let a = target_code p scope false lhs from (length scope) l in
           let g = aims false lhs ht m from l in
           let later : ℕ = above_target a.target (length scope) in
-          let whole = changed p scope op by a.target a.to later a.lists in
+          let whole = compound_value p scope op by a.target a.to later a.lists in
           aimed_flat from l a (then_stored a.target whole) g
           (then_stored_flat a.target a.to a.lists whole (changed_sound op by hb a.target a.to later a.lists g.aim) g.aim)
 
       pub simple_flat : (s : Simple) → TypedSimple known s → (from : ℕ) (l : Lists) → Flat from l (simple_written p scope s from (length scope) l)
-      simple_flat (Evaluate e) h from l = evaluated_flat from l (emitted p scope e from (length scope) (length scope) l) (sound e h from (length scope) (length scope) l)
+      simple_flat (Evaluate e) h from l = evaluated_flat from l (emit p scope e from (length scope) (length scope) l) (sound e h from (length scope) (length scope) l)
       simple_flat (Assign lhs None e) h from l =
-          let a = aimed p scope true lhs from (length scope) l in
+          let a = target_code p scope true lhs from (length scope) l in
           let g = aims true lhs h.0 h.2 from l in
           let later : ℕ = above_target a.target (length scope) in
           let home : ℕ = home_or a.target later in
           let s : Scalar = emitted_type p scope e in
-          let v = emitted p scope e a.to home later a.lists in
+          let v = emit p scope e a.to home later a.lists in
           let w = expr_fitting a.target s e v a.to home a.lists in
           aimed_flat from l a (then_stored a.target w) g
           (then_stored_flat a.target a.to a.lists w (expr_fitting_sound a.target s e v a.to home a.lists (sound e h.1 a.to home later a.lists)) g.aim)
@@ -232,7 +232,7 @@ module _ (code : Code) (arguments : List ℕ) (f : FunctionCode) (end : ℕ) whe
     first_flat known scope agrees i t None h from l k = nothing_flat from l
     first_flat known scope agrees i t (Some e) h from l k =
         let s : Scalar = emitted_type p scope e in
-        let v = emitted p scope e from i (suc i) l in
+        let v = emit p scope e from i (suc i) l in
         then_stored_flat (target.Local i t) from l (expr_fitting (target.Local i t) s e v from i l)
         (expr_fitting_sound (target.Local i t) s e v from i l (sound known scope agrees e h from i (suc i) l)) k
 

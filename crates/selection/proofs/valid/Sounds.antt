@@ -20,12 +20,12 @@ use Rattle.bytecode.specs.Valid.{IsWritten, Takes}
 use Rattle.bytecode.specs.Views.{instr_of}
 use Rattle.lower_spec.specs.Expressions as Lowered
 use Rattle.lower_spec.specs.Expressions.{constant_in, named_ones, nameless_ones, argument_order}
-use Rattle.selection.specs.Lists.{Lists, with_register, holding}
+use Rattle.selection.specs.Lists.{Lists, with_register, with_registers}
 use Rattle.selection.specs.Names.{Callee}
 use Rattle.selection.specs.declared.draft.Draft.TheVariants as draft
 use Rattle.selection.specs.Conditions.{Condition, test_in, jump_if, jump_if_not, instruction_of_draft, opposite_draft, going_on, going_back, by_value, opposite, first_of, logical_condition, zero_tested}
 use Rattle.selection.specs.Simples.{widening}
-use Rattle.selection.specs.Expressions.{computing, negating, complementing, Emitted, AllEmitted, above, one, then_one, ready_from, ready, constant_ready, ready_or, in_local, converting, converted_by, in_type, in_first_type, constant, in_own_transaction, negation, complement, logical_negation, both, condition_value, condition_of, value_into, conditional_value, with_argument, call_code}
+use Rattle.selection.specs.Expressions.{computing, negating, complementing, Emitted, AllEmitted, above, one, then_one, preloaded_from, preloaded, preloaded_constant, preloaded_or, in_local, converting, converted_by, in_type, in_first_type, constant, in_own_transaction, negation, complement, logical_negation, both, condition_value, condition_of, value_into, conditional_value, with_argument, call_code}
 use Rattle.selection.proofs.Drafted.{whole_are, turned_are, first_and, first_or, completed_length, on_length, back_length, first_length}
 use Rattle.selection.proofs.stands.Standing.{front_same, front_more, Grows, grows_same, grows_further, grows_used, max_left, max_right}
 use Rattle.selection.proofs.stands.Emitting.{computing_is}
@@ -86,8 +86,8 @@ word_fits Int z = let h = word_below Int z in omega (arith, h)
 word_fits Unsigned z = let h = word_below Unsigned z in omega (arith, h)
 word_fits LongLong z = word_below LongLong z
 
-pub settled_into : (r : ℕ) (e : Emitted) → (value_into r e).location.register ≡ r
-settled_into r e = by (e.location.register == r) refl
+pub into_into : (r : ℕ) (e : Emitted) → (value_into r e).location.register ≡ r
+into_into r e = by (e.location.register == r) refl
   where
     by : (b : Bool) → (e.location.register == r) ≡ b → (if b then e else then_one e (own.Move r e.location.register) r e.location.ty).location.register ≡ r
     by true n = eqb-true e.location.register r n
@@ -256,7 +256,7 @@ module _ (code : Code) (arguments : List ℕ) (f : FunctionCode) (end : ℕ) whe
             ));
       }
 
-  -- the right side of an operator, which may are preloaded
+  -- the right side of an operator, which may be preloaded
   pub record OperandSound (from : ℕ) (l : Lists) (e : Emitted) : Type 0 where
     pub to_is : e.location.to ≡ from + length e.code
     pub grows : Grows l e.lists
@@ -267,14 +267,14 @@ module _ (code : Code) (arguments : List ℕ) (f : FunctionCode) (end : ℕ) whe
   computed_sound : (from : ℕ) (l : Lists) (e : Emitted) → Sound from l e → OperandSound from l e
   computed_sound from l e h = record { to_is = h.to_is; grows = h.grows; location = λ k. in_size e.location.register e.lists h.location k; balanced = h.balanced; goods = h.goods }
 
-  pub ready_or_sound : (w : ℕ) (t : Scalar) (from : ℕ) (l : Lists) (e : Emitted) → Sound from l e → OperandSound from l (ready_or (ready l.layout w t from) l e)
-  ready_or_sound w t from l e h = by (ready_from l.layout.writable l.layout.constants w) refl
+  pub ready_or_sound : (w : ℕ) (t : Scalar) (from : ℕ) (l : Lists) (e : Emitted) → Sound from l e → OperandSound from l (preloaded_or (preloaded l.layout w t from) l e)
+  ready_or_sound w t from l e h = by (preloaded_from l.layout.writable l.layout.constants w) refl
     where
-      by : (o : Option ℕ) → ready_from l.layout.writable l.layout.constants w ≡ o → OperandSound from l (ready_or (option_map (λ r. record { register = r; ty = t; to = from }) o) l e)
+      by : (o : Option ℕ) → preloaded_from l.layout.writable l.layout.constants w ≡ o → OperandSound from l (preloaded_or (option_map (λ r. record { register = r; ty = t; to = from }) o) l e)
       by None n = computed_sound from l e h
-      by (Some r) n = record { to_is = omega arith; grows = grows_same l; location = λ k. k.ready w r n; balanced = λ q bs. refl; goods = λ o bs k run. tt }
+      by (Some r) n = record { to_is = omega arith; grows = grows_same l; location = λ k. k.preloaded w r n; balanced = λ q bs. refl; goods = λ o bs k run. tt }
 
-  pub operand_sound : (b : Expr) (s u : Scalar) (from free : ℕ) (l : Lists) (e : Emitted) → Sound from l e → OperandSound from l (ready_or (constant_ready l.layout u b from) l (in_type s u b e from free l))
+  pub operand_sound : (b : Expr) (s u : Scalar) (from free : ℕ) (l : Lists) (e : Emitted) → Sound from l e → OperandSound from l (preloaded_or (preloaded_constant l.layout u b from) l (in_type s u b e from free l))
   operand_sound (Constant n t at) s u from free l e h =
       ready_or_sound (constant_in u t n) u from l (constant (constant_in u t n) u from free l) (constant_sound (number t (word_of t (pos n))) u from free l)
   operand_sound b s u from free l e h = computed_sound from l (converted_by (converting s u) u e free) (converted_sound s u free from l e h)
@@ -456,8 +456,8 @@ module _ (code : Code) (arguments : List ℕ) (f : FunctionCode) (end : ℕ) whe
             );
       }
 
-  pub settled_sound : (r from : ℕ) (l : Lists) (e : Emitted) → Sound from l e → Sound from l (value_into r e)
-  settled_sound r from l e h = by (e.location.register == r)
+  pub into_sound : (r from : ℕ) (l : Lists) (e : Emitted) → Sound from l e → Sound from l (value_into r e)
+  into_sound r from l e h = by (e.location.register == r)
     where
       by : (b : Bool) → Sound from l (if b then e else then_one e (own.Move r e.location.register) r e.location.ty)
       by true = h
@@ -520,7 +520,7 @@ module _ (code : Code) (arguments : List ℕ) (f : FunctionCode) (end : ℕ) whe
       let handed : List ℕ = argument_order c.parameters args.registers in
       let i : Instr = own.Call into (length handed) c.number (length made) in
       let more : Lists = record args.lists { arguments = made ++ handed } in
-      let lists : Lists = holding (length handed) more in
+      let lists : Lists = with_registers (length handed) more in
       let grows_more : Grows args.lists more = record { arguments = front_more made handed; texts = front_same args.lists.texts; registers = omega arith; layout = refl } in
       let grows_lists : Grows more lists = record { arguments = front_same (made ++ handed); texts = front_same args.lists.texts; registers = max_left args.lists.registers (length handed); layout = refl } in
       let all : Grows args.lists (with_register into lists) = grows_used args.lists lists into (grows_further args.lists more lists grows_more grows_lists) in

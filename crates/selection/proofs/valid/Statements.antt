@@ -5,7 +5,7 @@ use Rattle.std.proofs.lemmas.List.{length-append}
 use Rattle.lex.specs.declared.token.Scalar.{Scalar}
 use Rattle.lex.specs.declared.token.Scalar.TheVariants.{Int, Unsigned, LongLong}
 use Rattle.syntax.specs.Tree.{Expr, Exprs, Simple, Stmt, Stmts, Empty, Declare, Do, Block, Print, If, IfElse, While, DoWhile, For, Break, Continue, Return, Transaction, Cancel, CancelOuter, Program}
-use Rattle.syntax.specs.Formats.{Piece, Literal, Figure, pieces}
+use Rattle.syntax.specs.Formats.{Piece, Literal, Specifier, pieces}
 use Rattle.syntax.specs.Names.{globals}
 use Rattle.syntax.specs.Types.{Scope, running_scope}
 use Rattle.syntax.specs.Typing as Typing
@@ -19,10 +19,10 @@ use Rattle.lower_spec.specs.Expressions.{LocalScope}
 use Rattle.lower_spec.specs.Statements.{locals_of_start, locals_after}
 use Rattle.selection.specs.declared.locations.Exits.{Exits}
 use Rattle.selection.specs.Lists.{Lists}
-use Rattle.selection.specs.Expressions.{AllEmitted, due, condition, all_emitted}
+use Rattle.selection.specs.Expressions.{AllEmitted, as_type, condition, emit_all}
 use Rattle.selection.specs.Conditions.{Condition, test_in, going_on}
 use Rattle.selection.specs.Simples.{Written, nothing_written, one_written, and_then, code_of_value, start_written}
-use Rattle.selection.specs.Statements.{in_transaction, looping, left_by, if_code, branched_twice, tested_back, while_written, do_written, for_written, return_code, printing, and_one, pieces_written, print_written, for_test, for_step, written, all_written}
+use Rattle.selection.specs.Statements.{in_transaction, looping, left_by, if_code, branched_twice, tested_back, while_written, do_written, for_written, return_code, printing, and_one, pieces_written, print_written, for_test, for_step, stmt_code, stmts_code}
 use Rattle.selection.proofs.stands.Standing.{Grows, grows_further, front_same, front_more}
 use Rattle.selection.proofs.stands.Exprs.{DefinedAreCallees}
 use Rattle.selection.proofs.stands.Simply.{start_agrees}
@@ -39,8 +39,8 @@ use Rattle.selection.proofs.valid.Parts.{Exiting, Part, along_part, flat_part, k
 abbrev leading : Condition → ℕ → Written
 leading c unmet = record { code = going_on c.code (test_in c) unmet; lists = c.lists; to = c.to + 1 }
 
-abbrev handed : AllEmitted → Written
-handed e = record { code = e.code; lists = e.lists; to = e.to }
+abbrev arguments_code : AllEmitted → Written
+arguments_code e = record { code = e.code; lists = e.lists; to = e.to }
 
 -- where all begins are left, none is open
 all_left : (bs : List ℕ) (n : ℕ) → length bs ≡ n → drop n bs ≡ []
@@ -74,8 +74,8 @@ module _ (code : Code) (arguments : List ℕ) (f : FunctionCode) (end : ℕ) whe
             good_parts code arguments f end o from (from + 1) bs (put ∷ []) rest.code (omega arith) (λ q bs. refl) run
             (λ r. (good_on code arguments f end o from bs put [] (λ q bs. (refl, tt)) (omega (arith, long, one_more)) r, tt)) (g.goods o bs k);
       }
-  pieces_flat (Figure t ∷ ps) [] from l h = nothing_flat code arguments f end from l
-  pieces_flat (Figure t ∷ ps) (r ∷ rs) from l h = by t (pieces_flat ps rs (from + 1) l h.1)
+  pieces_flat (Specifier t ∷ ps) [] from l h = nothing_flat code arguments f end from l
+  pieces_flat (Specifier t ∷ ps) (r ∷ rs) from l h = by t (pieces_flat ps rs (from + 1) l h.1)
     where
       by : (t : Scalar) → Flat code arguments f end (from + 1) l (pieces_written ps rs (from + 1) l) → Flat code arguments f end from l (and_one (printing t r) (pieces_written ps rs (from + 1) l))
       by Int g = then_flat code arguments f end from l (one_written (own.PrintSigned r) from l) (pieces_written ps rs (from + 1) l) (one_flat code arguments f end (own.PrintSigned r) from l (λ q bs. (refl, tt)) (λ k. in_size code arguments f end r l h.0 k)) g
@@ -122,7 +122,7 @@ module _ (code : Code) (arguments : List ℕ) (f : FunctionCode) (end : ℕ) whe
       let behind_skip = are_behind o a.to (a.to + 1) (bs ∷ []) w.opens (omega arith) (are_behind o from a.to head.opens tail.opens head_is are) in
       (holds, ((omega (arith, first, x, y), omega (arith, last, z)), w.enters o behind_skip e), ((omega (arith, first, x, y, z), last), e)))
 
-  -- where a loop's jumps and pads lead to
+  -- where a loop's jumps lead to
   record InLoop (bs : List ℕ) (breaks continues body test out : ℕ) (open_at : ℕ → List ℕ) : Type 0 where
     breaks_at : Open bs breaks open_at
     continues_at : Open bs continues open_at
@@ -147,21 +147,21 @@ module _ (code : Code) (arguments : List ℕ) (f : FunctionCode) (end : ℕ) whe
       let P : (ℕ → List ℕ) → Type 0 = Exiting code arguments f end bs x loops m in
       let Q : (ℕ → List ℕ) → Type 0 = λ o. P o × InLoop bs (from + 1) from (from + 2) a.to test.to o in
       let enter = one_written (own.Jump a.to) from l in
-      let pad = one_written (own.Jump test.to) (from + 1) l in
-      let pads =
-      then_part code arguments f end Q bs from (from + 1) l enter (and_then pad a) refl (jump_part code arguments f end Q bs a.to from l (λ o q. q.1.test_at))
-      (then_part code arguments f end Q bs (from + 1) (from + 2) l pad a (omega arith) (jump_part code arguments f end Q bs test.to (from + 1) l (λ o q. q.1.out_at))
+      let jump = one_written (own.Jump test.to) (from + 1) l in
+      let jumps =
+      then_part code arguments f end Q bs from (from + 1) l enter (and_then jump a) refl (jump_part code arguments f end Q bs a.to from l (λ o q. q.1.test_at))
+      (then_part code arguments f end Q bs (from + 1) (from + 2) l jump a (omega arith) (jump_part code arguments f end Q bs test.to (from + 1) l (λ o q. q.1.out_at))
       (given code arguments f end (Exiting code arguments f end bs (looping x (from + 1) from) true m) Q bs (from + 2) l a g (λ o q. in_loop bs x loops m (from + 1) from (from + 2) a.to test.to o q.0 q.1))) in
-      let many = pads.many in
-      let to_is = pads.to_is in
-      let pads_is : a.to ≡ from + length pads.opens = omega (arith, many, to_is) in
+      let many = jumps.many in
+      let to_is = jumps.to_is in
+      let jumps_is : a.to ≡ from + length jumps.opens = omega (arith, many, to_is) in
       let y = g.to_is in
       let z = w.to_is in
       knowing code arguments f end Q P bs from l (while_written a test)
-      (then_part code arguments f end Q bs from a.to l (and_then enter (and_then pad a)) test refl pads (given code arguments f end (Open bs (from + 2)) Q bs a.to a.lists test w (λ o q. q.1.body_at)))
+      (then_part code arguments f end Q bs from a.to l (and_then enter (and_then jump a)) test refl jumps (given code arguments f end (Open bs (from + 2)) Q bs a.to a.lists test w (λ o q. q.1.body_at)))
       (λ o first last are e holds.
-      let at_test = w.enters o (are_behind o from a.to pads.opens w.opens pads_is are) e in
-      let head = are_front o from pads.opens w.opens are in
+      let at_test = w.enters o (are_behind o from a.to jumps.opens w.opens jumps_is are) e in
+      let head = are_front o from jumps.opens w.opens are in
       let next : suc from ≡ from + 1 = omega arith in
       let body : suc (suc from) ≡ from + 2 = omega arith in (
         holds,
@@ -175,12 +175,12 @@ module _ (code : Code) (arguments : List ℕ) (f : FunctionCode) (end : ℕ) whe
       ))
 
   -- three jumps in front of a body
-  abbrev padded : (from : ℕ) (l : Lists) (t1 t2 t3 : ℕ) → Written → Written
-  padded from l t1 t2 t3 a = and_then (one_written (own.Jump t1) from l) (and_then (one_written (own.Jump t2) (from + 1) l) (and_then (one_written (own.Jump t3) (from + 2) l) a))
+  abbrev with_jumps : (from : ℕ) (l : Lists) (t1 t2 t3 : ℕ) → Written → Written
+  with_jumps from l t1 t2 t3 a = and_then (one_written (own.Jump t1) from l) (and_then (one_written (own.Jump t2) (from + 1) l) (and_then (one_written (own.Jump t3) (from + 2) l) a))
 
-  abbrev padded_part : (Q : (ℕ → List ℕ) → Type 0) (bs : List ℕ) (from : ℕ) (l : Lists) (t1 t2 t3 : ℕ) (a : Written) → ((o : ℕ → List ℕ) → Q o → Open bs t1 o) → ((o : ℕ → List ℕ) → Q o → Open bs t2 o) → ((o : ℕ → List ℕ) → Q o → Open bs t3 o) →
-      Part code arguments f end Q bs (from + 3) l a → Part code arguments f end Q bs from l (padded from l t1 t2 t3 a)
-  padded_part Q bs from l t1 t2 t3 a m1 m2 m3 g =
+  abbrev jumps_part : (Q : (ℕ → List ℕ) → Type 0) (bs : List ℕ) (from : ℕ) (l : Lists) (t1 t2 t3 : ℕ) (a : Written) → ((o : ℕ → List ℕ) → Q o → Open bs t1 o) → ((o : ℕ → List ℕ) → Q o → Open bs t2 o) → ((o : ℕ → List ℕ) → Q o → Open bs t3 o) →
+      Part code arguments f end Q bs (from + 3) l a → Part code arguments f end Q bs from l (with_jumps from l t1 t2 t3 a)
+  jumps_part Q bs from l t1 t2 t3 a m1 m2 m3 g =
       then_part code arguments f end Q bs from (from + 1) l (one_written (own.Jump t1) from l) (and_then (one_written (own.Jump t2) (from + 1) l) (and_then (one_written (own.Jump t3) (from + 2) l) a)) refl (jump_part code arguments f end Q bs t1 from l m1)
       (then_part code arguments f end Q bs (from + 1) (from + 2) l (one_written (own.Jump t2) (from + 1) l) (and_then (one_written (own.Jump t3) (from + 2) l) a) (omega arith) (jump_part code arguments f end Q bs t2 (from + 1) l m2)
       (then_part code arguments f end Q bs (from + 2) (from + 3) l (one_written (own.Jump t3) (from + 2) l) a (omega arith) (jump_part code arguments f end Q bs t3 (from + 2) l m3) g))
@@ -190,19 +190,19 @@ module _ (code : Code) (arguments : List ℕ) (f : FunctionCode) (end : ℕ) whe
   do_part bs x loops m from l a test g w =
       let P : (ℕ → List ℕ) → Type 0 = Exiting code arguments f end bs x loops m in
       let Q : (ℕ → List ℕ) → Type 0 = λ o. P o × InLoop bs (from + 1) (from + 2) (from + 3) a.to test.to o in
-      let pads =
-      padded_part Q bs from l (from + 3) test.to a.to a (λ o q. q.1.body_at) (λ o q. q.1.out_at) (λ o q. q.1.test_at)
+      let jumps =
+      jumps_part Q bs from l (from + 3) test.to a.to a (λ o q. q.1.body_at) (λ o q. q.1.out_at) (λ o q. q.1.test_at)
       (given code arguments f end (Exiting code arguments f end bs (looping x (from + 1) (from + 2)) true m) Q bs (from + 3) l a g (λ o q. in_loop bs x loops m (from + 1) (from + 2) (from + 3) a.to test.to o q.0 q.1)) in
-      let many = pads.many in
-      let to_is = pads.to_is in
-      let pads_is : a.to ≡ from + length pads.opens = omega (arith, many, to_is) in
+      let many = jumps.many in
+      let to_is = jumps.to_is in
+      let jumps_is : a.to ≡ from + length jumps.opens = omega (arith, many, to_is) in
       let y = g.to_is in
       let z = w.to_is in
       knowing code arguments f end Q P bs from l (do_written (from + 3) a test)
-      (then_part code arguments f end Q bs from a.to l (padded from l (from + 3) test.to a.to a) test refl pads (given code arguments f end (Open bs (from + 3)) Q bs a.to a.lists test w (λ o q. q.1.body_at)))
+      (then_part code arguments f end Q bs from a.to l (with_jumps from l (from + 3) test.to a.to a) test refl jumps (given code arguments f end (Open bs (from + 3)) Q bs a.to a.lists test w (λ o q. q.1.body_at)))
       (λ o first last are e holds.
-      let at_test = w.enters o (are_behind o from a.to pads.opens w.opens pads_is are) e in
-      let head = are_front o from pads.opens w.opens are in
+      let at_test = w.enters o (are_behind o from a.to jumps.opens w.opens jumps_is are) e in
+      let head = are_front o from jumps.opens w.opens are in
       let next : suc from ≡ from + 1 = omega arith in
       let second : suc (suc from) ≡ from + 2 = omega arith in
       let body : suc (suc (suc from)) ≡ from + 3 = omega arith in (
@@ -224,23 +224,23 @@ module _ (code : Code) (arguments : List ℕ) (f : FunctionCode) (end : ℕ) whe
       let Q : (ℕ → List ℕ) → Type 0 = λ o. P o × InLoop bs (start.to + 1) (start.to + 2) (start.to + 3) next.to test.to o × Open bs a.to o in
       let first_part = flat_part code arguments f end Q bs from l start s in
       let step_part = flat_part code arguments f end Q bs a.to a.lists next n in
-      let pads =
-      padded_part Q bs start.to start.lists next.to test.to a.to a (λ o q. q.1.test_at) (λ o q. q.1.out_at) (λ o q. q.2)
+      let jumps =
+      jumps_part Q bs start.to start.lists next.to test.to a.to a (λ o q. q.1.test_at) (λ o q. q.1.out_at) (λ o q. q.2)
       (given code arguments f end (Exiting code arguments f end bs (looping x (start.to + 1) (start.to + 2)) true m) Q bs (start.to + 3) start.lists a g
       (λ o q. in_loop bs x loops m (start.to + 1) (start.to + 2) (start.to + 3) next.to test.to o q.0 q.1)) in
-      let inner = padded start.to start.lists next.to test.to a.to a in
-      let one = then_part code arguments f end Q bs from start.to l start inner refl first_part pads in
+      let inner = with_jumps start.to start.lists next.to test.to a.to a in
+      let one = then_part code arguments f end Q bs from start.to l start inner refl first_part jumps in
       let two = then_part code arguments f end Q bs from a.to l (and_then start inner) next refl one step_part in
       let first_many = first_part.many in
       let one_many = one.many in
       let one_to = one.to_is in
       let two_many = two.many in
       let two_to = two.to_is in
-      let many = pads.many in
-      let to_is = pads.to_is in
+      let many = jumps.many in
+      let to_is = jumps.to_is in
       let v = s.to_is in
       let start_is : start.to ≡ from + length first_part.opens = omega (arith, first_many, v) in
-      let pads_is : a.to ≡ start.to + length pads.opens = omega (arith, many, to_is) in
+      let jumps_is : a.to ≡ start.to + length jumps.opens = omega (arith, many, to_is) in
       let one_is : a.to ≡ from + length one.opens = omega (arith, one_many, one_to) in
       let two_is : next.to ≡ from + length two.opens = omega (arith, two_many, two_to) in
       let y = g.to_is in
@@ -252,7 +252,7 @@ module _ (code : Code) (arguments : List ℕ) (f : FunctionCode) (end : ℕ) whe
       let at_test = w.enters o (are_behind o from next.to two.opens w.opens two_is are) e in
       let before_test = are_front o from two.opens w.opens are in
       let at_step = step_part.enters o (are_behind o from a.to one.opens step_part.opens one_is before_test) at_test in
-      let head = are_behind o from start.to first_part.opens pads.opens start_is (are_front o from one.opens step_part.opens before_test) in
+      let head = are_behind o from start.to first_part.opens jumps.opens start_is (are_front o from one.opens step_part.opens before_test) in
       let further : suc start.to ≡ start.to + 1 = omega arith in
       let second : suc (suc start.to) ≡ start.to + 2 = omega arith in
       let body : suc (suc (suc start.to)) ≡ start.to + 3 = omega arith in (
@@ -283,19 +283,19 @@ module _ (code : Code) (arguments : List ℕ) (f : FunctionCode) (end : ℕ) whe
       step_flat None h from l = nothing_flat code arguments f end from l
       step_flat (Some s) h from l = simple_flat code arguments f end p typed takes defined shares known scope agrees s h from l
 
-      print_flat : (format : List ℕ) (es : Exprs) → TypedExprs known es → (from : ℕ) (l : Lists) → Flat code arguments f end from l (print_written (all_emitted p scope [] es (from + 1) (length scope) l) (pieces format))
+      print_flat : (format : List ℕ) (es : Exprs) → TypedExprs known es → (from : ℕ) (l : Lists) → Flat code arguments f end from l (print_written (emit_all p scope [] es (from + 1) (length scope) l) (pieces format))
       print_flat format es h from l =
-          let args = all_emitted p scope [] es (from + 1) (length scope) l in
+          let args = emit_all p scope [] es (from + 1) (length scope) l in
           let g = all_sound p code arguments f end typed takes defined shares known scope agrees [] es h (from + 1) (length scope) l in
           let first = one_written own.Irrevocable from l in
-          then_flat code arguments f end from l (and_then first (handed args)) (pieces_written (pieces format) args.registers args.to args.lists)
-          (then_flat code arguments f end from l first (handed args) (one_flat code arguments f end own.Irrevocable from l (λ q bs. (refl, tt)) (λ k. tt)) (record { to_is = g.to_is; grows = g.grows; balanced = g.balanced; goods = g.goods }))
+          then_flat code arguments f end from l (and_then first (arguments_code args)) (pieces_written (pieces format) args.registers args.to args.lists)
+          (then_flat code arguments f end from l first (arguments_code args) (one_flat code arguments f end own.Irrevocable from l (λ q bs. (refl, tt)) (λ k. tt)) (record { to_is = g.to_is; grows = g.grows; balanced = g.balanced; goods = g.goods }))
           (pieces_flat (pieces format) args.registers args.to args.lists g.location)
 
       return_part : (bs : List ℕ) (x : Exits) (loops : Bool) (m : Enclosing) (e : Expr) → TypedExpr known e → (from : ℕ) (l : Lists) →
-          Part code arguments f end (Exiting code arguments f end bs x loops m) bs from l (return_code x.in_function (due p scope x.gives e from (length scope) (length scope) l))
+          Part code arguments f end (Exiting code arguments f end bs x loops m) bs from l (return_code x.in_function (as_type p scope x.gives e from (length scope) (length scope) l))
       return_part bs x loops m e h from l =
-          let v = due p scope x.gives e from (length scope) (length scope) l in
+          let v = as_type p scope x.gives e from (length scope) (length scope) l in
           let s = due_sound p code arguments f end typed takes defined shares known scope agrees x.gives e h from (length scope) (length scope) l in
           let P : (ℕ → List ℕ) → Type 0 = Exiting code arguments f end bs x loops m in
           then_part code arguments f end P bs from v.location.to l (code_of_value v) (left_by x.in_function (own.ReturnValue v.location.register) v.location.to v.lists) refl
@@ -305,30 +305,30 @@ module _ (code : Code) (arguments : List ℕ) (f : FunctionCode) (end : ℕ) whe
 
     mutual
       pub stmt_part : (s : Stmt) (known : Scope) (loops : Bool) (scope : LocalScope) (x : Exits) (m : Enclosing) → IsSubscope known (running_scope p scope) → TypedStmt s known loops → CancelsFit s m → (bs : List ℕ) (from : ℕ) (l : Lists) →
-          Part code arguments f end (Exiting code arguments f end bs x loops m) bs from l (written p s x scope from l)
+          Part code arguments f end (Exiting code arguments f end bs x loops m) bs from l (stmt_code p s x scope from l)
       stmt_part Empty known loops scope x m agrees h c bs from l = flat_part code arguments f end (Exiting code arguments f end bs x loops m) bs from l (nothing_written from l) (nothing_flat code arguments f end from l)
       stmt_part (Declare d) known loops scope x m agrees h c bs from l =
-          flat_part code arguments f end (Exiting code arguments f end bs x loops m) bs from l (written p (Declare d) x scope from l) (declared_flat code arguments f end p typed takes defined shares d.ty d.declarators known scope agrees h from l)
+          flat_part code arguments f end (Exiting code arguments f end bs x loops m) bs from l (stmt_code p (Declare d) x scope from l) (declared_flat code arguments f end p typed takes defined shares d.ty d.declarators known scope agrees h from l)
       stmt_part (Do s) known loops scope x m agrees h c bs from l =
-          flat_part code arguments f end (Exiting code arguments f end bs x loops m) bs from l (written p (Do s) x scope from l) (simple_flat code arguments f end p typed takes defined shares known scope agrees s h from l)
+          flat_part code arguments f end (Exiting code arguments f end bs x loops m) bs from l (stmt_code p (Do s) x scope from l) (simple_flat code arguments f end p typed takes defined shares known scope agrees s h from l)
       stmt_part (Block ss) known loops scope x m agrees h c bs from l = stmts_part ss known loops scope x m agrees h c bs from l
       stmt_part (Print at format format_at es) known loops scope x m agrees h c bs from l =
-          flat_part code arguments f end (Exiting code arguments f end bs x loops m) bs from l (written p (Print at format format_at es) x scope from l) (print_flat known scope agrees format es h.0 from l)
+          flat_part code arguments f end (Exiting code arguments f end bs x loops m) bs from l (stmt_code p (Print at format format_at es) x scope from l) (print_flat known scope agrees format es h.0 from l)
       stmt_part (If e a) known loops scope x m agrees h c bs from l =
           let k = condition p scope e from (length scope) l in
-          if_part (Exiting code arguments f end bs x loops m) bs from l k (written p a x scope (k.to + 1) k.lists) (test known scope agrees e h.0 from l)
+          if_part (Exiting code arguments f end bs x loops m) bs from l k (stmt_code p a x scope (k.to + 1) k.lists) (test known scope agrees e h.0 from l)
           (stmt_part a known loops scope x m agrees h.1 c bs (k.to + 1) k.lists)
       stmt_part (IfElse e a b) known loops scope x m agrees h c bs from l =
           let k = condition p scope e from (length scope) l in
-          let first = written p a x scope (k.to + 1) k.lists in
-          if_else_part (Exiting code arguments f end bs x loops m) bs from l k first (written p b x scope (first.to + 1) first.lists) (test known scope agrees e h.0 from l)
+          let first = stmt_code p a x scope (k.to + 1) k.lists in
+          if_else_part (Exiting code arguments f end bs x loops m) bs from l k first (stmt_code p b x scope (first.to + 1) first.lists) (test known scope agrees e h.0 from l)
           (stmt_part a known loops scope x m agrees h.1 c.0 bs (k.to + 1) k.lists) (stmt_part b known loops scope x m agrees h.2 c.1 bs (first.to + 1) first.lists)
       stmt_part (While e a) known loops scope x m agrees h c bs from l =
-          let body = written p a (looping x (from + 1) from) scope (from + 2) l in
+          let body = stmt_code p a (looping x (from + 1) from) scope (from + 2) l in
           while_part bs x loops m from l body (tested_back (condition p scope e body.to (length scope) body.lists) (from + 2))
           (stmt_part a known true scope (looping x (from + 1) from) m agrees h.1 c bs (from + 2) l) (test_part known scope agrees bs e h.0 (from + 2) body.to body.lists)
       stmt_part (DoWhile a e) known loops scope x m agrees h c bs from l =
-          let body = written p a (looping x (from + 1) (from + 2)) scope (from + 3) l in
+          let body = stmt_code p a (looping x (from + 1) (from + 2)) scope (from + 3) l in
           do_part bs x loops m from l body (tested_back (condition p scope e body.to (length scope) body.lists) (from + 3))
           (stmt_part a known true scope (looping x (from + 1) (from + 2)) m agrees h.0 c bs (from + 3) l) (test_part known scope agrees bs e h.1 (from + 3) body.to body.lists)
       stmt_part (For start e step a) known loops scope x m agrees h c bs from l =
@@ -336,7 +336,7 @@ module _ (code : Code) (arguments : List ℕ) (f : FunctionCode) (end : ℕ) whe
           let known' = scope_of_start start known in
           let ahead = start_agrees p start known scope agrees in
           let first = start_written p start scope from l in
-          let body = written p a (looping x (first.to + 1) (first.to + 2)) inner (first.to + 3) first.lists in
+          let body = stmt_code p a (looping x (first.to + 1) (first.to + 2)) inner (first.to + 3) first.lists in
           let next = for_step p inner step body.to body.lists in
           for_part bs x loops m from l first body next (for_test p inner e (first.to + 3) next.to next.lists)
           (start_flat code arguments f end p typed takes defined shares start known scope agrees h.0 from l)
@@ -354,16 +354,16 @@ module _ (code : Code) (arguments : List ℕ) (f : FunctionCode) (end : ℕ) whe
           (λ o k exits r are. record { begins = []; are = are ∙ all_left bs x.in_function exits.in_function; written = tt; asks = refl; leads = tt })
       stmt_part (Return (Some e) at) known loops scope x m agrees h c bs from l = return_part known scope agrees bs x loops m e h from l
       stmt_part (Transaction kind ss at) known loops scope x m agrees h c bs from l =
-          transaction_part code arguments f end bs x loops m kind from l (all_written p ss (in_transaction kind x) scope (from + 1) l)
+          transaction_part code arguments f end bs x loops m kind from l (stmts_code p ss (in_transaction kind x) scope (from + 1) l)
           (stmts_part ss known loops scope (in_transaction kind x) (enclosed_in kind m) agrees h c (from ∷ bs) (from + 1) l)
       stmt_part (Cancel at) known loops scope x m agrees h c bs from l = cancel_part code arguments f end bs x loops m c from l
       stmt_part (CancelOuter at) known loops scope x m agrees h c bs from l = outer_cancel_part code arguments f end bs x loops m c from l
 
       pub stmts_part : (ss : Stmts) (known : Scope) (loops : Bool) (scope : LocalScope) (x : Exits) (m : Enclosing) → IsSubscope known (running_scope p scope) → TypedStmts ss known loops → AllCancelsFit ss m → (bs : List ℕ) (from : ℕ) (l : Lists) →
-          Part code arguments f end (Exiting code arguments f end bs x loops m) bs from l (all_written p ss x scope from l)
+          Part code arguments f end (Exiting code arguments f end bs x loops m) bs from l (stmts_code p ss x scope from l)
       stmts_part Stmts.[] known loops scope x m agrees h c bs from l = flat_part code arguments f end (Exiting code arguments f end bs x loops m) bs from l (nothing_written from l) (nothing_flat code arguments f end from l)
       stmts_part (Stmts.◌∷◌ s ss) known loops scope x m agrees h c bs from l =
-          let first = written p s x scope from l in
-          then_part code arguments f end (Exiting code arguments f end bs x loops m) bs from first.to l first (all_written p ss x (locals_after s scope) first.to first.lists) refl
+          let first = stmt_code p s x scope from l in
+          then_part code arguments f end (Exiting code arguments f end bs x loops m) bs from first.to l first (stmts_code p ss x (locals_after s scope) first.to first.lists) refl
           (stmt_part s known loops scope x m agrees h.0 c.0 bs from l)
           (stmts_part ss (Typing.scope_after s known) loops (locals_after s scope) x m (after_agrees p s known scope agrees) h.1 c.1 bs first.to first.lists)

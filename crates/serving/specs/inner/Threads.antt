@@ -6,6 +6,6 @@ use Rattle.serving.specs.declared.concurrent.ThreadsFault.TheVariants.{Source, R
 use Rattle.serving.specs.Refusals.{IsFaultOfText}
 
 -- what a fault says of a text and of a number of threads
-abbrev pub IsFaultAtOnce : (text : List ℕ) (threads : ℕ) → ThreadsFault → Type 0
-IsFaultAtOnce text threads (Source fault) = IsFaultOfText text fault
-IsFaultAtOnce text threads (Run fault) = IsRunRefused fault threads
+abbrev pub IsThreadsFault : (text : List ℕ) (threads : ℕ) → ThreadsFault → Type 0
+IsThreadsFault text threads (Source fault) = IsFaultOfText text fault
+IsThreadsFault text threads (Run fault) = IsRunRefused fault threads

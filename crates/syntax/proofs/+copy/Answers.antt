@@ -87,26 +87,26 @@ tree::Expr::copy-copy_boxed-requires-in-InTransaction g t c κs within =
 pub tree::Expr::copy-returns-in_ok-x-in-Element : goal.tree::Expr::copy-returns-in_ok-x-in-Element
 tree::Expr::copy-returns-in_ok-x-in-Element g t c =
     let copies = c.in_ok-x-in-Element.ensures in
-    ap_2 (λ x i. E.Element x i c.in-Element.at) (made c.copy-in-Element.result _ _ copies.0 c.copy-in-Element.ensures) (made c.copy_boxed.result _ _ copies.1 c.copy_boxed.ensures) ∙ sym c.in-Element.is
+    ap_2 (λ x i. E.Element x i c.in-Element.span) (made c.copy-in-Element.result _ _ copies.0 c.copy-in-Element.ensures) (made c.copy_boxed.result _ _ copies.1 c.copy_boxed.ensures) ∙ sym c.in-Element.is
 
 pub tree::Expr::copy-returns-in_ok-f-in-Call : goal.tree::Expr::copy-returns-in_ok-f-in-Call
 tree::Expr::copy-returns-in_ok-f-in-Call g t c =
     let copies = c.in_ok-f-in-Call.ensures in
-    ap_2 (λ f es. E.Call f es c.in-Call.at) (made c.copy-in-Call.result _ _ copies.0 c.copy-in-Call.ensures) (made c.copy_exprs.result _ _ copies.1 c.copy_exprs.ensures ∙ c.as_slice.ensures) ∙ sym c.in-Call.is
+    ap_2 (λ f es. E.Call f es c.in-Call.span) (made c.copy-in-Call.result _ _ copies.0 c.copy-in-Call.ensures) (made c.copy_exprs.result _ _ copies.1 c.copy_exprs.ensures ∙ c.as_slice.ensures) ∙ sym c.in-Call.is
 
 pub tree::Expr::copy-returns-in_ok-a-in-Binary : goal.tree::Expr::copy-returns-in_ok-a-in-Binary
 tree::Expr::copy-returns-in_ok-a-in-Binary g t c =
     let copies = c.in_ok-a-in-Binary.ensures in
-    ap_2 (λ a b. E.Binary c.in-Binary.op a b c.in-Binary.at) (made c.copy_boxed-in-Binary.result _ _ copies.0 c.copy_boxed-in-Binary.ensures) (made c.copy_boxed-in-Binary-2.result _ _ copies.1 c.copy_boxed-in-Binary-2.ensures) ∙ sym c.in-Binary.is
+    ap_2 (λ a b. E.Binary c.in-Binary.op a b c.in-Binary.span) (made c.copy_boxed-in-Binary.result _ _ copies.0 c.copy_boxed-in-Binary.ensures) (made c.copy_boxed-in-Binary-2.result _ _ copies.1 c.copy_boxed-in-Binary-2.ensures) ∙ sym c.in-Binary.is
 
 pub tree::Expr::copy-returns-in_ok-a-in-Logical : goal.tree::Expr::copy-returns-in_ok-a-in-Logical
 tree::Expr::copy-returns-in_ok-a-in-Logical g t c =
     let copies = c.in_ok-a-in-Logical.ensures in
-    ap_2 (λ a b. E.Logical c.in-Logical.op a b c.in-Logical.at) (made c.copy_boxed-in-Logical.result _ _ copies.0 c.copy_boxed-in-Logical.ensures) (made c.copy_boxed-in-Logical-2.result _ _ copies.1 c.copy_boxed-in-Logical-2.ensures) ∙ sym c.in-Logical.is
+    ap_2 (λ a b. E.Logical c.in-Logical.op a b c.in-Logical.span) (made c.copy_boxed-in-Logical.result _ _ copies.0 c.copy_boxed-in-Logical.ensures) (made c.copy_boxed-in-Logical-2.result _ _ copies.1 c.copy_boxed-in-Logical-2.ensures) ∙ sym c.in-Logical.is
 
 pub tree::Expr::copy-returns-in_ok-c-in-Conditional : goal.tree::Expr::copy-returns-in_ok-c-in-Conditional
 tree::Expr::copy-returns-in_ok-c-in-Conditional g t c =
     let one = c.in_ok-c-in-Conditional.ensures in
     let two : IfOk c.both-branches.result (λ copies. (copies.0 ≡ c.in-Conditional.a) × (copies.1 ≡ c.in-Conditional.b)) = both_made c.copy_boxed-in-Conditional.result c.copy_boxed-in-Conditional-2.result _ _ _ c.both-branches.ensures c.copy_boxed-in-Conditional.ensures c.copy_boxed-in-Conditional-2.ensures in
     let parts = made_both c.both-branches.result (c.in_ok-c-in-Conditional.a, c.in_ok-c-in-Conditional.b) _ _ one.1 two in
-    ap_3 (λ x a b. E.Conditional x a b c.in-Conditional.at) (made c.copy_boxed-in-Conditional-3.result _ _ one.0 c.copy_boxed-in-Conditional-3.ensures) parts.0 parts.1 ∙ sym c.in-Conditional.is
+    ap_3 (λ x a b. E.Conditional x a b c.in-Conditional.span) (made c.copy_boxed-in-Conditional-3.result _ _ one.0 c.copy_boxed-in-Conditional-3.ensures) parts.0 parts.1 ∙ sym c.in-Conditional.is

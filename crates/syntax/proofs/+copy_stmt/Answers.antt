@@ -78,4 +78,4 @@ tree::Stmt::copy-returns-in_ok-copy_boxed-in-For g t c =
 
 pub tree::Stmt::copy-returns-in_ok-body-in-Transaction : goal.tree::Stmt::copy-returns-in_ok-body-in-Transaction
 tree::Stmt::copy-returns-in_ok-body-in-Transaction g t c =
-    ap (λ body. S.Transaction c.in-Transaction.kind body c.in-Transaction.at) (c.in_ok-body-in-Transaction.ensures ∙ c.as_slice-in-Transaction.ensures) ∙ sym c.in-Transaction.is
+    ap (λ body. S.Transaction c.in-Transaction.kind body c.in-Transaction.span) (c.in_ok-body-in-Transaction.ensures ∙ c.as_slice-in-Transaction.ensures) ∙ sym c.in-Transaction.is

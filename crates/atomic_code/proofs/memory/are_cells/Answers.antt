@@ -6,7 +6,8 @@ use Rattle.syntax.specs.Behaviours.{IsMemory}
 use Rattle.syntax.specs.Names.{cells, cell_types, bounds_of}
 use Rattle.syntax.specs.Numbers.{modulus}
 use Rattle.syntax.specs.Views.{global_of}
-use Rattle.atomic_code.proofs.Memories.{all_behind, bounds_from, cells_before, each_before, no_bounds, none_left, none_over}
+use Rattle.bytecode.proofs.Cells.{bounds_from}
+use Rattle.atomic_code.proofs.Memories.{all_behind, cells_before, each_before, no_bounds, none_left, none_over}
 use Rattle.atomic_code.proofs.memory.are_cells.Goals as goal
 
 pub returns-then-cells-words : goal.returns-then-cells-words

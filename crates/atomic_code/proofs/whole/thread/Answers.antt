@@ -25,7 +25,7 @@ pub returns-in-Ok-Goes : goal.returns-in-Ok-Goes
 returns-in-Ok-Goes g c =
     let fs = memories_in c.args.founds.now in
     let ls = memories_in c.turns.lefts.items in
-    let k = thread_of {A = g.row.A.Denot} c.turns.held in
+    let k = thread_of {A = g.row.A.Denot} c.turns.context in
     let l = thread_of {A = g.row.A.Denot} c.carry_on-more.new.self in
     let n : c.len.result ≡ length ls = omega (arith, c.len.ensures, length-map c.turns.lefts.items (λ v. v.items)) in
     let x = rw (c.in-Ok-Goes.is, c.in-Ok-Goes.field-0-is) at c.carry_on-more.ensures in
@@ -37,7 +37,7 @@ pub returns-in-Ok-Wants : goal.returns-in-Ok-Wants
 returns-in-Ok-Wants g c =
     let fs = memories_in c.args.founds.now in
     let ls = memories_in c.turns.lefts.items in
-    let k = thread_of {A = g.row.A.Denot} c.turns.held in
+    let k = thread_of {A = g.row.A.Denot} c.turns.context in
     let l = thread_of {A = g.row.A.Denot} c.carry_on-more.new.self in
     let n : c.len.result ≡ length ls = omega (arith, c.len.ensures, length-map c.turns.lefts.items (λ v. v.items)) in
     let x = rw (c.in-Ok-Wants.is, c.in-Ok-Wants.field-0-is) at c.carry_on-more.ensures in
@@ -48,7 +48,7 @@ pub returns-then-not-runs : goal.returns-then-not-runs
 returns-then-not-runs g c =
     let fs = memories_in c.args.founds.now in
     let ls = memories_in c.turns.lefts.items in
-    let k = thread_of {A = g.row.A.Denot} c.turns.held in
+    let k = thread_of {A = g.row.A.Denot} c.turns.context in
     let l = thread_of {A = g.row.A.Denot} c.carry_on-more.new.self in
     let left = c.in-Ok-Leaves.memory in
     let n : c.len.result ≡ length ls = omega (arith, c.len.ensures, length-map c.turns.lefts.items (λ v. v.items)) in
@@ -63,7 +63,7 @@ pub turns-preserved : goal.turns-preserved
 turns-preserved g c =
     let fs = memories_in c.args.founds.now in
     let ls = memories_in c.turns.lefts.items in
-    let k = thread_of {A = g.row.A.Denot} c.turns.held in
+    let k = thread_of {A = g.row.A.Denot} c.turns.context in
     let l = thread_of {A = g.row.A.Denot} c.carry_on-more.new.self in
     let left = c.in-Ok-Leaves.memory in
     let n : c.len.result ≡ length ls = omega (arith, c.len.ensures, length-map c.turns.lefts.items (λ v. v.items)) in

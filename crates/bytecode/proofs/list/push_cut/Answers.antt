@@ -2,7 +2,7 @@ use Rattle.std.proofs.Common.{◌++◌, ◌-◌, ap, ◌∙◌, drop, map, take,
 use Rattle.std.proofs.lemmas.Result.{on_ok_weaker}
 use Rattle.bytecode.specs.Flat.{instruction_from}
 use Rattle.bytecode.specs.Listing.{lines_from}
-use Rattle.bytecode.proofs.Kept.{cut_whole}
+use Rattle.bytecode.proofs.Stored.{cut_whole}
 use Rattle.bytecode.proofs.Lines.{lines_fit, cut_map}
 use Rattle.bytecode.proofs.list.push_cut.Goals as goal
 

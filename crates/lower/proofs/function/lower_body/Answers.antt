@@ -4,7 +4,7 @@ use Rattle.syntax.specs.Views.{stmts_of, parameter_of}
 use Rattle.bytecode.specs.declared.instr.Instr.TheVariants as instr
 use Rattle.lower_spec.specs.Programs.{parameter_locals}
 use Rattle.lower_exprs.specs.Lists.{lists_of}
-use Rattle.lower_exprs.specs.Stretches.{of_written}
+use Rattle.lower_exprs.specs.Fragments.{of_written}
 use Rattle.lower_exprs.specs.Views.{program_in, scope_in}
 use Rattle.lower_exprs.proofs.Adding.{same, stops, no_less}
 use Rattle.lower.proofs.Bodies.{same_body}

@@ -5,10 +5,10 @@ use Rattle.bytecode.specs.declared.instr.Instr.{Instr}
 use Rattle.lower_spec.specs.Expressions.{Layout}
 use Rattle.selection.specs.Lists.{Lists}
 use Rattle.selection.specs.Loops.{in_loops}
-use Rattle.selection.specs.Programs.{body_with, nothing_ready}
+use Rattle.selection.specs.Programs.{body_with, nothing_preloaded}
 use Rattle.selection.proofs.Leaner.{body_leaner}
 use Rattle.lower_exprs.specs.Lists.{lists_of}
-use Rattle.lower_exprs.specs.Stretches.{of_written}
+use Rattle.lower_exprs.specs.Fragments.{of_written}
 use Rattle.lower_exprs.specs.Views.{program_in}
 use Rattle.lower_exprs.proofs.Adding.{same, stops}
 use Rattle.lower.proofs.Better.{made_once_more, arguments_fit, texts_fit, stays_plain, gets_better, body_more, has_room, behind_others, in_front}
@@ -36,7 +36,7 @@ returns-then-not-is_better g c =
     let l = lists_of c.args.lists.now in
     let o = c.args.code.now.ok.0 in
     let n : c.len.result ≡ length c.args.code.now.items = omega (arith, o, c.len.ensures) in
-    let plain = body_with nothing_ready p f body c.args.from l in
+    let plain = body_with nothing_preloaded p f body c.args.from l in
     let ws = c.in_ok-constants.constants.items in
     let are : ws ≡ in_loops c.args.from plain.code =
     c.in_ok-constants.ensures ∙ ap (λ (is : List Instr). in_loops c.args.from is) (behind_others c.lower_plain.new.code.items c.as_slice.result.now c.args.code.now.items plain.code c.len.result n c.as_slice.ensures.value c.in_ok-to.ensures.code) in
@@ -65,8 +65,8 @@ cut_to-requires g c =
     let u = ap (λ (m : Lists). length m.texts) c.in_ok-to.ensures.lists in
     (omega (arith, n, o, c.len.ensures), omega (arith, a, b, o2, c.len-2.ensures), omega (arith, t, u, o3, c.len-3.ensures))
 
-pub lower_ready-requires-clause-room : goal.lower_ready-requires-clause-room
-lower_ready-requires-clause-room g c =
+pub lower_preloaded-requires-clause-room : goal.lower_preloaded-requires-clause-room
+lower_preloaded-requires-clause-room g c =
     let room = has_room c.lower_plain.new.lists.registers c.as_slice-2.result.now (sym c.is_better.ensures ∙ c.if-not-is_better.false) in
     let n = ap length c.as_slice-2.ensures.value in
     omega (arith, room, n)
@@ -79,7 +79,7 @@ returns g c =
     let l = lists_of c.args.lists.now in
     let o = c.args.code.now.ok.0 in
     let n : c.len.result ≡ length c.args.code.now.items = omega (arith, o, c.len.ensures) in
-    let plain = body_with nothing_ready p f body c.args.from l in
+    let plain = body_with nothing_preloaded p f body c.args.from l in
     let ws = c.in_ok-constants.constants.items in
     let are : ws ≡ in_loops c.args.from plain.code =
     c.in_ok-constants.ensures ∙ ap (λ (is : List Instr). in_loops c.args.from is) (behind_others c.lower_plain.new.code.items c.as_slice.result.now c.args.code.now.items plain.code c.len.result n c.as_slice.ensures.value c.in_ok-to.ensures.code) in
@@ -93,4 +93,4 @@ returns g c =
     let layout : Layout = record { writable = c.lower_plain.new.lists.registers; constants = ws } in
     let leaner = body_leaner p f body layout c.args.from (c.args.from + length ws) l (lists_of c.cut_to.new.lists) in
     let more = body_more p f body c.args.from l in
-    made_once_more before is c.lower_ready.ensures.code c.lower_ready.ensures.fails (omega (arith, leaner, more))
+    made_once_more before is c.lower_preloaded.ensures.code c.lower_preloaded.ensures.fails (omega (arith, leaner, more))

@@ -2,7 +2,7 @@ use Rattle.std.proofs.Common.{ℕ, List, ap}
 use Rattle.syntax.specs.Views.{function_of, stmts_of}
 use Rattle.selection.specs.Programs.{body_with}
 use Rattle.lower_exprs.specs.Lists.{lists_of}
-use Rattle.lower_exprs.specs.Stretches.{of_written}
+use Rattle.lower_exprs.specs.Fragments.{of_written}
 use Rattle.lower_exprs.specs.Views.{program_in}
 use Rattle.lower_exprs.proofs.Adding.{same}
 use Rattle.lower.proofs.function.lower_plain.Goals as goal

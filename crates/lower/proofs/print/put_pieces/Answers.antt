@@ -6,7 +6,7 @@ use Rattle.selection.proofs.GrowingStmts.{pieces_same}
 use Rattle.lower_exprs.specs.Lists.{lists_of}
 use Rattle.lower_exprs.proofs.Adding.{written_behind, goes_on, stops}
 use Rattle.lower.specs.inner.Formats.{with_literal}
-use Rattle.lower.proofs.Formatted.{byte_goes, figure_goes, text_same, no_register, no_piece}
+use Rattle.lower.proofs.Formatted.{byte_goes, specifier_goes, text_same, no_register, no_piece}
 use Rattle.lower.proofs.print.put_pieces.Goals as goal
 
 pub units-init : goal.units-init
@@ -28,23 +28,23 @@ pub units-preserved : goal.units-preserved
 units-preserved g c =
     let u = c.units in
     record {
-      within = c.in-Figure.ensures.within;
-      taken = omega (arith, u.invariant.taken, c.in-Figure.ensures.after);
-      code = figure_goes c.args.format.now c.args.registers.now u.bytes.items u.i u.k u.to (lists_of u.lists) c.in-Figure.next c.in-Figure.ensures.is c.if-k-registers.false refl c.new-bytes-in-Figure.ensures.items c.in_ok-to-in-Figure.ensures u.invariant.code;
+      within = c.in-Specifier.ensures.within;
+      taken = omega (arith, u.invariant.taken, c.in-Specifier.ensures.after);
+      code = specifier_goes c.args.format.now c.args.registers.now u.bytes.items u.i u.k u.to (lists_of u.lists) c.in-Specifier.next c.in-Specifier.ensures.is c.if-k-registers.false refl c.new-bytes-in-Specifier.ensures.items c.in_ok-to-in-Specifier.ensures u.invariant.code;
     }
 
-pub returns-in_err-to-in-Figure : goal.returns-in_err-to-in-Figure
-returns-in_err-to-in-Figure g c =
+pub returns-in_err-to-in-Specifier : goal.returns-in_err-to-in-Specifier
+returns-in_err-to-in-Specifier g c =
     let u = c.units in
     let text = text_same u.bytes.items u.to (lists_of u.lists) in
     let rest = pieces_same (with_literal u.bytes.items (pieces (drop u.i c.args.format.now))) (drop u.k c.args.registers.now) u.to (lists_of u.lists) in
     let whole = ap (λ (w : Written). w.lists.registers) u.invariant.code in
-    stops c.put_figure.ensures c.in_err-to-in-Figure.was c.from_residual-in_err-to-in-Figure.ensures (omega (arith, text, rest, whole))
+    stops c.put_specifier.ensures c.in_err-to-in-Specifier.was c.from_residual-in_err-to-in-Specifier.ensures (omega (arith, text, rest, whole))
 
 pub returns-then-k-registers : goal.returns-then-k-registers
 returns-then-k-registers g c =
     let u = c.units in
-    let last = no_register c.args.format.now c.args.registers.now u.bytes.items u.i u.k u.to (lists_of u.lists) c.in-Figure.ty c.in-Figure.next c.in-Figure.ensures.is c.if-k-registers.true in
+    let last = no_register c.args.format.now c.args.registers.now u.bytes.items u.i u.k u.to (lists_of u.lists) c.in-Specifier.ty c.in-Specifier.next c.in-Specifier.ensures.is c.if-k-registers.true in
     goes_on (ap (written_behind u.code.items) (sym last) ∙ u.invariant.code) c.put_text.ensures
 
 pub returns : goal.returns

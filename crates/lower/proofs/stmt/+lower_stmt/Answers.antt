@@ -9,11 +9,11 @@ use Rattle.selection.specs.declared.locations.ConditionRegister.{ConditionRegist
 use Rattle.selection.specs.Conditions.{going_on}
 use Rattle.selection.specs.Expressions.{condition}
 use Rattle.selection.specs.Simples.{Written}
-use Rattle.selection.specs.Statements.{if_code, looping, tested_back, for_step, for_test, written, all_written}
+use Rattle.selection.specs.Statements.{if_code, looping, tested_back, for_step, for_test, stmt_code, stmts_code}
 use Rattle.selection.proofs.Growing.{condition_more}
 use Rattle.selection.proofs.GrowingStmts.{written_more}
 use Rattle.lower_exprs.specs.Lists.{lists_of}
-use Rattle.lower_exprs.specs.Stretches.{of_written}
+use Rattle.lower_exprs.specs.Fragments.{of_written}
 use Rattle.lower_exprs.specs.Views.{program_in, scope_in}
 use Rattle.lower_exprs.proofs.Adding.{same, in_turn, gathered, written_alone, stops, no_less}
 use Rattle.lower.proofs.Within.{test_within, step_within, body_within, start_within}
@@ -95,7 +95,7 @@ lower_stmt-returns-in-Transaction g t c =
 pub lower_if-returns-clause-code : goal.lower_if-returns-clause-code
 lower_if-returns-clause-code g t c =
     let next = c.in_ok-next.ensures ∙ ap (λ (t : ConditionRegister). t.to + 1) c.in_ok-t.ensures.end in
-    let there = ap of_written (λ j. written (program_in c.args.names.now) (stmt_of c.args.then.now) c.args.exits (scope_in c.args.scope.now) (next j) (c.in_ok-t.ensures.lists j)) in
+    let there = ap of_written (λ j. stmt_code (program_in c.args.names.now) (stmt_of c.args.then.now) c.args.exits (scope_in c.args.scope.now) (next j) (c.in_ok-t.ensures.lists j)) in
     let test = gathered c.in_ok-t.ensures c.requires.test c.as_slice.ensures.value in
     let branch = written_alone (same there c.in_ok-to.ensures.code) c.requires.branch in
     same (λ j. of_written (if_code (test j) (branch j))) (record { code = c.in_ok-put_branch.ensures; lists = refl; end = refl; fails = tt })
@@ -108,17 +108,17 @@ lower_if-returns-in_err-t-clause-code g t c =
 pub lower_if-returns-in_err-to-clause-code : goal.lower_if-returns-in_err-to-clause-code
 lower_if-returns-in_err-to-clause-code g t c =
     let next = c.in_ok-next.ensures ∙ ap (λ (t : ConditionRegister). t.to + 1) c.in_ok-t.ensures.end in
-    let there = ap of_written (λ j. written (program_in c.args.names.now) (stmt_of c.args.then.now) c.args.exits (scope_in c.args.scope.now) (next j) (c.in_ok-t.ensures.lists j)) in
+    let there = ap of_written (λ j. stmt_code (program_in c.args.names.now) (stmt_of c.args.then.now) c.args.exits (scope_in c.args.scope.now) (next j) (c.in_ok-t.ensures.lists j)) in
     stops (same there c.lower_scoped.ensures.code) c.in_err-to.was c.from_residual-in_err-to.ensures (no_less _)
 
 pub lower_if_else-returns-clause-code : goal.lower_if_else-returns-clause-code
 lower_if_else-returns-clause-code g t c =
     let next = c.in_ok-next.ensures ∙ ap (λ (t : ConditionRegister). t.to + 1) c.in_ok-t.ensures.end in
-    let there = ap of_written (λ j. written (program_in c.args.names.now) (stmt_of c.args.then.now) c.args.exits (scope_in c.args.scope.now) (next j) (c.in_ok-t.ensures.lists j)) in
+    let there = ap of_written (λ j. stmt_code (program_in c.args.names.now) (stmt_of c.args.then.now) c.args.exits (scope_in c.args.scope.now) (next j) (c.in_ok-t.ensures.lists j)) in
     let test = gathered c.in_ok-t.ensures c.requires.test c.as_slice.ensures.value in
     let first = same there c.in_ok-last.ensures.code in
     let other_at = c.in_ok-other_at.ensures ∙ ap (λ (k : ℕ). k + 1) first.end in
-    let apart = ap of_written (λ j. written (program_in c.args.names.now) (stmt_of c.args.other.now) c.args.exits (c.in_ok-last.ensures.scope j) (other_at j) (first.lists j)) in
+    let apart = ap of_written (λ j. stmt_code (program_in c.args.names.now) (stmt_of c.args.other.now) c.args.exits (c.in_ok-last.ensures.scope j) (other_at j) (first.lists j)) in
     let one = written_alone first c.requires.first in
     let two = written_alone (same apart c.in_ok-to.ensures.code) c.requires.second in
     let code = c.in_ok-put_branches.ensures ∙ (λ j. c.args.code.now.items ++ (going_on (test j).code (c.in_ok-t.ensures.end j) (other_at j) ++ (one j).code ++ own.Jump (two j).to ∷ (two j).code)) in
@@ -131,23 +131,23 @@ lower_if_else-returns-in_err-t-clause-code g t c =
 pub lower_if_else-returns-in_err-last-clause-code : goal.lower_if_else-returns-in_err-last-clause-code
 lower_if_else-returns-in_err-last-clause-code g t c =
     let next = c.in_ok-next.ensures ∙ ap (λ (t : ConditionRegister). t.to + 1) c.in_ok-t.ensures.end in
-    let there = ap of_written (λ j. written (program_in c.args.names.now) (stmt_of c.args.then.now) c.args.exits (scope_in c.args.scope.now) (next j) (c.in_ok-t.ensures.lists j)) in
+    let there = ap of_written (λ j. stmt_code (program_in c.args.names.now) (stmt_of c.args.then.now) c.args.exits (scope_in c.args.scope.now) (next j) (c.in_ok-t.ensures.lists j)) in
     let test = condition (program_in c.args.names.now) (scope_in c.args.scope.now) (expr_of c.args.c.now) c.args.from (length (scope_in c.args.scope.now)) (lists_of c.args.lists.now) in
-    let first = written (program_in c.args.names.now) (stmt_of c.args.then.now) c.args.exits (scope_in c.args.scope.now) (test.to + 1) test.lists in
+    let first = stmt_code (program_in c.args.names.now) (stmt_of c.args.then.now) c.args.exits (scope_in c.args.scope.now) (test.to + 1) test.lists in
     stops (same there c.lower_scoped.ensures.code) c.in_err-last.was c.from_residual-in_err-last.ensures (written_more (program_in c.args.names.now) (stmt_of c.args.other.now) c.args.exits (scope_in c.args.scope.now) (first.to + 1) first.lists)
 
 pub lower_if_else-returns-in_err-to-clause-code : goal.lower_if_else-returns-in_err-to-clause-code
 lower_if_else-returns-in_err-to-clause-code g t c =
     let next = c.in_ok-next.ensures ∙ ap (λ (t : ConditionRegister). t.to + 1) c.in_ok-t.ensures.end in
-    let there = ap of_written (λ j. written (program_in c.args.names.now) (stmt_of c.args.then.now) c.args.exits (scope_in c.args.scope.now) (next j) (c.in_ok-t.ensures.lists j)) in
+    let there = ap of_written (λ j. stmt_code (program_in c.args.names.now) (stmt_of c.args.then.now) c.args.exits (scope_in c.args.scope.now) (next j) (c.in_ok-t.ensures.lists j)) in
     let first = same there c.in_ok-last.ensures.code in
     let other_at = c.in_ok-other_at.ensures ∙ ap (λ (k : ℕ). k + 1) first.end in
-    let apart = ap of_written (λ j. written (program_in c.args.names.now) (stmt_of c.args.other.now) c.args.exits (c.in_ok-last.ensures.scope j) (other_at j) (first.lists j)) in
+    let apart = ap of_written (λ j. stmt_code (program_in c.args.names.now) (stmt_of c.args.other.now) c.args.exits (c.in_ok-last.ensures.scope j) (other_at j) (first.lists j)) in
     stops (same apart c.lower_scoped-2.ensures.code) c.in_err-to.was c.from_residual-in_err-to.ensures (no_less _)
 
 pub lower_while-returns-clause-code : goal.lower_while-returns-clause-code
 lower_while-returns-clause-code g t c =
-    let turn = ap of_written (λ j. written (program_in c.args.names.now) (stmt_of c.args.body.now) ((c.looping-exits.ensures ∙ ap (λ k. looping c.args.exits k c.args.from) c.in_ok-pad.ensures) j) (scope_in c.args.scope.now) (c.in_ok-start.ensures j) (lists_of c.args.lists.now)) in
+    let turn = ap of_written (λ j. stmt_code (program_in c.args.names.now) (stmt_of c.args.body.now) ((c.looping-exits.ensures ∙ ap (λ k. looping c.args.exits k c.args.from) c.in_ok-break_at.ensures) j) (scope_in c.args.scope.now) (c.in_ok-start.ensures j) (lists_of c.args.lists.now)) in
     let body = same turn c.in_ok-test_at.ensures.code in
     let test = ap of_written (λ j. tested_back (condition (program_in c.args.names.now) (c.in_ok-test_at.ensures.scope j) (expr_of c.args.c.now) (body.end j) (length (c.in_ok-test_at.ensures.scope j)) (body.lists j)) (c.in_ok-start.ensures j)) in
     let inner = written_alone (in_turn body test c.in_ok-to.ensures) c.requires in
@@ -155,20 +155,20 @@ lower_while-returns-clause-code g t c =
 
 pub lower_while-returns-in_err-test_at-clause-code : goal.lower_while-returns-in_err-test_at-clause-code
 lower_while-returns-in_err-test_at-clause-code g t c =
-    let turn = ap of_written (λ j. written (program_in c.args.names.now) (stmt_of c.args.body.now) ((c.looping-exits.ensures ∙ ap (λ k. looping c.args.exits k c.args.from) c.in_ok-pad.ensures) j) (scope_in c.args.scope.now) (c.in_ok-start.ensures j) (lists_of c.args.lists.now)) in
-    let body = written (program_in c.args.names.now) (stmt_of c.args.body.now) (looping c.args.exits (c.args.from + 1) c.args.from) (scope_in c.args.scope.now) (c.args.from + 2) (lists_of c.args.lists.now) in
+    let turn = ap of_written (λ j. stmt_code (program_in c.args.names.now) (stmt_of c.args.body.now) ((c.looping-exits.ensures ∙ ap (λ k. looping c.args.exits k c.args.from) c.in_ok-break_at.ensures) j) (scope_in c.args.scope.now) (c.in_ok-start.ensures j) (lists_of c.args.lists.now)) in
+    let body = stmt_code (program_in c.args.names.now) (stmt_of c.args.body.now) (looping c.args.exits (c.args.from + 1) c.args.from) (scope_in c.args.scope.now) (c.args.from + 2) (lists_of c.args.lists.now) in
     stops (same turn c.lower_scoped.ensures.code) c.in_err-test_at.was c.from_residual-in_err-test_at.ensures (condition_more (program_in c.args.names.now) (scope_in c.args.scope.now) (expr_of c.args.c.now) body.to (length (scope_in c.args.scope.now)) body.lists)
 
 pub lower_while-returns-in_err-to-clause-code : goal.lower_while-returns-in_err-to-clause-code
 lower_while-returns-in_err-to-clause-code g t c =
-    let turn = ap of_written (λ j. written (program_in c.args.names.now) (stmt_of c.args.body.now) ((c.looping-exits.ensures ∙ ap (λ k. looping c.args.exits k c.args.from) c.in_ok-pad.ensures) j) (scope_in c.args.scope.now) (c.in_ok-start.ensures j) (lists_of c.args.lists.now)) in
+    let turn = ap of_written (λ j. stmt_code (program_in c.args.names.now) (stmt_of c.args.body.now) ((c.looping-exits.ensures ∙ ap (λ k. looping c.args.exits k c.args.from) c.in_ok-break_at.ensures) j) (scope_in c.args.scope.now) (c.in_ok-start.ensures j) (lists_of c.args.lists.now)) in
     let body = same turn c.in_ok-test_at.ensures.code in
     let test = ap of_written (λ j. tested_back (condition (program_in c.args.names.now) (c.in_ok-test_at.ensures.scope j) (expr_of c.args.c.now) (body.end j) (length (c.in_ok-test_at.ensures.scope j)) (body.lists j)) (c.in_ok-start.ensures j)) in
     stops (same test c.lower_back.ensures) c.in_err-to.was c.from_residual-in_err-to.ensures (no_less _)
 
 pub lower_do_while-returns-clause-code : goal.lower_do_while-returns-clause-code
 lower_do_while-returns-clause-code g t c =
-    let turn = ap of_written (λ j. written (program_in c.args.names.now) (stmt_of c.args.body.now) ((c.looping-exits.ensures ∙ (λ i. looping c.args.exits (c.in_ok-pad.ensures i) (c.in_ok-other.ensures i))) j) (scope_in c.args.scope.now) (c.in_ok-start.ensures j) (lists_of c.args.lists.now)) in
+    let turn = ap of_written (λ j. stmt_code (program_in c.args.names.now) (stmt_of c.args.body.now) ((c.looping-exits.ensures ∙ (λ i. looping c.args.exits (c.in_ok-break_at.ensures i) (c.in_ok-continue_at.ensures i))) j) (scope_in c.args.scope.now) (c.in_ok-start.ensures j) (lists_of c.args.lists.now)) in
     let body = same turn c.in_ok-test_at.ensures.code in
     let test = ap of_written (λ j. tested_back (condition (program_in c.args.names.now) (c.in_ok-test_at.ensures.scope j) (expr_of c.args.c.now) (body.end j) (length (c.in_ok-test_at.ensures.scope j)) (body.lists j)) (c.in_ok-start.ensures j)) in
     let inner = written_alone (in_turn body test c.in_ok-to.ensures) c.requires in
@@ -176,20 +176,20 @@ lower_do_while-returns-clause-code g t c =
 
 pub lower_do_while-returns-in_err-test_at-clause-code : goal.lower_do_while-returns-in_err-test_at-clause-code
 lower_do_while-returns-in_err-test_at-clause-code g t c =
-    let turn = ap of_written (λ j. written (program_in c.args.names.now) (stmt_of c.args.body.now) ((c.looping-exits.ensures ∙ (λ i. looping c.args.exits (c.in_ok-pad.ensures i) (c.in_ok-other.ensures i))) j) (scope_in c.args.scope.now) (c.in_ok-start.ensures j) (lists_of c.args.lists.now)) in
-    let body = written (program_in c.args.names.now) (stmt_of c.args.body.now) (looping c.args.exits (c.args.from + 1) (c.args.from + 2)) (scope_in c.args.scope.now) (c.args.from + 3) (lists_of c.args.lists.now) in
+    let turn = ap of_written (λ j. stmt_code (program_in c.args.names.now) (stmt_of c.args.body.now) ((c.looping-exits.ensures ∙ (λ i. looping c.args.exits (c.in_ok-break_at.ensures i) (c.in_ok-continue_at.ensures i))) j) (scope_in c.args.scope.now) (c.in_ok-start.ensures j) (lists_of c.args.lists.now)) in
+    let body = stmt_code (program_in c.args.names.now) (stmt_of c.args.body.now) (looping c.args.exits (c.args.from + 1) (c.args.from + 2)) (scope_in c.args.scope.now) (c.args.from + 3) (lists_of c.args.lists.now) in
     stops (same turn c.lower_scoped.ensures.code) c.in_err-test_at.was c.from_residual-in_err-test_at.ensures (condition_more (program_in c.args.names.now) (scope_in c.args.scope.now) (expr_of c.args.c.now) body.to (length (scope_in c.args.scope.now)) body.lists)
 
 pub lower_do_while-returns-in_err-to-clause-code : goal.lower_do_while-returns-in_err-to-clause-code
 lower_do_while-returns-in_err-to-clause-code g t c =
-    let turn = ap of_written (λ j. written (program_in c.args.names.now) (stmt_of c.args.body.now) ((c.looping-exits.ensures ∙ (λ i. looping c.args.exits (c.in_ok-pad.ensures i) (c.in_ok-other.ensures i))) j) (scope_in c.args.scope.now) (c.in_ok-start.ensures j) (lists_of c.args.lists.now)) in
+    let turn = ap of_written (λ j. stmt_code (program_in c.args.names.now) (stmt_of c.args.body.now) ((c.looping-exits.ensures ∙ (λ i. looping c.args.exits (c.in_ok-break_at.ensures i) (c.in_ok-continue_at.ensures i))) j) (scope_in c.args.scope.now) (c.in_ok-start.ensures j) (lists_of c.args.lists.now)) in
     let body = same turn c.in_ok-test_at.ensures.code in
     let test = ap of_written (λ j. tested_back (condition (program_in c.args.names.now) (c.in_ok-test_at.ensures.scope j) (expr_of c.args.c.now) (body.end j) (length (c.in_ok-test_at.ensures.scope j)) (body.lists j)) (c.in_ok-start.ensures j)) in
     stops (same test c.lower_back.ensures) c.in_err-to.was c.from_residual-in_err-to.ensures (no_less _)
 
 pub lower_transaction-returns-clause-code : goal.lower_transaction-returns-clause-code
 lower_transaction-returns-clause-code g t c =
-    let block = ap of_written (λ j. all_written (program_in c.args.names.now) (stmts_of c.args.body.now) (c.in_ok-exits.ensures j) (scope_in c.args.scope.now) (c.in_ok-start.ensures j) (lists_of c.args.lists.now)) in
+    let block = ap of_written (λ j. stmts_code (program_in c.args.names.now) (stmts_of c.args.body.now) (c.in_ok-exits.ensures j) (scope_in c.args.scope.now) (c.in_ok-start.ensures j) (lists_of c.args.lists.now)) in
     let inner = written_alone (same block c.in_ok-last.ensures.code) c.requires in
     let to = c.in_ok-to.ensures ∙ ap (λ (w : Written). w.to + 1) inner in
     let code = c.in_ok-put_transaction.ensures ∙ append_assoc c.args.code.now.items _ (own.Commit ∷ []) ∙ (λ j. c.args.code.now.items ++ (own.Begin (to j) ∷ (inner j).code ++ own.Commit ∷ [])) in
@@ -197,49 +197,49 @@ lower_transaction-returns-clause-code g t c =
 
 pub lower_transaction-returns-in_err-last-clause-code : goal.lower_transaction-returns-in_err-last-clause-code
 lower_transaction-returns-in_err-last-clause-code g t c =
-    let block = ap of_written (λ j. all_written (program_in c.args.names.now) (stmts_of c.args.body.now) (c.in_ok-exits.ensures j) (scope_in c.args.scope.now) (c.in_ok-start.ensures j) (lists_of c.args.lists.now)) in
+    let block = ap of_written (λ j. stmts_code (program_in c.args.names.now) (stmts_of c.args.body.now) (c.in_ok-exits.ensures j) (scope_in c.args.scope.now) (c.in_ok-start.ensures j) (lists_of c.args.lists.now)) in
     stops (same block c.lower_block.ensures.code) c.in_err-last.was c.from_residual-in_err-last.ensures (no_less _)
 
 pub lower_for-returns-clause-code : goal.lower_for-returns-clause-code
 lower_for-returns-clause-code g t c =
-    let start = c.in_ok-pads.ensures.code in
+    let start = c.in_ok-jumps_at.ensures.code in
     let begin = c.in_ok-start.ensures ∙ ap (λ (k : ℕ). k + 3) start.end in
-    let turn = ap of_written (λ j. written (program_in c.args.names.now) (stmt_of c.args.body.now) ((c.looping-exits.ensures ∙ (λ i. looping c.args.exits ((c.in_ok-pad.ensures ∙ ap (λ (k : ℕ). k + 1) start.end) i) ((c.in_ok-other.ensures ∙ ap (λ (k : ℕ). k + 2) start.end) i))) j) (c.in_ok-pads.ensures.scope j) (begin j) (start.lists j)) in
+    let turn = ap of_written (λ j. stmt_code (program_in c.args.names.now) (stmt_of c.args.body.now) ((c.looping-exits.ensures ∙ (λ i. looping c.args.exits ((c.in_ok-break_at.ensures ∙ ap (λ (k : ℕ). k + 1) start.end) i) ((c.in_ok-continue_at.ensures ∙ ap (λ (k : ℕ). k + 2) start.end) i))) j) (c.in_ok-jumps_at.ensures.scope j) (begin j) (start.lists j)) in
     let body = same turn c.in_ok-step_at.ensures.code in
-    let inner = c.in_ok-step_at.ensures.scope ∙ c.in_ok-pads.ensures.scope in
+    let inner = c.in_ok-step_at.ensures.scope ∙ c.in_ok-jumps_at.ensures.scope in
     let step = ap of_written (λ j. for_step (program_in c.args.names.now) (inner j) (option_map simple_of c.args.head.now.step) (body.end j) (body.lists j)) in
     let stepped = same step c.in_ok-test_at.ensures in
     let test = ap of_written (λ j. for_test (program_in c.args.names.now) (inner j) (option_map expr_of c.args.head.now.condition) (begin j) (stepped.end j) (stepped.lists j)) in
     for_there (program_in c.args.names.now) c.args.exits (scope_in c.args.scope.now) c.args.from (lists_of c.args.lists.now) (start_of c.args.head.now.start) (option_map expr_of c.args.head.now.condition) (option_map simple_of c.args.head.now.step) (stmt_of c.args.body.now) start body stepped (same test c.in_ok-to.ensures) c.requires c.in_ok-put_loop.ensures
 
-pub lower_for-returns-in_err-pads-clause-code : goal.lower_for-returns-in_err-pads-clause-code
-lower_for-returns-in_err-pads-clause-code g t c =
-    stops c.lower_start.ensures.code c.in_err-pads.was c.from_residual.ensures (start_within (program_in c.args.names.now) c.args.exits (scope_in c.args.scope.now) c.args.from (lists_of c.args.lists.now) (start_of c.args.head.now.start) (option_map expr_of c.args.head.now.condition) (option_map simple_of c.args.head.now.step) (stmt_of c.args.body.now))
+pub lower_for-returns-in_err-jumps_at-clause-code : goal.lower_for-returns-in_err-jumps_at-clause-code
+lower_for-returns-in_err-jumps_at-clause-code g t c =
+    stops c.lower_start.ensures.code c.in_err-jumps_at.was c.from_residual.ensures (start_within (program_in c.args.names.now) c.args.exits (scope_in c.args.scope.now) c.args.from (lists_of c.args.lists.now) (start_of c.args.head.now.start) (option_map expr_of c.args.head.now.condition) (option_map simple_of c.args.head.now.step) (stmt_of c.args.body.now))
 
 pub lower_for-returns-in_err-step_at-clause-code : goal.lower_for-returns-in_err-step_at-clause-code
 lower_for-returns-in_err-step_at-clause-code g t c =
-    let start = c.in_ok-pads.ensures.code in
+    let start = c.in_ok-jumps_at.ensures.code in
     let begin = c.in_ok-start.ensures ∙ ap (λ (k : ℕ). k + 3) start.end in
-    let turn = ap of_written (λ j. written (program_in c.args.names.now) (stmt_of c.args.body.now) ((c.looping-exits.ensures ∙ (λ i. looping c.args.exits ((c.in_ok-pad.ensures ∙ ap (λ (k : ℕ). k + 1) start.end) i) ((c.in_ok-other.ensures ∙ ap (λ (k : ℕ). k + 2) start.end) i))) j) (c.in_ok-pads.ensures.scope j) (begin j) (start.lists j)) in
+    let turn = ap of_written (λ j. stmt_code (program_in c.args.names.now) (stmt_of c.args.body.now) ((c.looping-exits.ensures ∙ (λ i. looping c.args.exits ((c.in_ok-break_at.ensures ∙ ap (λ (k : ℕ). k + 1) start.end) i) ((c.in_ok-continue_at.ensures ∙ ap (λ (k : ℕ). k + 2) start.end) i))) j) (c.in_ok-jumps_at.ensures.scope j) (begin j) (start.lists j)) in
     stops (same turn c.lower_scoped.ensures.code) c.in_err-step_at.was c.from_residual-in_err-step_at.ensures (body_within (program_in c.args.names.now) c.args.exits (scope_in c.args.scope.now) c.args.from (lists_of c.args.lists.now) (start_of c.args.head.now.start) (option_map expr_of c.args.head.now.condition) (option_map simple_of c.args.head.now.step) (stmt_of c.args.body.now))
 
 pub lower_for-returns-in_err-test_at-clause-code : goal.lower_for-returns-in_err-test_at-clause-code
 lower_for-returns-in_err-test_at-clause-code g t c =
-    let start = c.in_ok-pads.ensures.code in
+    let start = c.in_ok-jumps_at.ensures.code in
     let begin = c.in_ok-start.ensures ∙ ap (λ (k : ℕ). k + 3) start.end in
-    let turn = ap of_written (λ j. written (program_in c.args.names.now) (stmt_of c.args.body.now) ((c.looping-exits.ensures ∙ (λ i. looping c.args.exits ((c.in_ok-pad.ensures ∙ ap (λ (k : ℕ). k + 1) start.end) i) ((c.in_ok-other.ensures ∙ ap (λ (k : ℕ). k + 2) start.end) i))) j) (c.in_ok-pads.ensures.scope j) (begin j) (start.lists j)) in
+    let turn = ap of_written (λ j. stmt_code (program_in c.args.names.now) (stmt_of c.args.body.now) ((c.looping-exits.ensures ∙ (λ i. looping c.args.exits ((c.in_ok-break_at.ensures ∙ ap (λ (k : ℕ). k + 1) start.end) i) ((c.in_ok-continue_at.ensures ∙ ap (λ (k : ℕ). k + 2) start.end) i))) j) (c.in_ok-jumps_at.ensures.scope j) (begin j) (start.lists j)) in
     let body = same turn c.in_ok-step_at.ensures.code in
-    let inner = c.in_ok-step_at.ensures.scope ∙ c.in_ok-pads.ensures.scope in
+    let inner = c.in_ok-step_at.ensures.scope ∙ c.in_ok-jumps_at.ensures.scope in
     let step = ap of_written (λ j. for_step (program_in c.args.names.now) (inner j) (option_map simple_of c.args.head.now.step) (body.end j) (body.lists j)) in
     stops (same step c.lower_step.ensures) c.in_err-test_at.was c.from_residual-in_err-test_at.ensures (step_within (program_in c.args.names.now) c.args.exits (scope_in c.args.scope.now) c.args.from (lists_of c.args.lists.now) (start_of c.args.head.now.start) (option_map expr_of c.args.head.now.condition) (option_map simple_of c.args.head.now.step) (stmt_of c.args.body.now))
 
 pub lower_for-returns-in_err-to-clause-code : goal.lower_for-returns-in_err-to-clause-code
 lower_for-returns-in_err-to-clause-code g t c =
-    let start = c.in_ok-pads.ensures.code in
+    let start = c.in_ok-jumps_at.ensures.code in
     let begin = c.in_ok-start.ensures ∙ ap (λ (k : ℕ). k + 3) start.end in
-    let turn = ap of_written (λ j. written (program_in c.args.names.now) (stmt_of c.args.body.now) ((c.looping-exits.ensures ∙ (λ i. looping c.args.exits ((c.in_ok-pad.ensures ∙ ap (λ (k : ℕ). k + 1) start.end) i) ((c.in_ok-other.ensures ∙ ap (λ (k : ℕ). k + 2) start.end) i))) j) (c.in_ok-pads.ensures.scope j) (begin j) (start.lists j)) in
+    let turn = ap of_written (λ j. stmt_code (program_in c.args.names.now) (stmt_of c.args.body.now) ((c.looping-exits.ensures ∙ (λ i. looping c.args.exits ((c.in_ok-break_at.ensures ∙ ap (λ (k : ℕ). k + 1) start.end) i) ((c.in_ok-continue_at.ensures ∙ ap (λ (k : ℕ). k + 2) start.end) i))) j) (c.in_ok-jumps_at.ensures.scope j) (begin j) (start.lists j)) in
     let body = same turn c.in_ok-step_at.ensures.code in
-    let inner = c.in_ok-step_at.ensures.scope ∙ c.in_ok-pads.ensures.scope in
+    let inner = c.in_ok-step_at.ensures.scope ∙ c.in_ok-jumps_at.ensures.scope in
     let step = ap of_written (λ j. for_step (program_in c.args.names.now) (inner j) (option_map simple_of c.args.head.now.step) (body.end j) (body.lists j)) in
     let stepped = same step c.in_ok-test_at.ensures in
     let test = ap of_written (λ j. for_test (program_in c.args.names.now) (inner j) (option_map expr_of c.args.head.now.condition) (begin j) (stepped.end j) (stepped.lists j)) in
@@ -273,7 +273,7 @@ pub lower_scoped-returns-clause-scope : goal.lower_scoped-returns-clause-scope
 lower_scoped-returns-clause-scope g t c = c.leave.ensures ∙ stmt_left (scope_in c.args.scope.now) (scope_in c.lower_stmt.new.scope) c.len-outer.result c.len-outer.ensures (stmt_of c.args.s.now) c.in_ok-to.ensures.scope
 
 pub lower_for-returns-clause-scope : goal.lower_for-returns-clause-scope
-lower_for-returns-clause-scope g t c = c.leave.ensures ∙ start_left (scope_in c.args.scope.now) (scope_in c.lower_scoped.new.scope) c.len-outer.result c.len-outer.ensures (start_of c.args.head.now.start) (c.in_ok-step_at.ensures.scope ∙ c.in_ok-pads.ensures.scope)
+lower_for-returns-clause-scope g t c = c.leave.ensures ∙ start_left (scope_in c.args.scope.now) (scope_in c.lower_scoped.new.scope) c.len-outer.result c.len-outer.ensures (start_of c.args.head.now.start) (c.in_ok-step_at.ensures.scope ∙ c.in_ok-jumps_at.ensures.scope)
 
 pub lower_stmt-lower_block-requires : goal.lower_stmt-lower_block-requires
 lower_stmt-lower_block-requires g t c κs within =
@@ -346,7 +346,7 @@ pub lower_scoped-leave-requires : goal.lower_scoped-leave-requires
 lower_scoped-leave-requires g t c = stmt_longer (scope_in c.args.scope.now) (scope_in c.lower_stmt.new.scope) c.len-outer.result c.len-outer.ensures (stmt_of c.args.s.now) c.in_ok-to.ensures.scope
 
 pub lower_for-leave-requires : goal.lower_for-leave-requires
-lower_for-leave-requires g t c = start_longer (scope_in c.args.scope.now) (scope_in c.lower_scoped.new.scope) c.len-outer.result c.len-outer.ensures (start_of c.args.head.now.start) (c.in_ok-step_at.ensures.scope ∙ c.in_ok-pads.ensures.scope)
+lower_for-leave-requires g t c = start_longer (scope_in c.args.scope.now) (scope_in c.lower_scoped.new.scope) c.len-outer.result c.len-outer.ensures (start_of c.args.head.now.start) (c.in_ok-step_at.ensures.scope ∙ c.in_ok-jumps_at.ensures.scope)
 
 pub lower_stmt-lower_transaction-requires : goal.lower_stmt-lower_transaction-requires
 lower_stmt-lower_transaction-requires g t c κs within =

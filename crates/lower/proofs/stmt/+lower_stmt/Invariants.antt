@@ -1,7 +1,7 @@
 use Rattle.std.proofs.Common.{◌≡◌, drop}
 use Rattle.syntax.specs.Views.{stmts_of}
 use Rattle.lower_spec.specs.Statements.{locals_at_end}
-use Rattle.selection.specs.Statements.{all_written}
+use Rattle.selection.specs.Statements.{stmts_code}
 use Rattle.lower_exprs.specs.Lists.{lists_of}
 use Rattle.lower_exprs.specs.Views.{program_in, scope_in}
 use Rattle.lower_exprs.proofs.Adding.{written_behind}
@@ -14,6 +14,6 @@ invariant-lower_stmts-body g l =
     let all = stmts_of l.body in
     record {
       scope : locals_at_end rest (scope_in l.scope) ≡ locals_at_end all (scope_in l.fn.scope);
-      code : written_behind l.code.items (all_written (program_in l.names) rest l.exits (scope_in l.scope) l.to (lists_of l.lists))
-          ≡ written_behind l.fn.code.items (all_written (program_in l.names) all l.exits (scope_in l.fn.scope) l.from (lists_of l.fn.lists));
+      code : written_behind l.code.items (stmts_code (program_in l.names) rest l.exits (scope_in l.scope) l.to (lists_of l.lists))
+          ≡ written_behind l.fn.code.items (stmts_code (program_in l.names) all l.exits (scope_in l.fn.scope) l.from (lists_of l.fn.lists));
     }

@@ -2,7 +2,7 @@ use Rattle.std.proofs.Common.{ap}
 use Rattle.syntax.specs.Views.{expr_of}
 use Rattle.selection.specs.Expressions.{condition}
 use Rattle.lower_exprs.specs.Lists.{lists_of}
-use Rattle.lower_exprs.specs.Stretches.{of_test}
+use Rattle.lower_exprs.specs.Fragments.{of_test}
 use Rattle.lower_exprs.specs.Views.{program_in, scope_in}
 use Rattle.lower_exprs.proofs.Adding.{same}
 use Rattle.lower.proofs.stmt.lower_head.Goals as goal

@@ -8,17 +8,17 @@ use Rattle.syntax.specs.Numbers.{common}
 use Rattle.syntax.specs.Views.{name_of, parameter_of, expr_of, exprs_of}
 use Rattle.selection.specs.Names.{callee_of}
 use Rattle.selection.specs.Conditions.{zero_tested}
-use Rattle.selection.specs.Expressions.{AllEmitted, in_own_transaction, negation, complement, logical_negation, constant, converting, variable, element, condition_value, call_code, value_into, types_of, taken_types, emitted_type, emitted, due, handed, condition, all_emitted}
+use Rattle.selection.specs.Expressions.{AllEmitted, in_own_transaction, negation, complement, logical_negation, constant, converting, variable, element, condition_value, call_code, value_into, types_of, taken_types, emitted_type, emit, as_type, argument_value, condition, emit_all}
 use Rattle.selection.proofs.Growing.{used_more, compared_more, condition_more}
 use Rattle.lower_exprs.specs.Lists.{lists_of}
 use Rattle.lower_exprs.specs.Views.{program_in, scope_in}
-use Rattle.lower_exprs.specs.Stretches.{of_value, of_test}
+use Rattle.lower_exprs.specs.Fragments.{of_value, of_test}
 use Rattle.lower_exprs.specs.inner.Stretches.{in_place, all_in_place}
 use Rattle.global_tables.specs.Tables.{shared_in}
 use Rattle.lower_exprs.specs.inner.Tables.{callee_in}
 use Rattle.lower_exprs.proofs.Adding.{same, in_turn, gathered, value_alone, stops, no_less}
 use Rattle.lower_exprs.proofs.Nodes.{variable_is, constant_is, call_is, element_is, parenthesized_is, cast_is, unary_is, binary_is, logical_is, conditional_is, in_transaction_is, value_there, test_there, value_test_there, due_constant, due_there, due_within, cast_test_there, cast_by_value}
-use Rattle.lower_exprs.proofs.Conditional.{settled_behind, condition_within, second_within, one_is, two_is, chosen_there}
+use Rattle.lower_exprs.proofs.Conditional.{into_behind, condition_within, second_within, one_is, two_is, chosen_there}
 use Rattle.lower_exprs.proofs.Operating.{left_within, right_within, left_there, right_there, whole_there}
 use Rattle.lower_exprs.proofs.Within.{logical_within, arguments_within}
 use Rattle.lower_exprs.proofs.Rows.{type_there, no_type, next_value, first_within, no_more_values}
@@ -56,13 +56,13 @@ lower_expr-returns-in-Variable g t c =
 pub lower_expr-returns-in-None : goal.lower_expr-returns-in-None
 lower_expr-returns-in-None g t c =
     let found = sym (ap (option_map shared_in) c.in-None.is) ∙ c.global.ensures.value ∙ ap (global_of (program_in c.args.names.now)) c.as_str-in-Element.ensures in
-    let index = emitted (program_in c.args.names.now) (scope_in c.args.scope.now) (expr_of c.in-Element.index) c.args.from c.args.free c.args.free (lists_of c.args.lists.now) in
+    let index = emit (program_in c.args.names.now) (scope_in c.args.scope.now) (expr_of c.in-Element.index) c.args.from c.args.free c.args.free (lists_of c.args.lists.now) in
     value_there (program_in c.args.names.now) (scope_in c.args.scope.now) c.args.from c.args.into c.args.free (lists_of c.args.lists.now) (element_is c.in-Element.is refl) (same (ap (λ o. of_value (element o index c.args.from c.args.into (lists_of c.args.lists.now))) found) c.put_constant.ensures)
 
 pub lower_expr-returns-in_ok-i-in-Some : goal.lower_expr-returns-in_ok-i-in-Some
 lower_expr-returns-in_ok-i-in-Some g t c =
     let found = c.in-Some.ensures.value ∙ ap (global_of (program_in c.args.names.now)) c.as_str-in-Element.ensures in
-    let index = emitted (program_in c.args.names.now) (scope_in c.args.scope.now) (expr_of c.get.result.now) c.args.from c.args.free c.args.free (lists_of c.args.lists.now) in
+    let index = emit (program_in c.args.names.now) (scope_in c.args.scope.now) (expr_of c.get.result.now) c.args.from c.args.free c.args.free (lists_of c.args.lists.now) in
     let x = shared_in c.in-Some.g in
     let i = c.in_ok-i-in-Some.ensures in
     let made = in_turn i (λ j. of_value (element (Some x) (in_place (i.end j) (i.lists j)) (i.end j).to c.args.into (i.lists j))) c.put_read_at.ensures in
@@ -71,7 +71,7 @@ lower_expr-returns-in_ok-i-in-Some g t c =
 pub lower_expr-returns-in_err-i-in-Some : goal.lower_expr-returns-in_err-i-in-Some
 lower_expr-returns-in_err-i-in-Some g t c =
     let found = c.in-Some.ensures.value ∙ ap (global_of (program_in c.args.names.now)) c.as_str-in-Element.ensures in
-    let index = emitted (program_in c.args.names.now) (scope_in c.args.scope.now) (expr_of c.get.result.now) c.args.from c.args.free c.args.free (lists_of c.args.lists.now) in
+    let index = emit (program_in c.args.names.now) (scope_in c.args.scope.now) (expr_of c.get.result.now) c.args.from c.args.free c.args.free (lists_of c.args.lists.now) in
     value_there (program_in c.args.names.now) (scope_in c.args.scope.now) c.args.from c.args.into c.args.free (lists_of c.args.lists.now) (element_is c.in-Element.is c.get.ensures)
     (same (ap (λ o. of_value (element o index c.args.from c.args.into (lists_of c.args.lists.now))) found)
     (stops c.lower_expr.ensures c.in_err-i-in-Some.was c.from_residual.ensures (used_more c.args.into index.lists)))
@@ -79,13 +79,13 @@ lower_expr-returns-in_err-i-in-Some g t c =
 pub lower_expr-returns-in-None-callee_of : goal.lower_expr-returns-in-None-callee_of
 lower_expr-returns-in-None-callee_of g t c =
     let found = sym (ap (option_map callee_in) c.in-None-callee_of.is) ∙ c.callee_of.ensures ∙ ap (callee_of (program_in c.args.names.now)) c.as_str-in-Call.ensures in
-    let args = all_emitted (program_in c.args.names.now) (scope_in c.args.scope.now) (taken_types (callee_of (program_in c.args.names.now) (name_of c.in-Call.f).text)) (exprs_of c.in-Call.args) c.args.from c.args.free (lists_of c.args.lists.now) in
+    let args = emit_all (program_in c.args.names.now) (scope_in c.args.scope.now) (taken_types (callee_of (program_in c.args.names.now) (name_of c.in-Call.f).text)) (exprs_of c.in-Call.args) c.args.from c.args.free (lists_of c.args.lists.now) in
     value_there (program_in c.args.names.now) (scope_in c.args.scope.now) c.args.from c.args.into c.args.free (lists_of c.args.lists.now) (call_is c.in-Call.is refl) (same (ap (λ o. of_value (call_code o args c.args.from c.args.into (lists_of c.args.lists.now))) found) c.put_constant-in-None-callee_of.ensures)
 
 pub lower_expr-returns-in-Some-callee_of : goal.lower_expr-returns-in-Some-callee_of
 lower_expr-returns-in-Some-callee_of g t c =
     let found = c.in-Some-callee_of.ensures ∙ ap (callee_of (program_in c.args.names.now)) c.as_str-in-Call.ensures in
-    value_there (program_in c.args.names.now) (scope_in c.args.scope.now) c.args.from c.args.into c.args.free (lists_of c.args.lists.now) (call_is c.in-Call.is c.as_slice-all.ensures) (same (ap (λ o. of_value (call_code o (all_emitted (program_in c.args.names.now) (scope_in c.args.scope.now) (taken_types o) (exprs_of c.as_slice-all.result.now) c.args.from c.args.free (lists_of c.args.lists.now)) c.args.from c.args.into (lists_of c.args.lists.now))) found) c.lower_call.ensures)
+    value_there (program_in c.args.names.now) (scope_in c.args.scope.now) c.args.from c.args.into c.args.free (lists_of c.args.lists.now) (call_is c.in-Call.is c.as_slice-all.ensures) (same (ap (λ o. of_value (call_code o (emit_all (program_in c.args.names.now) (scope_in c.args.scope.now) (taken_types o) (exprs_of c.as_slice-all.result.now) c.args.from c.args.free (lists_of c.args.lists.now)) c.args.from c.args.into (lists_of c.args.lists.now))) found) c.lower_call.ensures)
 
 pub lower_expr-returns-in_ok-a-in-Negate : goal.lower_expr-returns-in_ok-a-in-Negate
 lower_expr-returns-in_ok-a-in-Negate g t c =
@@ -95,7 +95,7 @@ lower_expr-returns-in_ok-a-in-Negate g t c =
 pub lower_expr-returns-in_err-a-in-Negate : goal.lower_expr-returns-in_err-a-in-Negate
 lower_expr-returns-in_err-a-in-Negate g t c =
     value_there (program_in c.args.names.now) (scope_in c.args.scope.now) c.args.from c.args.into c.args.free (lists_of c.args.lists.now) (unary_is c.in-Unary.is c.in-Negate.is c.get-in-Negate.ensures)
-    (stops c.lower_expr-in-Negate.ensures c.in_err-a-in-Negate.was c.from_residual-in_err-a-in-Negate.ensures (used_more c.args.into (emitted (program_in c.args.names.now) (scope_in c.args.scope.now) (expr_of c.get-in-Negate.result.now) c.args.from c.args.free c.args.free (lists_of c.args.lists.now)).lists))
+    (stops c.lower_expr-in-Negate.ensures c.in_err-a-in-Negate.was c.from_residual-in_err-a-in-Negate.ensures (used_more c.args.into (emit (program_in c.args.names.now) (scope_in c.args.scope.now) (expr_of c.get-in-Negate.result.now) c.args.from c.args.free c.args.free (lists_of c.args.lists.now)).lists))
 
 pub lower_expr-returns-in_ok-a-in-Complement : goal.lower_expr-returns-in_ok-a-in-Complement
 lower_expr-returns-in_ok-a-in-Complement g t c =
@@ -105,7 +105,7 @@ lower_expr-returns-in_ok-a-in-Complement g t c =
 pub lower_expr-returns-in_err-a-in-Complement : goal.lower_expr-returns-in_err-a-in-Complement
 lower_expr-returns-in_err-a-in-Complement g t c =
     value_there (program_in c.args.names.now) (scope_in c.args.scope.now) c.args.from c.args.into c.args.free (lists_of c.args.lists.now) (unary_is c.in-Unary.is c.in-Complement.is c.get-in-Complement.ensures)
-    (stops c.lower_expr-in-Complement.ensures c.in_err-a-in-Complement.was c.from_residual-in_err-a-in-Complement.ensures (used_more c.args.into (emitted (program_in c.args.names.now) (scope_in c.args.scope.now) (expr_of c.get-in-Complement.result.now) c.args.from c.args.free c.args.free (lists_of c.args.lists.now)).lists))
+    (stops c.lower_expr-in-Complement.ensures c.in_err-a-in-Complement.was c.from_residual-in_err-a-in-Complement.ensures (used_more c.args.into (emit (program_in c.args.names.now) (scope_in c.args.scope.now) (expr_of c.get-in-Complement.result.now) c.args.from c.args.free c.args.free (lists_of c.args.lists.now)).lists))
 
 pub lower_expr-returns-in_ok-a-in-Not : goal.lower_expr-returns-in_ok-a-in-Not
 lower_expr-returns-in_ok-a-in-Not g t c =
@@ -115,17 +115,17 @@ lower_expr-returns-in_ok-a-in-Not g t c =
 pub lower_expr-returns-in_err-a-in-Not : goal.lower_expr-returns-in_err-a-in-Not
 lower_expr-returns-in_err-a-in-Not g t c =
     value_there (program_in c.args.names.now) (scope_in c.args.scope.now) c.args.from c.args.into c.args.free (lists_of c.args.lists.now) (unary_is c.in-Unary.is c.in-Not.is c.get-in-Not.ensures)
-    (stops c.lower_expr-in-Not.ensures c.in_err-a-in-Not.was c.from_residual-in_err-a-in-Not.ensures (compared_more (emitted (program_in c.args.names.now) (scope_in c.args.scope.now) (expr_of c.get-in-Not.result.now) c.args.from c.args.free c.args.free (lists_of c.args.lists.now)) c.args.into c.args.free))
+    (stops c.lower_expr-in-Not.ensures c.in_err-a-in-Not.was c.from_residual-in_err-a-in-Not.ensures (compared_more (emit (program_in c.args.names.now) (scope_in c.args.scope.now) (expr_of c.get-in-Not.result.now) c.args.from c.args.free c.args.free (lists_of c.args.lists.now)) c.args.into c.args.free))
 
 pub lower_call-returns : goal.lower_call-returns
 lower_call-returns g t c =
     let k = c.in_ok-to.ensures in
-    let rs = c.as_slice.ensures ∙ k.registers ∙ ap (λ xs. xs ++ (all_emitted (program_in c.args.names.now) (scope_in c.args.scope.now) (taken_types (Some (callee_in c.args.f))) (exprs_of c.args.all.now) c.args.from c.args.free (lists_of c.args.lists.now)).registers) c.requires in
+    let rs = c.as_slice.ensures ∙ k.registers ∙ ap (λ xs. xs ++ (emit_all (program_in c.args.names.now) (scope_in c.args.scope.now) (taken_types (Some (callee_in c.args.f))) (exprs_of c.args.all.now) c.args.from c.args.free (lists_of c.args.lists.now)).registers) c.requires in
     in_turn k.code (λ j. of_value (call_code (Some (callee_in c.args.f)) (all_in_place (rs j) (k.code.end j) (k.code.lists j)) (k.code.end j) c.args.into (k.code.lists j))) c.put_call.ensures
 
 pub lower_call-returns-in_err-to : goal.lower_call-returns-in_err-to
 lower_call-returns-in_err-to g t c =
-    stops c.lower_all.ensures.code c.in_err-to.was c.from_residual.ensures (arguments_within (callee_in c.args.f) (all_emitted (program_in c.args.names.now) (scope_in c.args.scope.now) (taken_types (Some (callee_in c.args.f))) (exprs_of c.args.all.now) c.args.from c.args.free (lists_of c.args.lists.now)) c.args.from c.args.into (lists_of c.args.lists.now))
+    stops c.lower_all.ensures.code c.in_err-to.was c.from_residual.ensures (arguments_within (callee_in c.args.f) (emit_all (program_in c.args.names.now) (scope_in c.args.scope.now) (taken_types (Some (callee_in c.args.f))) (exprs_of c.args.all.now) c.args.from c.args.free (lists_of c.args.lists.now)) c.args.from c.args.into (lists_of c.args.lists.now))
 
 pub lower_logical-returns : goal.lower_logical-returns
 lower_logical-returns g t c =
@@ -148,16 +148,16 @@ pub lower_conditional-returns-in_err-t : goal.lower_conditional-returns-in_err-t
 lower_conditional-returns-in_err-t g t c =
     stops c.lower_condition.ensures c.in_err-t.was c.from_residual.ensures (condition_within (program_in c.args.names.now) (scope_in c.args.scope.now) (expr_of c.args.c.now) (expr_of c.args.left.now) (expr_of c.args.right.now) c.args.from c.args.into c.args.free (lists_of c.args.lists.now))
 
-pub lower_settled-returns-clause-code : goal.lower_settled-returns-clause-code
-lower_settled-returns-clause-code g t c =
-    let k = c.in_ok-held.ensures in
-    same (settled_behind c.args.into (due (program_in c.args.names.now) (scope_in c.args.scope.now) c.args.ty (expr_of c.args.e.now) c.args.from c.args.into c.args.free (lists_of c.args.lists.now)))
-    (in_turn k (λ j. of_value (value_into c.args.into (in_place (k.end j) (k.lists j)))) c.settle.ensures.code)
+pub lower_into-returns-clause-code : goal.lower_into-returns-clause-code
+lower_into-returns-clause-code g t c =
+    let k = c.in_ok-location.ensures in
+    same (into_behind c.args.into (as_type (program_in c.args.names.now) (scope_in c.args.scope.now) c.args.ty (expr_of c.args.e.now) c.args.from c.args.into c.args.free (lists_of c.args.lists.now)))
+    (in_turn k (λ j. of_value (value_into c.args.into (in_place (k.end j) (k.lists j)))) c.put_into.ensures.code)
 
 pub lower_in_transaction-returns : goal.lower_in_transaction-returns
 lower_in_transaction-returns g t c =
-    let next = ap of_value (λ j. emitted (program_in c.args.names.now) (scope_in c.args.scope.now) (expr_of c.args.e.now) (c.in_ok-next.ensures j) c.args.into c.args.free (lists_of c.args.lists.now)) in
-    let value = value_alone (same next c.in_ok-held.ensures) c.new-operand.ensures.items in
+    let next = ap of_value (λ j. emit (program_in c.args.names.now) (scope_in c.args.scope.now) (expr_of c.args.e.now) (c.in_ok-next.ensures j) c.args.into c.args.free (lists_of c.args.lists.now)) in
+    let value = value_alone (same next c.in_ok-location.ensures) c.new-operand.ensures.items in
     same (ap (λ v. of_value (in_own_transaction v)) value) (c.put_in_transaction.ensures (lists_of c.lower_expr.new.lists))
 
 pub lower_condition-returns-in-Parenthesized : goal.lower_condition-returns-in-Parenthesized
@@ -308,13 +308,13 @@ lower_conditional-lower_condition-requires g t c κs within =
     let size = simp the_lemmas at (ap (the_size g.row.A g.A.Allocator g.A.laws) c.requires.parts) in
     (omega (arith, size, c.decreases), within)
 
-pub lower_conditional-lower_settled-requires : goal.lower_conditional-lower_settled-requires
-lower_conditional-lower_settled-requires g t c κs within =
+pub lower_conditional-lower_into-requires : goal.lower_conditional-lower_into-requires
+lower_conditional-lower_into-requires g t c κs within =
     let size = simp the_lemmas at (ap (the_size g.row.A g.A.Allocator g.A.laws) c.requires.parts) in
     (omega (arith, size, c.decreases), within)
 
-pub lower_conditional-lower_settled-requires-2 : goal.lower_conditional-lower_settled-requires-2
-lower_conditional-lower_settled-requires-2 g t c κs within =
+pub lower_conditional-lower_into-requires-2 : goal.lower_conditional-lower_into-requires-2
+lower_conditional-lower_into-requires-2 g t c κs within =
     let size = simp the_lemmas at (ap (the_size g.row.A g.A.Allocator g.A.laws) c.requires.parts) in
     (omega (arith, size, c.decreases), within)
 
@@ -389,7 +389,7 @@ lower_condition-lower_value-requires-in-InTransaction g t c κs within = (omega 
 
 pub lower_expr-returns-in-Cast : goal.lower_expr-returns-in-Cast
 lower_expr-returns-in-Cast g t c =
-    value_there (program_in c.args.names.now) (scope_in c.args.scope.now) c.args.from c.args.into c.args.free (lists_of c.args.lists.now) (cast_is c.in-Cast.is c.get-in-Cast.ensures) c.lower_due.ensures
+    value_there (program_in c.args.names.now) (scope_in c.args.scope.now) c.args.from c.args.into c.args.free (lists_of c.args.lists.now) (cast_is c.in-Cast.is c.get-in-Cast.ensures) c.lower_as.ensures
 
 pub lower_expr-returns-in_ok-b-in-Binary : goal.lower_expr-returns-in_ok-b-in-Binary
 lower_expr-returns-in_ok-b-in-Binary g t c =
@@ -413,7 +413,7 @@ lower_expr-returns-in_err-a-in-Binary g t c =
     let eo = c.value_type-own.ensures ∙ ap (λ x. emitted_type (program_in c.args.names.now) (scope_in c.args.scope.now) (expr_of x)) (c.get-in-Binary.ensures ∙ sym c.get-in-Binary-3.ensures) in
     let et = c.value_type-other.ensures in
     value_there (program_in c.args.names.now) (scope_in c.args.scope.now) c.args.from c.args.into c.args.free (lists_of c.args.lists.now) (binary_is c.in-Binary.is c.get-in-Binary-3.ensures c.get-in-Binary-2.ensures)
-    (stops (left_there (program_in c.args.names.now) (scope_in c.args.scope.now) c.in-Binary.op (expr_of c.get-in-Binary-3.result.now) (expr_of c.get-in-Binary-2.result.now) c.in-Binary.field-3 c.args.from c.args.into c.args.free (lists_of c.args.lists.now) eo et c.operand_type-ty.ensures c.operand_type-due.ensures c.lower_due-in-Binary.ensures) c.in_err-a-in-Binary.was c.from_residual-in_err-a-in-Binary.ensures (left_within (program_in c.args.names.now) (scope_in c.args.scope.now) c.in-Binary.op (expr_of c.get-in-Binary-3.result.now) (expr_of c.get-in-Binary-2.result.now) c.in-Binary.field-3 c.args.from c.args.into c.args.free (lists_of c.args.lists.now)))
+    (stops (left_there (program_in c.args.names.now) (scope_in c.args.scope.now) c.in-Binary.op (expr_of c.get-in-Binary-3.result.now) (expr_of c.get-in-Binary-2.result.now) c.in-Binary.field-3 c.args.from c.args.into c.args.free (lists_of c.args.lists.now) eo et c.operand_type-ty.ensures c.operand_type-due.ensures c.lower_as-in-Binary.ensures) c.in_err-a-in-Binary.was c.from_residual-in_err-a-in-Binary.ensures (left_within (program_in c.args.names.now) (scope_in c.args.scope.now) c.in-Binary.op (expr_of c.get-in-Binary-3.result.now) (expr_of c.get-in-Binary-2.result.now) c.in-Binary.field-3 c.args.from c.args.into c.args.free (lists_of c.args.lists.now)))
 
 pub lower_conditional-returns : goal.lower_conditional-returns
 lower_conditional-returns g t c =
@@ -422,13 +422,13 @@ lower_conditional-returns g t c =
     let a = same one c.in_ok-a.ensures.code in
     let two = ap of_value (two_is (program_in c.args.names.now) (scope_in c.args.scope.now) (expr_of c.args.c.now) (expr_of c.args.left.now) (expr_of c.args.right.now) c.args.from c.args.into c.args.free (lists_of c.args.lists.now) c.in_ok-t.ensures c.in_ok-next.ensures ty a c.in_ok-other.ensures) in
     let chosen = chosen_there (program_in c.args.names.now) (scope_in c.args.scope.now) (expr_of c.args.c.now) (expr_of c.args.left.now) (expr_of c.args.right.now) c.args.from c.args.into c.args.free (lists_of c.args.lists.now) c.in_ok-t.ensures c.in_ok-next.ensures ty a c.in_ok-other.ensures (same two c.in_ok-b.ensures.code) c.requires.test c.requires.first c.requires.second c.as_slice.ensures.value c.in_ok-b.ensures.register in
-    same (ap of_value chosen) (c.put_chosen.ensures (lists_of c.lower_settled-2.new.lists))
+    same (ap of_value chosen) (c.put_chosen.ensures (lists_of c.lower_into-2.new.lists))
 
 pub lower_conditional-returns-in_err-a : goal.lower_conditional-returns-in_err-a
 lower_conditional-returns-in_err-a g t c =
     let ty = c.common_type-ty.ensures ∙ (λ j. common (c.value_type-own.ensures j) (c.value_type-another.ensures j)) in
     let one = ap of_value (one_is (program_in c.args.names.now) (scope_in c.args.scope.now) (expr_of c.args.c.now) (expr_of c.args.left.now) (expr_of c.args.right.now) c.args.from c.args.into c.args.free (lists_of c.args.lists.now) c.in_ok-t.ensures c.in_ok-next.ensures ty) in
-    stops (same one c.lower_settled.ensures.code) c.in_err-a.was c.from_residual-in_err-a.ensures (second_within (program_in c.args.names.now) (scope_in c.args.scope.now) (expr_of c.args.c.now) (expr_of c.args.left.now) (expr_of c.args.right.now) c.args.from c.args.into c.args.free (lists_of c.args.lists.now))
+    stops (same one c.lower_into.ensures.code) c.in_err-a.was c.from_residual-in_err-a.ensures (second_within (program_in c.args.names.now) (scope_in c.args.scope.now) (expr_of c.args.c.now) (expr_of c.args.left.now) (expr_of c.args.right.now) c.args.from c.args.into c.args.free (lists_of c.args.lists.now))
 
 pub lower_conditional-returns-in_err-b : goal.lower_conditional-returns-in_err-b
 lower_conditional-returns-in_err-b g t c =
@@ -436,16 +436,16 @@ lower_conditional-returns-in_err-b g t c =
     let one = ap of_value (one_is (program_in c.args.names.now) (scope_in c.args.scope.now) (expr_of c.args.c.now) (expr_of c.args.left.now) (expr_of c.args.right.now) c.args.from c.args.into c.args.free (lists_of c.args.lists.now) c.in_ok-t.ensures c.in_ok-next.ensures ty) in
     let a = same one c.in_ok-a.ensures.code in
     let two = ap of_value (two_is (program_in c.args.names.now) (scope_in c.args.scope.now) (expr_of c.args.c.now) (expr_of c.args.left.now) (expr_of c.args.right.now) c.args.from c.args.into c.args.free (lists_of c.args.lists.now) c.in_ok-t.ensures c.in_ok-next.ensures ty a c.in_ok-other.ensures) in
-    stops (same two c.lower_settled-2.ensures.code) c.in_err-b.was c.from_residual-in_err-b.ensures (no_less _)
+    stops (same two c.lower_into-2.ensures.code) c.in_err-b.was c.from_residual-in_err-b.ensures (no_less _)
 
-pub lower_expr-lower_due-requires : goal.lower_expr-lower_due-requires
-lower_expr-lower_due-requires g t c κs within =
+pub lower_expr-lower_as-requires : goal.lower_expr-lower_as-requires
+lower_expr-lower_as-requires g t c κs within =
     let size = simp the_lemmas at (ap (the_size g.row.A g.A.Allocator g.A.laws) c.in-Cast.is) in
     let here = ap (the_size g.row.A g.A.Allocator g.A.laws) c.get-in-Cast.ensures in
     (omega (arith, size, here, c.decreases), within)
 
-pub lower_expr-lower_due-requires-in-Binary : goal.lower_expr-lower_due-requires-in-Binary
-lower_expr-lower_due-requires-in-Binary g t c κs within =
+pub lower_expr-lower_as-requires-in-Binary : goal.lower_expr-lower_as-requires-in-Binary
+lower_expr-lower_as-requires-in-Binary g t c κs within =
     let size = simp the_lemmas at (ap (the_size g.row.A g.A.Allocator g.A.laws) c.in-Binary.is) in
     let here = ap (the_size g.row.A g.A.Allocator g.A.laws) c.get-in-Binary-3.ensures in
     (omega (arith, size, here, c.decreases), within)
@@ -456,16 +456,16 @@ lower_expr-lower_operand-requires g t c κs within =
     let here = ap (the_size g.row.A g.A.Allocator g.A.laws) c.get-in-Binary-4.ensures in
     (omega (arith, size, here, c.decreases), within)
 
-pub lower_due-returns-in-Some : goal.lower_due-returns-in-Some
-lower_due-returns-in-Some g t c =
+pub lower_as-returns-in-Some : goal.lower_as-returns-in-Some
+lower_as-returns-in-Some g t c =
     same (ap of_value (sym (due_constant (program_in c.args.names.now) (scope_in c.args.scope.now) c.args.ty (expr_of c.args.e.now) c.in-Some.value c.in-Some.own c.args.from c.args.into c.args.free (lists_of c.args.lists.now) (sym c.in-Some.ensures))))
     (same (ap (λ w. of_value (constant w c.args.ty c.args.from c.args.into (lists_of c.args.lists.now))) c.constant_in.ensures) c.put_constant.ensures)
 
-pub lower_due-returns-in_ok-a-in-None : goal.lower_due-returns-in_ok-a-in-None
-lower_due-returns-in_ok-a-in-None g t c = due_there (program_in c.args.names.now) (scope_in c.args.scope.now) c.args.ty (expr_of c.args.e.now) c.args.from c.args.into c.args.free (lists_of c.args.lists.now) (sym c.constant_of.ensures ∙ c.in-None.is) c.in_ok-a-in-None.ensures c.put_converted.ensures
+pub lower_as-returns-in_ok-a-in-None : goal.lower_as-returns-in_ok-a-in-None
+lower_as-returns-in_ok-a-in-None g t c = due_there (program_in c.args.names.now) (scope_in c.args.scope.now) c.args.ty (expr_of c.args.e.now) c.args.from c.args.into c.args.free (lists_of c.args.lists.now) (sym c.constant_of.ensures ∙ c.in-None.is) c.in_ok-a-in-None.ensures c.put_converted.ensures
 
-pub lower_due-returns-in_err-a-in-None : goal.lower_due-returns-in_err-a-in-None
-lower_due-returns-in_err-a-in-None g t c =
+pub lower_as-returns-in_err-a-in-None : goal.lower_as-returns-in_err-a-in-None
+lower_as-returns-in_err-a-in-None g t c =
     stops c.lower_expr.ensures c.in_err-a-in-None.was c.from_residual.ensures (due_within (program_in c.args.names.now) (scope_in c.args.scope.now) c.args.ty (expr_of c.args.e.now) c.args.from c.args.into c.args.free (lists_of c.args.lists.now) (sym c.constant_of.ensures ∙ c.in-None.is))
 
 pub lower_condition-returns-then-converts : goal.lower_condition-returns-then-converts
@@ -482,13 +482,13 @@ lower_condition-returns-else-converts g t c =
 
 pub lower_all-each-preserved : goal.lower_all-each-preserved
 lower_all-each-preserved g t c =
-    let here = ap (λ n. of_value (handed (program_in c.args.names.now) (scope_in c.args.scope.now) (drop n (types_of (map parameter_of c.args.parameters.now))) (expr_of c.one-item.result) c.each.to c.each.later (lists_of c.each.lists))) c.each.invariant.0 in
-    (ap (λ n. n + 1) c.each.invariant.0, next_value (program_in c.args.names.now) (scope_in c.args.scope.now) (types_of (map parameter_of c.args.parameters.now)) c.args.all.now c.each.one-index c.each.to c.each.later (lists_of c.each.lists) c.each.code.items c.each.registers.items _ c.one-item.result c.each-test.true c.one-item.is c.each.invariant.1 _ _ _ c.in_ok-held.held _ (same here c.in_ok-held.ensures) c.in_ok-add_operand.ensures c.above-later.ensures)
+    let here = ap (λ n. of_value (argument_value (program_in c.args.names.now) (scope_in c.args.scope.now) (drop n (types_of (map parameter_of c.args.parameters.now))) (expr_of c.one-item.result) c.each.to c.each.later (lists_of c.each.lists))) c.each.invariant.0 in
+    (ap (λ n. n + 1) c.each.invariant.0, next_value (program_in c.args.names.now) (scope_in c.args.scope.now) (types_of (map parameter_of c.args.parameters.now)) c.args.all.now c.each.one-index c.each.to c.each.later (lists_of c.each.lists) c.each.code.items c.each.registers.items _ c.one-item.result c.each-test.true c.one-item.is c.each.invariant.1 _ _ _ c.in_ok-location.location _ (same here c.in_ok-location.ensures) c.in_ok-add_operand.ensures c.above-later.ensures)
 
-pub lower_all-returns-in_err-held-clause-code : goal.lower_all-returns-in_err-held-clause-code
-lower_all-returns-in_err-held-clause-code g t c =
-    let here = ap (λ n. of_value (handed (program_in c.args.names.now) (scope_in c.args.scope.now) (drop n (types_of (map parameter_of c.args.parameters.now))) (expr_of c.one-item.result) c.each.to c.each.later (lists_of c.each.lists))) c.each.invariant.0 in
-    stops (same here c.lower_handed.ensures) c.in_err-held.was c.from_residual.ensures (first_within (program_in c.args.names.now) (scope_in c.args.scope.now) (types_of (map parameter_of c.args.parameters.now)) c.args.all.now c.each.one-index c.each.to c.each.later (lists_of c.each.lists) c.each.code.items c.each.registers.items _ c.one-item.result c.each-test.true c.one-item.is c.each.invariant.1)
+pub lower_all-returns-in_err-location-clause-code : goal.lower_all-returns-in_err-location-clause-code
+lower_all-returns-in_err-location-clause-code g t c =
+    let here = ap (λ n. of_value (argument_value (program_in c.args.names.now) (scope_in c.args.scope.now) (drop n (types_of (map parameter_of c.args.parameters.now))) (expr_of c.one-item.result) c.each.to c.each.later (lists_of c.each.lists))) c.each.invariant.0 in
+    stops (same here c.lower_argument.ensures) c.in_err-location.was c.from_residual.ensures (first_within (program_in c.args.names.now) (scope_in c.args.scope.now) (types_of (map parameter_of c.args.parameters.now)) c.args.all.now c.each.one-index c.each.to c.each.later (lists_of c.each.lists) c.each.code.items c.each.registers.items _ c.one-item.result c.each-test.true c.one-item.is c.each.invariant.1)
 
 pub lower_all-returns-clause-code : goal.lower_all-returns-clause-code
 lower_all-returns-clause-code g t c =
@@ -498,31 +498,31 @@ lower_all-returns-clause-code g t c =
 pub lower_all-returns-clause-registers : goal.lower_all-returns-clause-registers
 lower_all-returns-clause-registers g t c = ap (λ (w : AllEmitted). w.registers) (no_more_values (program_in c.args.names.now) (scope_in c.args.scope.now) (types_of (map parameter_of c.args.parameters.now)) c.args.all.now c.each.one-index c.each.to c.each.later (lists_of c.each.lists) c.each.code.items c.each.registers.items _ c.each-test.false c.each.invariant.1)
 
-pub lower_handed-returns-then-number-parameters : goal.lower_handed-returns-then-number-parameters
-lower_handed-returns-then-number-parameters g t c =
+pub lower_argument-returns-then-number-parameters : goal.lower_argument-returns-then-number-parameters
+lower_argument-returns-then-number-parameters g t c =
     let there = type_there c.args.parameters.now c.args.number c.index-parameters-number.result c.if-number-parameters.true c.index-parameters-number.is in
     let own = ap (λ x. x.ty) c.index-parameters-number.is in
-    same (ap (λ u. of_value (due (program_in c.args.names.now) (scope_in c.args.scope.now) u (expr_of c.args.e.now) c.args.from c.args.free c.args.free (lists_of c.args.lists.now))) (sym own) ∙ ap (λ us. of_value (handed (program_in c.args.names.now) (scope_in c.args.scope.now) us (expr_of c.args.e.now) c.args.from c.args.free (lists_of c.args.lists.now))) (sym there)) c.lower_due.ensures
+    same (ap (λ u. of_value (as_type (program_in c.args.names.now) (scope_in c.args.scope.now) u (expr_of c.args.e.now) c.args.from c.args.free c.args.free (lists_of c.args.lists.now))) (sym own) ∙ ap (λ us. of_value (argument_value (program_in c.args.names.now) (scope_in c.args.scope.now) us (expr_of c.args.e.now) c.args.from c.args.free (lists_of c.args.lists.now))) (sym there)) c.lower_as.ensures
 
-pub lower_handed-returns-else-number-parameters : goal.lower_handed-returns-else-number-parameters
-lower_handed-returns-else-number-parameters g t c =
+pub lower_argument-returns-else-number-parameters : goal.lower_argument-returns-else-number-parameters
+lower_argument-returns-else-number-parameters g t c =
     let there = no_type c.args.parameters.now c.args.number (omega (arith, c.if-number-parameters.false)) in
-    same (ap (λ us. of_value (handed (program_in c.args.names.now) (scope_in c.args.scope.now) us (expr_of c.args.e.now) c.args.from c.args.free (lists_of c.args.lists.now))) (sym there)) c.lower_expr.ensures
+    same (ap (λ us. of_value (argument_value (program_in c.args.names.now) (scope_in c.args.scope.now) us (expr_of c.args.e.now) c.args.from c.args.free (lists_of c.args.lists.now))) (sym there)) c.lower_expr.ensures
 
-pub lower_due-lower_expr-requires : goal.lower_due-lower_expr-requires
-lower_due-lower_expr-requires g t c κs within = (omega (arith, c.decreases), within)
+pub lower_as-lower_expr-requires : goal.lower_as-lower_expr-requires
+lower_as-lower_expr-requires g t c κs within = (omega (arith, c.decreases), within)
 
-pub lower_operand-lower_due-requires : goal.lower_operand-lower_due-requires
-lower_operand-lower_due-requires g t c κs within = (omega (arith, c.decreases), within)
+pub lower_operand-lower_as-requires : goal.lower_operand-lower_as-requires
+lower_operand-lower_as-requires g t c κs within = (omega (arith, c.decreases), within)
 
-pub lower_settled-lower_due-requires : goal.lower_settled-lower_due-requires
-lower_settled-lower_due-requires g t c κs within = (omega (arith, c.decreases), within)
+pub lower_into-lower_as-requires : goal.lower_into-lower_as-requires
+lower_into-lower_as-requires g t c κs within = (omega (arith, c.decreases), within)
 
-pub lower_handed-lower_due-requires : goal.lower_handed-lower_due-requires
-lower_handed-lower_due-requires g t c κs within = (omega (arith, c.decreases), within)
+pub lower_argument-lower_as-requires : goal.lower_argument-lower_as-requires
+lower_argument-lower_as-requires g t c κs within = (omega (arith, c.decreases), within)
 
-pub lower_handed-lower_expr-requires : goal.lower_handed-lower_expr-requires
-lower_handed-lower_expr-requires g t c κs within = (omega (arith, c.decreases), within)
+pub lower_argument-lower_expr-requires : goal.lower_argument-lower_expr-requires
+lower_argument-lower_expr-requires g t c κs within = (omega (arith, c.decreases), within)
 
 pub lower_condition-lower_value-requires : goal.lower_condition-lower_value-requires
 lower_condition-lower_value-requires g t c κs within = (omega (arith, c.decreases), within)
@@ -533,8 +533,8 @@ lower_condition-lower_condition-requires-else-converts g t c κs within =
     let here = ap (the_size g.row.A g.A.Allocator g.A.laws) c.get-else-converts.ensures in
     (omega (arith, size, here, c.decreases), within)
 
-pub lower_all-lower_handed-requires : goal.lower_all-lower_handed-requires
-lower_all-lower_handed-requires g t c κs within =
+pub lower_all-lower_argument-requires : goal.lower_all-lower_argument-requires
+lower_all-lower_argument-requires g t c κs within =
     let size = the_size g.row.A g.A.Allocator g.A.laws in
     let below = at_most size c.args.all.now c.each.one-index c.one-item.result c.each-test.true in
     let here = ap size c.one-item.is in

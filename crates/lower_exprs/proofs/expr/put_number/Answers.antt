@@ -1,7 +1,7 @@
 use Rattle.std.proofs.Common.{ap}
 use Rattle.selection.specs.Expressions.{constant}
 use Rattle.lower_exprs.specs.Lists.{lists_of}
-use Rattle.lower_exprs.specs.Stretches.{of_value}
+use Rattle.lower_exprs.specs.Fragments.{of_value}
 use Rattle.lower_exprs.proofs.Adding.{same}
 use Rattle.lower_exprs.proofs.expr.put_number.Goals as goal
 

@@ -22,16 +22,16 @@ returns-in_err-right g c =
     let right = right_there (program_in c.args.names.now) (scope_in c.args.scope.now) c.args.op (option_map expr_of (option_copied c.args.by)) c.args.target c.args.from c.args.free (lists_of c.args.lists.now) c.type_at-own.ensures c.type_or_int-other.ensures c.operand_type-ty.ensures c.operand_type-due.ensures old c.above-behind.ensures c.lower_by.ensures in
     stops right c.in_err-right.was c.from_residual-in_err-right.ensures (right_within (program_in c.args.names.now) (scope_in c.args.scope.now) c.args.op (option_map expr_of (option_copied c.args.by)) c.args.target c.args.from c.args.free (lists_of c.args.lists.now))
 
-pub returns-in_err-held : goal.returns-in_err-held
-returns-in_err-held g c =
+pub returns-in_err-location : goal.returns-in_err-location
+returns-in_err-location g c =
     let old = old_there (program_in c.args.names.now) (scope_in c.args.scope.now) c.args.op (option_map expr_of (option_copied c.args.by)) c.args.target c.args.from c.args.free (lists_of c.args.lists.now) c.type_at-own.ensures c.type_or_int-other.ensures c.operand_type-ty.ensures c.operand_type-due.ensures c.in_ok-first.ensures c.in_ok-old.ensures in
     let right = right_there (program_in c.args.names.now) (scope_in c.args.scope.now) c.args.op (option_map expr_of (option_copied c.args.by)) c.args.target c.args.from c.args.free (lists_of c.args.lists.now) c.type_at-own.ensures c.type_or_int-other.ensures c.operand_type-ty.ensures c.operand_type-due.ensures old c.above-behind.ensures c.in_ok-right.ensures in
     let both = both_there (program_in c.args.names.now) (scope_in c.args.scope.now) c.args.op (option_map expr_of (option_copied c.args.by)) c.args.target c.args.from c.args.free (lists_of c.args.lists.now) c.type_at-own.ensures c.type_or_int-other.ensures c.operand_type-ty.ensures c.operand_type-due.ensures old c.above-behind.ensures right c.home_or-home.ensures c.put_both.ensures in
-    stops both c.in_err-held.was c.from_residual-in_err-held.ensures (both_within (program_in c.args.names.now) (scope_in c.args.scope.now) c.args.op (option_map expr_of (option_copied c.args.by)) c.args.target c.args.from c.args.free (lists_of c.args.lists.now))
+    stops both c.in_err-location.was c.from_residual-in_err-location.ensures (both_within (program_in c.args.names.now) (scope_in c.args.scope.now) c.args.op (option_map expr_of (option_copied c.args.by)) c.args.target c.args.from c.args.free (lists_of c.args.lists.now))
 
 pub returns : goal.returns
 returns g c =
     let old = old_there (program_in c.args.names.now) (scope_in c.args.scope.now) c.args.op (option_map expr_of (option_copied c.args.by)) c.args.target c.args.from c.args.free (lists_of c.args.lists.now) c.type_at-own.ensures c.type_or_int-other.ensures c.operand_type-ty.ensures c.operand_type-due.ensures c.in_ok-first.ensures c.in_ok-old.ensures in
     let right = right_there (program_in c.args.names.now) (scope_in c.args.scope.now) c.args.op (option_map expr_of (option_copied c.args.by)) c.args.target c.args.from c.args.free (lists_of c.args.lists.now) c.type_at-own.ensures c.type_or_int-other.ensures c.operand_type-ty.ensures c.operand_type-due.ensures old c.above-behind.ensures c.in_ok-right.ensures in
-    let both = both_there (program_in c.args.names.now) (scope_in c.args.scope.now) c.args.op (option_map expr_of (option_copied c.args.by)) c.args.target c.args.from c.args.free (lists_of c.args.lists.now) c.type_at-own.ensures c.type_or_int-other.ensures c.operand_type-ty.ensures c.operand_type-due.ensures old c.above-behind.ensures right c.home_or-home.ensures c.in_ok-held.ensures in
+    let both = both_there (program_in c.args.names.now) (scope_in c.args.scope.now) c.args.op (option_map expr_of (option_copied c.args.by)) c.args.target c.args.from c.args.free (lists_of c.args.lists.now) c.type_at-own.ensures c.type_or_int-other.ensures c.operand_type-ty.ensures c.operand_type-due.ensures old c.above-behind.ensures right c.home_or-home.ensures c.in_ok-location.ensures in
     changed_there (program_in c.args.names.now) (scope_in c.args.scope.now) c.args.op (option_map expr_of (option_copied c.args.by)) c.args.target c.args.from c.args.free (lists_of c.args.lists.now) c.type_at-own.ensures c.type_or_int-other.ensures c.operand_type-ty.ensures c.operand_type-due.ensures both c.home_or-home.ensures c.result_type.ensures c.put_fitting.ensures

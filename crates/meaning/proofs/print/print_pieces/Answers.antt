@@ -3,7 +3,7 @@ use Rattle.syntax.specs.Formats.{pieces}
 use Rattle.syntax.specs.Meaning.{print_pieces}
 use Rattle.meaning.specs.inner.Machine.{state_in, halt_of}
 use Rattle.meaning.proofs.Stops.{err_of, stops_as}
-use Rattle.meaning.proofs.Printed.{byte_goes, byte_stops, figure_goes}
+use Rattle.meaning.proofs.Printed.{byte_goes, byte_stops, specifier_goes}
 use Rattle.meaning.proofs.print.print_pieces.Goals as goal
 
 pub returns-in_err-put_byte-in-Byte : goal.returns-in_err-put_byte-in-Byte
@@ -21,7 +21,7 @@ bytes-preserved-in-Byte g c = record {
 
 pub bytes-preserved : goal.bytes-preserved
 bytes-preserved g c = record {
-  within = c.in-Figure.ensures.within;
-  taken = omega (arith, c.bytes.invariant.taken, c.in-Figure.ensures.after);
-  value = figure_goes c.args.format.now c.args.values.now c.bytes.begun c.bytes.i c.bytes.k (state_in c.bytes.m) (print_pieces (pieces c.args.format.now) c.args.values.now (state_in c.args.m.now)) c.in-Figure.ty c.in-Figure.next (state_in c.put_figure.new.m) c.bytes.invariant.value c.in-Figure.ensures.is (c.in_ok-put_figure-in-Figure.ensures tt);
+  within = c.in-Specifier.ensures.within;
+  taken = omega (arith, c.bytes.invariant.taken, c.in-Specifier.ensures.after);
+  value = specifier_goes c.args.format.now c.args.values.now c.bytes.begun c.bytes.i c.bytes.k (state_in c.bytes.m) (print_pieces (pieces c.args.format.now) c.args.values.now (state_in c.args.m.now)) c.in-Specifier.ty c.in-Specifier.next (state_in c.put_specifier.new.m) c.bytes.invariant.value c.in-Specifier.ensures.is (c.in_ok-put_specifier-in-Specifier.ensures tt);
 }

@@ -2,8 +2,8 @@ use Rattle.std.proofs.Common.{refl}
 use Rattle.syntax.specs.Views.{exprs_of, stmt_of}
 use Rattle.meaning.specs.declared.left.Task.TheVariants as task
 use Rattle.meaning.specs.declared.left.Direction.TheVariants as way
-use Rattle.meaning.specs.inner.Left.{opened, step_of}
-use Rattle.meaning.specs.inner.Does.{called}
+use Rattle.meaning.specs.inner.Left.{first_step, step_of}
+use Rattle.meaning.specs.inner.Does.{caller_in}
 use Rattle.meaning.specs.inner.Going.{call_begun}
 use Rattle.meaning.specs.inner.Machine.{end_of, program_in}
 use Rattle.meaning.proofs.Pieces.{call_step, open_step, own_step}
@@ -20,7 +20,7 @@ returns g c = (step_of c.args.source.now c.args.left.now (end_of c.args.end), ow
 
 pub returns-in-Some-parts_of : goal.returns-in-Some-parts_of
 returns-in-Some-parts_of g c = (
-  opened c.args.source.now c.in-Some.frames (stmt_of c.in-Some.s.now) c.in-Some-parts_of.parts,
+  first_step c.args.source.now c.in-Some.frames (stmt_of c.in-Some.s.now) c.in-Some-parts_of.parts,
   open_step c.args.source.now c.in-Some.frames c.args.left.now (task.Alone way.Whole c.in-Some.frames c.in-Some.s) (stmt_of c.in-Some.s.now) c.in-Some-parts_of.parts (end_of c.args.end) c.in-Some.ensures.left c.in-Some.ensures.end refl c.in-Some-parts_of.ensures,
   c.in_ok-opened.ensures,
 )
@@ -29,6 +29,6 @@ pub returns-in-Some-call_alone : goal.returns-in-Some-call_alone
 returns-in-Some-call_alone g c = (
   call_begun (program_in c.args.source.now) c.in-Some.frames c.in-Some-call_alone.f.now.text (exprs_of c.in-Some-call_alone.args.now),
   call_step c.args.source.now c.in-Some.frames c.args.left.now (task.Alone way.Whole c.in-Some.frames c.in-Some.s) (stmt_of c.in-Some.s.now) c.in-Some-call_alone.f.now.text (exprs_of c.in-Some-call_alone.args.now) (end_of c.args.end) c.in-Some.ensures.left c.in-Some.ensures.end refl
-      (c.in-Some-call_alone.ensures (program_in c.args.source.now) (called c.args.source.now c.in-Some.frames)),
+      (c.in-Some-call_alone.ensures (program_in c.args.source.now) (caller_in c.args.source.now c.in-Some.frames)),
   c.in_ok-entered-in-Some-call_alone.ensures,
 )

@@ -83,40 +83,40 @@ whole-conditional-requires g t c κs within =
 
 -- ---- parentheses
 
-pub cast_or_group-returns-in_err-at-clause-value : goal.cast_or_group-returns-in_err-at-clause-value
-cast_or_group-returns-in_err-at-clause-value g t c =
+pub cast_or_group-returns-in_err-span-clause-value : goal.cast_or_group-returns-in_err-span-clause-value
+cast_or_group-returns-in_err-span-clause-value g t c =
     let p = err_from_is_err_and c.from_residual.result c.from_residual.ensures.1 in
-    rw (p.1, p.2) (fails_along c.in_err-at.field-0.0 _ _ (opened_none (whole_at c.args.depth) (expr_at c.args.depth 11) (toks c.args.tokens.now)) c.in_err-at.ensures)
+    rw (p.1, p.2) (fails_along c.in_err-span.field-0.0 _ _ (opened_none (whole_at c.args.depth) (expr_at c.args.depth 11) (toks c.args.tokens.now)) c.in_err-span.ensures)
 
 pub cast_or_group-returns-in_err-to-clause-value : goal.cast_or_group-returns-in_err-to-clause-value
 cast_or_group-returns-in_err-to-clause-value g t c =
     let p = err_from_is_err_and c.from_residual-in_err-to.result c.from_residual-in_err-to.ensures.1 in
-    rw (p.1, p.2) (fails_along c.in_err-to.field-0.0 _ _ (cast_none (whole_at c.args.depth) (expr_at c.args.depth 11) (toks c.args.tokens.now) c.in_ok-at.at (toks c.in_ok-at.rest.now) c.in_ok-at.ensures (sym c.starts_type.ensures ∙ c.if-starts_type.true)) c.in_err-to.ensures)
+    rw (p.1, p.2) (fails_along c.in_err-to.field-0.0 _ _ (cast_none (whole_at c.args.depth) (expr_at c.args.depth 11) (toks c.args.tokens.now) c.in_ok-span.span (toks c.in_ok-span.rest.now) c.in_ok-span.ensures (sym c.starts_type.ensures ∙ c.if-starts_type.true)) c.in_err-to.ensures)
 
 pub cast_or_group-returns-in_err-rest-clause-value : goal.cast_or_group-returns-in_err-rest-clause-value
 cast_or_group-returns-in_err-rest-clause-value g t c =
     let p = err_from_is_err_and c.from_residual-in_err-rest.result c.from_residual-in_err-rest.ensures.1 in
-    rw (p.1, p.2) (fails_along c.in_err-rest.field-0.0 _ _ (cast_open (whole_at c.args.depth) (expr_at c.args.depth 11) (toks c.args.tokens.now) c.in_ok-at.at (toks c.in_ok-at.rest.now) c.in_ok-at.ensures (sym c.starts_type.ensures ∙ c.if-starts_type.true) c.in_ok-to.to (toks c.in_ok-to.rest.now) c.in_ok-to.ensures) c.in_err-rest.ensures)
+    rw (p.1, p.2) (fails_along c.in_err-rest.field-0.0 _ _ (cast_open (whole_at c.args.depth) (expr_at c.args.depth 11) (toks c.args.tokens.now) c.in_ok-span.span (toks c.in_ok-span.rest.now) c.in_ok-span.ensures (sym c.starts_type.ensures ∙ c.if-starts_type.true) c.in_ok-to.to (toks c.in_ok-to.rest.now) c.in_ok-to.ensures) c.in_err-rest.ensures)
 
 pub cast_or_group-returns-in_err-inner-clause-value : goal.cast_or_group-returns-in_err-inner-clause-value
 cast_or_group-returns-in_err-inner-clause-value g t c =
     let p = err_from_is_err_and c.from_residual-in_err-inner.result c.from_residual-in_err-inner.ensures.1 in
-    rw (p.1, p.2) (fails_along c.in_err-inner.field-0.0 _ _ (cast_fails (whole_at c.args.depth) (expr_at c.args.depth 11) (toks c.args.tokens.now) c.in_ok-at.at (toks c.in_ok-at.rest.now) c.in_ok-at.ensures (sym c.starts_type.ensures ∙ c.if-starts_type.true) c.in_ok-to.to (toks c.in_ok-to.rest.now) c.in_ok-to.ensures (toks c.in_ok-rest.rest.now) c.in_ok-rest.ensures) c.in_err-inner.ensures.value)
+    rw (p.1, p.2) (fails_along c.in_err-inner.field-0.0 _ _ (cast_fails (whole_at c.args.depth) (expr_at c.args.depth 11) (toks c.args.tokens.now) c.in_ok-span.span (toks c.in_ok-span.rest.now) c.in_ok-span.ensures (sym c.starts_type.ensures ∙ c.if-starts_type.true) c.in_ok-to.to (toks c.in_ok-to.rest.now) c.in_ok-to.ensures (toks c.in_ok-rest.rest.now) c.in_ok-rest.ensures) c.in_err-inner.ensures.value)
 
 pub cast_or_group-returns-then-starts_type-clause-value : goal.cast_or_group-returns-then-starts_type-clause-value
 cast_or_group-returns-then-starts_type-clause-value g t c =
-    cast_is (whole_at c.args.depth) (expr_at c.args.depth 11) (toks c.args.tokens.now) c.in_ok-at.at (toks c.in_ok-at.rest.now) c.in_ok-at.ensures (sym c.starts_type.ensures ∙ c.if-starts_type.true) c.in_ok-to.to (toks c.in_ok-to.rest.now) c.in_ok-to.ensures (toks c.in_ok-rest.rest.now) c.in_ok-rest.ensures (expr_of c.in_ok-inner.inner) (toks c.in_ok-inner.rest.now) c.in_ok-inner.ensures.value
+    cast_is (whole_at c.args.depth) (expr_at c.args.depth 11) (toks c.args.tokens.now) c.in_ok-span.span (toks c.in_ok-span.rest.now) c.in_ok-span.ensures (sym c.starts_type.ensures ∙ c.if-starts_type.true) c.in_ok-to.to (toks c.in_ok-to.rest.now) c.in_ok-to.ensures (toks c.in_ok-rest.rest.now) c.in_ok-rest.ensures (expr_of c.in_ok-inner.inner) (toks c.in_ok-inner.rest.now) c.in_ok-inner.ensures.value
     ∙ ap (λ e. Ok (e, toks c.in_ok-inner.rest.now)) (sym c.in_ok-cast.ensures)
 
 pub cast_or_group-returns-in_err-inner-2-clause-value : goal.cast_or_group-returns-in_err-inner-2-clause-value
 cast_or_group-returns-in_err-inner-2-clause-value g t c =
     let p = err_from_is_err_and c.from_residual-in_err-inner-2.result c.from_residual-in_err-inner-2.ensures.1 in
-    rw (p.1, p.2) (fails_along c.in_err-inner-2.field-0.0 _ _ (group_none (whole_at c.args.depth) (expr_at c.args.depth 11) (toks c.args.tokens.now) c.in_ok-at.at (toks c.in_ok-at.rest.now) c.in_ok-at.ensures (sym c.starts_type.ensures ∙ c.if-starts_type.false)) c.in_err-inner-2.ensures.value)
+    rw (p.1, p.2) (fails_along c.in_err-inner-2.field-0.0 _ _ (group_none (whole_at c.args.depth) (expr_at c.args.depth 11) (toks c.args.tokens.now) c.in_ok-span.span (toks c.in_ok-span.rest.now) c.in_ok-span.ensures (sym c.starts_type.ensures ∙ c.if-starts_type.false)) c.in_err-inner-2.ensures.value)
 
 pub cast_or_group-returns-in_err-inner-3-clause-value : goal.cast_or_group-returns-in_err-inner-3-clause-value
 cast_or_group-returns-in_err-inner-3-clause-value g t c =
     let p = err_from_is_err_and c.from_residual-in_err-inner-3.result c.from_residual-in_err-inner-3.ensures.1 in
-    rw (p.1, p.2) (fails_along c.in_err-inner-3.field-0.0 _ _ (group_open (whole_at c.args.depth) (expr_at c.args.depth 11) (toks c.args.tokens.now) c.in_ok-at.at (toks c.in_ok-at.rest.now) c.in_ok-at.ensures (sym c.starts_type.ensures ∙ c.if-starts_type.false) (expr_of c.in_ok-inner-2.inner) (toks c.in_ok-inner-2.rest.now) c.in_ok-inner-2.ensures.value) c.in_err-inner-3.ensures.rest)
+    rw (p.1, p.2) (fails_along c.in_err-inner-3.field-0.0 _ _ (group_open (whole_at c.args.depth) (expr_at c.args.depth 11) (toks c.args.tokens.now) c.in_ok-span.span (toks c.in_ok-span.rest.now) c.in_ok-span.ensures (sym c.starts_type.ensures ∙ c.if-starts_type.false) (expr_of c.in_ok-inner-2.inner) (toks c.in_ok-inner-2.rest.now) c.in_ok-inner-2.ensures.value) c.in_err-inner-3.ensures.rest)
 
 -- ---- a name, and what may follow it
 

@@ -7,6 +7,6 @@ use Rattle.parse.proofs.plain.print_stmt.Goals as goal
 
 pub returns : goal.returns
 returns g c =
-    print_stmt_is c.args.depth (toks c.args.tokens.now) (toks c.in_ok-at.rest.now) (toks c.in_ok-rest.rest.now) (toks c.in_ok-format.rest.now) (toks c.in_ok-arguments.rest.now) c.in_ok-at.at (c.in_ok-format.format, c.in_ok-format.format_at) (map expr_of c.in_ok-arguments.arguments)
-    c.in_ok-at.ensures c.in_ok-rest.ensures c.in_ok-format.ensures c.in_ok-arguments.ensures
-    ∙ ap (λ s. Ok (s, toks c.in_ok-arguments.rest.now)) (sym (stmt_of_print c.in_ok-at.at c.in_ok-format.format c.in_ok-format.format_at c.in_ok-arguments.arguments))
+    print_stmt_is c.args.depth (toks c.args.tokens.now) (toks c.in_ok-span.rest.now) (toks c.in_ok-rest.rest.now) (toks c.in_ok-format.rest.now) (toks c.in_ok-arguments.rest.now) c.in_ok-span.span (c.in_ok-format.format, c.in_ok-format.format_span) (map expr_of c.in_ok-arguments.arguments)
+    c.in_ok-span.ensures c.in_ok-rest.ensures c.in_ok-format.ensures c.in_ok-arguments.ensures
+    ∙ ap (λ s. Ok (s, toks c.in_ok-arguments.rest.now)) (sym (stmt_of_print c.in_ok-span.span c.in_ok-format.format c.in_ok-format.format_span c.in_ok-arguments.arguments))

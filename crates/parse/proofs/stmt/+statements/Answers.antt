@@ -6,7 +6,7 @@ use Rattle.lex.specs.Tokens.{toks}
 use Rattle.syntax.specs.Views.{expr_of, declaration_of, stmt_of}
 use Rattle.syntax.proofs.Seen.{stmt_of_declare, stmt_of_block, stmt_of_transaction}
 use Rattle.parse.specs.declared.lead.Lead.TheVariants as lead
-use Rattle.parse.specs.inner.Reading.{head, spot, is_next}
+use Rattle.parse.specs.inner.Reading.{head, expect_span, is_next}
 use Rattle.parse.specs.inner.Statements.{entry, stmt_at}
 use Rattle.parse.proofs.code.Climbing.{fails_along}
 use Rattle.parse.proofs.code.Within.{stmt_none, stmt_deep, stmt_start, block_none, block_deep, block_start, block_stmt_is, block_stmt_fails, simple_stmt_is, entry_is}
@@ -94,30 +94,30 @@ for_stmt-returns g t c = rw (for_stmt_left c.args.depth (toks c.args.tokens.now)
 
 pub transaction_stmt-returns : goal.transaction_stmt-returns
 transaction_stmt-returns g t c =
-    transaction_stmt_is c.args.depth c.args.mode (toks c.args.tokens.now) (toks c.in_ok-at.rest.now) c.in_ok-at.at (ap (λ k. spot k (toks c.args.tokens.now)) (sym c.mode_keyword.ensures) ∙ c.in_ok-at.ensures) (sym c.is_next.ensures ∙ c.if-is_next.false) c.in_ok-kind.kind (toks c.in_ok-kind.rest.now) c.in_ok-kind.ensures (map stmt_of c.in_ok-body.body) (toks c.in_ok-body.rest.now) c.in_ok-body.ensures
-    ∙ ap (λ s. Ok (s, toks c.in_ok-body.rest.now)) (sym (stmt_of_transaction c.in_ok-kind.kind c.in_ok-body.body c.in_ok-at.at))
+    transaction_stmt_is c.args.depth c.args.mode (toks c.args.tokens.now) (toks c.in_ok-span.rest.now) c.in_ok-span.span (ap (λ k. expect_span k (toks c.args.tokens.now)) (sym c.mode_keyword.ensures) ∙ c.in_ok-span.ensures) (sym c.is_next.ensures ∙ c.if-is_next.false) c.in_ok-kind.kind (toks c.in_ok-kind.rest.now) c.in_ok-kind.ensures (map stmt_of c.in_ok-body.body) (toks c.in_ok-body.rest.now) c.in_ok-body.ensures
+    ∙ ap (λ s. Ok (s, toks c.in_ok-body.rest.now)) (sym (stmt_of_transaction c.in_ok-kind.kind c.in_ok-body.body c.in_ok-span.span))
 
 pub transaction_stmt-returns-then-depth-eq0 : goal.transaction_stmt-returns-then-depth-eq0
-transaction_stmt-returns-then-depth-eq0 g t c = value_stmt_deep c.args.depth c.args.mode (toks c.args.tokens.now) (toks c.in_ok-at.rest.now) c.in_ok-at.at (ap (λ k. spot k (toks c.args.tokens.now)) (sym c.mode_keyword.ensures) ∙ c.in_ok-at.ensures) (sym c.is_next.ensures ∙ c.if-is_next.true) c.if-depth-eq0.true
+transaction_stmt-returns-then-depth-eq0 g t c = value_stmt_deep c.args.depth c.args.mode (toks c.args.tokens.now) (toks c.in_ok-span.rest.now) c.in_ok-span.span (ap (λ k. expect_span k (toks c.args.tokens.now)) (sym c.mode_keyword.ensures) ∙ c.in_ok-span.ensures) (sym c.is_next.ensures ∙ c.if-is_next.true) c.if-depth-eq0.true
 
 pub transaction_stmt-returns-then-is_next : goal.transaction_stmt-returns-then-is_next
 transaction_stmt-returns-then-is_next g t c =
-    rw (value_stmt_is c.args.depth c.args.mode (toks c.args.tokens.now) (toks c.in_ok-at.rest.now) c.in_ok-at.at (ap (λ k. spot k (toks c.args.tokens.now)) (sym c.mode_keyword.ensures) ∙ c.in_ok-at.ensures) (sym c.is_next.ensures ∙ c.if-is_next.true) (c.args.depth - 1) (omega (arith, c.if-depth-eq0.false))) c.simple_stmt.ensures
+    rw (value_stmt_is c.args.depth c.args.mode (toks c.args.tokens.now) (toks c.in_ok-span.rest.now) c.in_ok-span.span (ap (λ k. expect_span k (toks c.args.tokens.now)) (sym c.mode_keyword.ensures) ∙ c.in_ok-span.ensures) (sym c.is_next.ensures ∙ c.if-is_next.true) (c.args.depth - 1) (omega (arith, c.if-depth-eq0.false))) c.simple_stmt.ensures
 
-pub transaction_stmt-returns-in_err-at : goal.transaction_stmt-returns-in_err-at
-transaction_stmt-returns-in_err-at g t c =
+pub transaction_stmt-returns-in_err-span : goal.transaction_stmt-returns-in_err-span
+transaction_stmt-returns-in_err-span g t c =
     let p = err_from_is_err_and c.from_residual.result c.from_residual.ensures.1 in
-    rw (p.1, p.2) (fails_along c.in_err-at.field-0.0 _ _ (λ f e. transaction_stmt_none c.args.depth (toks c.args.tokens.now) c.args.mode f (ap (λ k. spot k (toks c.args.tokens.now)) (sym c.mode_keyword.ensures) ∙ e)) c.in_err-at.ensures)
+    rw (p.1, p.2) (fails_along c.in_err-span.field-0.0 _ _ (λ f e. transaction_stmt_none c.args.depth (toks c.args.tokens.now) c.args.mode f (ap (λ k. expect_span k (toks c.args.tokens.now)) (sym c.mode_keyword.ensures) ∙ e)) c.in_err-span.ensures)
 
 pub transaction_stmt-returns-in_err-kind : goal.transaction_stmt-returns-in_err-kind
 transaction_stmt-returns-in_err-kind g t c =
     let p = err_from_is_err_and c.from_residual-in_err-kind.result c.from_residual-in_err-kind.ensures.1 in
-    rw (p.1, p.2) (fails_along c.in_err-kind.field-0.0 _ _ (λ f e. kind_fails c.args.depth c.args.mode (toks c.args.tokens.now) (toks c.in_ok-at.rest.now) c.in_ok-at.at (ap (λ k. spot k (toks c.args.tokens.now)) (sym c.mode_keyword.ensures) ∙ c.in_ok-at.ensures) (sym c.is_next.ensures ∙ c.if-is_next.false) f e) c.in_err-kind.ensures)
+    rw (p.1, p.2) (fails_along c.in_err-kind.field-0.0 _ _ (λ f e. kind_fails c.args.depth c.args.mode (toks c.args.tokens.now) (toks c.in_ok-span.rest.now) c.in_ok-span.span (ap (λ k. expect_span k (toks c.args.tokens.now)) (sym c.mode_keyword.ensures) ∙ c.in_ok-span.ensures) (sym c.is_next.ensures ∙ c.if-is_next.false) f e) c.in_err-kind.ensures)
 
 pub transaction_stmt-returns-in_err-body : goal.transaction_stmt-returns-in_err-body
 transaction_stmt-returns-in_err-body g t c =
     let p = err_from_is_err_and c.from_residual-in_err-body.result c.from_residual-in_err-body.ensures.1 in
-    rw (p.1, p.2) (fails_along c.in_err-body.field-0.0 _ _ (λ f e. transaction_stmt_fails c.args.depth c.args.mode (toks c.args.tokens.now) (toks c.in_ok-at.rest.now) c.in_ok-at.at (ap (λ k. spot k (toks c.args.tokens.now)) (sym c.mode_keyword.ensures) ∙ c.in_ok-at.ensures) (sym c.is_next.ensures ∙ c.if-is_next.false) c.in_ok-kind.kind (toks c.in_ok-kind.rest.now) c.in_ok-kind.ensures f e) c.in_err-body.ensures)
+    rw (p.1, p.2) (fails_along c.in_err-body.field-0.0 _ _ (λ f e. transaction_stmt_fails c.args.depth c.args.mode (toks c.args.tokens.now) (toks c.in_ok-span.rest.now) c.in_ok-span.span (ap (λ k. expect_span k (toks c.args.tokens.now)) (sym c.mode_keyword.ensures) ∙ c.in_ok-span.ensures) (sym c.is_next.ensures ∙ c.if-is_next.false) c.in_ok-kind.kind (toks c.in_ok-kind.rest.now) c.in_ok-kind.ensures f e) c.in_err-body.ensures)
 
 pub entry-returns-then-starts_type : goal.entry-returns-then-starts_type
 entry-returns-then-starts_type g t c =

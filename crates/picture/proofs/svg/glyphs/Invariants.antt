@@ -8,8 +8,8 @@ use Rattle.picture.proofs.svg.glyphs.Given as goal
 abbrev pub invariant-steps : goal.invariant-steps
 invariant-steps g l =
     (map (λ m. m.title.items) l.glyphs.items
-    ++ flat_map (λ s. title_of (is_drawn s.accesses s.access s.event s.deed) s.line.items) (drop l.at l.steps)
-    ≡ flat_map (λ s. title_of (is_drawn s.accesses s.access s.event s.deed) s.line.items) l.steps)
+    ++ flat_map (λ s. title_of (is_drawn s.accesses s.access s.event s.action) s.line.items) (drop l.at l.steps)
+    ≡ flat_map (λ s. title_of (is_drawn s.accesses s.access s.event s.action) s.line.items) l.steps)
     × (map (λ m. m.title.items) l.arrows.items
     ++ arrows_behind (map (λ s. (s.accesses, s.access, s.event)) (take l.at l.steps)) (map (λ s. (s.accesses, s.access, s.event)) (drop l.at l.steps))
     ≡ map (λ m. m.title.items) l.initial.arrows.items

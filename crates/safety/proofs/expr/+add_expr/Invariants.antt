@@ -6,4 +6,4 @@ use Rattle.safety.specs.inner.Known.{around_in}
 use Rattle.safety.proofs.expr.+add_expr.Given as goal
 
 abbrev pub invariant-add_exprs-each : goal.invariant-add_exprs-each
-invariant-add_exprs-each g l = sites_of_own l.sites ++ exprs_sites (exprs_of (drop l.one-index l.all)) (around_in l.locals l.place) ≡ sites_of_own l.initial.sites ++ exprs_sites (exprs_of l.all) (around_in l.locals l.place)
+invariant-add_exprs-each g l = sites_of_own l.sites ++ exprs_sites (exprs_of (drop l.one-index l.all)) (around_in l.locals l.surroundings) ≡ sites_of_own l.initial.sites ++ exprs_sites (exprs_of l.all) (around_in l.locals l.surroundings)

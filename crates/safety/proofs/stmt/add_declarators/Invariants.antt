@@ -7,5 +7,5 @@ use Rattle.safety.proofs.stmt.add_declarators.Given as goal
 
 abbrev pub invariant-each : goal.invariant-each
 invariant-each g l =
-    (sites_of_own l.sites ++ declarator_sites (map declarator_of (drop l.one-index l.all)) (around_in l.locals l.place) ≡ sites_of_own l.initial.sites ++ declarator_sites (map declarator_of l.all) (around_in l.initial.locals l.place))
+    (sites_of_own l.sites ++ declarator_sites (map declarator_of (drop l.one-index l.all)) (around_in l.locals l.surroundings) ≡ sites_of_own l.initial.sites ++ declarator_sites (map declarator_of l.all) (around_in l.initial.locals l.surroundings))
     × (names_in l.locals ++ map (λ d. d.name.text) (map declarator_of (drop l.one-index l.all)) ≡ names_in l.initial.locals ++ map (λ d. d.name.text) (map declarator_of l.all))

@@ -8,12 +8,12 @@ use Rattle.safety.proofs.stmt.add_head.Goals as goal
 pub returns-clause-sites : goal.returns-clause-sites
 returns-clause-sites g c =
     let head = c.args.head.now in
-    let place = c.args.place in
+    let surroundings = c.args.surroundings in
     let old = names_in c.args.locals.now in
     let new = names_in c.add_start.new.locals in
     let names = names_of_start (start_of head.start) in
-    let begin = start_sites (start_of head.start) (around_in c.args.locals.now place) in
+    let begin = start_sites (start_of head.start) (around_in c.args.locals.now surroundings) in
     let ok = c.in_ok-add_start.ensures in
     two c.args.sites.now c.add_expr_if_any.new.sites c.add_simple_if_any.new.sites _ _ _
-    (λ i. begin ++ first_sites place (option_map expr_of head.condition) old new names ok.names i ++ step_sites place (option_map simple_of head.step) old new names ok.names i)
+    (λ i. begin ++ first_sites surroundings (option_map expr_of head.condition) old new names ok.names i ++ step_sites surroundings (option_map simple_of head.step) old new names ok.names i)
     (two c.args.sites.now c.add_start.new.sites c.add_expr_if_any.new.sites _ _ _ refl ok.sites c.in_ok-add_expr_if_any.ensures) c.in_ok-add_simple_if_any.ensures

@@ -11,7 +11,7 @@ leave-requires g c = room (names_in c.args.locals.now) (names_in c.add_declarato
 
 pub returns-clause-sites : goal.returns-clause-sites
 returns-clause-sites g c =
-    let w = around_in c.args.locals.now c.args.place in
+    let w = around_in c.args.locals.now c.args.surroundings in
     same c.args.sites.now c.add_declarators.new.sites _ _ (ap (λ ds. declarator_sites (map declarator_of ds) w) (sym c.as_slice.ensures)) c.in_ok-add_declarators.ensures.sites
 
 pub returns-clause-names : goal.returns-clause-names

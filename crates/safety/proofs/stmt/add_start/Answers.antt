@@ -8,7 +8,7 @@ use Rattle.safety.proofs.stmt.add_start.Goals as goal
 
 pub returns-in_ok-add_declarators-in-Declare-clause-sites : goal.returns-in_ok-add_declarators-in-Declare-clause-sites
 returns-in_ok-add_declarators-in-Declare-clause-sites g c =
-    let w = around_in c.args.locals.now c.args.place in
+    let w = around_in c.args.locals.now c.args.surroundings in
     same c.args.sites.now c.add_declarators.new.sites _ _ (ap (λ s. start_sites (start_of s) w) c.in-Declare.is ∙ ap (λ ds. declarator_sites (map declarator_of ds) w) (sym c.as_slice.ensures)) c.in_ok-add_declarators-in-Declare.ensures.sites
 
 pub returns-in_ok-add_declarators-in-Declare-clause-names : goal.returns-in_ok-add_declarators-in-Declare-clause-names

@@ -1,6 +1,6 @@
 use Rattle.std.proofs.Common.{◌∙◌, ap, map}
 use Rattle.syntax.specs.Views.{program_of}
-use Rattle.serving.specs.inner.Told.{listed_shown}
+use Rattle.serving.specs.inner.ThreadReports.{listed_shown}
 use Rattle.serving.proofs.Listing.{outcomes_shown_are}
 use Rattle.serving.proofs.all_orders.outcomes_accepted.Goals as goal
 

@@ -1,7 +1,7 @@
 use Rattle.std.proofs.Common.{◌≡◌, map}
 use Rattle.syntax.specs.Views.{program_of}
 use Rattle.outcome_lists.specs.Views.{outcome_of}
-use Rattle.serving.specs.inner.Told.{listed_shown}
+use Rattle.serving.specs.inner.ThreadReports.{listed_shown}
 use Rattle.serving.proofs.all_orders.outcomes_shown.Given as goal
 
 abbrev pub invariant-listed : goal.invariant-listed

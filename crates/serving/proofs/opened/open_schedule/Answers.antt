@@ -9,7 +9,7 @@ returns-in-Ok-clause-answer g c =
     answers_scheduled (g.R.Read.remaining c.args.source) c.args.task.now _ _ _ _ _ (c.in-Ok.ensures ∙ ap (schedule_in (g.F.Files.contents c.args.files.now)) c.in-Some.ensures) c.serve_program.ensures.answer
 
 pub returns-in-Err-clause-answer : goal.returns-in-Err-clause-answer
-returns-in-Err-clause-answer g c = not_read_answers (g.R.Read.remaining c.args.source) c.args.task.now _ c.not_read.result _ _ c.not_read.ensures.told
+returns-in-Err-clause-answer g c = not_read_answers (g.R.Read.remaining c.args.source) c.args.task.now _ c.not_read.result _ _ c.not_read.ensures.status
 
 pub returns-in-None-clause-answer : goal.returns-in-None-clause-answer
 returns-in-None-clause-answer g c =

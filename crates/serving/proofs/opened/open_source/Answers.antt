@@ -9,4 +9,4 @@ pub returns-in-Ok-clause-refused : goal.returns-in-Ok-clause-refused
 returns-in-Ok-clause-refused g c = λ e. refused_opened _ _ c.in-Ok.ensures (c.open_schedule.ensures.refused e)
 
 pub returns-in-Err-clause-answer : goal.returns-in-Err-clause-answer
-returns-in-Err-clause-answer g c = not_read_answers _ c.args.task.now _ c.not_read.result _ _ c.not_read.ensures.told
+returns-in-Err-clause-answer g c = not_read_answers _ c.args.task.now _ c.not_read.result _ _ c.not_read.ensures.status

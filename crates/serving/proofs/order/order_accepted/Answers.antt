@@ -1,4 +1,4 @@
-use Rattle.serving.proofs.Told.{order_shown_of}
+use Rattle.serving.proofs.ThreadReports.{order_shown_of}
 use Rattle.serving.proofs.order.order_accepted.Goals as goal
 
 pub returns-in-Ok-clause-ok : goal.returns-in-Ok-clause-ok

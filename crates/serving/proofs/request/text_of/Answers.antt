@@ -8,4 +8,4 @@ pub returns-in-Ok-TooLong-clause-status : goal.returns-in-Ok-TooLong-clause-stat
 returns-in-Ok-TooLong-clause-status g c = inl (c.too_long.ensures, long_refused (g.R.Read.remaining c.args.source) (subst (λ s. IfSome (g.R.Read.remaining c.args.source) (λ bytes. IsTextOf bytes s)) c.in-Ok-TooLong.field-0-is c.in-Ok-TooLong.ensures))
 
 pub returns-in-Err-clause-status : goal.returns-in-Err-clause-status
-returns-in-Err-clause-status g c = inr c.not_read.ensures.told
+returns-in-Err-clause-status g c = inr c.not_read.ensures.status

@@ -1,6 +1,6 @@
 use Rattle.std.proofs.Common.{◌≡◌, map}
 use Rattle.report.specs.Views.{thread_of}
-use Rattle.serving.specs.inner.Told.{report_shown}
+use Rattle.serving.specs.inner.ThreadReports.{report_shown}
 use Rattle.serving.proofs.shown.threads_shown.Given as goal
 
 -- what is shown is that of the reports so far

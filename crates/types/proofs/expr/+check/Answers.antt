@@ -90,7 +90,7 @@ check_expr-check_call-requires g t c κs within =
 
 pub check_expr-returns-in-Call : goal.check_expr-returns-in-Call
 check_expr-returns-in-Call g t c =
-    c.check_call.ensures ∙ ap (λ es. first_unmet (IsTyped (known_in c.args.names.now) (Tree.Call (name_of c.in-Call.f) (exprs_of es) c.in-Call.at))) c.as_slice.ensures ∙ sym (typed_call (known_in c.args.names.now) c.args.e.now c.in-Call.f c.in-Call.args c.in-Call.at c.in-Call.is)
+    c.check_call.ensures ∙ ap (λ es. first_unmet (IsTyped (known_in c.args.names.now) (Tree.Call (name_of c.in-Call.f) (exprs_of es) c.in-Call.span))) c.as_slice.ensures ∙ sym (typed_call (known_in c.args.names.now) c.args.e.now c.in-Call.f c.in-Call.args c.in-Call.span c.in-Call.is)
 
 pub check_expr-returns-in_err-check_number-in-Binary : goal.check_expr-returns-in_err-check_number-in-Binary
 check_expr-returns-in_err-check_number-in-Binary g t c =
@@ -139,17 +139,17 @@ check_numbers-each-preserved g t c =
 
 pub check_call-returns-in_err-check_numbers : goal.check_call-returns-in_err-check_numbers
 check_call-returns-in_err-check_numbers g t c =
-    let is = call_parts (known_in c.args.names.now) (name_of c.args.f.now) (exprs_of c.args.args.now) c.args.at in
+    let is = call_parts (known_in c.args.names.now) (name_of c.args.f.now) (exprs_of c.args.args.now) c.args.span in
     stop c.check_numbers.result _ c.in_err-check_numbers.field-0.0 _ _ _ (skip c.check_known.result _ _ _ _ is c.check_known.ensures c.in_ok-check_known.was) c.check_numbers.ensures c.in_err-check_numbers.was c.from_residual-in_err-check_numbers.ensures
 
 pub check_call-returns : goal.check_call-returns
 check_call-returns g t c =
-    let is = call_parts (known_in c.args.names.now) (name_of c.args.f.now) (exprs_of c.args.args.now) c.args.at in
+    let is = call_parts (known_in c.args.names.now) (name_of c.args.f.now) (exprs_of c.args.args.now) c.args.span in
     c.check_called.ensures ∙ sym (skip c.check_numbers.result _ _ _ _ (skip c.check_known.result _ _ _ _ is c.check_known.ensures c.in_ok-check_known.was) c.check_numbers.ensures c.in_ok-check_numbers.was)
 
 pub check_call-returns-in_err-check_known : goal.check_call-returns-in_err-check_known
 check_call-returns-in_err-check_known g t c =
-    let is = call_parts (known_in c.args.names.now) (name_of c.args.f.now) (exprs_of c.args.args.now) c.args.at in
+    let is = call_parts (known_in c.args.names.now) (name_of c.args.f.now) (exprs_of c.args.args.now) c.args.span in
     stop c.check_known.result _ c.in_err-check_known.field-0.0 _ _ _ is c.check_known.ensures c.in_err-check_known.was c.from_residual.ensures
 
 pub check_number-returns-in_err-check_expr : goal.check_number-returns-in_err-check_expr

@@ -73,8 +73,8 @@ pub check_stmt-returns-in-Print-clause-answer : goal.check_stmt-returns-in-Print
 check_stmt-returns-in-Print-clause-answer g t c = λ declared h.
     let k = known_in c.args.names.now in
     let x = c.args.context in
-    let is = typed_print x.gives k declared x.looping c.args.stmt.now c.in-Print.field-0 c.in-Print.format c.in-Print.at c.in-Print.args c.in-Print.is in
-    let same : first_unmet (IsTypedPrint k c.as_str.result.now c.in-Print.at (exprs_of c.as_slice-in-Print.result.now)) ≡ first_unmet (IsTypedPrint k c.in-Print.format c.in-Print.at (exprs_of c.in-Print.args)) = (λ i. first_unmet (IsTypedPrint k (c.as_str.ensures i) c.in-Print.at (exprs_of (c.as_slice-in-Print.ensures i)))) in
+    let is = typed_print x.gives k declared x.looping c.args.stmt.now c.in-Print.field-0 c.in-Print.format c.in-Print.span c.in-Print.args c.in-Print.is in
+    let same : first_unmet (IsTypedPrint k c.as_str.result.now c.in-Print.span (exprs_of c.as_slice-in-Print.result.now)) ≡ first_unmet (IsTypedPrint k c.in-Print.format c.in-Print.span (exprs_of c.in-Print.args)) = (λ i. first_unmet (IsTypedPrint k (c.as_str.ensures i) c.in-Print.span (exprs_of (c.as_slice-in-Print.ensures i)))) in
     tell_rest c.as_failure-in-Print.result _ _ (is ∙ sym (c.check_print.ensures ∙ same)) c.as_failure-in-Print.ensures
 
 pub check_stmt-returns-in-Print-clause-same : goal.check_stmt-returns-in-Print-clause-same
@@ -211,7 +211,7 @@ check_stmt-returns-in-Do-clause-same g t c = ok_any c.as_failure.result (Agrees 
 pub check_stmt-returns-in-Return-clause-answer : goal.check_stmt-returns-in-Return-clause-answer
 check_stmt-returns-in-Return-clause-answer g t c = λ declared h.
     let x = c.args.context in
-    tell_rest c.as_failure-in-Return.result _ _ (typed_return x.gives (known_in c.args.names.now) declared x.looping c.args.stmt.now c.in-Return.e c.in-Return.at c.in-Return.is ∙ sym c.check_return.ensures) c.as_failure-in-Return.ensures
+    tell_rest c.as_failure-in-Return.result _ _ (typed_return x.gives (known_in c.args.names.now) declared x.looping c.args.stmt.now c.in-Return.e c.in-Return.span c.in-Return.is ∙ sym c.check_return.ensures) c.as_failure-in-Return.ensures
 
 pub check_stmt-returns-in-Return-clause-same : goal.check_stmt-returns-in-Return-clause-same
 check_stmt-returns-in-Return-clause-same g t c = ok_any c.as_failure-in-Return.result (Agrees c.args.names.now c.args.names.now) (agrees_all c.args.names.now)

@@ -20,7 +20,7 @@ returns-in_err-demand-in-Function g c =
     let typed = none_first _ _ (c.each.invariant.0 ∙ items_more xs i x c.item-item.is c.each-test.true) ∙ ap (λ y. first_unmet (IsTypedItem (map item_of (take i xs)) y)) is in
     let has = c.has_body-defined.ensures p c.requires.defined ∙ ap (has_name (defined_names p)) c.as_str.ensures ∙ sym (defined_is p f.name.text) in
     let right = has_right p (map item_of (take i xs)) f c.has_body-defined.result has typed c.each.invariant.1 in
-    stop c.demand.result _ c.in_err-demand-in-Function.field-0.0 _ _ _ (sym c.each.invariant.2 ∙ defined_more xs i x c.item-item.is c.each-test.true p f is) (c.demand.ensures ∙ ap (λ b. first_unmet (demand 29 f.name.at b)) right) c.in_err-demand-in-Function.was c.from_residual.ensures
+    stop c.demand.result _ c.in_err-demand-in-Function.field-0.0 _ _ _ (sym c.each.invariant.2 ∙ defined_more xs i x c.item-item.is c.each-test.true p f is) (c.demand.ensures ∙ ap (λ b. first_unmet (demand 29 f.name.span b)) right) c.in_err-demand-in-Function.was c.from_residual.ensures
 
 pub each-preserved : goal.each-preserved
 each-preserved g c =
@@ -38,10 +38,10 @@ each-preserved g c =
           let typed = none_first _ _ more ∙ ap (λ y. first_unmet (IsTypedItem (map item_of (take i xs)) y)) is in
           let has = w.has_body-defined.ensures p c.requires.defined ∙ ap (has_name (defined_names p)) w.as_str.ensures ∙ sym (defined_is p f.name.text) in
           let right = has_right p (map item_of (take i xs)) f w.has_body-defined.result has typed c.each.invariant.1 in
-          let met = demand_met w.demand.result _ 29 f.name.at w.has_body-defined.result w.demand.ensures w.in_ok-demand-in-Function.was in (
+          let met = demand_met w.demand.result _ 29 f.name.span w.has_body-defined.result w.demand.ensures w.in_ok-demand-in-Function.was in (
             rest,
             subst (AllDefined p) (sym (taken ∙ ap (λ y. map item_of (take i xs) ++ y ∷ []) is)) (all_defined_function p (map item_of (take i xs)) f (sym has ∙ met) c.each.invariant.1),
-            sym (skip w.demand.result _ _ _ _ (defined_more xs i x c.item-item.is c.each-test.true p f is) (w.demand.ensures ∙ ap (λ b. first_unmet (demand 29 f.name.at b)) right) w.in_ok-demand-in-Function.was) ∙ c.each.invariant.2,
+            sym (skip w.demand.result _ _ _ _ (defined_more xs i x c.item-item.is c.each-test.true p f is) (w.demand.ensures ∙ ap (λ b. first_unmet (demand 29 f.name.span b)) right) w.in_ok-demand-in-Function.was) ∙ c.each.invariant.2,
           ))
       | in-Globals w ↦ (
           let is : item_of x ≡ Shares (map global_of w.in-Globals.field-0) = ap item_of w.in-Globals.is in (

@@ -2,7 +2,7 @@ use Rattle.std.proofs.Common.{◌≤◌, ◌+◌, ◌∙◌, ap, sym, subst}
 use Rattle.std.specs.Vec.{vec_capacity}
 use Rattle.bytecode.specs.Valid.{cells_of}
 use Rattle.seats.specs.Setup.{Setup}
-use Rattle.seats.specs.Rule.{Leaves}
+use Rattle.seats.specs.Rule.{LeavesCells}
 use Rattle.workers.specs.Workers.{AreWorkersOf}
 use Rattle.workers.proofs.Closings.{closes, has_word}
 use Rattle.workers.proofs.close.gather.Goals as goal
@@ -25,6 +25,6 @@ close-words-requires-clause-room g c = (c.requires.room.0, subst (λ (k : Setup)
 pub returns : goal.returns
 returns g c = λ all.
     let hall = c.args.hall in
-    let left = subst (λ (k : Setup). Leaves k c.join_all-seat.result.0.id c.join_all-seat.result.0.me c.close-words.result.items) hall.key c.close-words.ensures in
+    let left = subst (λ (k : Setup). LeavesCells k c.join_all-seat.result.0.id c.join_all-seat.result.0.me c.close-words.result.items) hall.key c.close-words.ensures in
     closes hall.table.shared.table_id hall.setup c.join_all-seat.result.0.id c.join_all-seat.result.0.me c.args.workers.items (ap (λ m. m.0) c.join_all-seat.ensures.1) all c.close-words.result.items left
     c.join_all-seat.result.1.items c.join_all-seat.ensures.2

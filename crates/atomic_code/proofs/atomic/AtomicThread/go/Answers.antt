@@ -7,12 +7,12 @@ use Rattle.atomic_code.proofs.atomic.AtomicThread.go.Goals.{in-Err, in-Ok-Goes, 
 
 pub carry_on-made-requires-clause-runs : goal.carry_on-made-requires-clause-runs
 carry_on-made-requires-clause-runs g c =
-    let k = making.thread_of {A = g.row.A.Denot} c.self.inside.held in
+    let k = making.thread_of {A = g.row.A.Denot} c.self.inside.context in
     runs_of c.args.code.now k (runs_by k.status c.in-None.ensures) (subst (IsAtomicThreadOf c.args.code.now) (sym (ap (λ (s : AtomicThreadState). s.thread) c.self.view_is)) c.requires.of)
 
 pub returns-after-outcome-clause-err : goal.returns-after-outcome-clause-err
 returns-after-outcome-clause-err g c =
-    let k = making.thread_of {A = g.row.A.Denot} c.self.inside.held in
+    let k = making.thread_of {A = g.row.A.Denot} c.self.inside.context in
     let l = making.thread_of {A = g.row.A.Denot} c.carry_on-made.new.self in
     elim c.match-outcome.branch [
       | in-Err w ↦
@@ -25,7 +25,7 @@ returns-after-outcome-clause-err g c =
 
 pub returns-after-outcome-clause-of : goal.returns-after-outcome-clause-of
 returns-after-outcome-clause-of g c =
-    let k = making.thread_of {A = g.row.A.Denot} c.self.inside.held in
+    let k = making.thread_of {A = g.row.A.Denot} c.self.inside.context in
     let l = making.thread_of {A = g.row.A.Denot} c.carry_on-made.new.self in
     elim c.match-outcome.branch [
       | in-Err w ↦

@@ -1,6 +1,6 @@
 use Rattle.std.proofs.Common.{refl, rules}
 use Rattle.bytecode.specs.Code.{onward}
-use Rattle.frames.specs.Told.{piece_of}
+use Rattle.frames.specs.Doings.{piece_of}
 use Rattle.atomic_code.specs.inner.Making.{MayPrint}
 use Rattle.atomic_code.proofs.Answering.{goes_printing}
 use Rattle.atomic_code.specs.inner.Making.{thread_of}

@@ -11,7 +11,7 @@ returns-in_default-clause-advances g c =
 
 pub returns-in-Commit-clause-left : goal.returns-in-Commit-clause-left
 returns-in-Commit-clause-left g c = λ made other.
-    left_commit c.args.self.now.core.attempt c.commit.new.self.core.attempt c.args.doing c.in-Commit.is (c.commit.ensures.not_done made) (c.commit.ensures.at_once made)
+    left_commit c.args.self.now.core.attempt c.commit.new.self.core.attempt c.args.doing c.in-Commit.is (c.commit.ensures.not_done made) (c.commit.ensures.locally made)
 
 pub returns-in_default-clause-left : goal.returns-in_default-clause-left
 returns-in_default-clause-left g c = λ made other.

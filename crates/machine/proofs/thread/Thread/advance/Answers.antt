@@ -8,7 +8,7 @@ use Rattle.machine.proofs.keeping.Left.{left_shown}
 use Rattle.machine.proofs.thread.Thread.advance.Goals as goal
 
 pub advance-requires-clause-runs : goal.advance-requires-clause-runs
-advance-requires-clause-runs g c = runs_of c.args.code.now (context_of {A = g.row.A.Denot} c.self.inside.held) c.args.self.now.thread (ap (λ (s : ThreadState). s.thread) c.self.view_is) c.self.invariant c.in-Running.is c.requires.of
+advance-requires-clause-runs g c = runs_of c.args.code.now (context_of {A = g.row.A.Denot} c.self.inside.context) c.args.self.now.thread (ap (λ (s : ThreadState). s.thread) c.self.view_is) c.self.invariant c.in-Running.is c.requires.of
 
 pub advance-requires-clause-can : goal.advance-requires-clause-can
 advance-requires-clause-can g c = subst (λ (a : Counted). g.L.Loads.can_step c.args.code.now c.args.loads.now a c.args.most) (sym (ap counted_thread c.self.view_is)) c.requires.can

@@ -11,13 +11,13 @@ use Rattle.machine.proofs.thread.Thread.take_store.Goals as goal
 
 pub take_store-event-requires-clause-runs : goal.take_store-event-requires-clause-runs
 take_store-event-requires-clause-runs g c =
-    let k = context_of {A = g.row.A.Denot} c.self.inside.held in
+    let k = context_of {A = g.row.A.Denot} c.self.inside.context in
     runs_of c.args.code.now k c.args.self.now.thread (ap (λ (s : ThreadState). s.thread) c.self.view_is) c.self.invariant
     (ap (λ (s : ThreadState). s.thread.status) c.self.view_is ∙ c.requires.stores.running) c.requires.of
 
 pub take_store-event-requires-clause-stores : goal.take_store-event-requires-clause-stores
 take_store-event-requires-clause-stores g c =
-    kept_stores c.self.inside.held.frames.configuration c.args.index c.self.inside.held.core.attempt
+    kept_stores c.self.inside.context.frames.configuration c.args.index c.self.inside.context.core.attempt
     (subst (λ (s : ThreadState). IsSomeAnd s.thread.attempt (λ a. IsStoring c.args.index a)) (sym c.self.view_is) c.requires.stores.stores)
 
 pub returns-clause-of : goal.returns-clause-of

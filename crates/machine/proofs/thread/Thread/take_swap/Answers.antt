@@ -12,13 +12,13 @@ use Rattle.machine.proofs.thread.Thread.take_swap.Goals as goal
 
 pub take_swap-event-requires-clause-runs : goal.take_swap-event-requires-clause-runs
 take_swap-event-requires-clause-runs g c =
-    let k = context_of {A = g.row.A.Denot} c.self.inside.held in
+    let k = context_of {A = g.row.A.Denot} c.self.inside.context in
     runs_of c.args.code.now k c.args.self.now.thread (ap (λ (s : ThreadState). s.thread) c.self.view_is) c.self.invariant
     (ap (λ (s : ThreadState). s.thread.status) c.self.view_is ∙ c.requires.swaps.running) c.requires.of
 
 pub take_swap-event-requires-clause-swaps : goal.take_swap-event-requires-clause-swaps
 take_swap-event-requires-clause-swaps g c =
-    let k = context_of {A = g.row.A.Denot} c.self.inside.held in
+    let k = context_of {A = g.row.A.Denot} c.self.inside.context in
     let law = begins_stay_open c.args.code.now c.requires.of.valid in
     let running = ap (λ (s : ThreadState). s.thread.status) c.self.view_is ∙ c.requires.swaps.running in
     let runs = runs_of c.args.code.now k c.args.self.now.thread (ap (λ (s : ThreadState). s.thread) c.self.view_is) c.self.invariant running c.requires.of in

@@ -7,7 +7,7 @@ use Rattle.machine.proofs.thread.Thread.take_unequal.Goals as goal
 
 pub take_unequal-requires-clause-runs : goal.take_unequal-requires-clause-runs
 take_unequal-requires-clause-runs g c =
-    let k = context_of {A = g.row.A.Denot} c.self.inside.held in
+    let k = context_of {A = g.row.A.Denot} c.self.inside.context in
     runs_of c.args.code.now k c.args.self.now.thread (ap (λ (s : ThreadState). s.thread) c.self.view_is) c.self.invariant
     (ap (λ (s : ThreadState). s.thread.status) c.self.view_is ∙ c.requires.compares.running) c.requires.of
 

@@ -10,22 +10,22 @@ use Rattle.machine.proofs.thread.Thread.told_at.Goals as goal
 
 pub told-requires-clause-runs : goal.told-requires-clause-runs
 told-requires-clause-runs g c =
-    runs_of c.args.code.now (context_of {A = g.row.A.Denot} c.self.inside.held) c.args.self.now.thread (ap (λ (s : ThreadState). s.thread) c.self.view_is) c.self.invariant c.in-Running.is c.requires.of
+    runs_of c.args.code.now (context_of {A = g.row.A.Denot} c.self.inside.context) c.args.self.now.thread (ap (λ (s : ThreadState). s.thread) c.self.view_is) c.self.invariant c.in-Running.is c.requires.of
 
 pub returns-in-Running-clause-of : goal.returns-in-Running-clause-of
 returns-in-Running-clause-of g c = thread_of c.args.code.now c.requires.of.valid _ c.told.ensures.makes.of
 
 pub returns-in-Ended-clause-thread : goal.returns-in-Ended-clause-thread
-returns-in-Ended-clause-thread g c = (over_makes c.args.code.now (context_of {A = g.row.A.Denot} c.self.inside.held) c.args.self.now.thread (ap (λ (s : ThreadState). s.thread) c.self.view_is) c.self.invariant (ended_over _ c.in-Ended.is) c.requires.of c.args.answer).0
+returns-in-Ended-clause-thread g c = (over_makes c.args.code.now (context_of {A = g.row.A.Denot} c.self.inside.context) c.args.self.now.thread (ap (λ (s : ThreadState). s.thread) c.self.view_is) c.self.invariant (ended_over _ c.in-Ended.is) c.requires.of c.args.answer).0
 
 pub returns-in-Ended-clause-event : goal.returns-in-Ended-clause-event
-returns-in-Ended-clause-event g c = (over_makes c.args.code.now (context_of {A = g.row.A.Denot} c.self.inside.held) c.args.self.now.thread (ap (λ (s : ThreadState). s.thread) c.self.view_is) c.self.invariant (ended_over _ c.in-Ended.is) c.requires.of c.args.answer).1
+returns-in-Ended-clause-event g c = (over_makes c.args.code.now (context_of {A = g.row.A.Denot} c.self.inside.context) c.args.self.now.thread (ap (λ (s : ThreadState). s.thread) c.self.view_is) c.self.invariant (ended_over _ c.in-Ended.is) c.requires.of c.args.answer).1
 
 pub returns-in-Trapped-clause-thread : goal.returns-in-Trapped-clause-thread
-returns-in-Trapped-clause-thread g c = (over_makes c.args.code.now (context_of {A = g.row.A.Denot} c.self.inside.held) c.args.self.now.thread (ap (λ (s : ThreadState). s.thread) c.self.view_is) c.self.invariant (trapped_over _ _ c.in-Trapped.is) c.requires.of c.args.answer).0
+returns-in-Trapped-clause-thread g c = (over_makes c.args.code.now (context_of {A = g.row.A.Denot} c.self.inside.context) c.args.self.now.thread (ap (λ (s : ThreadState). s.thread) c.self.view_is) c.self.invariant (trapped_over _ _ c.in-Trapped.is) c.requires.of c.args.answer).0
 
 pub returns-in-Trapped-clause-event : goal.returns-in-Trapped-clause-event
-returns-in-Trapped-clause-event g c = (over_makes c.args.code.now (context_of {A = g.row.A.Denot} c.self.inside.held) c.args.self.now.thread (ap (λ (s : ThreadState). s.thread) c.self.view_is) c.self.invariant (trapped_over _ _ c.in-Trapped.is) c.requires.of c.args.answer).1
+returns-in-Trapped-clause-event g c = (over_makes c.args.code.now (context_of {A = g.row.A.Denot} c.self.inside.context) c.args.self.now.thread (ap (λ (s : ThreadState). s.thread) c.self.view_is) c.self.invariant (trapped_over _ _ c.in-Trapped.is) c.requires.of c.args.answer).1
 
 pub overflow_add-self : goal.overflow_add-self
 overflow_add-self g c =

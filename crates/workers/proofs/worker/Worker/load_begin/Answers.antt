@@ -1,7 +1,7 @@
 use Rattle.std.proofs.Common.{◌≡◌, ◌∙◌, refl, sym, ap, subst, arith}
 use Rattle.syntax.specs.declared.numbers.Status.TheVariants.{Running}
 use Rattle.bytecode.specs.Code.{Configuration, effect}
-use Rattle.frames.specs.Told.{Tells}
+use Rattle.frames.specs.Doings.{IsDoingAt}
 use Rattle.frames.specs.declared.doing.Doing.TheVariants as doing
 use Rattle.norec_core.specs.Accesses.{cost}
 use Rattle.norec_core.specs.declared.step.Access.TheVariants.{LoadLock}
@@ -50,5 +50,5 @@ pub returns-clause-again : goal.returns-clause-again
 returns-clause-again g c = λ odd.
     let begins = c.prepare_begin.ensures.begins c.if-not-prepare_begin.false in
     begin_stands c.args.code.now c.args.to c.load_lock-lock.result odd c.prepare_begin.new.self c.take_begin.new.self begins.attempt begins.running
-    (subst (λ (t : Thread Configuration). t.status ≡ Running → Tells c.args.code.now t.configuration (doing.Begin c.args.to)) (sym c.prepare_begin.ensures.thread) c.requires.stands)
+    (subst (λ (t : Thread Configuration). t.status ≡ Running → IsDoingAt c.args.code.now t.configuration (doing.Begin c.args.to)) (sym c.prepare_begin.ensures.thread) c.requires.stands)
     c.take_begin.ensures.thread

@@ -1,0 +1,11 @@
+use Rattle.std.proofs.Common.{◌≡◌, ◌+◌, ◌-◌, ◌≤◌, drop, length}
+use Rattle.syntax.specs.Formats.{pieces, specifiers}
+use Rattle.types.proofs.format.count_specifiers.Given as goal
+
+abbrev pub decreases-units : goal.decreases-units
+decreases-units l = length l.format - l.i
+
+abbrev pub invariant-units : goal.invariant-units
+invariant-units l =
+    (l.count + length (specifiers (pieces (drop l.i l.format))) ≡ length (specifiers (pieces l.format)))
+    × (l.count ≤ l.i) × (l.i ≤ length l.format)
