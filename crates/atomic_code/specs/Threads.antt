@@ -81,7 +81,7 @@ pub record RunsAtomically (code : Code) (k : AtomicThread) : Type 0 where
   pub stands : MayStand code k.configuration (begins_of k.open_in)
   pub memories : HasMemories (bounds_of code) k.open_in
 
--- one that is over is in no transaction
+-- how a thread with this status stands: one that is over is in no transaction
 abbrev pub StandsAtomically : Code → AtomicThread → Status → Type 0
 StandsAtomically code k Running = RunsAtomically code k
 StandsAtomically code k HasEnded = k.open_in ≡ None

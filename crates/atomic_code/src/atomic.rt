@@ -126,21 +126,21 @@ impl<A: Allocator + Copy> AtomicThread<A> {
         }
     }
 
-    /// How many instructions it has made.
+    /// How many instructions the thread has made.
     pub fn steps(&self) -> u64
         ensures { result ≡ self.now.steps }
     {
         self.steps
     }
 
-    /// How it is.
+    /// Whether the thread runs, has ended or has trapped.
     pub fn status(&self) -> Status
         ensures { result ≡ self.now.thread.status }
     {
         self.context.status
     }
 
-    /// What it has printed.
+    /// What the thread has printed.
     pub fn output(&self) -> &str
         ensures { result.now ≡ self.now.thread.text }
     {

@@ -6,22 +6,22 @@ use syntax::numbers::Trap;
 /// How a thread is over.
 #[derive(Clone, Copy, PartialEq, Eq)]
 pub enum End {
-    /// It has come to its end.
+    /// The thread has come to its end.
     Ended,
 
-    /// It has trapped.
+    /// The thread has trapped.
     Trapped(Trap),
 }
 
 /// What comes of a thread that is carried on.
 #[derive(Drop)]
 pub struct Ran<A: Allocator = Global> {
-    /// How many instructions it made.
+    /// How many instructions the thread made.
     pub steps: u64,
 
-    /// The memory that it left, a word for each cell: where an outermost transaction has come to its end.
+    /// The memory that the thread left, a word for each cell: where an outermost transaction has come to its end.
     pub left: Option<Vec<u64, A>>,
 
-    /// How it is over, if it is.
+    /// How the thread is over, if it is.
     pub end: Option<End>,
 }

@@ -20,10 +20,10 @@ use syntax::numbers::{Halt, Status};
 /// How a thread is found after its instructions.
 #[derive(Clone, Copy, PartialEq, Eq)]
 pub enum AtomicThreadEnd {
-    /// It has come to its end.
+    /// The thread has come to its end.
     Ended,
 
-    /// It goes no further.
+    /// The thread goes no further.
     Stopped(Halt),
 }
 

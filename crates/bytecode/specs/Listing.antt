@@ -98,7 +98,7 @@ abbrev pub lines_from : List FunctionCode → ℕ → List Instr → List ℕ
 lines_from fs q [] = []
 lines_from fs q (i ∷ is) = decimal q ++ 32 ∷ instr_text fs i ++ 10 ∷ lines_from fs (suc q) is
 
--- so many instructions from a place on
+-- the lines of n instructions from a place on
 abbrev pub cut_text : Code → ℕ → ℕ → List ℕ
 cut_text code first n = lines_from code.functions first (take n (drop first code.instructions))
 

@@ -28,6 +28,7 @@ impl<A: Allocator> Code<A> {
         ensures words { OnOk result (words.new.items ≡ words.old.items ++ initial_of self.now) }
         ensures valid { IsValid self.now }
     {
+        // The prover learns here that the code is valid.
         self.note_valid();
         'globals: for global in self.globals() {
             push_global(words, global)?;

@@ -38,7 +38,7 @@ fn is_shaped<A: Allocator>(g: &Global<A>) -> bool
     1 <= cells && cells <= MOST_CELLS && g.first.len() <= cells
 }
 
-/// Whether each global is so.
+/// Whether each global has 1 to 4,096 cells, and one for each initial value.
 fn are_shaped<A: Allocator>(globals: &[Global<A>]) -> bool
     ensures { result ≡ list_all (λ g. is_shaped (global_of g)) globals.now }
 {

@@ -233,7 +233,7 @@ fn go_by<A: Allocator>(
         },
         Successor::CancelsOuter(levels) => match arrival {
             Arrival::Inside(b) => cancel_outer(instrs, arrivals, work, first, b, levels),
-            // One of no levels asks for no begin.
+            // A cancel of no levels asks for no begin.
             _ => Ok(levels == 0),
         },
         Successor::Ends => match arrival {

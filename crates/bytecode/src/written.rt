@@ -74,6 +74,7 @@ pub(crate) fn is_written<A: Allocator>(
 {
     match instr {
         Instr::Constant(d, value) => {
+            // The prover learns here that the number is below 2^64.
             let _value = *value;
             has(f, *d)
         }

@@ -25,20 +25,20 @@ pub enum Request {
 /// How the fault of a source is told.
 #[derive(Clone, Copy, PartialEq, Eq, Debug)]
 pub enum Format {
-    /// By its number and place.
+    /// By the fault's number and place.
     Plain,
-    /// As compilers do, which editors read.
+    /// As compilers tell faults, which editors read.
     Short,
 }
 
 /// What is done with a program.
 #[derive(Debug, Drop)]
 pub enum Task {
-    /// Says whether it is accepted.
+    /// Says whether the program is accepted.
     Check,
-    /// Lists its code.
+    /// Lists the program's code.
     Listing,
-    /// Runs it: 1 to 64 threads, each with so many steps at most.
+    /// Runs the program: 1 to 64 threads, each with so many steps at most.
     Run {
         threads: u32,
         budget: u32,

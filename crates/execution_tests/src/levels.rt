@@ -39,7 +39,7 @@ fn commits(alloc: Global, code: &Code, levels: Levels) -> bool {
     replays(alloc, code, &wanted)
 }
 
-/// The outermost one is cancelled too, and takes effect, having written nothing.
+/// All levels are cancelled, and the outermost one takes effect, having written nothing.
 fn all_cancelled() -> &'static Wanted<'static> {
     static WANTED: Wanted<'static> = Wanted {
         events: &[(1, 0, Event::Cancel)],
@@ -121,7 +121,7 @@ fn steps<A: Allocator + Copy>(world: &mut World<A>, times: u32) -> bool {
     true
 }
 
-/// Whether its thread makes the steps up to the cancel, and then that one without a growth.
+/// Whether a world's thread makes the steps up to the cancel, and then that one without a growth.
 fn cancels_in_place<A: Allocator + Copy, B: Allocator>(
     world: &mut World<A>,
     refusing: &Refusing<B>,
@@ -157,7 +157,8 @@ fn is_in_place(inner: Global, levels: Levels) -> bool {
     a_world_cancels(&alloc, &alloc, levels) == Ok(true)
 }
 
-/// Whether it is so of each cancel of levels of four, where the trace has room for a step more.
+/// Whether the thread of a new world makes each cancel of levels of four without a growth, where the trace has room for
+/// a step more.
 fn are_in_place(inner: Global) -> bool {
     for cancelled in 2..5u32 {
         let free = Levels {

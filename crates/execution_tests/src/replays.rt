@@ -165,7 +165,7 @@ fn reads_and_takes_back() -> &'static [Instr] {
     &CODE
 }
 
-/// What thread 1 has read there is validated all the same, once thread 0 has stored.
+/// What thread 1 has read in transactions that it takes back is validated all the same, once thread 0 has stored.
 fn validation_replay() -> &'static Wanted<'static> {
     static WANTED: Wanted<'static> = Wanted {
         events: &[
@@ -281,7 +281,7 @@ fn shows(alloc: Global, instrs: &[Instr], steps: &[u32], wanted: &[(u64, u32, St
     }
 }
 
-/// What is shown of the first steps of both.
+/// What is shown of the first steps of both threads.
 fn first_steps() -> [(u64, u32, StepShown); 5] {
     let lock = quiet(0, Access::LoadLock, Answer::Value(0));
     [

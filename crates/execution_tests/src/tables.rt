@@ -21,7 +21,7 @@ fn cells_left(alloc: Global, setup: &Setup) -> Option<Vec<u64>> {
     }
 }
 
-/// Whether these are the two variables.
+/// Whether a setup's table leaves these words in the two variables.
 fn leaves(alloc: Global, setup: &Setup, first: u64, second: u64) -> bool {
     match cells_left(alloc, setup) {
         Some(cells) => cells.as_slice() == [first, second].as_slice(),

@@ -59,7 +59,7 @@ fn are_computed(alloc: Global, rows: &[WideOperator]) -> bool {
     true
 }
 
-/// The first operators of which a world does not.
+/// The first operators of which a world gives something else than it should.
 fn computed_otherwise(alloc: Global) -> Option<&'static str> {
     for (name, rows) in wide_operators() {
         if !are_computed(alloc, *rows) {

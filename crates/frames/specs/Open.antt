@@ -95,25 +95,25 @@ pub record BeginsStayOpen (code : Code) : Type 0 where
   -- a begin opens one more, and is gone back to
   pub opens : (c d e : Configuration) (ss : List Saved) → MayStand code c ss → effect code c ≡ Effect.Begin d e →
       MayStand code d (saved_in c ∷ ss) × (begin_configuration d (saved_in c) ≡ c) × AreRestored c d ss
-  -- a commit closes the innermost one
+  -- a commit closes the innermost begin
   pub closes : (c d : Configuration) (ss : List Saved) → MayStand code c ss → effect code c ≡ Effect.Commit d →
       (s : Saved) × (rest : List Saved) × (ss ≡ s ∷ rest) × MayStand code d rest × AreRestored c d rest
-  -- a cancel closes it too, and goes on where the begin says
+  -- a cancel closes the innermost begin, and goes on where that says
   pub cancels : (c : Configuration) (ss : List Saved) → MayStand code c ss → effect code c ≡ Effect.Cancel →
       (s : Saved) × (rest : List Saved) × (ss ≡ s ∷ rest)
       × MayStand code (after_cancel (effect code (begin_configuration c s)) (begin_configuration c s)) rest
       × AreRestored c (after_cancel (effect code (begin_configuration c s)) (begin_configuration c s)) rest
-  -- an outer cancel closes so many, and goes on where the outermost of these says
+  -- an outer cancel closes so many begins, and goes on where the outermost of these says
   pub cancels_outer : (n : ℕ) (c : Configuration) (ss : List Saved) → MayStand code c ss →
       effect code c ≡ Effect.CancelOuter n →
       (inner : List Saved) × (s : Saved) × (rest : List Saved) × (n ≡ suc (length inner)) × (ss ≡ inner ++ s ∷ rest)
       × MayStand code (after_cancel (effect code (begin_configuration c s)) (begin_configuration c s)) rest
       × AreRestored c (after_cancel (effect code (begin_configuration c s)) (begin_configuration c s)) rest
-  -- back at any of them, those outside it are open
+  -- back at any open begin, those outside it are open
   pub goes_back : (c : Configuration) (inner : List Saved) (s : Saved) (outer : List Saved) →
       MayStand code c (inner ++ s ∷ outer) → MayStand code (begin_configuration c s) outer
       × AreRestored c (begin_configuration c s) outer
       × CanRestore c s
       × ((d : Configuration) × (e : Configuration) × (effect code (begin_configuration c s) ≡ Effect.Begin d e))
-  -- a thread ends where none is open
+  -- a thread ends where no begin is open
   pub ends : (c : Configuration) (ss : List Saved) → MayStand code c ss → effect code c ≡ Effect.End → ss ≡ []

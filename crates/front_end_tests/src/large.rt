@@ -13,7 +13,7 @@ pub const PROTOTYPES: Piece = Piece::Numbers("void f", LENGTH, "(void);");
 /// The functions of a chain that call the next one, which are all but the last one, from the first one on.
 pub const FROM_FIRST: Piece = Piece::Links(LENGTH - 1, false);
 
-/// The same functions, the last one of them first.
+/// The functions of a chain that call the next one, which are all but the last one, from the last of these on.
 pub const FROM_LAST: Piece = Piece::Links(LENGTH - 1, true);
 
 /// The fault of pieces in a stage; none where memory is refused.

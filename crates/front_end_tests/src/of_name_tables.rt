@@ -63,7 +63,7 @@ fn is_newest<A: Allocator + Copy>(
     scope.newest(name) == wanted
 }
 
-/// Whether `v` is hidden in the block, and known again behind it.
+/// Whether `v` is hidden in a block, and known again behind it.
 fn hides_and_gives_back<A: Allocator + Copy>(scope: &mut Scope<'static, u32, A>) -> bool {
     match declare_in_a_block(scope) {
         Ok(outer) => {
@@ -76,7 +76,7 @@ fn hides_and_gives_back<A: Allocator + Copy>(scope: &mut Scope<'static, u32, A>)
     }
 }
 
-/// Whether it is so in a new scope, at the end of which nothing is known.
+/// Whether `v` is hidden in a block of a new scope, and known again behind it, and nothing is known at the end.
 fn a_new_one_hides(alloc: Global) -> bool {
     let mut scope = Scope::new(alloc, 0);
     let hides = hides_and_gives_back(&mut scope);
@@ -164,7 +164,7 @@ fn colliding(alloc: Global) -> Result<String, AllocError> {
     Ok(text)
 }
 
-/// The name at a place among its globals.
+/// The name at a place among a program's globals.
 fn name_at(text: &str, place: usize) -> Option<&str> {
     let start = place.checked_mul(33)?.checked_add(4)?;
     text.get(start..start.checked_add(32)?)
@@ -200,7 +200,7 @@ fn are_at_their_places<'a>(
     Some(true)
 }
 
-/// Whether the oldest name is hidden in the block, and each is found behind it, by the key of the program.
+/// Whether the oldest name is hidden in a block, and each is found behind it, by the key of the program.
 fn finds_each(alloc: Global, text: &str) -> Option<bool> {
     let key = key_of(alloc, text)?;
     let mut table = Table::new(alloc, key);

@@ -1,8 +1,8 @@
--- Classes of bytes, as pieces of a text are made of them. Letters and digits are those of ASCII.
+-- Classes of bytes, as pieces of a text are made of them. Letters and digits are those of C11 5.2.1, in ASCII.
 use Rattle.std.specs.Prelude.{◌≡◌, ℕ, ◌<◌, Bool, true, false, not, ◌&&◌, ◌||◌, ◌==◌, nat_le, nat_lt, List, [], ◌∷◌}
 use Rattle.std.specs.Prelude.{length, slice_index}
 
--- space, tab, LF, vertical tab, form feed, CR
+-- white space: space, tab, LF, vertical tab, form feed (C11 6.4), and CR
 abbrev pub is_white : ℕ → Bool
 is_white b = b == 32 || (nat_le 9 b && nat_le b 13)
 
@@ -27,7 +27,7 @@ is_letter b = (nat_le 97 b && nat_le b 122) || (nat_le 65 b && nat_le b 90) || b
 abbrev pub is_part : ℕ → Bool
 is_part b = is_letter b || is_digit b
 
--- what can't stand directly behind a constant: those, and `.`
+-- what can't stand directly behind a constant: a letter, a digit, `_` or `.`
 abbrev pub is_glue : ℕ → Bool
 is_glue b = is_part b || b == 46
 
@@ -35,15 +35,15 @@ is_glue b = is_part b || b == 46
 abbrev pub in_line : ℕ → Bool
 in_line b = not (b == 10)
 
--- a byte of a character that is not its first (UTF-8)
+-- a byte of a character that is not its first (UTF-8, RFC 3629)
 abbrev pub is_continuation : ℕ → Bool
 is_continuation b = nat_le 128 b && nat_lt b 192
 
--- each byte passes
+-- each byte of a list passes a test
 abbrev pub Only : (ℕ → Bool) → List ℕ → Type 0
 Only p w = (k : ℕ) → k < length w → p (slice_index w k) ≡ true
 
--- there is a first byte, and it passes
+-- there is a first byte, and it passes a test
 abbrev pub starts : (ℕ → Bool) → List ℕ → Bool
 starts p [] = false
 starts p (b ∷ w) = p b

@@ -16,9 +16,9 @@ use crate::token::{Kind, Scalar, Span};
 #[derive(Clone, Copy)]
 pub(crate) enum Base {
     Decimal,
-    /// With `0` before its digits.
+    /// A constant with `0` before its digits.
     Octal,
-    /// With `0x` or `0X` before its digits.
+    /// A constant with `0x` or `0X` before its digits.
     Hexadecimal,
 }
 
@@ -95,7 +95,7 @@ fn suffix_at(rest: &[u8]) -> Suffix
     }
 }
 
-/// How many bytes it has.
+/// How many bytes a suffix has.
 fn suffix_size(suffix: Suffix) -> usize
     ensures { result ≡ suffix_size suffix }
 {

@@ -137,7 +137,7 @@ fn last_read() -> &'static [Row] {
     &ROWS
 }
 
-/// One that has written cannot take the lock there.
+/// An attempt that has written cannot take the lock at its last value.
 fn last_write() -> &'static [Row] {
     static ROWS: [Row; 2] = [
         (Op::Begin, u64::MAX - 1, Access::LoadLock, Outcome::Done),
@@ -158,7 +158,7 @@ fn early_lock_rows() -> &'static [Row] {
     &ROWS
 }
 
-/// Whether one core plays these in turn.
+/// Whether one core plays `read_again`, `nested_rows`, `last_release`, `last_read` and `early_lock_rows` in turn.
 fn plays_each<A: Allocator + Copy>(core: &mut Core<A>) -> bool {
     plays(core, read_again())
         && plays(core, nested_rows())
@@ -245,7 +245,7 @@ fn is_told_in_place<A: Allocator + Copy, B: Allocator>(
     refusing.is_waiting()
 }
 
-/// Whether each of these is.
+/// Whether each of these steps is told its answer without a growth.
 fn are_told_in_place<A: Allocator + Copy, B: Allocator>(
     core: &mut Core<A>,
     refusing: &Refusing<B>,
@@ -300,7 +300,7 @@ fn writes_many<A: Allocator + Copy>(core: &mut Core<A>) -> bool {
     true
 }
 
-/// Whether each of them is stored.
+/// Whether a commit stores each of 1000 words.
 fn stores_many<A: Allocator + Copy>(core: &mut Core<A>) -> bool {
     for cell in 0..1000u32 {
         let wanted = (Access::StoreWord(cell, 6), Outcome::Going);
@@ -317,7 +317,7 @@ fn release_rows() -> &'static [Row] {
     &ROWS
 }
 
-/// Whether a transaction of so many commits.
+/// Whether a transaction that reads and writes each of 1000 words commits.
 fn commits_many<A: Allocator + Copy>(core: &mut Core<A>) -> bool {
     makes(core, Op::Begin, 2)
         && writes_many(core)
@@ -406,7 +406,7 @@ fn writes_locally<A: Allocator + Copy>(core: &mut Core<A>) -> bool {
     outside && begun && written && !core.commit() && plays(core, read_in_place())
 }
 
-/// Whether both are.
+/// Whether a commit of nothing and a write are both made at once.
 fn does_both_locally<A: Allocator + Copy>(core: &mut Core<A>) -> bool {
     commits_locally(core) && writes_locally(core)
 }
@@ -493,7 +493,7 @@ fn told_takes_no_memory(rt: HostRuntime) {
     assert_that(&rt, is_played(rt.alloc(), Play::Told));
 }
 
-/// After its first transactions a thread that runs such ones takes no more memory.
+/// After its first transactions a thread that runs more of the same kind takes no more memory.
 #[test]
 fn room_stays(rt: HostRuntime) {
     assert_that(&rt, is_played(rt.alloc(), Play::Rounds));

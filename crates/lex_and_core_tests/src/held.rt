@@ -23,7 +23,7 @@ fn holds_seven(boxed: Boxed<u32, Global>) -> bool {
     boxed.into_inner() == 7 && lent
 }
 
-/// Whether a new one does.
+/// Whether a new box lends 7, and gives it back.
 fn a_new_one_holds_seven(alloc: Global) -> bool {
     match Boxed::new(alloc, 7u32) {
         Ok(boxed) => holds_seven(boxed),
@@ -271,7 +271,7 @@ fn is_same(alloc: Global, first: &str) -> Option<bool> {
     are_same(texts(alloc, "x"), texts(alloc, first))
 }
 
-/// Whether it is the same as one without items.
+/// Whether the list that begins with `x` is the same as one without items.
 fn is_same_as_none(alloc: Global) -> Option<bool> {
     are_same(texts(alloc, "x"), Ok(Items::new(alloc)))
 }

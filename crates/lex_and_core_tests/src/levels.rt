@@ -40,7 +40,7 @@ fn opens<A: Allocator + Copy>(core: &mut Core<A>, level: u32) -> bool {
     begins(core, level) && writes(core, level, level) && writes(core, 0, level)
 }
 
-/// Whether so many levels do.
+/// Whether so many levels begin, and each writes its number to a cell of its own and to one that all levels write.
 fn opens_each<A: Allocator + Copy>(core: &mut Core<A>, depth: u32) -> bool {
     for level in 1..depth.saturating_add(1) {
         if !opens(core, level) {
@@ -50,7 +50,7 @@ fn opens_each<A: Allocator + Copy>(core: &mut Core<A>, depth: u32) -> bool {
     true
 }
 
-/// Whether they do, with the lock kept where it is to be.
+/// Whether all levels begin, with the lock kept where it is to be.
 fn stands<A: Allocator + Copy>(core: &mut Core<A>, cancel: Cancel) -> bool {
     let keeps = Ok((Access::Swap(2), Outcome::Done));
     opens_each(core, cancel.depth) && (!cancel.kept || step(core, Op::Irrevocable, 2) == keeps)
@@ -101,12 +101,12 @@ fn goes_on<A: Allocator + Copy>(core: &mut Core<A>, left: u32, kept: bool) -> bo
         && closes_each(core, left, kept)
 }
 
-/// Whether it stands still, with the lock kept and all levels open.
+/// Whether the transaction stands still, with the lock kept and all levels open.
 fn stands_still<A: Allocator + Copy>(core: &mut Core<A>, depth: u32) -> bool {
     core.is_kept() && has_words_of(core, depth) && closes_each(core, depth, true)
 }
 
-/// Whether it is over, and gone back to its begin.
+/// Whether the transaction is over, and gone back to its begin.
 fn is_over<A: Allocator + Copy>(core: &mut Core<A>) -> bool {
     !core.has_attempt() && is_of(core.saved(), 1)
 }
@@ -138,7 +138,7 @@ fn cancels<A: Allocator + Copy, B: Allocator>(
     waits && leaves(core, cancel, made)
 }
 
-/// Whether one is in a new core.
+/// Whether a cancel in a new core is made without a growth, and leaves what it should.
 fn a_new_one_cancels(inner: Global, cancel: Cancel) -> bool {
     let alloc = Refusing::new(inner, 0);
     let mut core = Core::new(&alloc);
@@ -188,7 +188,7 @@ fn reads_stay() -> &'static [Row] {
     &ROWS
 }
 
-/// Whether an entry with another word then drops the attempt.
+/// Whether an entry of a cancelled level whose cell has another word by then drops the attempt.
 fn compares_what_was_read(inner: Global) -> bool {
     let mut core = Core::new(inner);
     let dropped = Ok((Access::LoadWord(5), Outcome::Aborted));

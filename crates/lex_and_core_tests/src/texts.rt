@@ -96,7 +96,7 @@ fn are_told(tokens: &[Token]) -> bool {
     int && name && constant && char && string && tokens.len() == 7
 }
 
-/// Whether a text's tokens are these.
+/// Whether a text's tokens are those of `are_told`.
 fn tells_them(alloc: Global, text: &str) -> bool {
     match lex(alloc, text) {
         Ok(tokens) => are_told(tokens.as_slice()),
@@ -221,7 +221,7 @@ fn too_large() -> &'static [Refused<'static>] {
         ("01000000000000000000000u", 2, 0, 24),
         ("01000000000000000000001U", 2, 0, 24),
         ("01000000000000000000001ll", 2, 0, 25),
-        // what is glued to one is no matter
+        // what is glued to a constant that is too large is no matter
         ("99999999999999999999x", 2, 0, 20),
         ("9223372036854775808l", 2, 0, 19),
         ("4294967296ull", 2, 0, 11),
@@ -336,7 +336,7 @@ fn constant_rows() -> &'static [Typed] {
             9223372036854775807,
             Scalar::LongLong,
         ),
-        // the other neighbours of 2^31, 2^32 and 2^63 in each form
+        // neighbours of 2^31, 2^32 and 2^63 in each form
         ("2147483649", 2147483649, Scalar::LongLong),
         ("4294967297", 4294967297, Scalar::LongLong),
         ("2147483649U", 2147483649, Scalar::Unsigned),

@@ -122,7 +122,7 @@ fn is_explained(number: u32) -> bool {
     explanation(number).is_some() == (words(number) != "unknown fault")
 }
 
-/// The first number below 100 of which that does not hold.
+/// The first number below 100 that is explained though no fault has it, or not explained though one has it.
 fn not_explained() -> Option<u32> {
     for number in 0..100u32 {
         if !is_explained(number) {

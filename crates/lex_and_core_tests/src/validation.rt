@@ -71,8 +71,8 @@ fn compares_all<A: Allocator + Copy>(core: &mut Core<A>) -> bool {
         && compares(core, Some(7), 70)
 }
 
-/// Whether validation does that, finds the lock changed again, and then not, and the read is made at the new lock
-/// value.
+/// Whether validation waits for lock value 4, finds all three words again and then the lock changed again, and then
+/// not, and the read is made at the new lock value.
 fn goes_on<A: Allocator + Copy>(core: &mut Core<A>) -> bool {
     comes_to_validation(core)
         && compares_all(core)
@@ -94,7 +94,7 @@ fn drops<A: Allocator + Copy>(core: &mut Core<A>) -> bool {
         && core.saved().place() == 7
 }
 
-/// Whether a new core goes on, and then one drops its attempt.
+/// Whether validation goes on in a new core, and drops the attempt of another one.
 fn validates(alloc: Global) -> bool {
     let mut first = Core::new(alloc);
     let mut second = Core::new(alloc);

@@ -143,7 +143,7 @@ fn outcomes() -> &'static [Row] {
             "txc|outcomes|--ticks=1000001|a.c",
             br#"Err(Wrong { text: "txc: usage: --ticks is 0 to 1000000\n" })"#,
         ),
-        // the first that is wrong is told
+        // the first value that is wrong is told
         (
             "txc|outcomes|--ticks=1000001|--threads=0|a.c",
             br#"Err(Wrong { text: "txc: usage: --threads is 1 to 64\n" })"#,
@@ -386,7 +386,7 @@ fn has(alloc: Global, line: &str, begin: &str, piece: &str) -> bool {
     }
 }
 
-/// The first of these lines of which that is not so.
+/// The first of these lines of which what is asked does not begin with this, or has not this piece.
 fn have_not(
     alloc: Global,
     lines: &[&'static str],

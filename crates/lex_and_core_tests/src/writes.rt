@@ -85,7 +85,7 @@ fn goes_back(log: &mut WriteLog) -> Result<bool, AllocError> {
     Ok(has_pairs(log, &[(3, 1), (5, 2)]) && first && under)
 }
 
-/// Whether that log can be written on, and cleared.
+/// Whether a log that has gone back to a mark can be written on, and cleared.
 fn goes_on(log: &mut WriteLog) -> Result<bool, AllocError> {
     let last = comes_to(log, &[(7, 6)], &[(3, 1), (5, 2), (7, 6)])?;
     let found = log.get(7) == Some(6) && log.get(4).is_none();
@@ -180,7 +180,7 @@ fn agrees(log: &WriteLog, plain: &Plain, cell: u32) -> bool {
     has_pairs(log, plain.pairs.as_slice()) && log.get(cell) == plain.get(cell)
 }
 
-/// Writes a word in both, and says whether they agree.
+/// Writes a word in both logs, and says whether they agree.
 fn write_both(
     log: &mut WriteLog,
     plain: &mut Plain,
@@ -194,7 +194,7 @@ fn write_both(
     Ok(agrees(log, plain, cell))
 }
 
-/// Makes a mark in both.
+/// Makes a mark in both logs.
 fn mark_both(log: &mut WriteLog, plain: &mut Plain, depth: usize) -> Result<(), AllocError>
     requires { depth ≤ length log.old.marks }
     ensures { OnOk result (length log.new.marks ≡ depth + 1) }
@@ -203,7 +203,7 @@ fn mark_both(log: &mut WriteLog, plain: &mut Plain, depth: usize) -> Result<(), 
     plain.mark(depth)
 }
 
-/// Goes back in both, and says whether they agree.
+/// Goes back in both logs, and says whether they agree.
 fn back_to_both(log: &mut WriteLog, plain: &mut Plain, depth: usize, cell: u32) -> bool
     requires { depth < length log.old.marks }
     ensures { length log.new.marks ≡ depth }
@@ -213,7 +213,7 @@ fn back_to_both(log: &mut WriteLog, plain: &mut Plain, depth: usize, cell: u32) 
     agrees(log, plain, cell)
 }
 
-/// Writes 256 words in both under a mark of this depth, and every fourth to a second cell too. Says whether they
+/// Writes 256 words in both logs under a mark of this depth, and every fourth to a second cell too. Says whether they
 /// agreed after each.
 fn fill_mark(log: &mut WriteLog, plain: &mut Plain, depth: u32) -> Result<bool, AllocError>
     requires { depth < 16 }
@@ -230,7 +230,7 @@ fn fill_mark(log: &mut WriteLog, plain: &mut Plain, depth: u32) -> Result<bool, 
     Ok(agreed)
 }
 
-/// Goes back to the mark of a depth, writes, makes the mark anew and goes back to it. Says whether both agreed all
+/// Goes back to the mark of a depth, writes, makes the mark anew and goes back to it. Says whether both logs agreed all
 /// along.
 fn leave_mark(
     log: &mut WriteLog,
@@ -268,7 +268,7 @@ fn finds_each(log: &WriteLog, plain: &Plain) -> bool {
     finds_all::<Brand>(log, plain, Blank::new(1))
 }
 
-/// Makes 16 marks in both, each filled, and says whether they agreed all along.
+/// Makes 16 marks in both logs, each filled, and says whether they agreed all along.
 fn fill_marks(log: &mut WriteLog, plain: &mut Plain) -> Result<bool, AllocError>
     requires { length log.old.marks ≡ 0 }
     ensures { OnOk result (length log.new.marks ≡ 16) }
@@ -281,7 +281,7 @@ fn fill_marks(log: &mut WriteLog, plain: &mut Plain) -> Result<bool, AllocError>
     Ok(agreed)
 }
 
-/// Leaves 16 marks, the deepest first, and says whether both agreed all along.
+/// Leaves 16 marks, the deepest first, and says whether both logs agreed all along.
 fn leave_marks(log: &mut WriteLog, plain: &mut Plain) -> Result<bool, AllocError>
     requires { length log.old.marks ≡ 16 }
 {
@@ -292,7 +292,7 @@ fn leave_marks(log: &mut WriteLog, plain: &mut Plain) -> Result<bool, AllocError
     Ok(agreed)
 }
 
-/// Whether both agree while marks are filled and left, and each cell is found in between and at the end.
+/// Whether both logs agree while marks are filled and left, and each cell is found in between and at the end.
 fn agree(log: &mut WriteLog, plain: &mut Plain) -> Result<bool, AllocError>
     requires { length log.old.marks ≡ 0 }
 {

@@ -20,7 +20,8 @@ pub record Fragment (I E : Type 0) : Type 0 where
   pub lists : Lists
   pub end : E
 
--- it stands behind the old instructions, or it needs more registers than there are where that is why there is none
+-- a fragment stands behind the old instructions, or it needs more registers than there are where that is why there is
+-- none
 pub record Adds {I E : Type 0} (s : Fragment I E) (old new : List I) (l : Lists) (r : Result E Failure) : Type 0 where
   pub code : OnOk r (new ≡ old ++ s.code)
   pub lists : OnOk r (l ≡ s.lists)

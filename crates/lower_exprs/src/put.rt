@@ -32,7 +32,7 @@ pub fn put<A: Allocator>(code: &mut Vec<Instr, A>, instr: Instr) -> Result<(), A
     }
 }
 
-/// These instructions behind the others.
+/// The instructions of a list behind those of another.
 pub fn append<A: Allocator>(
     code: &mut Vec<Instr, A>,
     more: &mut Vec<Instr, A>,

@@ -142,7 +142,7 @@ module _ (code : Code) (layout : Layout) where
       (t ≡ s) × GivenBy home (Instr.Constant r (constant_in u s n)) u from to free r u
   DueCode home e' e u from to free r t = ConvertedCode home e u from to free r t
 
-  -- in this type, whatever its own is
+  -- an expression's value in this type, whatever its own is
   abbrev pub TypedCode : Option ℕ → Expr → Coded → (u : Scalar) → (from to free r : ℕ) → Type 0
   TypedCode home e' e u from to free r = (t : Scalar) × DueCode home e' e u from to free r t
 

@@ -24,7 +24,7 @@ abbrev pub LoweredCodeMeans : Type 0
 LoweredCodeMeans =
     (p : Program) (code : Code) → IsTypedProgram p → IsLowered p code → NeverGoesAstray p → MeansItsProgram p code
 
--- its cells are the program's
+-- the cells of code that stands for a program are the program's
 abbrev pub LoweredCodeHasItsCells : Type 0
 LoweredCodeHasItsCells = (p : Program) (code : Code) → IsLowered p code → bounds_of code ≡ bounds p
 

@@ -6,5 +6,5 @@ pub mod Statements
 pub mod Programs
 -- when a code means a program
 pub mod Means
--- what is proved of it
+-- what is proved of code that stands for a program
 pub mod Laws

@@ -111,7 +111,7 @@ module _ (code : Code) (layout : Layout) (p : Program) where
   abbrev pub Testing : LocalScope → Expr → Branching
   Testing scope e = CondCode code layout p scope e
 
-  -- so many commits, and then an instruction
+  -- n commits, and then an instruction
   abbrev pub Leaves : ℕ → ℕ → Instr → Type 0
   Leaves q zero i = InstructionAt code q i
   Leaves q (suc n) i = InstructionAt code q Instr.Commit × Leaves (suc q) n i

@@ -47,14 +47,14 @@ pub data Answered {C : Type 0} (code : C → Effect C) (init : ℕ → C) (m0 : 
 abbrev pub local_step : {C : Type 0} → (C → Effect C) → Part C → Part C
 local_step code p = part_after p.base p (step_with code p.thread Done)
 
--- so many local steps of a part, if they are local
+-- n steps of a part, if they are all local
 abbrev pub after_local_steps : {C : Type 0} → (C → Effect C) → ℕ → Part C → Option (Part C)
 after_local_steps code zero p = Some p
 after_local_steps code (suc k) p = if is_local (access code p.thread) then after_local_steps code k (local_step code p)
     else None
 
--- So many steps bring the thread to this one, where its accesses get these answers in order,
--- all of them, and no step stops.
+-- The thread comes to this one in n steps, where its accesses get these answers in order, all of them, and no step
+-- stops.
 pub data StepsHearing {C : Type 0} (code : C → Effect C) (th : Thread C) : ℕ → List Heard → Thread C → Type 0 where
   none : StepsHearing code th zero [] th
   local_more : (n : ℕ) (hs : List Heard) (u : Thread C) → StepsHearing code th n hs u → is_local (access code u) ≡ true
@@ -110,7 +110,7 @@ abbrev pub AreAnswers : List Heard → Type 0
 AreAnswers [] = Unit {0}
 AreAnswers (h ∷ hs) = IsAnswerTo h.access h.answer × AreAnswers hs
 
--- the pair is among these
+-- the pair is among these pairs
 abbrev pub IsAmong : ℕ × ℕ → List (ℕ × ℕ) → Type 0
 IsAmong p [] = ⊥
 IsAmong p (q ∷ qs) = (p ≡ q) ⊎ IsAmong p qs
@@ -128,7 +128,7 @@ abbrev pub WordOf : {C : Type 0} → Memory → World C → List Entry → ℕ �
 WordOf m0 w es l (LoadWord a) (Value v) = IsVisibleWord m0 w es l a v
 WordOf m0 w es l x y = Unit {0}
 
--- each word among these answers
+-- each word among these answers is one that a place of the run has, or that is stored so far
 abbrev pub AreVisibleWords : {C : Type 0} → Memory → World C → List Entry → ℕ → List Heard → Type 0
 AreVisibleWords m0 w es l [] = Unit {0}
 AreVisibleWords m0 w es l (h ∷ hs) = WordOf m0 w es l h.access h.answer

@@ -33,7 +33,7 @@ pub record HasComputed {C : Type 0} (code : C → Effect C) (init : ℕ → C) (
   pub moment : HasMoment m0 t a.snapshot a.reads es
   pub computes : ComputesOn code init es t p a (last_memory m0 (run_of moment.before))
 
--- every attempt, in every merge
+-- every attempt has a moment in every merge, and has computed what its code computes there
 abbrev pub AttemptsCompute : {C : Type 0} → (C → Effect C) → (ℕ → C) → Memory → World C → Type 0
 AttemptsCompute {C} code init m0 w = (es : List Entry) → IsMerge w.parts es → (t : ℕ) (p : Part C) (a : Attempt C) →
     slice_get w.parts t ≡ Some p → p.thread.attempt ≡ Some a → HasComputed code init m0 es t p a

@@ -27,7 +27,7 @@ pub record EventTells {C : Type 0} (x : Effect C) (th : Thread C) (n : Next C) :
   pub traps : (cause : Trap) →
       (n.event ≡ event.Trap cause) ↔ ((th.status ≡ Running) × (n.thread.status ≡ HasTrapped cause))
 
--- every step that a thread of the world can make next
+-- every step that a thread of the world can make next, and the event that is told of it
 abbrev pub EventsTell : {C : Type 0} → (C → Effect C) → World C → Type 0
 EventsTell {C} code w = (t : ℕ) (p : Part C) → slice_get w.parts t ≡ Some p →
     EventTells (code p.thread.configuration) p.thread

@@ -12,7 +12,7 @@ use Rattle.machine.specs.Worlds.{Part, World}
 abbrev pub AreOfCells : ℕ → List (ℕ × ℕ) → Type 0
 AreOfCells cells ps = AllByRecursion (λ (q : ℕ × ℕ). q.0 < cells) ps
 
--- both logs, and the write log as it was at each inner begin
+-- both logs of an attempt name cells of the memory alone, and so does the write log as it was at each inner begin
 pub record LogsFit {C : Type 0} (cells : ℕ) (a : Attempt C) : Type 0 where
   pub reads : AreOfCells cells a.reads
   pub writes : AreOfCells cells a.writes

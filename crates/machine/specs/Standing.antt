@@ -46,7 +46,7 @@ pub record Runs (code : Code) (th : Thread Configuration) : Type 0 where
   pub begins : begins_of th.attempt ≡ map (begin_configuration th.configuration) saved
   pub words : GivesWordsIf th.attempt
 
--- one that is over has no attempt
+-- how a thread with this status stands: one that is over has no attempt
 abbrev pub IsStanding : Code → Thread Configuration → Status → Type 0
 IsStanding code th Running = Runs code th
 IsStanding code th HasEnded = th.attempt ≡ None

@@ -130,27 +130,29 @@ IsValidated op.Commit = Unit {0}
 IsValidated op.Irrevocable = Unit {0}
 IsValidated _ = ⊥
 
--- what is to be done is such an operation
+-- what is to be done is an operation under which an attempt is validated
 abbrev pub MayValidate : Doing → Type 0
 MayValidate (doing.Read d cell) = Unit {0}
 MayValidate doing.Commit = Unit {0}
 MayValidate doing.Irrevocable = Unit {0}
 MayValidate _ = ⊥
 
--- the thread runs, stands at such an operation, and its validation loads the lock next, until it is even
+-- the thread runs, stands at an operation under which its attempt is validated, and validation loads the lock next,
+-- until it is even
 pub record WaitsNext (code : Code) (s : ThreadState) : Type 0 where
   pub running : s.thread.status ≡ Running
   pub operation : IsSomeAnd (asks (effect code) s.thread) IsValidated
   pub waits : IsSomeAnd s.thread.attempt (λ a. IsWaiting a)
 
--- The thread runs, stands at such an operation, and its validation at this lock value compares the entry at this index
--- of the read log next, or past the last entry the lock.
+-- The thread runs, stands at an operation under which its attempt is validated, and validation at this lock value
+-- compares the entry at this index of the read log next, or past the last entry the lock.
 pub record ComparesNext (code : Code) (s : ThreadState) (time index : ℕ) : Type 0 where
   pub running : s.thread.status ≡ Running
   pub operation : IsSomeAnd (asks (effect code) s.thread) IsValidated
   pub compares : IsSomeAnd s.thread.attempt (λ a. IsComparing time index a)
 
--- which entry that is, if it is one
+-- validation at this lock value compares this entry of the read log next, the one at this index; past the last entry
+-- none
 abbrev pub ComparesEntry : ThreadState → (time index : ℕ) → Option (ℕ × ℕ) → Type 0
 ComparesEntry s time index entry = IsSomeAnd s.thread.attempt (λ a. ComparesWith time index entry a)
 

@@ -1,4 +1,5 @@
--- Strict serializability: what a thread begins later stands behind all that has taken effect.
+-- Strict serializability (Papadimitriou, JACM 1979): what a thread begins later stands behind all that has taken
+-- effect.
 use Rattle.std.specs.Prelude.{◌≡◌, ℕ, List, ◌++◌, None, Some}
 use Rattle.std.specs.List.{slice_get}
 use Rattle.syntax.specs.Behaviours.{Behaviour, IsSubsequence, Memory}

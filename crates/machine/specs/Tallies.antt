@@ -19,9 +19,9 @@ use Rattle.machine.specs.Worlds.{Part, Record, World, run, step}
 -- what an outermost transaction has done so far, by its code's meaning
 pub record Tally : Type 0 where
   pub reads : ℕ  -- of cells that it had not written then, before an irrevocable
-  pub kept_reads : ℕ  -- and after one
+  pub kept_reads : ℕ  -- of cells that it had not written then, after an irrevocable
   pub written : List ℕ  -- the cells that it has written, each once, without what a cancel has undone
-  pub inner : List (List ℕ)  -- these at the begin of each inner transaction, the innermost first
+  pub inner : List (List ℕ)  -- the cells written at the begin of each inner transaction, the innermost first
   pub kept : Bool  -- whether an irrevocable was carried out
 
 abbrev pub empty_tally : Tally
@@ -31,7 +31,7 @@ abbrev pub is_among : ℕ → List ℕ → Bool
 is_among a [] = false
 is_among a (b ∷ cells) = if b == a then true else is_among a cells
 
--- a read of a cell that it has written itself
+-- the tally with one more read, of a cell that the transaction has written itself or of another
 abbrev pub with_read : Tally → (own kept : Bool) → Tally
 with_read t true kept = t
 with_read t false true = record t { kept_reads = suc t.kept_reads }
@@ -99,7 +99,7 @@ abbrev pub cost_next : {C : Type 0} → (C → Effect C) → Option (Part C) →
 cost_next code None = 0
 cost_next code (Some p) = cost (access code p.thread)
 
--- how many these steps of all threads make
+-- how many accesses these steps of all threads make
 abbrev pub accesses_in : {C : Type 0} → (C → Effect C) → List ℕ → World C → ℕ
 accesses_in code [] w = 0
 accesses_in code (t ∷ ts) w = cost_next code (slice_get w.parts t) + accesses_in code ts (step code w t)

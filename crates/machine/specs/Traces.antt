@@ -26,7 +26,7 @@ abbrev pub DoesNotStop : {C : Type 0} → (C → Effect C) → Option (Part C) �
 DoesNotStop code None = ⊥
 DoesNotStop code (Some p) = stops (access code p.thread) ≡ false
 
--- and so is each step of a trace
+-- each step of a trace is of a thread, and does not stop
 abbrev pub RunsOn : {C : Type 0} → (C → Effect C) → List ℕ → World C → Type 0
 RunsOn code [] w = Unit {0}
 RunsOn code (t ∷ ts) w = DoesNotStop code (slice_get w.parts t) × RunsOn code ts (step code w t)

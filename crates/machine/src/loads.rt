@@ -9,11 +9,11 @@ ghost use Rattle.machine.specs.Loads.{Counted, IsLoad, LoadsNext, MayLoad, after
 
 /// Makes the two accesses of a read at which nothing disturbs a thread.
 pub trait Loads {
-    /// From the one, for a thread, so many steps lead to the other, for a thread: local ones, and reads with what was
-    /// loaded here.
+    /// From one value of this type, for a thread, so many steps lead to another value, for a thread: local ones, and
+    /// reads with what was loaded here.
     ghost leads: { Plain → Self → Counted → ℕ → Self → Counted → Type 0 };
 
-    /// From it, for this thread, so many steps can be made.
+    /// From a value of this type, for this thread, so many steps can be made.
     ghost can_step: { Plain → Self → Counted → ℕ → Type 0 };
 
     /// Loads the cell's word, and then the lock's value.

@@ -30,7 +30,7 @@ use syntax::numbers::Status;
 /// One thread of the machine. It keeps no code: each call is given the code of `new`.
 ///
 /// A step is made in two calls, with its one access to the lock or the words between them: `prepare` names the access
-/// and makes all room that the step needs, `step_with` takes the answer, and neither fails nor takes memory.
+/// and makes all room that the step needs, `told` takes the answer, and neither fails nor takes memory.
 #[derive(Drop)]
 pub struct Thread<A: Allocator = Global> {
     context: ThreadContext<A>,
@@ -102,7 +102,7 @@ impl<A: Allocator + Copy> Thread<A> {
         })
     }
 
-    /// What stands at its place to be done, where it runs.
+    /// What stands at the thread's place to be done, where it runs.
     pub fn doing<B: Allocator>(&self, code: &Code<B>) -> Doing
         requires { IsThreadOf code.now self.now.thread }
         ensures { StandsAt code.now self.now result }
@@ -150,7 +150,7 @@ impl<A: Allocator + Copy> Thread<A> {
         }
     }
 
-    /// `prepare_at` for what stands at its place to be done.
+    /// `prepare_at` for what stands at the thread's place to be done.
     pub fn prepare<B: Allocator>(&mut self, code: &Code<B>) -> Result<Access, Stop>
         requires { IsThreadOf code.now self.old.thread }
         ensures thread { self.new.thread ≡ self.old.thread }
@@ -166,7 +166,7 @@ impl<A: Allocator + Copy> Thread<A> {
         self.prepare_at(code, doing)
     }
 
-    /// `told_at` for what stands at its place to be done.
+    /// `told_at` for what stands at the thread's place to be done.
     pub fn told<B: Allocator>(&mut self, code: &Code<B>, answer: Answer) -> Event
         requires of { IsThreadOf code.now self.old.thread }
         requires prepared { IsPrepared code.now self.old }
@@ -250,8 +250,8 @@ impl<A: Allocator + Copy> Thread<A> {
         }
     }
 
-    /// Prepares the load of the begin that stands at its place, where no attempt is under way: whether it did. It does
-    /// not where the room that the begin needs is refused.
+    /// Prepares the load of the begin that stands at the thread's place, where no attempt is under way: whether it did.
+    /// It does not where the room that the begin needs is refused.
     #[inline(always)]
     pub fn prepare_begin<B: Allocator>(&mut self, code: &Code<B>, to: u32) -> bool
         requires of { IsThreadOf code.now self.old.thread }
@@ -276,7 +276,8 @@ impl<A: Allocator + Copy> Thread<A> {
         }
     }
 
-    /// Makes the step of such a begin, with the lock's value that was loaded. It takes no memory.
+    /// Makes the load of the begin that stands at the thread's place, with the lock's value that was loaded. It takes
+    /// no memory.
     #[inline(always)]
     pub fn take_begin<B: Allocator>(&mut self, code: &Code<B>, to: u32, lock: u64)
         requires of { IsThreadOf code.now self.old.thread }
@@ -291,7 +292,8 @@ impl<A: Allocator + Copy> Thread<A> {
         let _event = self.context.take_begin(code, to, lock);
     }
 
-    /// From which value of the lock the commit that stands at its place swaps it in its next step, where it does.
+    /// From which value of the lock the commit that stands at the thread's place swaps it in its next step, where it
+    /// does.
     #[inline(always)]
     pub fn swaps_from<B: Allocator>(&self, code: &Code<B>) -> Option<u64>
         requires of { IsThreadOf code.now self.now.thread }
@@ -306,7 +308,8 @@ impl<A: Allocator + Copy> Thread<A> {
         }
     }
 
-    /// Makes this step, with the answer to its access. The commit stands there still. It takes no memory.
+    /// Makes the step in which the commit that stands at the thread's place swaps the lock, with the answer to its
+    /// access. The commit stands there still. It takes no memory.
     #[inline(always)]
     pub fn take_swap<B: Allocator>(&mut self, code: &Code<B>, from: u64, answer: Answer)
         requires of { IsThreadOf code.now self.old.thread }
@@ -322,7 +325,8 @@ impl<A: Allocator + Copy> Thread<A> {
         let _event = self.context.take_swap(code, from, answer);
     }
 
-    /// The index in the write log that its commit stores next, where it stores; past the last pair it stores the lock.
+    /// The index in the write log that the thread's commit stores next, where it stores; past the last pair it stores
+    /// the lock.
     #[inline(always)]
     pub fn storing(&self) -> Option<usize>
         ensures some { IfSome result (λ index. StoresNext self.now index) }
@@ -335,7 +339,7 @@ impl<A: Allocator + Copy> Thread<A> {
         }
     }
 
-    /// The access of such a step of the commit that stands at its place.
+    /// The access of the step in which the commit that stands at the thread's place stores a pair or the lock.
     #[inline(always)]
     pub fn store_access<B: Allocator>(&self, code: &Code<B>, index: usize) -> Access
         requires of { IsThreadOf code.now self.now.thread }
@@ -348,7 +352,8 @@ impl<A: Allocator + Copy> Thread<A> {
         self.context.core.store_access(index)
     }
 
-    /// Makes such a step, whose access was made: whether the commit stands there still. It takes no memory.
+    /// Makes the step in which the commit that stands at the thread's place stores a pair or the lock, whose access was
+    /// made: whether the commit stands there still. It takes no memory.
     #[inline(always)]
     pub fn take_store<B: Allocator>(&mut self, code: &Code<B>, index: usize) -> bool
         requires of { IsThreadOf code.now self.old.thread }
@@ -366,43 +371,44 @@ impl<A: Allocator + Copy> Thread<A> {
         again
     }
 
-    /// How it is.
+    /// Whether the thread runs, has ended or has trapped.
     pub fn status(&self) -> Status
         ensures { result ≡ self.now.thread.status }
     {
         self.context.status
     }
 
-    /// The place in the code at which it stands.
+    /// The place in the code at which the thread stands.
     pub fn place(&self) -> u32
         ensures { result ≡ self.now.thread.configuration.place }
     {
         self.context.frames.place()
     }
 
-    /// What it has printed.
+    /// What the thread has printed.
     pub fn output(&self) -> &str
         ensures { result.now ≡ self.now.thread.text }
     {
         self.context.text.as_str()
     }
 
-    /// How many accesses to the lock or the words it has made.
+    /// How many accesses to the lock or the words the thread has made.
     pub fn accesses(&self) -> u64
         ensures { result ≡ self.now.accesses }
     {
         self.accesses
     }
 
-    /// Whether it has the lock: from the won swap of a commit, or of an operation that cannot be taken back, to the
-    /// release.
+    /// Whether the thread has the lock: from the won swap of a commit, or of an operation that cannot be taken back, to
+    /// the release.
     pub fn has_lock(&self) -> bool
         ensures { result ≡ thread_has_lock self.now.thread }
     {
         self.context.core.has_lock()
     }
 
-    /// Whether the operation that stands at its place is under validation, and loads the lock next, until it is even.
+    /// Whether the operation that stands at the thread's place is under validation, and loads the lock next, until it
+    /// is even.
     #[inline(always)]
     pub fn is_waiting<B: Allocator>(&self, code: &Code<B>, doing: Doing) -> bool
         requires of { IsThreadOf code.now self.now.thread }
@@ -418,7 +424,7 @@ impl<A: Allocator + Copy> Thread<A> {
         }
     }
 
-    /// Makes such a step, with the lock's value that was loaded. It takes no memory.
+    /// Makes the step of validation that loads the lock, with the lock's value that was loaded. It takes no memory.
     #[inline(always)]
     pub fn take_wait<B: Allocator>(&mut self, code: &Code<B>, lock: u64)
         requires of { IsThreadOf code.now self.old.thread }
@@ -433,8 +439,8 @@ impl<A: Allocator + Copy> Thread<A> {
         self.context.take_wait(code, lock);
     }
 
-    /// Where the operation that stands at its place is under validation, and compares an entry next, or past the last
-    /// one the lock: at which lock value, and the entry's index in the read log.
+    /// Where the operation that stands at the thread's place is under validation, and compares an entry next, or past
+    /// the last one the lock: at which lock value, and the entry's index in the read log.
     #[inline(always)]
     pub fn comparing<B: Allocator>(&self, code: &Code<B>, doing: Doing) -> Option<(u64, usize)>
         requires of { IsThreadOf code.now self.now.thread }
@@ -455,8 +461,8 @@ impl<A: Allocator + Copy> Thread<A> {
         }
     }
 
-    /// The entry that is compared next, the cell whose word is loaded and the word that it must have; none past the
-    /// last entry, where the lock is loaded.
+    /// The entry that validation compares next, the cell whose word is loaded and the word that it must have; none past
+    /// the last entry, where the lock is loaded.
     #[inline(always)]
     pub fn entry<B: Allocator>(&self, code: &Code<B>, time: u64, index: usize) -> Option<(u32, u64)>
         requires of { IsThreadOf code.now self.now.thread }
@@ -519,8 +525,8 @@ impl<A: Allocator + Copy> Thread<A> {
         self.context.take_unequal(code, time, index, entry, word);
     }
 
-    /// Makes the step past the last entry, with the lock's value that was loaded: where it is the one at which
-    /// validation began it is the new snapshot, else validation begins again. It takes no memory.
+    /// Makes the step of validation past the last entry, with the lock's value that was loaded: where it is the one at
+    /// which validation began it is the new snapshot, else validation begins again. It takes no memory.
     #[inline(always)]
     pub fn take_validation<B: Allocator>(
         &mut self,

@@ -303,8 +303,8 @@ impl Loads for Uniform {
     fn goes_on(&self) {}
 }
 
-/// What stands there after a begin at the lock value 2, and as many steps as go on from there, where 7 and this lock
-/// are found; and how many these are.
+/// What stands at a thread's place after a begin at the lock value 2, and as many steps as go on from there, where 7
+/// and this lock are found; and how many these are.
 fn reads_on<A: Allocator + Copy>(
     thread: &mut Thread<A>,
     code: &Code<A>,
@@ -320,8 +320,8 @@ fn reads_on<A: Allocator + Copy>(
     Some(thread.advance(code, &mut found, MOST))
 }
 
-/// What stands there after a begin of a new thread at the lock value 2, and as many steps as go on from there, where 7
-/// and this lock are found; and how many these are.
+/// What stands at a new thread's place after a begin at the lock value 2, and as many steps as go on from there, where
+/// 7 and this lock are found; and how many these are.
 fn reads_first<A: Allocator + Copy>(
     alloc: A,
     code: &Code<A>,
@@ -333,8 +333,8 @@ fn reads_first<A: Allocator + Copy>(
     }
 }
 
-/// What stands there after a begin of a thread of these instructions at the lock value 2, and as many steps as go on
-/// from there, where 7 and this lock are found; and how many these are.
+/// What stands at the place of a thread of these instructions after a begin at the lock value 2, and as many steps as
+/// go on from there, where 7 and this lock are found; and how many these are.
 fn reads_of(inner: Global, instructions: &[Instr], lock: u64) -> Option<(u64, Option<Doing>)> {
     match code_of(inner, &over_x(instructions)) {
         Some(code) => reads_first(inner, &code, lock),

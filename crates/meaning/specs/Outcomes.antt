@@ -20,7 +20,7 @@ module _ {A : Type 0} where
   abbrev pub memories_in : List (Vec ℕ A) → List Memory
   memories_in ms = map (λ v. v.items) ms
 
-  -- each is a memory of the program: for each cell a word of its type
+  -- each of these is a memory of the program: for each cell a word of its type
   abbrev pub AreMemories : Program → List (Vec ℕ A) → Type 0
   AreMemories p ms = AllByRecursion (IsMemory (bounds p)) (memories_in ms)
 

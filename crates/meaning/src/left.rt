@@ -35,7 +35,7 @@ pub(crate) enum Direction {
     Whole,
     /// In one step, with names of its own.
     Scoped,
-    /// It is a loop, and at most so many turns of it are left.
+    /// A loop, of which at most so many turns are left.
     Turns(u64),
 }
 

@@ -184,7 +184,7 @@ fn assign_local(locals: &mut [Local], i: usize, word: u64)
     }
 }
 
-/// Writes a value there, converted to its type.
+/// Writes a value to a local variable or a cell, converted to its type.
 pub(crate) fn assign<A: Allocator>(m: &mut Machine<A>, at: Lvalue, w: Word) -> Result<(), Halted>
     ensures { Means result (meaning.assign (lvalue_of at) (value_of w) (state_in m.old)) m.new }
 {

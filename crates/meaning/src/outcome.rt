@@ -10,10 +10,10 @@ use thiserror::Error;
 /// How a thread of an accepted program is found after its ticks.
 #[derive(Clone, Copy, PartialEq, Eq)]
 pub enum ThreadEnd {
-    /// It has come to its end.
+    /// The thread has come to its end.
     Ended,
     Trapped(Trap),
-    /// Its next outermost transaction finds no memory.
+    /// The thread's next outermost transaction finds no memory.
     Wants,
     /// A tick is due, and none is left.
     Spent,

@@ -121,7 +121,7 @@ pub fn thread<A: Allocator + Copy>(
         AreMemories (program_of accepted.now.safe.typed.unit) o.lefts.items) }
 {
     never_astray(); // the law by which an end is told below
-    threads_leave_memories(); // and the one by which what is left are memories
+    threads_leave_memories(); // the law by which what is left are memories
     let Ok(source) = source(alloc, accepted.safe().typed()) else {
         return Err(AllocError);
     };

@@ -213,7 +213,7 @@ fn is_forbidden(outer: Mode, mode: Mode) -> bool
     }
 }
 
-/// Outside transactions one that is an expression takes a tick before its memory is wanted.
+/// Outside transactions a transaction that is an expression takes a tick before its memory is wanted.
 fn begin_value<A: Allocator>(m: &mut Machine<A>) -> Result<(), Halted>
     ensures { Means result (meaning.begin_value (state_in m.old)) m.new }
 {

@@ -2,5 +2,5 @@
 pub mod Known
 pub mod Maps
 pub mod Named
--- how they keep it
+-- how tables and scopes keep their names
 pub mod inner

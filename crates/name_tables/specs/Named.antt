@@ -10,7 +10,7 @@ module _ {V : Type 0} where
   first [] x = None
   first (e ∷ es) x = if bytes_eq e.0 x then Some e.1 else first es x
 
-  -- the place of its first declaration, from 0
+  -- the index of a name's first declaration, from 0
   abbrev pub first_index : List (List ℕ × V) → List ℕ → Option ℕ
   first_index es x = position (λ n. bytes_eq x n) (map (λ e. e.0) es)
 

@@ -5,8 +5,8 @@ use Rattle.nesting.specs.Begins.{Saved, Checkpoint}
 
 -- the begins that are open
 pub record OpenBegins : Type 0 where
-  pub saved : Saved  -- at the outermost one
-  pub inner : List (Checkpoint Saved)  -- the inner ones, the innermost first
+  pub saved : Saved  -- at the outermost begin
+  pub inner : List (Checkpoint Saved)  -- the inner begins, the innermost first
 
 -- an attempt, and for how many inner begins, reads and writes there is room
 pub record Nest : Type 0 where

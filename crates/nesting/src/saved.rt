@@ -73,7 +73,7 @@ impl<A: Allocator + Copy> Saved<A> {
         ensures err { OnErr result (self.new ≡ self.old) }
         ensures full { OnErr result (length self.old.registers < length registers.now) }
     {
-        // A thread mostly saves as many as it saved before.
+        // A thread mostly saves as many registers as it saved before.
         if self.registers.len() == registers.len() {
             self.registers.as_mut_slice().copy_from_slice(registers);
         } else {

@@ -27,9 +27,9 @@ struct Row {
 /// A half of a program's way.
 #[derive(Clone, Copy)]
 enum Half {
-    /// From its text to what it means and to its code.
+    /// From a program's text to what it means and to its code.
     Meant,
-    /// From its code to what its threads do, by single steps, in a world and on real words.
+    /// From a program's code to what its threads do, by single steps, in a world and on real words.
     Made,
 }
 

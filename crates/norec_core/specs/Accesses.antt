@@ -25,7 +25,8 @@ cost _ = 1
 abbrev pub last_snapshot : ℕ
 last_snapshot = 2 ^ 64 - 2
 
--- a swap from it would leave the lock no value for its release, so the step stops: the sequence is used up
+-- a swap from the last even value would leave the lock no value for its release, so the step stops: the sequence is
+-- used up
 abbrev pub stops : Access → Bool
 stops (Swap from) = from == last_snapshot
 stops _ = false

@@ -16,11 +16,11 @@ use Rattle.norec_core.specs.Accesses.{IsAnswerTo}
 use Rattle.norec_core.specs.Phases.{CoreStep, core_access, core_step, commit_access, idle}
 
 pub record CoreState : Type 0 where
-  pub attempt : Option (Attempt Saved)  -- the one under way, if any
+  pub attempt : Option (Attempt Saved)  -- the attempt under way, if any
   pub asked : Option Op  -- what was prepared and is not told its answer yet
   pub saved : Saved  -- what the begin that was prepared saves, or what the last cancel or abort goes back to
   pub read_room : ℕ  -- for how many more entries of the read log there is room
-  pub write_room : ℕ  -- for how many more pairs of the write log
+  pub write_room : ℕ  -- for how many more pairs of the write log there is room
 
 -- an operation was prepared, and the answer is one to its access
 abbrev pub IsAnswered : CoreState → Answer → Type 0
@@ -38,7 +38,7 @@ core_step_with c answer = stepped_by c c.asked answer
 abbrev pub LoadsBoth : {S : Type 0} → Attempt S → ℕ → Type 0
 LoadsBoth a cell = (a.phase ≡ AtOperation) × (a.kept ≡ false) × (overlay_word cell a.writes ≡ None)
 
--- it stands at an operation, and has not the lock
+-- an attempt stands at an operation, and has not the lock
 abbrev pub IsUnlocked : {S : Type 0} → Attempt S → Type 0
 IsUnlocked a = (a.phase ≡ AtOperation) × (a.kept ≡ false)
 
@@ -85,7 +85,8 @@ IsWaiting a = a.phase ≡ ValidatesTime
 abbrev pub IsComparing : {S : Type 0} → (time index : ℕ) → Attempt S → Type 0
 IsComparing time index a = a.phase ≡ ValidatesEntry time index
 
--- which entry that is, if it is one
+-- validation at this lock value compares this entry of the read log next, the one at this index; past the last entry
+-- none
 abbrev pub ComparesWith : {S : Type 0} → (time index : ℕ) → Option (ℕ × ℕ) → Attempt S → Type 0
 ComparesWith time index entry a = IsComparing time index a × (slice_get a.reads index ≡ entry)
 

@@ -127,9 +127,9 @@ impl<A: Allocator + Copy> Core<A> {
         self.steps.told(op, answer)
     }
 
-    /// Makes the step of a read of this cell whose word the write log has, where it stands at an operation without the
-    /// lock, or prepares both steps of one that loads the cell's word and then the lock. Where the room for the read's
-    /// entry is refused it does neither.
+    /// Makes the step of a read of this cell whose word the write log has, where the attempt stands at an operation
+    /// without the lock, or prepares both steps of one that loads the cell's word and then the lock. Where the room for
+    /// the read's entry is refused it does neither.
     #[inline(always)]
     pub fn read(&mut self, cell: u32) -> ReadStep
         ensures written { (word : ℕ) → result ≡ ReadStep.Written word
@@ -164,8 +164,8 @@ impl<A: Allocator + Copy> Core<A> {
         self.steps.take_read(cell, word, lock)
     }
 
-    /// Makes the step of a write, where it stands at an operation without the lock: whether it did. It makes the room
-    /// that the write needs; where that is refused nothing changes.
+    /// Makes the step of a write, where the attempt stands at an operation without the lock: whether it did. It makes
+    /// the room that the write needs; where that is refused nothing changes.
     #[inline(always)]
     pub fn write(&mut self, cell: u32, word: u64) -> bool
         ensures done { result ≡ true → IsDoneLocally self.old (Op.Write cell word) Outcome.Done self.new }
@@ -276,7 +276,7 @@ impl<A: Allocator + Copy> Core<A> {
         self.steps.storing()
     }
 
-    /// The access of such a step.
+    /// The access of the step in which a commit stores a pair or the lock.
     #[inline(always)]
     pub fn store_access(&self, index: usize) -> Access
         requires { IsSomeAnd self.now.attempt (λ a. IsStoring index a) }
@@ -285,7 +285,7 @@ impl<A: Allocator + Copy> Core<A> {
         self.steps.next_store(index)
     }
 
-    /// Makes such a step, whose access was made. It takes no memory.
+    /// Makes the step in which a commit stores a pair or the lock, whose access was made. It takes no memory.
     #[inline(always)]
     pub fn take_store(&mut self, index: usize) -> Outcome
         requires { IsSomeAnd self.old.attempt (λ a. IsStoring index a) }
@@ -336,7 +336,7 @@ impl<A: Allocator + Copy> Core<A> {
         self.steps.is_waiting()
     }
 
-    /// Makes such a step, with the lock's value that was loaded. It takes no memory.
+    /// Makes the step of validation that loads the lock, with the lock's value that was loaded. It takes no memory.
     #[inline(always)]
     pub fn take_wait(&mut self, lock: u64)
         requires { IsSomeAnd self.old.attempt (λ a. IsWaiting a) }
@@ -358,8 +358,8 @@ impl<A: Allocator + Copy> Core<A> {
         self.steps.comparing()
     }
 
-    /// The entry that is compared next, the cell whose word is loaded and the word that it must have; none past the
-    /// last entry, where the lock is loaded.
+    /// The entry that validation compares next, the cell whose word is loaded and the word that it must have; none past
+    /// the last entry, where the lock is loaded.
     #[inline(always)]
     pub fn entry(&self, time: u64, index: usize) -> Option<(u32, u64)>
         requires { IsSomeAnd self.now.attempt (λ a. IsComparing time index a) }
@@ -402,8 +402,8 @@ impl<A: Allocator + Copy> Core<A> {
         self.steps.take_unequal();
     }
 
-    /// Makes the step past the last entry, with the lock's value that was loaded: where it is the one at which
-    /// validation began it is the new snapshot, else validation begins again. It takes no memory.
+    /// Makes the step of validation past the last entry, with the lock's value that was loaded: where it is the one at
+    /// which validation began it is the new snapshot, else validation begins again. It takes no memory.
     #[inline(always)]
     pub fn take_validation(&mut self, time: u64, index: usize, lock: u64)
         requires { IsSomeAnd self.old.attempt (λ a. ComparesWith time index None a) }

@@ -117,7 +117,7 @@ impl<A: Allocator + Copy> CoreSteps<A> {
         self.logs.aside()
     }
 
-    /// How a read of this cell is made next, where it stands at an operation without the lock.
+    /// How a read of this cell is made next, where the attempt stands at an operation without the lock.
     #[inline(always)]
     pub(crate) fn reading(&self, cell: u32) -> ReadStep
         ensures written { (word : ℕ) → result ≡ ReadStep.Written word
@@ -145,7 +145,7 @@ impl<A: Allocator + Copy> CoreSteps<A> {
         self.logs.prepare_read().is_ok()
     }
 
-    /// Both steps of such a read.
+    /// Both steps of a read that loads the cell's word and then the lock.
     #[inline(always)]
     pub(crate) fn take_read(&mut self, cell: u32, word: u64, lock: u64) -> Outcome
         requires begun { self.old.begun ≡ true }
@@ -163,7 +163,7 @@ impl<A: Allocator + Copy> CoreSteps<A> {
         Outcome::Going
     }
 
-    /// Whether it stands at an operation without the lock.
+    /// Whether the attempt stands at an operation without the lock.
     #[inline(always)]
     pub(crate) fn is_plain(&self) -> bool
         ensures plain { result ≡ true → (self.now.begun ≡ true) × (self.now.attempt.phase ≡ Phase.AtOperation) }

@@ -235,7 +235,8 @@ fn is_made<A: Allocator + Copy>(alloc: A, inner: Global, accepted: &Accepted<A>)
     }
 }
 
-/// Whether they are found where growth `nth` is not met, and else that is told. The allocator is the one that refuses.
+/// Whether the outcomes of two threads are found where growth `nth` is not met, and else that is told. The allocator is
+/// the one that refuses.
 fn tells_in<A: Allocator, B: Allocator + Copy>(
     refusing: &Refusing<A>,
     alloc: B,

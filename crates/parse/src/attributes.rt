@@ -81,7 +81,7 @@ fn words<'t, 'a, A: Allocator + Copy>(
     comma_list(alloc, &EachWord {}, tokens)
 }
 
-/// Words between two of the one and two of the other.
+/// Words between two opening tokens and two closing ones.
 fn doubly_enclosed_words<'t, 'a, A: Allocator + Copy>(
     alloc: A,
     tokens: &'t [Token<'a>],

@@ -148,7 +148,7 @@ fn parameters<'t, 'a, A: Allocator + Copy>(
     )
 }
 
-/// Whether each of them has a name.
+/// Whether each parameter has a name.
 fn are_named<A: Allocator>(parameters: &[Parameter<A>]) -> bool
     ensures { result ≡ are_named (map parameter_of parameters.now) }
 {

@@ -38,7 +38,7 @@ fn outer<'t, 'a>(tokens: &'t [Token<'a>]) -> Result<&'t [Token<'a>], Failure<'t,
     }
 }
 
-/// `outer` between two of the one and two of the other.
+/// `outer` between two opening tokens and two closing ones.
 fn enclosed_outer<'t, 'a>(
     tokens: &'t [Token<'a>],
     opening: Fixed,

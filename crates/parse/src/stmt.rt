@@ -146,7 +146,7 @@ fn box_stmt<'t, 'a, A: Allocator + Copy>(
     }
 }
 
-/// What an `if` chooses from, of the one and what was read of the other.
+/// What an `if` chooses from, of its first branch and what was read of the other.
 fn choice_of<'t, 'a, A: Allocator + Copy>(
     then: Boxed<Stmt<A>, A>,
     read: Result<(Option<Boxed<Stmt<A>, A>>, &'t [Token<'a>]), Failure<'t, 'a>>,

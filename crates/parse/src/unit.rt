@@ -112,10 +112,10 @@ fn key_of(tokens: &[Token]) -> u64
 /// The tree owns its names: it outlives the tokens and their text. Only a refused growth can stop it where the tokens
 /// spell a program within the depth of 100.
 pub fn parse<A: Allocator + Copy>(alloc: A, tokens: &[Token<'_>]) -> Result<Unit<A>, ParseFault>
-    // It is spelled so, within the depth.
+    // The tokens spell the program, within the depth.
     ensures found { IfOk result
         (λ u. Spells (source_of u) (toks tokens.now) × (source_depth (source_of u) ≤ deepest_program)) }
-    // Its key is made of all names.
+    // The key of the program is made of all names.
     ensures key { IfOk result (λ u. u.key ≡ key_of (toks tokens.now)) }
     // Which fault comes, and at which token.
     ensures fault { IfErr result (λ f. IsParseFaultOf (toks tokens.now) f) }

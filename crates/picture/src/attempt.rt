@@ -13,11 +13,11 @@ pub(crate) struct Load {
 /// What the next load of the lock is for.
 #[derive(Clone, Copy)]
 pub(crate) enum Phase {
-    /// For nothing: none follows.
+    /// Nothing: no load follows.
     Open,
     /// Whether a word that was loaded is of the attempt's moment.
     Check(Load),
-    /// For an even lock, to read all words again.
+    /// An even lock, to read all words again.
     Wait,
     /// Whether the words that were read again are of the moment of this even lock.
     Compare(u64),
@@ -26,16 +26,16 @@ pub(crate) enum Phase {
 /// An attempt at an outermost transaction.
 #[derive(Drop)]
 pub(crate) struct Attempt<A: Allocator = Global> {
-    /// The row of its begin.
+    /// The row of the attempt's begin.
     pub row: u64,
-    /// The even lock of whose moment its reads are.
+    /// The even lock of whose moment the attempt's reads are.
     pub snapshot: u64,
-    /// What it has read, of each cell the first load.
+    /// What the attempt has read, of each cell the first load.
     pub reads: Vec<Load, A>,
     pub phase: Phase,
     /// The rows of the begins of inner transactions that are open.
     pub inner: Vec<u64, A>,
-    /// Whether it has the lock.
+    /// Whether the attempt has the lock.
     pub is_kept: bool,
 }
 
@@ -49,7 +49,7 @@ pub(crate) struct Lane<A: Allocator = Global> {
     pub drops: u64,
     /// The last row in which the thread is drawn.
     pub latest: u64,
-    /// How much of it stands in the last row of the picture, if anything does: glyphs, of prints characters.
+    /// How much of the thread stands in the last row of the picture, if anything does: glyphs, of prints characters.
     pub standing: Option<usize>,
 }
 

@@ -17,7 +17,7 @@ pub(crate) struct Glyph<A: Allocator = Global> {
 pub(crate) struct Look<'a> {
     pub symbol: &'a [u8],
     pub words: &'a [u8],
-    /// The class of its words, or an empty one.
+    /// The class of the glyph's words, or an empty one.
     pub class: &'a [u8],
     /// How many accesses all threads have made, where the step is one.
     pub number: Option<u64>,

@@ -7,16 +7,16 @@ use std::alloc::{AllocError, Allocator, Global};
 /// A cell of shared memory, as it is named.
 #[derive(Drop)]
 pub struct Cell<A: Allocator = Global> {
-    /// The name of its global, with its place where that is an array.
+    /// The name of the cell's global, with the cell's place where that is an array.
     pub name: Vec<u8, A>,
-    /// The type of its numbers.
+    /// The type of the cell's numbers.
     pub ty: Scalar,
 }
 
 /// How the last row may go on.
 #[derive(Clone, Copy, PartialEq, Eq)]
 pub(crate) enum Fold {
-    /// Not at all.
+    /// The last row does not go on.
     Never,
     /// By threads that wait.
     Waits,
@@ -34,18 +34,18 @@ pub(crate) struct Store {
     pub cell: u32,
     pub thread: u32,
     pub row: u64,
-    /// How many accesses all threads had made with it.
+    /// How many accesses all threads had made with the store.
     pub access: u64,
 }
 
 /// A transaction that took effect.
 #[derive(Clone, Copy)]
 pub(crate) struct Effect {
-    /// The even lock of whose moment it is.
+    /// The even lock of whose moment the transaction is.
     pub snapshot: u64,
     pub took_lock: bool,
     pub thread: u32,
-    /// How many accesses all threads had made by its end.
+    /// How many accesses all threads had made by the transaction's end.
     pub access: u64,
 }
 

@@ -20,30 +20,30 @@ pub(crate) const MOST_ACCESSES: u64 = 400;
 /// What the instruction of a local step does, where that has a glyph.
 #[derive(Clone, Copy, PartialEq, Eq)]
 pub enum LocalAction {
-    /// It begins a transaction.
+    /// The instruction begins a transaction.
     Begin,
-    /// It ends one.
+    /// The instruction ends a transaction.
     Commit,
     Print,
-    /// It has no glyph.
+    /// The instruction has no glyph.
     Other,
 }
 
 /// A step of a replay.
 #[derive(Drop)]
 pub struct Step<A: Allocator = Global> {
-    /// How many accesses all threads had made with it.
+    /// How many accesses all threads had made with the step.
     pub accesses: u64,
     pub thread: u32,
-    /// Its line of the timeline, without the LF.
+    /// The step's line of the timeline, without the LF.
     pub line: Vec<u8, A>,
     pub action: LocalAction,
-    /// How many transactions a cancel in it takes away.
+    /// How many transactions a cancel in the step takes away.
     pub levels: u32,
     pub access: Access,
     pub answer: Answer,
     pub event: Event,
-    /// What it printed.
+    /// What the step printed.
     pub printed: Vec<u8, A>,
 }
 

@@ -22,7 +22,7 @@ is_over_by Running = false
 is_over_by HasEnded = true
 is_over_by (HasTrapped cause) = true
 
--- there is such a thread, and it has ended or trapped
+-- there is a thread, and it has ended or trapped
 abbrev pub is_over : Option (Part Configuration) → Bool
 is_over None = false
 is_over (Some p) = is_over_by p.thread.status

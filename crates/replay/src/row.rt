@@ -12,7 +12,7 @@ use crate::line::Line;
 /// What a row says.
 #[derive(Clone, Copy)]
 pub(crate) enum ScheduleRow {
-    /// Nothing: it has spaces alone.
+    /// Nothing: the row has spaces alone.
     Blank,
     /// Which steps are made.
     Steps(Line),

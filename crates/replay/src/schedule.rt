@@ -15,10 +15,10 @@ pub enum ScheduleFault {
     /// Memory was refused.
     #[error("out of memory")]
     OutOfMemory,
-    /// This line, from 1 on, is none.
+    /// The line of this number, counted from 1, is no line of a schedule.
     #[error("bad schedule line")]
     BadLine(usize),
-    /// The counts of its lines are more than 1,048,576, added.
+    /// The counts of the schedule's lines are more than 1,048,576, added.
     #[error("schedule too long")]
     TooLong,
 }
@@ -26,7 +26,7 @@ pub enum ScheduleFault {
 impl ScheduleFault {
     ghost use Rattle.replay.specs.Schedules.{fault_number};
 
-    /// Its number.
+    /// The fault's number: 0, 80 or 81.
     pub fn number(self) -> u32
         ensures { result ≡ fault_number self }
     {

@@ -4,5 +4,5 @@ pub mod Printed
 pub mod Report
 -- the text of a timeline
 pub mod Timeline
--- the Rust types as these
+-- the Rust types as plain ones
 pub mod Views

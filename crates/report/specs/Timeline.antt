@@ -28,14 +28,14 @@ access_words (Swap from) = codes "; swap lock " ++ decimal from
 access_words (StoreWord cell word) = codes "; store @" ++ decimal cell ++ codes " = " ++ decimal word
 access_words (StoreLock value) = codes "; store lock = " ++ decimal value
 
--- its answer
+-- the answer to the step's access
 abbrev pub answer_words : Answer → List ℕ
 answer_words Done = []
 answer_words (Value value) = codes " = " ++ decimal value
 answer_words Won = codes ": won"
 answer_words (Lost value) = codes ": lost, " ++ decimal value
 
--- what happened in it, if that is told
+-- what happened in the step, if that is told
 abbrev pub happened_words : Event → List ℕ
 happened_words e = unwrap_or (option_map (λ words. codes "; " ++ words) (event_words e)) []
 

@@ -9,21 +9,21 @@ use syntax::numbers::Trap;
 /// How a thread is found.
 #[derive(Clone, Copy, PartialEq, Eq)]
 pub enum End {
-    /// It has come to its end.
+    /// The thread has come to its end.
     Ended,
-    /// It has trapped.
+    /// The thread has trapped.
     Trapped(Trap),
     /// Memory was refused.
     OutOfMemory,
-    /// It would take the lock, whose numbers are used up.
+    /// The thread would take the lock, whose numbers are used up.
     SequenceUsedUp,
-    /// Its steps are used up.
+    /// The thread's steps are used up.
     Budget,
-    /// It would go on: a replay ends before it does.
+    /// The thread would go on: a replay ends before it does.
     Running,
-    /// It waits for its turn: an order of threads ends before it does.
+    /// The thread waits for its turn: an order of threads ends before it does.
     Waits,
-    /// Its ticks are used up.
+    /// The thread's ticks are used up.
     Spent,
 }
 
@@ -31,7 +31,7 @@ pub enum End {
 #[derive(Drop)]
 pub struct ThreadShown<A: Allocator = std::alloc::Global> {
     pub end: End,
-    /// The bytes that it has printed.
+    /// The bytes that the thread has printed.
     pub text: Items<u8, A>,
 }
 
@@ -40,7 +40,7 @@ pub struct ThreadShown<A: Allocator = std::alloc::Global> {
 pub struct Shown<A: Allocator = std::alloc::Global> {
     pub name: Text<A>,
     pub ty: Scalar,
-    /// A word for each of its cells.
+    /// A word for each of the global's cells.
     pub words: Items<u64, A>,
 }
 

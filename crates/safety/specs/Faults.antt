@@ -40,7 +40,7 @@ item_demands p safe outer (Shares gs) = []
 abbrev pub safety_demands : Program → (safe outer : FunctionSet) → List Demand
 safety_demands p safe outer = flat_map (item_demands p safe outer) p
 
--- the first that is not met has this number and place
+-- the first demand of safety that a program does not meet has this number and place
 abbrev pub IsSafetyFault : ℕ → Span → Program → Type 0
 IsSafetyFault n at p =
     (safe : FunctionSet) × (outer : FunctionSet) × TellsSafe p safe × TellsOuter p outer

@@ -8,7 +8,7 @@ use Rattle.syntax.specs.Laws.{WhereGiven}
 use Rattle.safety.specs.Safe.{IsSafeSet, IsSafe, IsSafeProgram}
 use Rattle.safety.specs.Faults.{IsSafetyFault}
 
--- the safe functions are themselves such a set, and so the greatest one
+-- the safe functions are themselves a safe set, and so the greatest one
 abbrev pub SafeIsSafeSet : Type 0
 SafeIsSafeSet = (p : Program) → IsSafeSet p (IsSafe p)
 

@@ -15,7 +15,7 @@ IsIn set (Some f) = IsTrue (set f)
 abbrev pub KeepsTo : List Link → FunctionSet → Type 0
 KeepsTo links set = (l : Link) → Contains links l → IsIn set l.callee → IsTrue (set l.caller)
 
--- the least such set: each other one has all of its functions
+-- the least set that keeps to all of these links: each other one has all of its functions
 pub record IsLeast (links : List Link) (set : FunctionSet) : Type 0 where
   pub keeps : KeepsTo links set
   pub least : (other : FunctionSet) → KeepsTo links other → (f : List ℕ) → IsTrue (set f) → IsTrue (other f)

@@ -22,7 +22,7 @@ IsSafeSet p set =
     (f : List ℕ) → set f →
     (Contains (attributes_of p f) Unsafe → ⊥) × All (λ s. IsSafeConstruct set s.construct) (sites_of p f)
 
--- safe functions are those of the greatest such set: those that some such set has
+-- safe functions are those of the greatest safe set: those that some safe set has
 abbrev pub IsSafe : Program → List ℕ → Type 0
 IsSafe p f = (set : FunctionSet) × IsTrue (set f) × IsSafeSet p (λ g. IsTrue (set g))
 
@@ -41,11 +41,12 @@ Opens set c = ⊥
 abbrev pub IsOuterSet : Program → (List ℕ → Type 0) → Type 0
 IsOuterSet p set = (f : List ℕ) (s : Site) → Contains (sites_of p f) s → Opens set s.construct → set f
 
--- functions that lead to an outer transaction are those of the least such set: those that each such set has
+-- functions that lead to an outer transaction are those of the least set that has each function with an outer
+-- transaction or a call into the set: those that each such set has
 abbrev pub LeadsToOuter : Program → List ℕ → Type 0
 LeadsToOuter p f = (set : FunctionSet) → IsOuterSet p (λ g. IsTrue (set g)) → IsTrue (set f)
 
--- the test that tells which functions do
+-- the test that tells which functions lead to an outer transaction
 abbrev pub TellsOuter : Program → FunctionSet → Type 0
 TellsOuter p outer = (f : List ℕ) → Decides (outer f) (LeadsToOuter p f)
 
@@ -58,7 +59,8 @@ abbrev pub KeepsOuter : Program → Site → Type 0
 KeepsOuter p s =
     (s.atomic ≡ true → Opens (LeadsToOuter p) s.construct → ⊥) × (s.construct ≡ CancelsOuter → s.outer ≡ true)
 
--- each transaction keeps to this, and each function that is declared safe is safe
+-- no transaction holds what it may not, each cancel stands where it may, and each function that is declared safe is
+-- safe
 pub record IsSafeProgram (p : Program) : Type 0 where
   pub atomic : (f : List ℕ) → All (KeepsAtomic p) (sites_of p f)
   pub outer : (f : List ℕ) → All (KeepsOuter p) (sites_of p f)

@@ -14,7 +14,7 @@ link_if b f = if b then record { caller = f; callee = None } ∷ [] else []
 abbrev pub no_attribute : List Attribute → Bool
 no_attribute attributes = false
 
--- those of an item, where a declaration with such attributes puts its function into the set, and its sites give these
+-- the links of an item, by which attributes put the function of a declaration into the set, and by what its sites give
 abbrev pub item_links : (List Attribute → Bool) → (List ℕ → Site → List Link) → Item → List Link
 item_links declares own (Defines f) =
     link_if (declares f.attributes) f.name.text ++ flat_map (own f.name.text) (body_sites f.parameters f.body)
@@ -23,6 +23,6 @@ item_links declares own (Shares gs) = []
 abbrev pub links_by : (List Attribute → Bool) → (List ℕ → Site → List Link) → List Item → List Link
 links_by declares own items = flat_map (item_links declares own) items
 
--- where the sites alone give links
+-- the links of items, where the sites alone give links
 abbrev pub site_links : (List ℕ → Site → List Link) → List Item → List Link
 site_links = links_by no_attribute

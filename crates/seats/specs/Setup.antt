@@ -16,6 +16,7 @@ pub record Setup : Type 0 where
 abbrev pub IsWorldOf : Setup → World Configuration → List (List Heard) → Type 0
 IsWorldOf key w heard = Answered (effect key.code) (beginning key.code) (initial_of key.code) key.threads w heard
 
--- in some such world the thread with this number has this part and was answered this
+-- in some world that a list of steps leads to, none of which stops, the thread with this number has this part and was
+-- answered this
 abbrev pub IsPart : Setup → ℕ → Part Configuration → List Heard → Type 0
 IsPart key number p hs = IsPartOf (effect key.code) (beginning key.code) (initial_of key.code) key.threads number p hs

@@ -23,7 +23,7 @@ impl<A: Allocator> Model for Setup<A> {
 }
 
 impl<A: Allocator> Setup<A> {
-    /// For so many threads of this code.
+    /// The setup of so many threads of this code.
     pub fn new(code: Code<A>, threads: u32) -> Setup<A>
         ensures code { result.code ≡ code }
         ensures threads { result.threads ≡ threads }

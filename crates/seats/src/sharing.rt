@@ -54,6 +54,7 @@ pub fn meet<A: Allocator>(
 {
     let whole = words.split_seat::<Whole>(theirs);
     words.join_seat::<Joined>(mine, whole);
+    // One load for each thread; the prover names by it the value of the first one.
     let _first = floor(words, mine);
     let found = floor(words, mine);
     let back = words.split_seat::<Rest>(mine);

@@ -48,7 +48,7 @@ opposite_draft (draft.Whole i) = draft.Whole i
 opposite_draft (draft.ToMet at_zero r) = draft.ToUnmet at_zero r
 opposite_draft (draft.ToUnmet at_zero r) = draft.ToMet at_zero r
 
--- of the first condition of `&&` and `||`, where it is known where the second one begins
+-- an instruction of the first condition of `&&` and `||`, once it is known where the second one begins
 abbrev pub with_second_at : LogicalOp → ℕ → Draft → Draft
 with_second_at AndThen next (draft.Whole i) = draft.Whole i
 with_second_at AndThen next (draft.ToMet at_zero r) = draft.Whole (jump_if at_zero r next)
@@ -57,7 +57,7 @@ with_second_at OrElse next (draft.Whole i) = draft.Whole i
 with_second_at OrElse next (draft.ToMet at_zero r) = draft.ToMet at_zero r
 with_second_at OrElse next (draft.ToUnmet at_zero r) = draft.Whole (jump_if at_zero r next)
 
--- its jump past the second one
+-- the jump of the first condition of `&&` and `||` past the second one
 abbrev pub short_jump : LogicalOp → ConditionRegister → Draft
 short_jump AndThen t = draft.ToUnmet (not t.at_zero) t.register
 short_jump OrElse t = draft.ToMet t.at_zero t.register

@@ -88,7 +88,7 @@ pub record Emitted : Type 0 where
   pub lists : Lists
   pub location : ValueRegister
 
--- and the registers of several values
+-- instructions, the lists after them, the registers of several values, and the place behind
 pub record AllEmitted : Type 0 where
   pub code : List Instr
   pub lists : Lists

@@ -9,7 +9,7 @@ use Rattle.bytecode.specs.Valid.{Has, IsValid}
 use Rattle.lower_spec.specs.Programs.{IsLowered}
 use Rattle.selection.specs.Programs.{picked_code}
 
--- it stands for its program
+-- the code that is picked for a typed and safe program stands for it
 abbrev pub PickedCodeStands : Type 0
 PickedCodeStands = (p : Program) → IsTypedProgram p → ∥ IsSafeProgram p ∥₁ → IsLowered p (picked_code p)
 
@@ -18,7 +18,7 @@ pub record IsWithinLimits (code : Code) : Type 0 where
   pub registers : (number : ℕ) (f : FunctionCode) → Has code number f → f.registers ≤ MOST_REGISTERS
   pub instructions : length code.instructions ≤ MOST_INSTRUCTIONS
 
--- it is valid within the limits
+-- the code that is picked for a typed and safe program is valid within the limits
 abbrev pub PickedCodeIsValid : Type 0
 PickedCodeIsValid =
     (p : Program) → IsTypedProgram p → ∥ IsSafeProgram p ∥₁ → IsWithinLimits (picked_code p) → IsValid (picked_code p)

@@ -10,5 +10,5 @@ pub mod Statements
 pub mod Loops
 -- the code that is picked for a program
 pub mod Programs
--- what is proved of it
+-- what is proved of the code that is picked
 pub mod Laws

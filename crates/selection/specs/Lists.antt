@@ -14,6 +14,6 @@ pub record Lists : Type 0 where
 abbrev pub with_register : ℕ → Lists → Lists
 with_register r l = record l { registers = max l.registers (suc r) }
 
--- so many registers are used
+-- n registers are used
 abbrev pub with_registers : ℕ → Lists → Lists
 with_registers n l = record l { registers = max l.registers n }

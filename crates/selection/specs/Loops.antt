@@ -58,7 +58,8 @@ looped_by i at looped = looped
 abbrev pub looped_with : Instr → ℕ → Looped → Looped
 looped_with i at looped = record (looped_by i at looped) { operands = operands_of (instr_of [] i) }
 
--- of the instructions from a place on
+-- the lowest place that one jumps to, the registers of the first one and the constants of loops, of the instructions
+-- from a place on
 abbrev pub looped_from : ℕ → List Instr → Looped
 looped_from at [] = record { lowest = at; operands = None; constants = [] }
 looped_from at (i ∷ is) = looped_with i at (looped_from (suc at) is)

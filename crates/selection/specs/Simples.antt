@@ -117,7 +117,7 @@ abbrev pub expr_fitting : AssignmentTarget → Scalar → Expr → Emitted → (
 expr_fitting t s (Constant n x at) e from into l = constant (constant_in (type_at t) x n) (type_at t) from into l
 expr_fitting t s e' e from into l = fitting t s e into
 
--- one after another
+-- two stretches of instructions, one after another
 abbrev pub and_then : Written → Written → Written
 and_then a b = record { code = a.code ++ b.code; lists = b.lists; to = b.to }
 
@@ -147,7 +147,7 @@ module _ (p : Program) (scope : LocalScope) where
   value_or_one u None from free l = emitted_one u from free l
   value_or_one u (Some e) from free l = operand p scope u e from free l
 
-  -- its own type
+  -- the own type of an operator's right side, and int of the 1 that is added or subtracted
   abbrev pub type_or_int : Option Expr → Scalar
   type_or_int None = Int
   type_or_int (Some e) = emitted_type p scope e

@@ -19,7 +19,7 @@ use Rattle.selection.specs.Conditions.{Condition, test_in, going_on, going_back}
 use Rattle.selection.specs.Simples.{Written, nothing_written, one_written, and_then, code_of_value, simple_written}
 use Rattle.selection.specs.Simples.{declared_written, start_written}
 
--- so many commits, and then an instruction
+-- n commits, and then an instruction
 abbrev pub left_by : ℕ → Instr → ℕ → Lists → Written
 left_by n i from l = record { code = replicate n own.Commit ++ i ∷ []; lists = l; to = from + n + 1 }
 

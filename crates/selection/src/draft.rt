@@ -11,6 +11,6 @@ pub enum Draft {
     /// A jump to where the condition holds, taken where this register is 0, or else where it is not.
     ToMet(bool, u16),
 
-    /// A jump to where the condition does not hold, likewise.
+    /// A jump to where the condition does not hold, taken where this register is 0, or else where it is not.
     ToUnmet(bool, u16),
 }

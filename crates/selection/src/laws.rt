@@ -7,7 +7,7 @@ pub fn picked_code_stands()
     ensures { PickedCodeStands }
 {}
 
-/// It is valid, where no function needs too many registers and it has not too many instructions.
+/// The code that is picked is valid, where no function needs too many registers and it has not too many instructions.
 pub fn picked_code_is_valid()
     ensures { PickedCodeIsValid }
 {}

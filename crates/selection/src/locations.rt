@@ -43,7 +43,7 @@ pub struct Exits {
     pub continue_to: u32,
     pub in_loop: u32,
     pub in_function: u32,
-    /// From the innermost outer transaction on; 0 where there is none.
+    /// How many transactions are open from the innermost outer one on, it too; 0 where there is none.
     pub to_outer: u32,
     pub gives: Scalar,
 }

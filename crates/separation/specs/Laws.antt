@@ -6,7 +6,7 @@ use Rattle.syntax.specs.Behaviours.{Memory, Stopped}
 use Rattle.syntax.specs.Threads.{thread}
 use Rattle.separation.specs.Touching.{IsTouchingSet, IsTouching, IsAccepted, IsSeparationFault}
 
--- the touching functions are themselves such a set, and so the least one
+-- the touching functions are themselves a touching set, and so the least one
 abbrev pub TouchingIsTouchingSet : Type 0
 TouchingIsTouchingSet = (p : Program) → IsTouchingSet p (IsTouching p)
 

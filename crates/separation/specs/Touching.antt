@@ -13,7 +13,7 @@ IsAccess set (Calls f) = set f
 IsAccess set (Uses x) = Unit {0}
 IsAccess set c = ⊥
 
--- a bare one: no transaction of its function is round it
+-- a bare access, or a bare call of a function of the set: no transaction of its function is round it
 abbrev pub Touches : (List ℕ → Type 0) → Site → Type 0
 Touches set s = (s.in_any ≡ false) × IsAccess set s.construct
 
@@ -21,7 +21,7 @@ Touches set s = (s.in_any ≡ false) × IsAccess set s.construct
 abbrev pub IsTouchingSet : Program → (List ℕ → Type 0) → Type 0
 IsTouchingSet p set = (f : List ℕ) (s : Site) → Contains (sites_of p f) s → Touches set s → set f
 
--- touching functions are those of the least such set: those that each such set has
+-- touching functions are those of the least touching set: those that each touching set has
 abbrev pub IsTouching : Program → List ℕ → Type 0
 IsTouching p f = (set : FunctionSet) → IsTouchingSet p (λ g. IsTrue (set g)) → IsTrue (set f)
 
@@ -45,7 +45,7 @@ demands_at touching s c = []
 abbrev pub separation_demands : FunctionSet → List Site → List Demand
 separation_demands touching sites = flat_map (λ s. demands_at touching s s.construct) sites
 
--- the first that is not met has this number and place
+-- the first demand of separation that a program does not meet has this number and place
 abbrev pub IsSeparationFault : ℕ → Span → Program → Type 0
 IsSeparationFault n at p =
     (touching : FunctionSet) × TellsTouching p touching

@@ -20,7 +20,7 @@ ConcurrentRunsAreOrders =
     (threads budget : ℕ) (text : List ℕ) (shown : Printed) → RunsConcurrently threads budget text shown →
     has_stopped shown ≡ false → RunsInSomeOrder threads text shown
 
--- and so it is behind the events of a replay
+-- what a replay shows behind its events, where each of its threads has ended or trapped, they show in some order
 abbrev pub ReplaysAreOrders : Type 0
 ReplaysAreOrders =
     (threads : ℕ) (steps : Steps) (schedule : Option (List ℕ)) (text : List ℕ) (shown : Printed) →

@@ -5,7 +5,7 @@ use Rattle.bytecode.specs.Code.{Code}
 use Rattle.bytecode.specs.Listing.{listing}
 use Rattle.serving.specs.Codes.{Compiles}
 
--- a listing of such code
+-- a listing of the code of a source's text
 pub record ShowsListing (text listed : List ℕ) : Type 0 where
   pub code : Code
   pub compiled : Compiles text code

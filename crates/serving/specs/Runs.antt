@@ -50,7 +50,7 @@ module _ {G : Type 0} where
   abbrev pub thread_of_run : RunReport G → ℕ → ThreadShown
   thread_of_run r t = finished_shown (stopped_of r.ends.items t) (find (λ f. finished_number f == t) r.threads.items)
 
-  -- so many threads, from thread 0 on
+  -- the first n threads of a run, from thread 0 on
   abbrev pub threads_of_run : RunReport G → ℕ → List ThreadShown
   threads_of_run r zero = []
   threads_of_run r (suc n) = threads_of_run r n ++ thread_of_run r n ∷ []

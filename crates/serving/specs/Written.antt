@@ -41,12 +41,12 @@ abbrev pub IsReplayReport : ℕ → Steps → Option (List ℕ) → (text : List
 IsReplayReport threads steps schedule text written =
     (r : ReplayedTo threads steps schedule text) × (written ≡ report_text r.shown)
 
--- what is shown of each of its steps, and then the report
+-- the timeline of a replay: what is shown of each of its steps, and then the report
 abbrev pub IsReplayTimeline : ℕ → Steps → Option (List ℕ) → (text : List ℕ) → (written : List ℕ) → Type 0
 IsReplayTimeline threads steps schedule text written = (r : ReplayedTo threads steps schedule text)
     × (written ≡ timeline_text r.code (timeline_of (simulation_after r.code threads r.made)) ++ report_text r.shown)
 
--- its picture
+-- the picture of a replay
 abbrev pub IsReplayPicture : ℕ → Steps → Option (List ℕ) → (text : List ℕ) → (written : List ℕ) → Type 0
 IsReplayPicture threads steps schedule text written = (r : ReplayedTo threads steps schedule text)
     × IsDrawn r.code (timeline_of (simulation_after r.code threads r.made)) written
@@ -73,7 +73,7 @@ IsAskedFor (Outcomes threads ticks limit) schedule text written = IsListOfOutcom
 abbrev pub AppendsBeginning : Option (List ℕ) → Option (List ℕ) → List ℕ → Type 0
 AppendsBeginning old new text = (count : ℕ) × Appends old new (take count text)
 
--- nothing is written, or such a text, or a beginning of it
+-- nothing is written, or a text of which this is so, or a beginning of one
 abbrev pub WritesPart : (List ℕ → Type 0) → Option (List ℕ) → Option (List ℕ) → Type 0
 WritesPart IsSo old new = (new ≡ old) ⊎ ((text : List ℕ) × IsSo text × AppendsBeginning old new text)
 

@@ -28,9 +28,9 @@ use syntax::tree::Unit;
 #[derive(Drop)]
 pub struct OutcomesFound<A: Allocator = std::alloc::Global> {
     pub outcomes: Vec<OutcomeShown<A>, A>,
-    /// Over how many orders they were found.
+    /// Over how many orders the outcomes were found.
     pub orders: u64,
-    /// Whether these are all.
+    /// Whether these are all outcomes.
     pub is_whole: bool,
     /// Whether the ticks of a thread are used up in some order.
     pub is_spent: bool,

@@ -16,7 +16,7 @@ fn schedules() -> &'static [Row] {
                 b"",
             ),
         ),
-        // two of one sum are two steps, between which another thread writes
+        // two transactions of one sum are two steps, between which another thread writes
         (
             "txc replay a.c --threads 2 --schedule s.txt",
             b"int x; void worker(int self) { if (self) { __transaction_atomic { x = 1; } } else printf(\"%d\", __transaction_atomic(x) * 10 + __transaction_atomic(x)); }",
@@ -49,7 +49,7 @@ fn schedules() -> &'static [Row] {
                 b"",
             ),
         ),
-        // one in the index of another
+        // a transaction in the index of another
         (
             "txc replay a.c --threads 1 --schedule s.txt",
             b"int a[3] = {4, 5, 6}, i = 1; void worker(int self) { int v = __transaction_atomic(a[__transaction_atomic(i + 1)]); printf(\"%d\", v); }",
@@ -92,7 +92,7 @@ fn schedules() -> &'static [Row] {
                 b"",
             ),
         ),
-        // the steps of a read are those of the block: six, of which three are accesses
+        // a transaction that reads a cell takes the steps of one that is a block: six, of which three are accesses
         (
             "txc replay a.c --threads 1 --schedule s.txt",
             b"int x = 7; void worker(int self) { int v = __transaction_atomic (x); }",

@@ -48,7 +48,7 @@ fn schedules() -> &'static [Row] {
                 b"",
             ),
         ),
-        // an outermost one, and one in a relaxed transaction
+        // an outer transaction that is outermost, and one in a relaxed transaction
         (
             "txc replay a.c --threads 1 --schedule s.txt",
             b"int x = 1; int f(void) { __transaction_atomic [[outer]] { x = x + 1; __transaction_atomic { __transaction_cancel [[outer]]; } } return 7; } void worker(int self) { printf(\"%d\", f() + __transaction_relaxed (f())); }",
@@ -59,7 +59,7 @@ fn schedules() -> &'static [Row] {
                 b"",
             ),
         ),
-        // one while the lock is kept
+        // an outer cancel while the lock is kept
         (
             "txc replay a.c --threads 1 --schedule s.txt",
             b"int x, y; void worker(int self) { __transaction_relaxed { x = 1; printf(\"a\"); __transaction_atomic [[outer]] { x = 2; __transaction_atomic { y = 2; __transaction_cancel [[outer]]; } } y = x; } }",

@@ -297,7 +297,7 @@ fn refusals() -> &'static [Refusal] {
             b"txc: fault 81\n",
             b"schedule too long\ntxc explain 81 says more\n",
         ),
-        // the first of two decides
+        // the first of two faults decides
         (
             b"0 1048576\n0 1\n0 x\n",
             b"txc: fault 81\n",
@@ -496,7 +496,7 @@ fn seeded_request(alloc: Global, threads: u32, count: u32) -> Result<Request, Al
     })
 }
 
-/// Whether such a request is answered so.
+/// Whether a request of so many threads and steps of a seed is answered so.
 fn is_answered<H: Threads + Wait + Sync>(
     rt: &H,
     alloc: Global,
@@ -629,7 +629,7 @@ fn runs_as_seeded<H: Threads + Wait + Sync>(rt: &H, alloc: Global, seed: u32) ->
     }
 }
 
-/// The first seed up to 20 with which they do not agree.
+/// The first seed up to 20 with which the source does not agree with the replay.
 fn disagreeing_seed<H: Threads + Wait + Sync>(rt: &H, alloc: Global) -> Option<u32> {
     for seed in 1..21u32 {
         if !runs_as_seeded(rt, alloc, seed) {

@@ -262,7 +262,8 @@ fn of_locals(alloc: Global, beginning: &str, last: u32) -> Result<String, AllocE
     Ok(text)
 }
 
-/// Whether `txc check` answers such a function so.
+/// Whether this is what `txc check` answers to a function with 31,000 locals, whose names begin so, and one more, whose
+/// number this is.
 fn locals_are_checked<H: Threads + Wait + Sync>(
     rt: &H,
     alloc: Global,
@@ -301,7 +302,8 @@ fn of_uses(alloc: Global, count: u32) -> Result<String, AllocError> {
     Ok(text)
 }
 
-/// The listing of its code: each local begins with 0, and the oldest one has register 1.
+/// The listing of a function with so many locals, and as many assignments to the oldest one: each local begins with 0,
+/// and the oldest one has register 1.
 fn listing_of_uses(alloc: Global, count: u32) -> Result<String, AllocError> {
     let registers = count.saturating_add(1);
     let mut text = format!(in alloc; "function worker registers {registers}\n")?;
@@ -317,7 +319,7 @@ fn listing_of_uses(alloc: Global, count: u32) -> Result<String, AllocError> {
     Ok(text)
 }
 
-/// Whether such a function has this listing.
+/// Whether a function with so many locals, and as many assignments to the oldest one, has its listing.
 fn uses_are_listed<H: Threads + Wait + Sync>(rt: &H, alloc: Global, count: u32) -> bool {
     match (of_uses(alloc, count), listing_of_uses(alloc, count)) {
         (Ok(source), Ok(listing)) => answers(

@@ -100,7 +100,7 @@ fn rows() -> &'static [Row] {
             false,
             (2, b"", b"txc: cannot read a.c\n"),
         ),
-        // and a schedule before the source is read
+        // a schedule is opened before the source is read
         (
             REPLAY,
             Ok(b"int"),
@@ -117,7 +117,7 @@ fn rows() -> &'static [Row] {
         ),
         (REPLAY, REFUSED, NONE, false, OUT_OF_MEMORY),
         (REPLAY, Ok(ADDS), REFUSED, false, OUT_OF_MEMORY),
-        // both are read
+        // source and schedule are both read
         (
             REPLAY,
             Ok(ADDS),

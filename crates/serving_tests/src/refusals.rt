@@ -235,7 +235,7 @@ fn runs_to<H: Threads + Wait + Sync>(
     answers(rt, alloc, "txc run a.c", source, b"", false, wanted)
 }
 
-/// Whether it answers a source by a fault with this number, and these words behind it.
+/// Whether `txc run` answers a source by a fault with this number, and these words behind it.
 fn is_told<H: Threads + Wait + Sync>(
     rt: &H,
     alloc: Global,

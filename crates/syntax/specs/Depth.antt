@@ -26,7 +26,7 @@ abbrev pub optional_depth : Option Expr → ℕ
 optional_depth None = 0
 optional_depth (Some e) = expr_depth e
 
--- as the statement with a semicolon behind it
+-- the depth of an expression, an assignment or a step as the statement with a semicolon behind it
 abbrev pub simple_depth : Simple → ℕ
 simple_depth (Evaluate e) = expr_depth e + 1
 simple_depth (Assign to op e) = max (expr_depth to) (expr_depth e) + 1
@@ -61,7 +61,7 @@ abbrev mutual
   stmt_depth (For start c step a) =
       max (max (start_depth start) (optional_depth c)) (max (optional_simple_depth step) (stmt_depth a)) + 1
   stmt_depth (Return e at) = optional_depth e + 1
-  -- its block is a part of it
+  -- a transaction's block is a part of it
   stmt_depth (Transaction kind ss at) = block_depth ss + 1
   stmt_depth _ = 1
 

@@ -215,7 +215,7 @@ abbrev mutual
   arguments Exprs.[] = Nil
   arguments (Exprs.◌∷◌ e es) = expr e ⨾ further es
 
-  -- each behind a comma
+  -- further arguments, each behind a comma
   pub further : Exprs → Phrase
   further Exprs.[] = Nil
   further (Exprs.◌∷◌ e es) = Sign punct.Comma ⨾ expr e ⨾ further es

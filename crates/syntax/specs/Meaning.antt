@@ -151,7 +151,7 @@ enter (Inside Atomic found) kind run = inner Atomic kind found run
 abbrev pub transaction : TransactionKind → Action Completion → Action Completion
 transaction kind run s = enter s.context kind run s
 
--- outside transactions one that is an expression takes a tick before its memory is wanted
+-- outside transactions a transaction that is an expression takes a tick before its memory is wanted
 abbrev pub begin_at : Context → Action (Unit {0})
 begin_at (Outside founds lefts) = tick
 begin_at (Inside mode memory) = pure tt

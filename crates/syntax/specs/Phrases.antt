@@ -35,11 +35,11 @@ never ts = ⊥
 
 infixr 40 ◌⨾◌
 infixr 30 ◌∣◌
--- one and then the other
+-- one phrase and then the other
 abbrev pub ◌⨾◌ : Phrase → Phrase → Phrase
 ◌⨾◌ L M = Seq L M
 
--- one or the other
+-- one phrase or the other
 abbrev pub ◌∣◌ : Phrase → Phrase → Phrase
 ◌∣◌ L M ts = L ts ⊎ M ts
 
@@ -47,7 +47,7 @@ abbrev pub ◌∣◌ : Phrase → Phrase → Phrase
 abbrev pub phrase_if : Type 0 → Phrase → Phrase
 phrase_if c L ts = c × L ts
 
--- any number, one after another
+-- any number of phrases, one after another
 abbrev pub Many : {A : Type 0} → (A → Phrase) → List A → Phrase
 Many L [] = Nil
 Many L (x ∷ xs) = L x ⨾ Many L xs
@@ -83,7 +83,7 @@ fixed_span m t = if is_fixed m t.terminal then Some t.span else None
 abbrev pub IsAt : Fixed → Span → Phrase
 IsAt m = One (fixed_span m)
 
--- one or more, with commas between
+-- one or more phrases, with commas between
 abbrev pub Listed : {A : Type 0} → (A → Phrase) → List A → Phrase
 Listed L [] = never
 Listed L (x ∷ xs) = L x ⨾ Many (λ y. Is (Punctuator punct.Comma) ⨾ L y) xs
@@ -98,7 +98,7 @@ end_from e (t ∷ ts) = end_from t.span.end ts
 abbrev pub end_of : List Tok → ℕ
 end_of ts = end_from 0 ts
 
--- from the first token's start to the last one's end
+-- a place from the first token's start to the last one's end
 abbrev pub Covers : Span → Phrase
 Covers at [] = ⊥
 Covers at (t ∷ ts) = at ≡ record { start = t.span.start; end = end_from t.span.end ts }
@@ -109,7 +109,7 @@ spanning at L ts = Covers at ts × L ts
 
 -- ---- what is wrong with tokens that spell nothing
 
--- one of the tokens
+-- the place of one of the tokens
 pub record At (ts : List Tok) (at : Span) : Type 0 where
   pub before : List Tok
   pub token : Tok

@@ -19,7 +19,7 @@ fn option_depth<A: Allocator>(e: &Option<Expr<A>>) -> usize
 }
 
 impl<A: Allocator> Simple<A> {
-    /// How deep it is as a statement, with the semicolon behind it: one more than its deepest part, or `usize::MAX`
+    /// How deep this is as a statement, with the semicolon behind it: one more than its deepest part, or `usize::MAX`
     /// where that is greater.
     pub fn depth(&self) -> usize
         ensures { result ≡ min (simple_depth (simple_of self.now)) usize.MAX }
@@ -43,8 +43,8 @@ fn deepest_first<A: Allocator>(all: &[Declarator<A>]) -> usize
 }
 
 impl<A: Allocator> Declaration<A> {
-    /// One more than the depth of its deepest first value, so 1 where no name has one; or `usize::MAX` where that is
-    /// greater.
+    /// One more than the depth of the declaration's deepest first value, so 1 where no name has one; or `usize::MAX`
+    /// where that is greater.
     pub fn depth(&self) -> usize
         ensures { result ≡ min (declaration_depth (declaration_of self.now)) usize.MAX }
     {

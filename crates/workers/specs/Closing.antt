@@ -44,7 +44,7 @@ module _ {A : Type 0} where
   parts_back [] = []
   parts_back (w ∷ ws) = parts_back ws ++ w.seat.me.0
 
-  -- their threads, the last one first
+  -- the threads of all workers, the last one first
   abbrev pub finished_back : List (Worker A) → List (Finished A)
   finished_back [] = []
   finished_back (w ∷ ws) =
@@ -70,7 +70,7 @@ module _ {A : Type 0} where
     pub there : AreThere z key world heard ws all
     pub threads_are : threads ≡ finished_back ws
     pub runs : RunsSay key world
-    -- the same run explains each program that the code means
+    -- each run of the code explains each program that the code means
     pub programs : (does : Behaviour) → Means (bounds_of key.code) (code_does key.code) does → key.threads ≤ 2 ^ 32 →
         (es : List Entry) → IsMerge world.parts es → IsExplainedAtSeats does key world es
     -- no thread was dropped more often than others took the lock

@@ -26,7 +26,7 @@ use Rattle.seats.specs.Saying.{IsExplainedAtSeats}
 use Rattle.workers.specs.Workers.{AreWorkersOf, IsWorkerOf}
 use Rattle.workers.specs.Closing.{AllHere, Closes, Holds, NoneHolds}
 
--- one of these has this number
+-- something in a list has this number
 abbrev pub HasNumber : {X : Type 0} → (X → ℕ) → List X → ℕ → Type 0
 HasNumber number [] n = ⊥
 HasNumber number (x ∷ xs) n = (number x ≡ n) ⊎ HasNumber number xs n
@@ -37,7 +37,7 @@ abbrev pub EndsBy : Option Stop → Access → Status → ℕ → ℕ → Type 0
 EndsBy None x st all steps = st ≡ Running → steps ≡ all
 EndsBy (Some e) x st all steps = (st ≡ Running) × (steps < all) × Because e x
 
--- so many threads can be run
+-- as many threads as this can be run
 abbrev pub IsWorkerCount : ℕ → Type 0
 IsWorkerCount threads = (0 < threads) × (threads ≤ 64)
 

@@ -24,23 +24,23 @@ module _ {A : Type 0} where
   abbrev pub worker_number : Worker A → ℕ
   worker_number w = w.number
 
-  -- its thread as it stands, with what was prepared of its next step
+  -- the worker's thread as it stands, with what was prepared of its next step
   abbrev pub state_of : Worker A → ThreadState
   state_of w = w.thread
 
-  -- where its thread stands
+  -- where the worker's thread stands
   abbrev pub thread_of : Worker A → Thread Configuration
   thread_of w = w.thread.thread
 
-  -- the steps that it has made
+  -- the steps that the worker has made
   abbrev pub steps_of : Worker A → ℕ
   steps_of w = w.steps
 
-  -- the accesses to the lock or a cell among them
+  -- the accesses to the lock or a cell among the worker's steps
   abbrev pub accesses_of : Worker A → ℕ
   accesses_of w = w.thread.accesses
 
-  -- what it has counted of its thread's attempts
+  -- what the worker has counted of its thread's attempts
   abbrev pub tally_of : Worker A → Tally
   tally_of w = w.tally
 

@@ -82,7 +82,7 @@ Because SequenceUsedUp x = stops x ≡ true
 abbrev pub StopsAt : Code → Thread Configuration → Stop → Type 0
 StopsAt code th e = (th.status ≡ Running) × Because e (access (effect code) th)
 
--- the part with a new floor, which is at least the old one, and at least all that was answered
+-- the part with a new floor, which is at least the old one, and at least all that was answered so far
 pub record MeetsAt (n : ℕ) (p : ViewPart) (now : Part Configuration) (q : ViewPart) (later : Part Configuration)
     : Type 0 where
   pub part : q ≡ with_floor n p

@@ -64,42 +64,42 @@ pub struct Finished<A: Allocator = Global> {
 }
 
 impl<A: Allocator + Copy> Finished<A> {
-    /// Its number, from 0 on.
+    /// The thread's number, from 0 on.
     pub fn thread(&self) -> u32
         ensures { result ≡ finished_number self.now }
     {
         self.number
     }
 
-    /// Whether it runs, has ended or has trapped.
+    /// Whether the thread runs, has ended or has trapped.
     pub fn status(&self) -> Status
         ensures { result ≡ (finished_thread self.now).status }
     {
         self.thread.status()
     }
 
-    /// What it has printed.
+    /// What the thread has printed.
     pub fn output(&self) -> &str
         ensures { result.now ≡ (finished_thread self.now).text }
     {
         self.thread.output()
     }
 
-    /// How many steps it has made.
+    /// How many steps the thread has made.
     pub fn steps(&self) -> u64
         ensures { result ≡ finished_steps self.now }
     {
         self.steps
     }
 
-    /// How many of them were accesses to the lock or a cell.
+    /// How many of the thread's steps were accesses to the lock or a cell.
     pub fn accesses(&self) -> u64
         ensures { result ≡ finished_accesses self.now }
     {
         self.thread.accesses()
     }
 
-    /// What was counted of its attempts.
+    /// What was counted of the thread's attempts.
     pub fn tally(&self) -> Tally
         ensures { result ≡ finished_tally self.now }
     {

@@ -54,10 +54,10 @@ fn is_held<G: Gate>(gate: &G, thread: u32, accesses: u64) -> bool {
 pub struct Driven<A: Allocator = Global> {
     pub worker: Worker<A>,
 
-    /// Whether the gate held it to the end.
+    /// Whether the gate held the worker to the end.
     pub overheld: bool,
 
-    /// Why it made no further step, where it was a stop.
+    /// Why the worker made no further step, where it was a stop.
     pub stopped: Option<Stop>,
 }
 

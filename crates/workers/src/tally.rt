@@ -15,7 +15,7 @@ pub struct Tally {
     pub retried: u64,
 }
 
-/// One more. No worker makes 2 ^ 64 steps, so it never wraps.
+/// A count of one more. No worker makes 2 ^ 64 steps, so it never wraps.
 #[inline(always)]
 fn one_more(count: u64) -> u64 {
     count.wrapping_add(1)

@@ -454,7 +454,7 @@ impl<A: Allocator + Copy> Worker<A> {
         }
     }
 
-    /// How its thread is, after all steps of a budget.
+    /// How the worker's thread is, after all steps of a budget.
     fn report_of(&self, budget: u64) -> Status
         ensures { Reports result self.now.thread.thread.status budget budget }
     {
@@ -547,42 +547,42 @@ impl<A: Allocator + Copy> Worker<A> {
         let _found = seats::meet(&hall.table.shared, &mut self.seat, &mut other.seat);
     }
 
-    /// The number of its thread, from 0 on.
+    /// The number of the worker's thread, from 0 on.
     pub fn thread(&self) -> u32
         ensures { result ≡ worker_number self.now }
     {
         self.number
     }
 
-    /// Whether its thread runs, has ended or has trapped.
+    /// Whether the worker's thread runs, has ended or has trapped.
     pub fn status(&self) -> ThreadStatus
         ensures { result ≡ (thread_of self.now).status }
     {
         self.thread.status()
     }
 
-    /// What its thread has printed so far.
+    /// What the worker's thread has printed so far.
     pub fn output(&self) -> &str
         ensures { result.now ≡ (thread_of self.now).text }
     {
         self.thread.output()
     }
 
-    /// How many steps it has made.
+    /// How many steps the worker has made.
     pub fn steps(&self) -> u64
         ensures { result ≡ steps_of self.now }
     {
         self.steps
     }
 
-    /// How many of them were accesses to the lock or a cell.
+    /// How many of the worker's steps were accesses to the lock or a cell.
     pub fn accesses(&self) -> u64
         ensures { result ≡ accesses_of self.now }
     {
         self.thread.accesses()
     }
 
-    /// What it has counted of its thread's attempts.
+    /// What the worker has counted of its thread's attempts.
     pub fn tally(&self) -> Tally
         ensures { result ≡ tally_of self.now }
     {

@@ -18,7 +18,7 @@ end_of Running = end.Running
 end_of HasEnded = end.Ended
 end_of (HasTrapped cause) = end.Trapped cause
 
--- how it is found where its next step was not made
+-- how a thread of this status is found where its next step was not made
 abbrev pub end_by : StopReason → Status → End
 end_by OutOfMemory status = end.OutOfMemory
 end_by SequenceUsedUp status = end.SequenceUsedUp
@@ -41,7 +41,7 @@ threads_shown stop s = parts_shown stop 0 (world_of s).parts
 abbrev pub threads_of : {A : Type 0} → List (End × String A) → List (End × List ℕ)
 threads_of {A} rs = map (λ (r : End × String A). (r.0, string_bytes r.1)) rs
 
--- the step that was not made, after these
+-- the step that was not made, after those of a world
 abbrev pub stop_with : Option (ℕ × StopReason) → Simulation → Option WorldStop
 stop_with None s = None
 stop_with (Some u) s = Some (record { step = length s.trace; reason = u.1 })

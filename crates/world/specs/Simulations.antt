@@ -39,15 +39,15 @@ pub record Simulation : Type 0 where
 abbrev pub world_of : Simulation → World Configuration
 world_of s = world_after (effect s.code) (beginning s.code) (initial_of s.code) s.threads s.trace
 
--- thread t in it
+-- thread t in a world
 abbrev pub part_of : Simulation → ℕ → Option (Part Configuration)
 part_of s t = slice_get (world_of s).parts t
 
--- further steps
+-- a world after further steps
 abbrev pub further : Simulation → List ℕ → Simulation
 further s ts = record s { trace = s.trace ++ ts }
 
--- the first n of its steps alone
+-- a world after the first n of its steps alone
 abbrev pub earlier : Simulation → ℕ → Simulation
 earlier s n = record s { trace = take n s.trace }
 
@@ -110,7 +110,7 @@ cost_next code o = tallies.cost_next (effect code) o
 abbrev pub cost_at : Simulation → ℕ → ℕ
 cost_at s t = cost_next s.code (part_of s t)
 
--- how many these steps of all threads make from a world on
+-- how many accesses these steps of all threads make from a world on
 abbrev pub accesses_in : Code → List ℕ → World Configuration → ℕ
 accesses_in code ts w = tallies.accesses_in (effect code) ts w
 

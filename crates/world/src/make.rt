@@ -37,7 +37,7 @@ pub(crate) fn make<A: Allocator>(lock: &mut u64, words: &mut Vec<u64, A>, access
     }
 }
 
-/// How many accesses to the lock or the words it makes: none, or one.
+/// How many accesses to the lock or the words a step with this access makes: none, or one.
 pub(crate) fn cost(access: Access) -> u64
     ensures { result ≡ cost_spec access }
 {

@@ -14,15 +14,15 @@ use syntax::numbers::{Status, Trap};
 /// How a thread is found.
 #[derive(Clone, Copy, PartialEq, Eq)]
 pub enum End {
-    /// It has come to its end.
+    /// The thread has come to its end.
     Ended,
-    /// It has trapped.
+    /// The thread has trapped.
     Trapped(Trap),
-    /// The memory that its next step wants was refused.
+    /// The memory that the thread's next step wants was refused.
     OutOfMemory,
-    /// Its next step would swap the lock from its last even value.
+    /// The thread's next step would swap the lock from its last even value.
     SequenceUsedUp,
-    /// It would go on.
+    /// The thread would go on.
     Running,
 }
 

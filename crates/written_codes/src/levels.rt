@@ -69,8 +69,9 @@ fn push_rest<A: Allocator>(to: &mut Vec<Instr, A>, levels: Levels) -> Result<(),
     Ok(())
 }
 
-/// The instructions of such a worker: each level sets register 1 and x to its number, counted from 1 for the outermost
-/// one. Behind the cancel, the levels that are left are committed, and register 1 is printed.
+/// The instructions of a worker that cancels several levels as one: each level sets register 1 and x to its number,
+/// counted from 1 for the outermost one. Behind the cancel, the levels that are left are committed, and register 1 is
+/// printed.
 pub fn cancels_levels<A: Allocator>(alloc: A, levels: Levels) -> Result<Vec<Instr, A>, AllocError> {
     let mut instructions = Vec::new(alloc);
     push_levels(&mut instructions, levels)?;

@@ -8,13 +8,13 @@ use lex::token::Scalar;
 pub struct WrittenFunction<'a> {
     pub name: &'a str,
 
-    /// The place of its first instruction.
+    /// The place of the function's first instruction.
     pub first: u32,
 
-    /// The number of its registers.
+    /// The number of the function's registers.
     pub registers: u32,
 
-    /// The number of its parameters, which are the first registers.
+    /// The number of the function's parameters, which are the first registers.
     pub parameters: u32,
 }
 
@@ -24,7 +24,7 @@ pub struct WrittenVariable<'a> {
     pub ty: Scalar,
     pub name: &'a str,
 
-    /// What it is said to begin with; where nothing is said, it begins with 0.
+    /// What the variable is said to begin with; where nothing is said, it begins with 0.
     pub value: Option<u32>,
 }
 

@@ -8,6 +8,6 @@ abbrev pub StartBeforeEnds : Code → List FunctionCode → Type 0
 StartBeforeEnds code [] = Unit {0}
 StartBeforeEnds code (f ∷ fs) = (f.first < end_before code fs) × StartBeforeEnds code fs
 
--- the first one begins at 0, and each has an instruction
+-- the first function begins at 0, and each has an instruction
 abbrev pub AreLaidOut : Code → Type 0
 AreLaidOut code = (end_before code code.functions ≡ 0) × StartBeforeEnds code code.functions

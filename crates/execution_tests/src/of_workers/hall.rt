@@ -16,11 +16,11 @@ const MOST: u64 = 1_000_000;
 /// What two workers do next.
 #[derive(Clone, Copy)]
 pub enum Turn {
-    /// One of them runs: the thread, for how many steps at most, how the run ends, and how many steps and accesses it
+    /// One worker runs: the thread, for how many steps at most, how the run ends, and how many steps and accesses it
     /// then has made.
     Run(u32, u64, Status, u64, u64),
 
-    /// They meet.
+    /// The two workers meet.
     Meet,
 }
 
@@ -96,7 +96,7 @@ pub fn put<A: Allocator + Copy>(
     push(hall, workers, worker).is_ok()
 }
 
-/// So many steps of a worker that has made few so far.
+/// At most `budget` steps of a worker that has made few so far.
 fn run<A: Allocator + Copy>(
     hall: &Hall<A>,
     worker: &mut Worker<A>,
@@ -237,7 +237,7 @@ fn shows<A: Allocator + Copy>(outcome: &Outcome<A>, number: u32, text: &str) -> 
     false
 }
 
-/// Whether this is left.
+/// Whether a closed hall leaves this.
 fn is_left<A: Allocator + Copy>(outcome: &Outcome<A>, left: Left) -> bool {
     if outcome.words.as_slice() != [left.0].as_slice() || outcome.threads.len() != 2 {
         return false;

@@ -33,7 +33,7 @@ fn standing_still() -> &'static Wanted<'static> {
     &WANTED
 }
 
-/// Whether a thread of a thousand steps does so.
+/// Whether a thread of a thousand steps stands still with the lock kept.
 fn stands_still<R: Threads + Wait + Sync>(rt: &R, alloc: Global, program: Program) -> bool {
     runs_as(rt, alloc, program, 1, 1000, &Never, standing_still()) == Ok(true)
 }

@@ -59,7 +59,7 @@ fn is_shown(report: &RunReport, shown: &Shown) -> bool {
     false
 }
 
-/// Whether each of these is.
+/// Whether each of these threads is found so.
 fn are_shown(report: &RunReport, threads: &[Shown]) -> bool {
     for shown in threads {
         if !is_shown(report, shown) {

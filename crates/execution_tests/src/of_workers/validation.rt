@@ -106,7 +106,7 @@ fn begins_anew() -> &'static [Turn] {
     &TURNS
 }
 
-/// Both add, and worker 1 between the reads of worker 0 and its commit, which loses its swap.
+/// Both workers add, worker 1 between the reads of worker 0 and its commit, which loses its swap.
 fn loses_its_swap() -> &'static [Turn] {
     static TURNS: [Turn; 3] = [
         Turn::Run(0, 6, Status::Budget, 6, 3),

@@ -82,7 +82,7 @@ fn rows() -> &'static [Row] {
         ("void f(void) { a = __transaction_cancel; }", 10, 19, 39),
         ("int x = __transaction_atomic (1);", 10, 8, 28),
         ("int x[__transaction_atomic (1)];", 10, 6, 26),
-        // one word, once, on an atomic transaction and a cancel alone
+        // the attribute of an outer transaction: one word, once, on an atomic transaction and a cancel alone
         (
             "void f(void) { __transaction_atomic [[outer]] (1); }",
             10,

@@ -10,7 +10,7 @@ use written_programs::unit_of;
 /// What a tree is to be.
 #[derive(Clone, Copy)]
 pub enum Shape {
-    /// So deep.
+    /// A tree of this depth.
     Depth(usize),
     /// One function with so many statements.
     Statements(usize),

@@ -10,18 +10,18 @@ fn faults() -> &'static [Row] {
         ("int a[3]; void worker(int k) { k = a[1]; }", 50, 35, 36),
         // a bare access that is dead
         ("int x; void worker(int k) { if (0) x = 1; }", 50, 35, 36),
-        // also behind a return
+        // a bare access behind a return
         ("int x; void worker(int k) { return; k = x; }", 50, 40, 41),
-        // by place in the text: an array before its index
+        // faults by place in the text: an array before its index
         (
             "int x, a[3]; void worker(int k) { __transaction_atomic { x = 1; } k = k + a[x]; }",
             50,
             74,
             75,
         ),
-        // by place in the text: the left side first
+        // faults by place in the text: the left side first
         ("int x, y; void worker(int k) { x = y; }", 50, 31, 32),
-        // behind a local of its name
+        // a bare access behind a local of its name
         (
             "int x; void worker(int k) { { int x = 1; x = 2; } x = 3; }",
             50,
@@ -35,7 +35,7 @@ fn faults() -> &'static [Row] {
             32,
             33,
         ),
-        // in the head of a loop
+        // a bare access in the head of a loop
         (
             "int x; void worker(int k) { for (int i = 0; i < x; i++) ; }",
             50,
@@ -70,14 +70,14 @@ fn faults() -> &'static [Row] {
             59,
             60,
         ),
-        // through another function
+        // a call of a touching function through another function
         (
             "int x; void f(void) { x = 1; } void g(void) { f(); } void worker(int k) { g(); }",
             51,
             74,
             75,
         ),
-        // through another function that stands behind
+        // a call of a touching function through another function that stands behind
         (
             "int x; void g(void); void h(void) { g(); } void g(void) { x = 1; } void worker(int k) { h(); }",
             51,
@@ -105,7 +105,7 @@ fn faults() -> &'static [Row] {
             28,
             29,
         ),
-        // through worker again
+        // worker calls itself through another function
         (
             "int x; void worker(int k); void f(int k) { worker(k); } void worker(int k) { f(k); x = 1; }",
             51,

@@ -66,7 +66,7 @@ fn rows() -> &'static [Row] {
     &ROWS
 }
 
-/// The first text of a row of which that is not so.
+/// The first text of a row whose trees are not as it says.
 fn has_another(alloc: Global, rows: &[Row]) -> Option<&'static str> {
     for (one, other, same) in rows {
         if are_same(alloc, one, other) != Some(*same) {

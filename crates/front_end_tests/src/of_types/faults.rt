@@ -129,7 +129,7 @@ fn rows() -> &'static [Row] {
             40,
             41,
         ),
-        // not assignable
+        // what is not assignable
         ("void worker(int self) { 1 = 1; }", 24, 24, 25),
         ("void worker(int self) { (self) = 1; }", 24, 24, 30),
         ("void worker(int self) { (self)++; }", 24, 24, 30),
@@ -175,7 +175,7 @@ fn rows() -> &'static [Row] {
         ("int worker(int k) { }", 28, 21, 21),
         ("int worker;", 28, 11, 11),
         ("", 28, 0, 0),
-        // not defined
+        // a function that is not defined
         (
             "void f(void); void f(void); void worker(int k) { }",
             29,
@@ -324,7 +324,7 @@ fn rows() -> &'static [Row] {
             46,
         ),
         ("void worker(int k) { 1LL = 2; }", 24, 21, 24),
-        // the first of several
+        // the first of several faults
         ("void worker(int self) { x = y; int self; }", 20, 24, 25),
         ("int a[1], a[0]; void worker(int k) { }", 21, 10, 11),
         ("void f(void);", 29, 5, 6),

@@ -8,7 +8,7 @@ use Rattle.lex.specs.declared.token.Punctuator.TheVariants as punct
 use Rattle.lex.specs.Spelling.{spelling}
 use Rattle.lex.specs.Bytes.{is_white, is_letter, is_digit}
 
--- those of one byte, of two and of three
+-- the punctuators of one byte, of two and of three
 abbrev pub singles : List Punctuator
 singles =
     punct.OpenBrace ∷ punct.CloseBrace ∷ punct.OpenParen ∷ punct.CloseParen ∷ punct.OpenBracket ∷
@@ -26,7 +26,7 @@ doubles =
 abbrev pub triples : List Punctuator
 triples = punct.ShiftLeftAssign ∷ punct.ShiftRightAssign ∷ []
 
--- the one of a list that is spelled so
+-- the punctuator of a list that is spelled so
 abbrev pub spelled_so : List Punctuator → List ℕ → Option Fixed
 spelled_so [] w = None
 spelled_so (k ∷ ks) w =

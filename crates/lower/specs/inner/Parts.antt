@@ -42,7 +42,7 @@ IsOfDefinition f registers instructions (NestedTooDeep at) = ⊥
 abbrev pub NeedsTooManyIn : Function → List FunctionCode → Type 0
 NeedsTooManyIn f codes = (g : FunctionCode) × Contains codes g × (g.name ≡ f.name.text) × (65535 < g.registers)
 
--- why none is made of an item that has these codes, behind which there are so many instructions
+-- why no code is made of an item that has these codes, behind which there are so many instructions
 abbrev pub IsOfItem : Item → List FunctionCode → ℕ → LowerFault → Type 0
 IsOfItem item codes instructions OutOfMemory = Unit {0}
 IsOfItem (Defines f) codes instructions (TooManyRegisters at) = (at ≡ f.name.span) × NeedsTooManyIn f codes

@@ -94,7 +94,7 @@ fn is_listed(alloc: Global, text: &str, wanted: &str) -> bool {
     }
 }
 
-/// The first program that has another one.
+/// The first program that has another listing.
 fn has_another(alloc: Global, rows: &[Listed]) -> Option<&'static str> {
     for (text, wanted) in rows {
         if !is_listed(alloc, text, wanted) {

@@ -150,7 +150,7 @@ fn code_line(alloc: Global, thread: &AtomicThread, memory: &[u64]) -> Result<Str
     format!(in alloc; "{memory:?} {end} {text:?}\n")
 }
 
-/// Adds it: where the last line begins then.
+/// Adds what is seen of a thread over this memory: where the last line begins then.
 fn add_code_line(
     alloc: Global,
     thread: &AtomicThread,
@@ -220,7 +220,7 @@ fn of_source(alloc: Global, text: &str, ticks: u64) -> Option<String> {
     }
 }
 
-/// What is seen of the thread of its code.
+/// What is seen of the thread of a text's code.
 fn of_code(alloc: Global, text: &str, steps: u32) -> Option<String> {
     match code_of(alloc, text) {
         Err(_) => None,

@@ -18,7 +18,7 @@ fn rows() -> &'static [Row] {
             "52",
             3,
         ),
-        // so do operands
+        // operands from the left
         (
             "int x; int p(int n) { printf(\"%d\", n); return n; }
             void worker(int self) { int k = p(5) - p(2) * p(1); __transaction_atomic { x = k; } }",
@@ -39,7 +39,7 @@ fn rows() -> &'static [Row] {
             "0245",
             6,
         ),
-        // one branch of two
+        // one branch of two is computed
         (
             "int x; int p(int n) { printf(\"%d\", n); return n; }
             void worker(int self) { int k = p(0) ? p(1) : p(2); k = 10 * k + (p(3) ? p(4) : p(5)); __transaction_atomic { x = k; } }",

@@ -61,7 +61,7 @@ void worker(int self) { down(62 + self); }";
 /// as many turns as there are transactions
 const TURNS: &str =
     "int x; void worker(int self) { for (int i = 0; i < 5000; i++) { __transaction_atomic { x++; } } }";
-/// the same in a function that is called
+/// as many turns as there are transactions, in a function that is called
 const CALLED_TURNS: &str = "int x;
 void all(int n) { for (int i = 0; i < n; i++) { __transaction_atomic { x++; } } }
 void worker(int self) { all(5000); }";
@@ -177,7 +177,7 @@ fn is_report(report: &ThreadReport, printed: &str, end: ThreadEnd) -> bool {
     report.text.as_slice() == printed.as_bytes() && report.end == end
 }
 
-/// Whether these have printed and end as the row says.
+/// Whether these threads have printed and end as the row says.
 fn are_reports(reports: &[ThreadReport], row: &Row) -> bool {
     match reports {
         [first, second] => { is_report(first, row.5, row.6) && is_report(second, row.7, row.8) }

@@ -41,7 +41,7 @@ const FOR_TESTED: &str =
     "int f(void) { printf(\"c\"); return 0; } void worker(int self) { for (; f(); ) ; }";
 /// do: its statement, two turns with a statement each
 const DO: &str = "void worker(int self) { int i = 2; do i--; while (i); }";
-/// its turn is due before the body
+/// do: a turn is due before the body
 const DO_PRINTS: &str = "void worker(int self) { do printf(\"b\"); while (0); }";
 
 const BREAKS: &str = "void worker(int self) { while (1) { break; } }";
@@ -57,18 +57,18 @@ const CALL: &str = "int f(int a) { return a; } void worker(int self) { f(f(1)); 
 const CALL_PRINTS: &str = "int g(void) { printf(\"g\"); return 1; }
 int f(int a) { printf(\"f%d\", a); return a; }
 void worker(int self) { f(g()); }";
-/// each piece takes one
+/// each piece that is printed takes a tick
 const PIECES: &str = "void worker(int self) { printf(\"a%d%%b\", 7); }";
 /// no piece is printed
 const NO_PIECE: &str = "void worker(int self) { printf(\"\"); }";
-/// a trap takes one, and the memory found is left
+/// a trap takes a tick, and the memory found is left
 const TRAPS: &str = "int x; void worker(int self) { __transaction_atomic { x = 1; x = x / 0; } }";
 
 const TRAPS_OUTSIDE: &str = "void worker(int self) { 1 % self; }";
 /// a call for which no frame is left: 63 calls below `worker` with a statement each, and then the call's tick and the
 /// trap's
 const FRAMES: &str = "int f(int a) { return f(a); } void worker(int self) { f(0); }";
-/// a cancel undoes cells and locals, and the tick of one left goes
+/// a cancel undoes cells and locals, and the tick of a transaction that is left goes
 const CANCELS: &str =
     "int x; void worker(int self) { int k = 5; __transaction_atomic { x = 1; k = 6; __transaction_cancel; } printf(\"%d\", k); }";
 /// an inner transaction takes no tick as it is left, and its cancel undoes what it did alone
@@ -90,21 +90,22 @@ const RETURNS: &str =
 /// to want a memory takes no tick
 const TWICE: &str =
     "int x; void worker(int self) { __transaction_atomic { x = 1; } __transaction_atomic { x = 2; } }";
-/// outside transactions one that is an expression takes a tick before it wants its memory, and one as it is left
+/// outside transactions a transaction that is an expression takes a tick before it wants its memory, and one as it is
+/// left
 const READS: &str = "int x; void worker(int self) { int v = __transaction_atomic (x); }";
-/// inside one it takes none
+/// inside a transaction one that is an expression takes no tick
 const READS_INSIDE: &str =
     "int x; void worker(int self) { __transaction_atomic { x = __transaction_atomic (x) + 1; } }";
-/// so it is with those in its operand, and with one whose value is dropped
+/// transactions in the operand of another take no tick, and one whose value is dropped takes its own
 const NESTS: &str =
     "int x; void worker(int self) { int v = __transaction_atomic (__transaction_atomic (__transaction_atomic (x)) + __transaction_atomic (x)); __transaction_relaxed (v); }";
 /// a call's tick comes before that of the transaction which its function returns the value of
 const RETURNS_VALUE: &str =
     "int x; int f(int n) { return __transaction_atomic (x + n); } void worker(int self) { printf(\"%d\", f(3) + __transaction_relaxed (f(4))); }";
-/// a trap in one leaves the memory that it found, for the trap's tick alone
+/// a trap in a transaction that is an expression leaves the memory that it found, for the trap's tick alone
 const TRAPS_IN_VALUE: &str =
     "int x; void worker(int self) { int v = __transaction_atomic (1 / x); }";
-/// one in a loop's condition comes behind the tick of the turn
+/// a transaction in a loop's condition comes behind the tick of the turn
 const TESTS: &str =
     "int x; void worker(int self) { while (__transaction_atomic (x < 1)) { __transaction_atomic { x = 1; } if (__transaction_atomic (x)) break; } }";
 
@@ -127,7 +128,7 @@ fn has_done(outcome: &ThreadOutcome, row: &Row) -> bool {
         && outcome.end == row.6
 }
 
-/// Whether a thread of the row's text does it.
+/// Whether a thread of the row's text does what the row says.
 fn is_so(alloc: Global, row: &Row) -> bool {
     match run(alloc, row.0, 0, row.1, row.2) {
         Some(outcome) => has_done(&outcome, row),

@@ -37,7 +37,7 @@ fn traps() -> &'static [TrapRow] {
             Trap::Frames,
         ),
         ("void worker(int self) { 1 << 32; }", Trap::ShiftCount),
-        // of `long long`, and beside it
+        // traps of `long long`, and beside it
         (
             "void worker(int self) { long long a = 9223372036854775807; a++; }",
             Trap::OutOfRange,
@@ -125,7 +125,7 @@ fn has_trap(alloc: Global, row: &TrapRow) -> bool {
     end_of(alloc, row.0) == Some(ThreadEnd::Trapped(row.1))
 }
 
-/// The first text whose thread does not.
+/// The first text whose thread does not end in its row's trap.
 fn first_without_trap(alloc: Global, rows: &[TrapRow]) -> Option<&'static str> {
     for row in rows {
         if !has_trap(alloc, row) {
@@ -230,7 +230,7 @@ fn growths_of(inner: Global, text: &str, t: u32, founds: usize) -> Result<u64, u
 /// turns with a block, a local and a branch, ten of them
 const FEW_TURNS: &str =
     "int x; void worker(int self) { __transaction_atomic { for (int i = 0; i < 10; i++) { int k = i; if (k & 1) { x = k; } } } }";
-/// a thousand of them
+/// turns with a block, a local and a branch, a thousand of them
 const MANY_TURNS: &str =
     "int x; void worker(int self) { __transaction_atomic { for (int i = 0; i < 1000; i++) { int k = i; if (k & 1) { x = k; } } } }";
 

@@ -63,7 +63,7 @@ cost_if (Some x) = cost x
 abbrev pub shown_from : Configuration → Option (Attempt Saved) → Option (Attempt Configuration)
 shown_from c o = if_some (attempt_as (begin_configuration c)) o
 
--- the machine's thread that it is
+-- the machine's thread that a context stands for
 abbrev pub machine_thread : PlainContext → Thread Configuration
 machine_thread k = record {
   configuration = k.configuration;
@@ -123,7 +123,7 @@ back_by x outcome.Done c = back_done x c
 back_by x outcome.Aborted c = Some c
 back_by x _ c = None
 
--- where it does, what was saved can be restored, and the thread may stand there
+-- where a thread goes back after an operation, what was saved can be restored, and the thread may stand there
 abbrev pub MayGoBack : Code → Configuration → Saved → Option Configuration → Type 0
 MayGoBack code c s None = Unit {0}
 MayGoBack code c s (Some b) = CanRestore c s × IsConfigurationOf code (begin_configuration c s)
@@ -152,7 +152,7 @@ pub record Makes (code : Code) (n : Next Configuration) (k : PlainContext) (e : 
   pub of : IsContextOf code k
   pub within : AreWithin k.configuration (begins_of k.core.attempt)
 
--- so many local steps lead the thread there
+-- n local steps lead from one context to another
 pub record Advances (code : Code) (k : PlainContext) (n : ℕ) (l : PlainContext) : Type 0 where
   pub steps : StepsHearing (effect code) (machine_thread k) n [] (machine_thread l)
   pub of : IsContextOf code l

@@ -41,7 +41,7 @@ AreWords bounds pairs = AllByRecursion (λ (p : ℕ × ℕ). p.1 < slice_index b
 pub record IsHistory (bounds : List ℕ) (h : History) (words : List ℕ) : Type 0 where
   -- an even value that the lock has is the one after the last commit
   pub even : h.top % 2 ≡ 0
-  -- free against held
+  -- a lock that is free has the last commit's value, a lock that is held one more
   pub lock : LockIs h h.holder
   -- the memory under an even lock, and under a commit that has stored a part of its log
   pub contents : words ≡ overlay (h.mem h.top) h.stored
@@ -59,9 +59,9 @@ LeftIs h t x false = (x.snapshot ≤ h.top) × (x.left ≡ x.found)
 pub record RecordOk (h : History) (t : ℕ) (x : Record) : Type 0 where
   -- a snapshot is the value of a free lock
   pub even : x.snapshot % 2 ≡ 0
-  -- it found the memory at its last snapshot
+  -- the transaction found the memory at its last snapshot
   pub found : x.found ≡ h.mem x.snapshot
-  -- it is followed by its own memory, or leaves what it found: so runs are chained
+  -- the transaction is followed by its own memory, or leaves what it found: so runs are chained
   pub left : LeftIs h t x x.took_lock
 
 -- the lock value from which a later transaction of the same thread begins
@@ -104,7 +104,7 @@ pub record MayHaveFound (reads : List (ℕ × ℕ)) (kept : Bool) (base m : Memo
   pub agrees : Agrees m reads
   pub known : kept ≡ true → m ≡ base
 
--- by whether the attempt of thread t has the lock
+-- who holds the lock, by whether the attempt of thread t has it
 abbrev pub LockBy : {C : Type 0} → History → ℕ → Attempt C → Bool → Type 0
 LockBy h t a true = (h.holder ≡ Some t) × (a.snapshot ≡ h.top) × (h.stored ≡ stored_of a.writes a.phase)
 LockBy h t a false = h.holder ≢ Some t
@@ -179,8 +179,8 @@ module _ {C : Type 0} (code : C → Effect C) where
     pub comes_to : ComesTo c0 xs a.saved text1 Running
     -- nothing was printed without the lock, so an abort leaves the text as it was
     pub same_text : a.kept ≡ false → text1 ≡ text
-    -- in every memory that the attempt may have found: so a new snapshot costs nothing, and the end is one step of
-    -- the run
+    -- the meaning comes to where the attempt is in every memory that the attempt may have found: so a new snapshot
+    -- costs nothing, and the end is one step of the run
     pub reaches : Reaches bounds (h.mem a.snapshot) c1 text1 c a text
 
   -- what holds of the values in hand
@@ -210,7 +210,7 @@ module _ {C : Type 0} (code : C → Effect C) where
     pub agrees : Agrees found reads
     -- what a commit stores: one pair for each cell, below its bound
     pub log : IsLog bounds writes
-    -- and what a cancel goes back to
+    -- what a cancel goes back to: one pair for each cell, below its bound
     pub marks : AllByRecursion (λ (k : Checkpoint C). IsLog bounds k.writes) inner
 
   pub record AttemptOk (bounds : List ℕ) (h : History) (t : ℕ) (c0 : C) (xs : List Record) (base : Memory) (c : C)
@@ -243,7 +243,7 @@ module _ {C : Type 0} (code : C → Effect C) where
   pub record Invariant (bounds : List ℕ) (init : ℕ → C) (m0 : Memory) (h : History) (w : World C) : Type 0 where
     -- the words are those of the history
     pub history : IsHistory bounds h w.words
-    -- and so is the lock
+    -- the lock is that of the history
     pub lock : w.lock ≡ h.lock
     -- runs begin at the initial memory
     pub first : h.mem 0 ≡ m0

@@ -36,7 +36,8 @@ fn commit_result(levels: Levels) -> Came {
     }
 }
 
-/// What it prints then: register 1, as it was at the begin of the outermost level that was cancelled.
+/// What a thread prints behind its commits: register 1, as it was at the begin of the outermost level that was
+/// cancelled.
 fn text_printed(levels: Levels) -> Option<&'static str> {
     if levels.levels_left() == 0 && levels.kept {
         Some("")

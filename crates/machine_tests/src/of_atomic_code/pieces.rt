@@ -53,7 +53,7 @@ fn calls() -> &'static [Calls] {
     &ROWS
 }
 
-/// Whether these calls of that worker come to that.
+/// Whether a worker that adds in a transaction comes to what each of these rows of calls says.
 fn come_to<A: Allocator + Copy>(alloc: A, rows: &[Calls]) -> bool {
     for (calls, each, word, steps, status) in rows {
         let came = by_calls(alloc, adds_in_a_transaction(), *calls, *each);

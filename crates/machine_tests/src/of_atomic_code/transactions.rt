@@ -17,13 +17,13 @@ type Row = (
     &'static str,
 );
 
-/// Whether a thread comes to this.
+/// Whether a thread comes to what a row says.
 fn is_so<A: Allocator + Copy>(alloc: A, row: &Row) -> bool {
     let (instructions, steps, left, end, text) = *row;
     code_comes_to(alloc, instructions, None, 100, text) == Some((steps, left, end, true))
 }
 
-/// Whether all do.
+/// Whether a thread comes to what each of these rows says.
 fn are_so<A: Allocator + Copy>(alloc: A, rows: &[Row]) -> bool {
     for row in rows {
         if !is_so(alloc, row) {
@@ -125,7 +125,7 @@ fn traps() -> &'static [Row] {
             Some(End::Trapped(Trap::Index)),
             "",
         ),
-        // from an inner one, after a print
+        // a trap in an inner transaction, after a print
         (
             &[
                 Instr::Begin(8),
@@ -273,7 +273,7 @@ fn standing_still() -> &'static [Row] {
             None,
             "",
         ),
-        // an outermost cancel in one that was
+        // an outermost cancel in a transaction that was made irrevocable
         (
             &[
                 Instr::Begin(4),

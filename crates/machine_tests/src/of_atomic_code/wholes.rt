@@ -54,7 +54,7 @@ fn memory(alloc: Global, word: u64) -> Result<Vec<u64>, AllocError> {
     Vec::from_slice(alloc, &[word])
 }
 
-/// Two of them.
+/// Two memories of one cell.
 fn memories(alloc: Global, first: u64, second: u64) -> Option<[Vec<u64>; 2]> {
     match memory(alloc, first) {
         Ok(first) => match memory(alloc, second) {

@@ -17,7 +17,7 @@ fn is_given(outcome: &AtomicThreadOutcome, given: Result<&str, Trap>) -> bool {
     }
 }
 
-/// Whether its transaction has left these words, where it has made one, and else 0 in each cell.
+/// Whether a thread's transaction has left these words, where it has made one, and else 0 in each cell.
 fn leaves(outcome: &AtomicThreadOutcome, words: [u64; 2]) -> bool {
     match outcome.lefts.as_slice().first() {
         Some(memory) => memory.as_slice() == words.as_slice(),
@@ -59,7 +59,7 @@ fn is_computed(alloc: Global, row: &WideOperator) -> bool {
     }
 }
 
-/// Whether threads do of each of these.
+/// Whether threads give what each of these operators should.
 fn are_computed(alloc: Global, rows: &[WideOperator]) -> bool {
     for row in rows {
         if !is_computed(alloc, row) {
@@ -69,7 +69,7 @@ fn are_computed(alloc: Global, rows: &[WideOperator]) -> bool {
     true
 }
 
-/// The first operators of which a thread does not.
+/// The first operators of which a thread gives something else than it should.
 fn computed_otherwise(alloc: Global) -> Option<&'static str> {
     for (name, rows) in wide_operators() {
         if !are_computed(alloc, *rows) {
@@ -113,7 +113,7 @@ fn cells_of_32_and_of_64_bits(rt: HostRuntime) {
     assert_none(&rt, done_otherwise(rt.alloc(), wide_cells()));
 }
 
-/// Whether these are a memory of a code over both variables.
+/// Whether these words are a memory of a code over both variables.
 fn is_one(alloc: Global, words: &[u64]) -> Option<bool> {
     match code_over_both(alloc, &[Instr::Return], None) {
         Some(code) => Some(is_memory(&code, words)),

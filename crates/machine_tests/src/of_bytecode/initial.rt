@@ -113,7 +113,8 @@ fn over_a_long_array<A: Allocator + Copy>(alloc: A) -> Result<Parts<A>, AllocErr
     parts_over(alloc, array)
 }
 
-/// Whether the first words of that array's code are -1 in 64 bits and 7, and 0 in the other cells.
+/// Whether the first words of a code over an array of type `long long` are -1 in 64 bits and 7, and 0 in the other
+/// cells.
 fn is_long(alloc: Global) -> Option<bool> {
     match over_a_long_array(alloc) {
         Ok(parts) => match code_of(alloc, parts) {

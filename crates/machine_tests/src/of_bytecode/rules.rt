@@ -102,7 +102,7 @@ fn of_unreached(alloc: Global, instr: Instr) -> Option<bool> {
     of(alloc, &[Instr::Return, instr])
 }
 
-/// Whether none of these is valid there.
+/// Whether none of these instructions is valid behind a return.
 fn none_is_valid(alloc: Global, instrs: &[Instr]) -> bool {
     for instr in instrs {
         if of_unreached(alloc, *instr) != Some(false) {
@@ -621,7 +621,7 @@ fn over_an_array(alloc: Global, length: u32) -> Result<Parts, AllocError> {
     parts_over(alloc, global(alloc, Some(length))?)
 }
 
-/// What `validate` says of it.
+/// What `validate` says of a worker over a variable and an array of that length.
 fn of_array(alloc: Global, length: u32) -> Option<bool> {
     match over_an_array(alloc, length) {
         Ok(parts) => is_valid(alloc, parts),

@@ -77,7 +77,7 @@ fn is_computed<A: Allocator + Copy>(alloc: A, row: &Computed) -> bool {
     of(alloc, &instructions) == Some(doing_of(given))
 }
 
-/// Whether each of these does.
+/// Whether each of these operators gives what its row says.
 fn are_computed<A: Allocator + Copy>(alloc: A, rows: &[Computed]) -> bool {
     for row in rows {
         if !is_computed(alloc, row) {
@@ -333,13 +333,13 @@ fn constants_of_two_words(rt: HostRuntime) {
 /// Instructions, what thread 5 comes to in a worker of them, the local steps that it makes, and its register 1.
 type Row = (&'static [Instr], Doing, u64, u64);
 
-/// Whether a thread comes to this.
+/// Whether a thread comes to what a row says.
 fn is_so<A: Allocator + Copy>(alloc: A, row: &Row) -> bool {
     let (instructions, doing, made, word) = *row;
     of(alloc, instructions) == Some((doing, made, word))
 }
 
-/// Whether each comes to this.
+/// Whether a thread comes to what each of these rows says.
 fn are_so<A: Allocator + Copy>(alloc: A, rows: &[Row]) -> bool {
     for row in rows {
         if !is_so(alloc, row) {

@@ -11,7 +11,8 @@ use frames::Frames;
 use local_steps::NoAccess;
 use std::alloc::Allocator;
 
-/// In each code register 0 is at first the thread's number, 5.
+/// What a code is called, its instructions, and how many steps it makes before it pauses; register 0 is at first the
+/// thread's number, 5.
 type Row = (&'static str, &'static [Instr], u64);
 
 /// Steps in the frames, at most so many: how many they were.
@@ -54,7 +55,8 @@ fn agree<A: Allocator + Copy>(alloc: A, code: &Code<A>, most: u64, last: u64) ->
     }
 }
 
-/// Whether they do for each number of steps up to 40, where a code makes as many as this before it pauses.
+/// Whether steps at once come to the same as one by one, for each number of steps up to 40, where a code makes as many
+/// as its row says before it pauses.
 fn is_so<A: Allocator + Copy>(alloc: A, row: &Row) -> bool {
     let (_, instructions, last) = *row;
     match code_of_worker(alloc, instructions) {

@@ -42,7 +42,7 @@ module _ {A : Type 0} where
         ≡ worker_run (program_in source) t (first_state (memories_in s.founds.items ++ further) ticks)
     pub seen : seen_in s ≡ does_in (program_in source) t (memories_in s.founds.items) ticks
 
-  -- so of each thread, from this one on
+  -- each thread from this one on goes on as it would from its beginning, and what is seen of it is what it does
   unfoldable pub AreKnown : ProgramTables A → (ticks t : ℕ) → List (Standing A) → Type 0
   AreKnown source ticks t [] = Unit {0}
   AreKnown source ticks t (s ∷ threads) = IsKnown source ticks t s × AreKnown source ticks (t + 1) threads

@@ -4,7 +4,7 @@ use Rattle.syntax.specs.Tree.{Int, Unsigned, LongLong}
 use Rattle.syntax.specs.declared.numbers.Value.{Value}
 use Rattle.meaning.specs.declared.word.Word.{Word}
 
--- its word stands below, and above it its type
+-- the value that stands in the bits: its word below, and above that its type
 unfoldable pub value_of : Word → Value
 value_of w = record {
   ty = if nat_lt w.bits (2 ^ 64) then Int else (if nat_lt w.bits (2 ^ 65) then Unsigned else LongLong);

@@ -58,11 +58,11 @@ starts_type = says the_type_word
 abbrev pub longer : Scalar → Parser Scalar
 longer ty = map_parser (λ x. ty) (perhaps (Keyword key.Int) (expect (Keyword key.Int)))
 
--- behind a first `long`
+-- a type, behind its first `long`
 abbrev pub long_long : Parser Scalar
 long_long = behind (Keyword key.Long) (longer LongLong)
 
--- behind a type's first word
+-- a type, behind its first word
 abbrev pub type_from : TypeWord → Parser Scalar
 type_from word.Int = give Int
 type_from word.Signed = either (is_next (Keyword key.Long)) (behind (Keyword key.Long) long_long) (longer Int)
@@ -118,7 +118,7 @@ module _ (whole tight : Parser Expr) where
   abbrev pub prefix_expr : Parser Expr
   prefix_expr = map_parser (λ x. Unary x.0.0 x.1 (across x.0.1 (span_of x.1))) (seq (take the_prefix) tight)
 
-  -- behind `(`, which stands at a place
+  -- a cast, behind its `(`, which stands at a place
   abbrev pub cast_from : Span → Parser Expr
   cast_from at =
       map_parser (λ x. Cast x.0 x.1 (across at (span_of x.1))) (seq (before (Punctuator punct.CloseParen) scalar) tight)
@@ -141,7 +141,7 @@ module _ (whole tight : Parser Expr) where
   abbrev pub arguments : Parser (List Expr)
   arguments = either (is_next (Punctuator punct.CloseParen)) (give []) (comma_list whole)
 
-  -- behind a name
+  -- an element of an array, behind the name
   abbrev pub element_from : Name → Parser Expr
   element_from x =
       map_parser (λ y. Element x y.0 (across x.span y.1))
@@ -211,7 +211,7 @@ chain below d min ts = operand (below 0) (below 11) ts >>= λ x. climb_loop oper
 abbrev pub outcomes : Parser Expr → Parser (Expr × Expr)
 outcomes whole = behind (Punctuator punct.Question) (seq whole (behind (Punctuator punct.Colon) whole))
 
--- behind the condition c
+-- a choice by the condition c, behind that
 abbrev pub conditional_from : Parser Expr → Expr → Parser Expr
 conditional_from whole c = map_parser (λ x. Conditional c x.0 x.1 (across (span_of c) (span_of x.1))) (outcomes whole)
 
@@ -222,7 +222,7 @@ within d e P ts = if nat_le (expr_depth e) d then P ts else Err (deep ts)
 abbrev pub conditional_at : Parser Expr → ℕ → Expr → Parser Expr
 conditional_at whole d c = either (is_next (Punctuator punct.Question)) (within d c (conditional_from whole c)) (give c)
 
--- within this depth: at level 0 any expression, at others operators that bind at least so tightly
+-- an expression within this depth: at level 0 any one, at others operators that bind at least so tightly
 unfoldable pub expr_at : ℕ → ℕ → Parser Expr
 expr_at zero min ts = too_deep_at starts_expr ts
 expr_at (suc d) zero ts = map_parser (λ x. x.1) (bind (chain (expr_at d) d 1) (conditional_at (expr_at d 0) d)) ts

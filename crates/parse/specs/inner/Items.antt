@@ -72,7 +72,7 @@ parameter_list =
 abbrev pub parameters : Parser (List Parameter)
 parameters = behind (Punctuator punct.OpenParen) (before (Punctuator punct.CloseParen) parameter_list)
 
--- all of them have names
+-- all parameters have names
 abbrev pub are_named : List Parameter → Bool
 are_named [] = true
 are_named (q ∷ qs) = if is_some q.name then are_named qs else false
@@ -132,15 +132,15 @@ first_value =
     either (is_next (Punctuator punct.Assign)) (map_parser one_first (behind (Punctuator punct.Assign) initialiser))
     (give [])
 
--- further ones up to the closing brace: as many as there are tokens suffice
+-- further first values up to the closing brace: as many as there are tokens suffice
 abbrev pub further_values : Parser (List Initialiser)
 further_values ts = trailing (length ts) initialiser ts
 
--- those between an array's braces
+-- the first values between an array's braces
 abbrev pub value_list : Parser (List Initialiser)
 value_list = map_parser in_front (seq initialiser further_values)
 
--- those of an array
+-- the first values of an array
 abbrev pub first_values : Parser (List Initialiser)
 first_values =
     either (is_next (Punctuator punct.Assign))

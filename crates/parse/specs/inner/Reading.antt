@@ -48,7 +48,7 @@ abbrev pub head : List Tok → Option Tok
 head [] = None
 head (t ∷ ts) = Some t
 
--- nothing is spelled so
+-- the parser by which nothing is spelled
 abbrev pub none : {A : Type 0} → Parser A
 none ts = Err (wrong ts)
 
@@ -62,11 +62,11 @@ bind P Q ts = P ts >>= λ x. Q x.0 x.1 >>= λ y. Ok ((x.0, y.0), y.1)
 abbrev pub seq : {A B : Type 0} → Parser A → Parser B → Parser (A × B)
 seq P Q = bind P (λ x. Q)
 
--- another value
+-- what is read, as another value
 abbrev pub map_parser : {A B : Type 0} → (A → B) → Parser A → Parser B
 map_parser f P ts = P ts >>= λ x. Ok (f x.0, x.1)
 
--- as the first token says
+-- what is read as the first token says
 abbrev pub choice : {A : Type 0} → (Option Tok → Parser A) → Parser A
 choice c ts = c (head ts) ts
 
@@ -83,7 +83,7 @@ abbrev pub unless_too_deep : {A : Type 0} → ℕ → Parser A → Parser A
 unless_too_deep zero P ts = Err (deep ts)
 unless_too_deep (suc d) P ts = P ts
 
--- at most n, up to a token that stops
+-- at most n things, up to a token that stops
 abbrev pub many : {A : Type 0} → (Option Tok → Bool) → ℕ → Parser A → Parser (List A)
 many stop zero P ts = if stop (head ts) then Ok ([], ts) else Err (wrong ts)
 many stop (suc n) P ts =
@@ -137,11 +137,11 @@ if_there false P = give None
 abbrev pub perhaps : {A : Type 0} → Fixed → Parser A → Parser (Option A)
 perhaps k P = choice (λ h. if_there (is_next k h) P)
 
--- behind a fixed token
+-- what stands behind a fixed token
 abbrev pub behind : {A : Type 0} → Fixed → Parser A → Parser A
 behind k P = map_parser (λ x. x.1) (seq (expect k) P)
 
--- up to a fixed token
+-- what stands up to a fixed token
 abbrev pub before : {A : Type 0} → Fixed → Parser A → Parser A
 before k P = map_parser (λ x. x.0) (seq P (expect k))
 
@@ -152,12 +152,12 @@ unless k P = either (is_next k) (give None) (map_parser Some P)
 abbrev pub in_front : {A : Type 0} → A × List A → List A
 in_front x = x.0 ∷ x.1
 
--- one or more, with commas between
+-- one or more things, with commas between
 abbrev pub comma_list : {A : Type 0} → Parser A → Parser (List A)
 comma_list P =
     map_parser in_front (seq P (many_until (is_other (Punctuator punct.Comma)) (behind (Punctuator punct.Comma) P)))
 
--- further ones, each behind a comma, and perhaps a comma behind the last, up to a brace; at most n
+-- further things, each behind a comma, and perhaps a comma behind the last, up to a brace; at most n
 abbrev pub trailing : {A : Type 0} → ℕ → Parser A → Parser (List A)
 trailing zero P ts = if is_next (Punctuator punct.Comma) (head ts) then Err (wrong ts) else Ok ([], ts)
 trailing (suc n) P ts =
@@ -212,7 +212,7 @@ abbrev pub GivesOp : {Op : Type 0} → Option (Op × Bor (List Token)) → Optio
 GivesOp None read = read ≡ None
 GivesOp (Some x) read = read ≡ Some (x.0, toks (x.1).now)
 
--- from the start of one to the end of the other
+-- from the start of one span to the end of the other
 abbrev pub across : Span → Span → Span
 across a b = record { start = a.start; «end» = b.«end» }
 

@@ -39,7 +39,7 @@ module _ (whole : Parser Expr) where
   abbrev pub prefix_step : Parser Simple
   prefix_step = map_parser (λ x. Adjust x.1 x.0) (seq (take the_step) whole)
 
-  -- behind an expression
+  -- an assignment, behind its left side
   abbrev pub assigned_from : Expr → Parser Simple
   assigned_from to = map_parser (λ x. Assign to x.0 x.1) (seq (take the_assigning) whole)
 
@@ -133,7 +133,7 @@ outer_attribute =
     (enclosed_outer (Punctuator punct.OpenBracket) (Punctuator punct.CloseBracket))
     (behind (Keyword key.Attribute) (enclosed_outer (Punctuator punct.OpenParen) (Punctuator punct.CloseParen)))
 
--- whether the mark stands here
+-- whether the mark of an outer transaction stands here
 abbrev pub outer_attribute_if_any : Parser Bool
 outer_attribute_if_any = either begins_outer_attribute (map_parser (λ x. true) outer_attribute) (give false)
 
@@ -141,7 +141,7 @@ abbrev pub atomic_kind : Bool → TransactionKind
 atomic_kind true = Outer
 atomic_kind false = Plain Atomic
 
--- behind the keyword of a transaction: what kind it is
+-- the kind of a transaction, behind its keyword
 abbrev pub kind : Mode → Parser TransactionKind
 kind Atomic = map_parser atomic_kind outer_attribute_if_any
 kind Relaxed = give (Plain Relaxed)
@@ -170,7 +170,7 @@ for_tree x = For x.0.0 x.0.1.0 x.0.1.1 x.1
 abbrev pub in_parens : {A : Type 0} → Parser A → Parser A
 in_parens P = behind (Punctuator punct.OpenParen) (before (Punctuator punct.CloseParen) P)
 
--- up to the closing brace
+-- what stands in braces
 abbrev pub block_items : {A : Type 0} → Parser A → Parser (List A)
 block_items P =
     behind (Punctuator punct.OpenBrace)
@@ -237,7 +237,7 @@ module _ (d : ℕ) where
   abbrev pub simple_stmt : Parser Stmt
   simple_stmt = map_parser Do (before (Punctuator punct.Semicolon) (simple_at (suc d)))
 
-  -- behind the keyword of a transaction, which stands at a place: an expression begins with it
+  -- a statement behind the keyword of a transaction, which stands at a place: an expression begins with it
   abbrev pub value_stmt : Mode → Span → Parser Stmt
   value_stmt mode at = unless_too_deep d (λ ts. simple_stmt (mode_token mode at ∷ ts))
 
@@ -255,7 +255,7 @@ module _ (d : ℕ) where
     abbrev pub for_stmt : Parser Stmt
     for_stmt = map_parser for_tree (behind (Keyword key.For) (seq head_of_for stmt))
 
-    -- behind the keyword, which stands at a place
+    -- a statement that is a transaction, behind its keyword, which stands at a place
     abbrev pub transaction_from : Mode → Span → Parser Stmt
     transaction_from mode at =
         either (is_next (Punctuator punct.OpenParen)) (value_stmt mode at)

@@ -32,7 +32,7 @@ HaltsAt t (Stopped reason) before after events =
     (after ≡ before) × StopsFor before t reason × (events ≡ events_of before)
 HaltsAt t Refused before after events = Unit {0}
 
--- and where a line was not made to its end, all its steps before that were made
+-- where a line was not made to its end, all its steps before that were made
 abbrev pub HaltsIn : Line → ℕ → ReplayHalt → Simulation → Simulation → List (ℕ × ℕ × Event) → Type 0
 HaltsIn line room (Stopped reason) before after events =
     IsCut line room before after × StopsFor after line.thread reason × (events ≡ events_of after)

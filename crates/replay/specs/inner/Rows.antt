@@ -20,7 +20,7 @@ past row = drop (prefix_len is_space row) row
 abbrev pub digits_of : List ℕ → List ℕ
 digits_of row = take (prefix_len is_digit row) row
 
--- what stands behind them
+-- what stands behind the digits at the front
 abbrev pub behind : List ℕ → List ℕ
 behind row = drop (prefix_len is_digit row) row
 
@@ -29,7 +29,7 @@ abbrev pub has_letter : List ℕ → Bool
 has_letter [] = false
 has_letter (b ∷ row) = b == 97
 
--- what stands behind it
+-- what stands behind an `a` at the front
 abbrev pub behind_letter : List ℕ → List ℕ
 behind_letter row = if has_letter row then drop 1 row else row
 

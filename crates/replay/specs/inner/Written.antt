@@ -10,6 +10,6 @@ row_of line = decimal line.thread ++ (codes " " ++ (letter line.accesses ++ deci
 abbrev pub line_text : Line → List ℕ
 line_text line = row_of line ++ codes "\n"
 
--- its numbers are below 2 ^ 32
+-- a line's numbers are below 2 ^ 32
 abbrev pub IsInBounds : Line → Type 0
 IsInBounds line = (line.thread < 2 ^ 32) × (line.count < 2 ^ 32)

@@ -15,7 +15,7 @@ around names surroundings = record {
 }
 
 module _ {A : Type 0} where
-  -- their names, in order of declaration
+  -- the names of locals, in order of declaration
   abbrev pub names_in : Locals A → List (List ℕ)
   names_in l = map (λ n. n.0) (locals_in l.scope)
 

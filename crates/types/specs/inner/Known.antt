@@ -37,12 +37,12 @@ module _ {A : Type 0} where
   abbrev pub count_in : ScopeTable A → ℕ
   count_in n = length (locals_of n)
 
-  -- there may be further locals; without them it is as it was
+  -- a scope has grown: there may be further locals; without them it is as it was
   pub record Grows (old new : ScopeTable A) : Type 0 where
     pub locals : take (count_in old) (locals_of new) ≡ locals_of old
     pub file : file_of new ≡ file_of old
 
-  -- both know the same names
+  -- two scopes know the same names
   pub record Agrees (old new : ScopeTable A) : Type 0 where
     pub locals : locals_of new ≡ locals_of old
     pub file : file_of new ≡ file_of old
