@@ -10,16 +10,13 @@ import pathlib
 import re
 import sys
 
-DEFINED = re.compile(r"^(?:(?:private|opaque|unfoldable|abbrev|data|record|class|law|lemma|notation)\s+)*"
-                     r"(?:pub\s+)?(?:(?:data|record|class)\s+)?(?P<name>[A-Za-z_][A-Za-z0-9_']*)\s*(?=[:({]|$)")
-SHOWN = re.compile(r"^(?:.*\b)?pub\b")
+DEFINED = re.compile(r"^ *(?:(?:private|opaque|unfoldable|abbrev|data|record|class|law|lemma|notation)\s+)*pub\s+"
+                     r"(?:(?:data|record|class)\s+)?(?P<name>[A-Za-z_][A-Za-z0-9_']*)\s*(?=[:({]|$)")
 
 
 def definitions(path):
-    """Names that a file of definitions makes public, with their lines."""
+    """Names that a file of definitions makes public, with their lines: within modules too. Fields of records are among them."""
     for number, line in enumerate(path.read_text().split("\n"), 1):
-        if line.startswith(("--", "use ", " ", "module ")) or not SHOWN.match(line):
-            continue
         found = DEFINED.match(line)
         if found:
             yield found["name"], number
