@@ -1,8 +1,0 @@
--- a thread, and the thread of the code's meaning that it is
-pub mod Threads
--- a thread that is carried on
-pub mod Carried
--- what is seen of a whole thread
-pub mod Whole
--- what only private functions and proofs speak of
-pub mod inner

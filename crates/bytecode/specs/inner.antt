@@ -1,8 +1,0 @@
--- how a function's ways are followed
-pub mod Walking
--- how the functions' codes lie
-pub mod Layout
--- how instructions are written in words
-pub mod Spelling
--- what a code keeps
-pub mod Stored

@@ -1,6 +1,0 @@
--- (the prover finds these unwritten too; where they are written, it refuses a wrong body sooner)
-use Rattle.std.proofs.Common.{rules}
-use Rattle.containers.proofs.items.Items.as_slice.Goals as goal
-
-pub returns : goal.returns
-returns g c = search rules

@@ -1,6 +1,0 @@
-//! Tests of the parser.
-
-mod depths;
-mod faults;
-mod productions;
-mod trees;

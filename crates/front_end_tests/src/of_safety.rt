@@ -1,4 +1,0 @@
-//! Tests of the check of safety.
-
-mod large;
-mod rows;

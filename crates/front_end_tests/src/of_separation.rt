@@ -1,4 +1,0 @@
-//! Tests of the check of separation.
-
-mod large;
-mod rows;

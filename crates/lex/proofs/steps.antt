@@ -1,6 +1,0 @@
--- from what stands behind a place to what the text has there
-pub mod Steps
--- one more piece
-pub mod Cuts
--- one more character of a string
-pub mod Escapes

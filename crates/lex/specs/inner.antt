@@ -1,8 +1,0 @@
--- what one step of the lexer answers
-pub mod Answers
--- a constant by its parts, as it is read
-pub mod Constants
--- punctuators by their bytes
-pub mod Punctuators
--- where a string ends
-pub mod Strings

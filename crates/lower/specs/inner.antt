@@ -1,6 +1,0 @@
--- with which constants the loops of a function compute, as it is found out
-pub mod Looped
--- formats, unit by unit
-pub mod Formats
--- why no code is made of a part
-pub mod Parts

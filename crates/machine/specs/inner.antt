@@ -1,6 +1,0 @@
--- what each step keeps
-pub mod Invariant
--- a thread as code keeps it
-pub mod Contexts
--- a thread as code keeps it, with what loads for its reads
-pub mod Inside

@@ -1,2 +1,0 @@
--- the checkpoints of lists of what was saved and of marks
-pub mod Checkpoints

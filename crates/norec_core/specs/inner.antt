@@ -1,2 +1,0 @@
--- the attempt of a core with its room, and what the code of its steps keeps true
-pub mod Runs

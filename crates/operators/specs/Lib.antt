@@ -1,2 +1,0 @@
--- what only private functions speak of
-pub mod inner

@@ -1,9 +1,0 @@
-use Rattle.syntax.proofs.Seen.{stmt_of_while}
-use Rattle.parse.proofs.code.Made.{made_is, made_fails}
-use Rattle.parse.proofs.stmt.while_of.Goals as goal
-
-pub returns-in-Ok : goal.returns-in-Ok
-returns-in-Ok g c = made_is _ _ _ _ _ _ c.in-Ok.is (stmt_of_while c.args.condition c.in-Ok.body)
-
-pub returns-in-Err : goal.returns-in-Err
-returns-in-Err g c = made_fails _ _ _ _ c.in-Err.is

@@ -1,8 +1,0 @@
--- what a report shows
-pub mod Printed
--- the text of a report
-pub mod Report
--- the text of a timeline
-pub mod Timeline
--- the Rust types as plain ones
-pub mod Views

@@ -1,7 +1,0 @@
--- What the private functions answer; no public contract cites it.
--- the first demand that is not met
-pub mod Unmet
--- the links of touching functions
-pub mod TouchingLinks
--- the sites of one item's function
-pub mod OwnSites

@@ -1,9 +1,0 @@
-use Rattle.syntax.proofs.ValueTypes.{gives_its_type}
-use Rattle.syntax.proofs.Words.{gives_words}
-use Rattle.syntax.proofs.laws.values_fit.Goals as goal
-
-pub returns-clause-types : goal.returns-clause-types
-returns-clause-types c = gives_its_type
-
-pub returns-clause-words : goal.returns-clause-words
-returns-clause-words c = gives_words

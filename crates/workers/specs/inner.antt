@@ -1,2 +1,0 @@
--- a seat that loads for the reads of its thread
-pub mod Seated

@@ -1,8 +1,0 @@
--- a world as its contracts see it
-pub mod Simulations
--- why a world is not opened, or a list of steps not made to its end
-pub mod Stops
--- what a world leaves
-pub mod Reports
--- what only private functions and proofs cite
-pub mod inner

@@ -1,0 +1,44 @@
+#!/usr/bin/env python3
+"""Lists and counts names that two files in specs/ (inner rooms apart) define. usage: doubled.py ROOT [--inner] [--all]
+
+Goal: no capitalised name stands twice. `--inner` looks into specs/inner too, `--all` counts names with a small letter as well.
+The last line is the count; the exit status is 1 where it is not 0.
+"""
+import collections
+import pathlib
+import re
+import sys
+
+DEFINED = re.compile(r"^(?:(?:private|opaque|unfoldable|abbrev|data|record|class|law|lemma|notation)\s+)*"
+                     r"(?:pub\s+)?(?:(?:data|record|class)\s+)?(?P<name>[A-Za-z_][A-Za-z0-9_']*)\s*(?=[:({]|$)")
+SHOWN = re.compile(r"^(?:.*\b)?pub\b")
+
+
+def definitions(path):
+    """Names that a file of definitions makes public, with their lines."""
+    for number, line in enumerate(path.read_text().split("\n"), 1):
+        if line.startswith(("--", "use ", " ", "module ")) or not SHOWN.match(line):
+            continue
+        found = DEFINED.match(line)
+        if found:
+            yield found["name"], number
+
+
+def main():
+    root = pathlib.Path(next(a for a in sys.argv[1:] if not a.startswith("--")))
+    places = collections.defaultdict(list)
+    for path in sorted(root.glob("crates/*/specs/**/*.antt")):
+        inside = path.relative_to(root).parts[3:]
+        if "--inner" not in sys.argv and inside[0] in ("inner", "inner.antt"):
+            continue
+        for name, number in definitions(path):
+            if "--all" in sys.argv or name[0].isupper():
+                places[name].append(f"{path.relative_to(root)}:{number}")
+    twice = {n: p for n, p in places.items() if len({x.split(':')[0] for x in p}) > 1}
+    for name in sorted(twice):
+        print(f"{name}\t{len(twice[name])}\t{'  '.join(twice[name])}")
+    print(f"{len(twice)} names stand twice, of {len(places)}")
+    sys.exit(1 if twice else 0)
+
+
+main()

@@ -1,9 +1,0 @@
-// Each thread adds one, three times. No addition is lost, whatever the threads do.
-int x;
-
-void worker(int self) {
-    int i;
-    for (i = 0; i < 3; i++) {
-        __transaction_atomic { x = x + 1; }
-    }
-}

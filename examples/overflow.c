@@ -1,9 +1,0 @@
-// A sum that leaves the range of `int` is trap 1: the thread ends, and nothing of the transaction is left.
-int total = 2147483647, entries = 5;
-
-void worker(int self) {
-    __transaction_atomic {
-        entries = entries + 1;
-        total = total + 1;
-    }
-}

@@ -1,2 +1,0 @@
-int x;
-void worker(int self) { x = 1; }
