@@ -1,4 +1,4 @@
-//! A thread as it is kept between instructions, and one instruction of it.
+//! The context of a thread between instructions, and one instruction of it.
 
 ghost use Rattle.std.specs.Prelude.{◌≡◌, ◌<◌, ◌↔◌, ℕ, Option, None, Some, IfOk, OnErr, IsTrue, length, option_map};
 ghost use Rattle.syntax.specs.declared.numbers.Status.TheVariants.{Running};

@@ -30,4 +30,4 @@ mod Stored
 -- what a valid code reads and writes
 pub mod Fits
 pub mod Cells
-mod Marking
+mod Widths

@@ -32,46 +32,46 @@ fn put_line<A: Allocator>(to: &mut Vec<u8, A>, words: &[u8]) -> Result<(), Alloc
     Ok(())
 }
 
-/// The tokens that end up to a place.
+/// The tokens that end up to an offset.
 fn tokens_before<'t, A: Allocator + Copy>(
     alloc: A,
     tokens: &[Token<'t>],
-    place: usize,
+    offset: usize,
 ) -> Result<Vec<Token<'t>, A>, AllocError> {
     let mut before = Vec::new(alloc);
     'tokens: for token in tokens {
-        if token.span.end <= place {
+        if token.span.end <= offset {
             before.push(*token)?;
         }
     }
     Ok(before)
 }
 
-/// The token that begins at a place.
-fn token_at<'t>(tokens: &[Token<'t>], place: usize) -> Option<Token<'t>> {
+/// The token that begins at an offset.
+fn token_at<'t>(tokens: &[Token<'t>], offset: usize) -> Option<Token<'t>> {
     'tokens: for token in tokens {
-        if token.span.start == place {
+        if token.span.start == offset {
             return Some(*token);
         }
     }
     None
 }
 
-/// Tells what could stand at a place, and what is meant there.
+/// Tells what could stand at an offset, and what is meant there.
 fn tell_token<A: Allocator + Copy>(
     alloc: A,
     to: &mut Vec<u8, A>,
     tokens: &[Token<'_>],
     word: &[u8],
-    place: usize,
+    offset: usize,
 ) -> Result<(), AllocError> {
-    let mut before = tokens_before(alloc, tokens, place)?;
-    if let Some(token) = token_at(tokens, place) {
+    let mut before = tokens_before(alloc, tokens, offset)?;
+    if let Some(token) = token_at(tokens, offset) {
         if let Some(words) = of_token(before.last(), &token, word) {
             put_line(to, words.as_bytes())?;
         }
     }
-    if place > MOST_BEFORE {
+    if offset > MOST_BEFORE {
         return Ok(());
     }
     let words = expected_tokens(alloc, &mut before)?;
@@ -84,12 +84,12 @@ fn tell_token<A: Allocator + Copy>(
     Ok(())
 }
 
-/// Whether a name is declared behind a place.
-fn is_declared_behind(tokens: &[Token<'_>], name: &str, place: usize) -> bool {
+/// Whether a name is declared behind an offset.
+fn is_declared_behind(tokens: &[Token<'_>], name: &str, offset: usize) -> bool {
     let mut is_behind_a_type = false;
     'tokens: for token in tokens {
         if let Kind::Name(other) = token.kind {
-            if is_behind_a_type && other == name && token.span.start > place {
+            if is_behind_a_type && other == name && token.span.start > offset {
                 return true;
             }
         }
@@ -110,12 +110,12 @@ fn tell_name<A: Allocator + Copy>(
     to: &mut Vec<u8, A>,
     tokens: &[Token<'_>],
     unknown: &str,
-    place: usize,
+    offset: usize,
 ) -> Result<(), AllocError> {
     if let Some(words) = of_name(unknown) {
         return put_line(to, words.as_bytes());
     }
-    if is_declared_behind(tokens, unknown, place) {
+    if is_declared_behind(tokens, unknown, offset) {
         return put_line(
             to,
             b"it is declared further down: a name is declared before it is used",
@@ -138,20 +138,20 @@ fn tell_name<A: Allocator + Copy>(
     Ok(())
 }
 
-/// Tells what is meant by the name at a place, if one begins there.
+/// Tells what is meant by the name at an offset, if one begins there.
 fn tell_name_at<A: Allocator + Copy>(
     alloc: A,
     to: &mut Vec<u8, A>,
     tokens: &[Token<'_>],
-    place: usize,
+    offset: usize,
 ) -> Result<(), AllocError> {
-    match token_at(tokens, place).map(|it| it.kind) {
-        Some(Kind::Name(name)) => tell_name(alloc, to, tokens, name, place),
+    match token_at(tokens, offset).map(|it| it.kind) {
+        Some(Kind::Name(name)) => tell_name(alloc, to, tokens, name, offset),
         _ => Ok(()),
     }
 }
 
-/// Adds what is told beside the fault of a number at a place of a text.
+/// Adds what is told beside the fault of a number at a span of a text.
 fn put_hints<A: Allocator + Copy>(
     alloc: A,
     to: &mut Vec<u8, A>,

@@ -1,4 +1,4 @@
--- the shapes that pieces have, by their first byte, and the longest at a place
+-- the shapes that pieces have, by their first byte, and the longest at an offset
 pub mod pieces
 -- each step of the lexer, in the text that it reads
 pub mod steps

@@ -1,4 +1,4 @@
--- from what stands behind a place to what the text has there
+-- from what stands behind an offset to what the text has there
 pub mod Steps
 -- one more piece
 pub mod Cuts

@@ -2,7 +2,7 @@
 pub mod Lies
 -- a piece says one thing
 pub mod Once
--- a place has one fault
+-- an offset has one fault
 pub mod Flaws
 -- a text is cut in one way
 pub mod Ways

@@ -16,7 +16,7 @@ abbrev pub character_len : List ℕ → ℕ
 character_len [] = 0
 character_len (b ∷ rest) = 1 + prefix_len is_continuation rest
 
--- what is wrong at the place
+-- what is wrong at the offset
 pub data FaultAt (text : List ℕ) (at : ℕ) : LexFault → Type 0 where
   strange : at < length text → HasNoShape (drop at text) →
       FaultAt text at (fault.BadCharacter (record { start = at; «end» = at + character_len (drop at text) }))
@@ -35,7 +35,7 @@ pub data FaultAt (text : List ℕ) (at : ℕ) : LexFault → Type 0 where
       FirstOnLine (take at text) → ¬ (IsInclude (take len (drop at text))) →
       FaultAt text at (fault.Directive (record { start = at; «end» = at + 1 }))
 
--- the text is cut up to a place at which this is wrong
+-- the text is cut up to an offset at which this is wrong
 pub record IsFirst (text : List ℕ) (f : LexFault) : Type 0 where
   pub short : length text ≤ MOST_BYTES
   pub at : ℕ

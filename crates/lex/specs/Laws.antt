@@ -8,7 +8,7 @@ use Rattle.lex.specs.Pieces.{Says}
 abbrev pub slice : List ℕ → Span → List ℕ
 slice text s = take (s.«end» - s.start) (drop s.start text)
 
--- the tokens lie between two places in their order, none empty and none over another, and each says what the bytes of
+-- the tokens lie between two offsets in their order, none empty and none over another, and each says what the bytes of
 -- its span mean
 abbrev pub Lie : List ℕ → ℕ → ℕ → List Tok → Type 0
 Lie text from to [] = from ≤ to

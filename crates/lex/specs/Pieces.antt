@@ -1,4 +1,4 @@
--- How a text is cut into tokens: at each place the longest piece that has a shape, and what it says. The shapes are
+-- How a text is cut into tokens: at each offset the longest piece that has a shape, and what it says. The shapes are
 -- those of C11 6.4, as far as this language has them.
 use Rattle.std.specs.Prelude.{◌≡◌, ◌≢◌, ℕ, ◌+◌, ◌-◌, ◌*◌, ◌^◌, ◌<◌, ◌≤◌, Bool, true, false, ◌⊎◌, nat_lt, if◌then◌else◌}
 use Rattle.std.specs.Prelude.{List, [], ◌∷◌, ◌++◌, length, take, drop, slice_index, codes, Option, Some, None}
@@ -181,7 +181,7 @@ pub record Longest (rest : List ℕ) (len : ℕ) : Type 0 where
 abbrev pub HasNoShape : List ℕ → Type 0
 HasNoShape rest = (n : ℕ) → n ≤ length rest → Shape (take n rest) → ⊥
 
--- each byte before the place that no LF parts from it is a space or a tab
+-- each byte before the offset that no LF parts from it is a space or a tab
 abbrev pub FirstOnLine : List ℕ → Type 0
 FirstOnLine before =
     (k : ℕ) → k < length before → ((j : ℕ) → k ≤ j → j < length before → slice_index before j ≢ 10) →
@@ -210,18 +210,18 @@ Parted (tokens.string_literal w) after = Unit {0}
 Parted (tokens.fixed m) after = Unit {0}
 Parted tokens.reserved after = Unit {0}
 
--- the len bytes at the place are no part of a token
+-- the len bytes at the offset are no part of a token
 pub record IsGap (text : List ℕ) (at len : ℕ) : Type 0 where
   pub front : Longest (drop at text) len
   pub gap : Gap (take at text) (take len (drop at text))
 
--- the len bytes at the place are this token
+-- the len bytes at the offset are this token
 pub record IsToken (text : List ℕ) (at len : ℕ) (says : Terminal) : Type 0 where
   pub front : Longest (drop at text) len
   pub means : Says (take len (drop at text)) says
   pub parted : Parted says (drop len (drop at text))
 
--- the text up to the place is cut into these tokens
+-- the text up to the offset is cut into these tokens
 pub data Cut (text : List ℕ) : ℕ → List Tok → Type 0 where
   start : Cut text 0 []
   gap : {at : ℕ} {ts : List Tok} (len : ℕ) → Cut text at ts → IsGap text at len → Cut text (at + len) ts

@@ -27,7 +27,7 @@ fn close(rest: &[u8]) -> Option<usize>
     None
 }
 
-/// The comment at the place, that `/*` opens: up to the first `*/` behind it (C11 6.4.9).
+/// The comment that `/*` opens at the offset: up to the first `*/` behind it (C11 6.4.9).
 pub(crate) fn comment<'a>(text: &'a str, at: usize) -> Result<(Option<Kind<'a>>, usize), LexFault>
     requires within { at + 1 < length text.now }
     requires fits { length text.now < 2 ^ 62 }
@@ -44,7 +44,7 @@ pub(crate) fn comment<'a>(text: &'a str, at: usize) -> Result<(Option<Kind<'a>>,
     }
 }
 
-/// The comment at the place, that `//` opens: up to the end of its line (C11 6.4.9).
+/// The comment that `//` opens at the offset: up to the end of its line (C11 6.4.9).
 pub(crate) fn line_comment<'a>(
     text: &'a str,
     at: usize,
@@ -100,7 +100,7 @@ fn is_include(line: &[u8]) -> bool
     }
 }
 
-/// The line at the place from its `#` on.
+/// The line at the offset from its `#` on.
 ///
 /// directive = "#" {space | tab} "include" [what no letter, digit or `_` begins], first on its line (C11 6.10.2)
 pub(crate) fn directive<'a>(text: &'a str, at: usize) -> Result<(Option<Kind<'a>>, usize), LexFault>

@@ -168,7 +168,7 @@ fn typed_value(base: Base, suffix: Suffix, digits: &[u8]) -> Option<(u64, Scalar
     Some((value, ty))
 }
 
-/// The constant at the place.
+/// The constant at the offset.
 ///
 /// constant = (nonzero-digit {digit} | "0" {octal-digit} | ("0x" | "0X") hexadecimal-digit {hexadecimal-digit}) ["u" |
 /// "U" | "ll" | "LL"] (C11 6.4.4.1)

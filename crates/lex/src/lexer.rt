@@ -37,7 +37,7 @@ fn slash<'a>(text: &'a str, at: usize) -> Result<(Option<Kind<'a>>, usize), LexF
     punctuator(text, at)
 }
 
-/// The piece at the place: a token's kind, or none for what stands between tokens, and its length.
+/// The piece at the offset: a token's kind, or none for what stands between tokens, and its length.
 fn next<'a>(text: &'a str, at: usize) -> Result<(Option<Kind<'a>>, usize), LexFault>
     requires within { at < length text.now }
     requires fits { length text.now < 2 ^ 62 }

@@ -1,4 +1,4 @@
-//! The lexer: a source text cut into tokens, each with its place.
+//! The lexer: a source text cut into tokens, each with its span.
 #![tactic(auto)]
 
 mod bytes;

@@ -95,7 +95,7 @@ fn punctuator_at(rest: &[u8]) -> Option<(Fixed, usize)>
     }
 }
 
-/// The punctuator at the place, where no other piece begins.
+/// The punctuator at the offset, where no other piece begins.
 pub(crate) fn punctuator<'a>(
     text: &'a str,
     at: usize,

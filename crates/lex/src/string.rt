@@ -28,7 +28,7 @@ fn inside_len(rest: &[u8]) -> Option<usize>
     None
 }
 
-/// The string literal at the place.
+/// The string literal at the offset.
 ///
 /// string = `"` {plain | `\` ("n" | "t" | `\` | `"`)} `"` (C11 6.4.5, without prefixes)
 pub(crate) fn string<'a>(text: &'a str, at: usize) -> Result<(Option<Kind<'a>>, usize), LexFault>

@@ -70,7 +70,7 @@ fn is_reserved(word: &str) -> bool
     )
 }
 
-/// The word at the place: a keyword, a reserved word or a name.
+/// The word at the offset: a keyword, a reserved word or a name.
 ///
 /// word = nondigit {nondigit | digit} (C11 6.4.2.1)
 pub(crate) fn word<'a>(text: &'a str, at: usize) -> Result<(Option<Kind<'a>>, usize), LexFault>

@@ -136,8 +136,8 @@ fn lower_plain<'p, A: Allocator + Copy>(
     lower_body(names, lists, code, f, body, from)
 }
 
-/// A function's body that finds these constants preloaded, and in front of it the instructions that set them in registers
-/// from this one on; the place behind it.
+/// A function's body that finds these constants preloaded, and in front of it the instructions that set them in
+/// registers from this one on; the place behind it.
 fn lower_preloaded<'p, A: Allocator + Copy>(
     names: &ProgramNames<'p, A>,
     lists: &mut Lists<A>,

@@ -34,13 +34,13 @@ pub(crate) fn jump_if_not(at_zero: bool, register: u16, to: u32) -> Instr
     }
 }
 
-fn complete_one(one: Draft, met: u32, unmet: u32) -> Instr
-    ensures { result ≡ conditions.instruction_of_draft met unmet one }
+fn complete_one(one: Draft, true_exit: u32, false_exit: u32) -> Instr
+    ensures { result ≡ conditions.instruction_of_draft true_exit false_exit one }
 {
     match one {
         Draft::Whole(i) => i,
-        Draft::ToMet(at_zero, r) => jump_if(at_zero, r, met),
-        Draft::ToUnmet(at_zero, r) => jump_if(at_zero, r, unmet),
+        Draft::ToTrueExit(at_zero, r) => jump_if(at_zero, r, true_exit),
+        Draft::ToFalseExit(at_zero, r) => jump_if(at_zero, r, false_exit),
     }
 }
 
@@ -49,8 +49,8 @@ fn opposite(one: Draft) -> Draft
 {
     match one {
         Draft::Whole(i) => Draft::Whole(i),
-        Draft::ToMet(at_zero, r) => Draft::ToUnmet(at_zero, r),
-        Draft::ToUnmet(at_zero, r) => Draft::ToMet(at_zero, r),
+        Draft::ToTrueExit(at_zero, r) => Draft::ToFalseExit(at_zero, r),
+        Draft::ToFalseExit(at_zero, r) => Draft::ToTrueExit(at_zero, r),
     }
 }
 
@@ -60,13 +60,13 @@ fn with_second_at(op: LogicalOp, next: u32, one: Draft) -> Draft
     match op {
         LogicalOp::AndThen => match one {
             Draft::Whole(i) => Draft::Whole(i),
-            Draft::ToMet(at_zero, r) => Draft::Whole(jump_if(at_zero, r, next)),
-            Draft::ToUnmet(at_zero, r) => Draft::ToUnmet(at_zero, r),
+            Draft::ToTrueExit(at_zero, r) => Draft::Whole(jump_if(at_zero, r, next)),
+            Draft::ToFalseExit(at_zero, r) => Draft::ToFalseExit(at_zero, r),
         },
         LogicalOp::OrElse => match one {
             Draft::Whole(i) => Draft::Whole(i),
-            Draft::ToMet(at_zero, r) => Draft::ToMet(at_zero, r),
-            Draft::ToUnmet(at_zero, r) => Draft::Whole(jump_if(at_zero, r, next)),
+            Draft::ToTrueExit(at_zero, r) => Draft::ToTrueExit(at_zero, r),
+            Draft::ToFalseExit(at_zero, r) => Draft::Whole(jump_if(at_zero, r, next)),
         },
     }
 }
@@ -76,8 +76,8 @@ fn short_jump(op: LogicalOp, t: ConditionRegister) -> Draft
     ensures { result ≡ conditions.short_jump op t }
 {
     match op {
-        LogicalOp::AndThen => Draft::ToUnmet(!t.at_zero, t.register),
-        LogicalOp::OrElse => Draft::ToMet(t.at_zero, t.register),
+        LogicalOp::AndThen => Draft::ToFalseExit(!t.at_zero, t.register),
+        LogicalOp::OrElse => Draft::ToTrueExit(t.at_zero, t.register),
     }
 }
 
@@ -133,14 +133,14 @@ fn lead_on<A: Allocator>(
 fn complete<A: Allocator>(
     code: &mut Vec<Instr, A>,
     drafts: &[Draft],
-    met: u32,
-    unmet: u32,
+    true_exit: u32,
+    false_exit: u32,
 ) -> Result<(), AllocError>
     ensures { OnOk result
-        (code.new.items ≡ code.old.items ++ map (conditions.instruction_of_draft met unmet) drafts.now) }
+        (code.new.items ≡ code.old.items ++ map (conditions.instruction_of_draft true_exit false_exit) drafts.now) }
 {
     'each: for one in drafts {
-        put(code, complete_one(*one, met, unmet))?;
+        put(code, complete_one(*one, true_exit, false_exit))?;
     }
     Ok(())
 }
@@ -167,13 +167,13 @@ pub fn put_test<A: Allocator>(
     code: &mut Vec<Instr, A>,
     drafts: &[Draft],
     t: ConditionRegister,
-    unmet: u32,
+    false_exit: u32,
 ) -> Result<(), AllocError>
-    ensures { OnOk result (code.new.items ≡ code.old.items ++ conditions.going_on drafts.now t unmet) }
+    ensures { OnOk result (code.new.items ≡ code.old.items ++ conditions.going_on drafts.now t false_exit) }
 {
-    let met = after(t.to, 1)?;
-    complete(code, drafts, met, unmet)?;
-    put(code, jump_if_not(t.at_zero, t.register, unmet))
+    let true_exit = after(t.to, 1)?;
+    complete(code, drafts, true_exit, false_exit)?;
+    put(code, jump_if_not(t.at_zero, t.register, false_exit))
 }
 
 /// A condition with a jump that is taken where it holds; the place behind.
@@ -181,13 +181,13 @@ pub fn put_back<A: Allocator>(
     code: &mut Vec<Instr, A>,
     drafts: &[Draft],
     t: ConditionRegister,
-    met: u32,
+    true_exit: u32,
 ) -> Result<u32, AllocError>
-    ensures code { OnOk result (code.new.items ≡ code.old.items ++ conditions.going_back drafts.now t met) }
+    ensures code { OnOk result (code.new.items ≡ code.old.items ++ conditions.going_back drafts.now t true_exit) }
     ensures place { IfOk result (λ p. p ≡ t.to + 1) }
 {
-    let unmet = after(t.to, 1)?;
-    complete(code, drafts, met, unmet)?;
-    put(code, jump_if(t.at_zero, t.register, met))?;
-    Ok(unmet)
+    let false_exit = after(t.to, 1)?;
+    complete(code, drafts, true_exit, false_exit)?;
+    put(code, jump_if(t.at_zero, t.register, true_exit))?;
+    Ok(false_exit)
 }

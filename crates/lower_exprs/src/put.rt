@@ -325,10 +325,10 @@ pub(crate) fn put_answers<A: Allocator>(
     ensures { AddsValue (expressions.condition_value (test_in_place test.now t (lists_of lists.old)) into)
         code.old code.new lists.new result }
 {
-    let unmet = after(t.to, 3)?;
+    let false_exit = after(t.to, 3)?;
     let to = after(t.to, 4)?;
     let register = take(lists, into)?;
-    put_test(code, test, t, unmet)?;
+    put_test(code, test, t, false_exit)?;
     put(code, Instr::Constant(register, 1))?;
     put(code, Instr::Jump(to))?;
     put(code, Instr::Constant(register, 0))?;

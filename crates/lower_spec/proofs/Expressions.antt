@@ -240,49 +240,49 @@ module _ (p : Program) (call : Caller) (code : Code) (layout : Layout) (frames :
       joined false hit miss rs = refl
 
   -- the two places of a condition: the thread goes on from there with its value, or with the flag that it is
-  abbrev pub GoesBoth : ℕ → ℕ → (a : Around) → (Answer Value → Outcome) → List Local → (met unmet free : ℕ) → List ℕ → Type 0
-  GoesBoth N K a after ls met unmet free old =
+  abbrev pub GoesBoth : ℕ → ℕ → (a : Around) → (Answer Value → Outcome) → List Local → (true_exit false_exit free : ℕ) → List ℕ → Type 0
+  GoesBoth N K a after ls true_exit false_exit free old =
       (v : Value) (b : Bool) (sh : Shared) (text : List ℕ) (new : List ℕ) → is_zero v ≡ b → v.word < modulus v.ty → Keeps layout None free old new → IsGood code a sh →
-      Agrees (effect code) N K (holding a sh text (configuration code (if b then unmet else met) new frames)) (λ n. after (Gives v (state n ls (context_of a sh) text)))
+      Agrees (effect code) N K (holding a sh text (configuration code (if b then false_exit else true_exit) new frames)) (λ n. after (Gives v (state n ls (context_of a sh) text)))
 
-  abbrev GoesFlag : ℕ → ℕ → (a : Around) → (Answer Value → Outcome) → List Local → (met unmet free : ℕ) → List ℕ → Type 0
-  GoesFlag N K a after ls met unmet free old =
+  abbrev GoesFlag : ℕ → ℕ → (a : Around) → (Answer Value → Outcome) → List Local → (true_exit false_exit free : ℕ) → List ℕ → Type 0
+  GoesFlag N K a after ls true_exit false_exit free old =
       (b : Bool) (sh : Shared) (text : List ℕ) (new : List ℕ) → Keeps layout None free old new → IsGood code a sh →
-      Agrees (effect code) N K (holding a sh text (configuration code (if b then unmet else met) new frames)) (λ n. after (Gives (flag (not b)) (state n ls (context_of a sh) text)))
+      Agrees (effect code) N K (holding a sh text (configuration code (if b then false_exit else true_exit) new frames)) (λ n. after (Gives (flag (not b)) (state n ls (context_of a sh) text)))
 
   -- or with a 0 or 1 of whatever type
-  abbrev GoesTruth : ℕ → ℕ → (a : Around) → (Answer Value → Outcome) → List Local → (met unmet free : ℕ) → List ℕ → Type 0
-  GoesTruth N K a after ls met unmet free old =
+  abbrev GoesTruth : ℕ → ℕ → (a : Around) → (Answer Value → Outcome) → List Local → (true_exit false_exit free : ℕ) → List ℕ → Type 0
+  GoesTruth N K a after ls true_exit false_exit free old =
       (t : Scalar) (b : Bool) (sh : Shared) (text : List ℕ) (new : List ℕ) → Keeps layout None free old new → IsGood code a sh →
-      Agrees (effect code) N K (holding a sh text (configuration code (if b then unmet else met) new frames)) (λ n. after (Gives (record { ty = t; word = truth (not b) }) (state n ls (context_of a sh) text)))
+      Agrees (effect code) N K (holding a sh text (configuration code (if b then false_exit else true_exit) new frames)) (λ n. after (Gives (record { ty = t; word = truth (not b) }) (state n ls (context_of a sh) text)))
 
-  truth_of : {N K : ℕ} (a : Around) (after : Answer Value → Outcome) (ls : List Local) (met unmet free : ℕ) (old : List ℕ) → GoesBoth N K a after ls met unmet free old → GoesTruth N K a after ls met unmet free old
-  truth_of a after ls met unmet free old go t true sh text new k g = go (record { ty = t; word = truth false }) true sh text new refl (truth_under t false) k g
-  truth_of a after ls met unmet free old go t false sh text new k g = go (record { ty = t; word = truth true }) false sh text new refl (truth_under t true) k g
+  truth_of : {N K : ℕ} (a : Around) (after : Answer Value → Outcome) (ls : List Local) (true_exit false_exit free : ℕ) (old : List ℕ) → GoesBoth N K a after ls true_exit false_exit free old → GoesTruth N K a after ls true_exit false_exit free old
+  truth_of a after ls true_exit false_exit free old go t true sh text new k g = go (record { ty = t; word = truth false }) true sh text new refl (truth_under t false) k g
+  truth_of a after ls true_exit false_exit free old go t false sh text new k g = go (record { ty = t; word = truth true }) false sh text new refl (truth_under t true) k g
 
-  flag_of : {N K : ℕ} (a : Around) (after : Answer Value → Outcome) (ls : List Local) (met unmet free : ℕ) (old : List ℕ) → GoesTruth N K a after ls met unmet free old → GoesFlag N K a after ls met unmet free old
-  flag_of a after ls met unmet free old go b sh text new k g = go Int b sh text new k g
+  flag_of : {N K : ℕ} (a : Around) (after : Answer Value → Outcome) (ls : List Local) (true_exit false_exit free : ℕ) (old : List ℕ) → GoesTruth N K a after ls true_exit false_exit free old → GoesFlag N K a after ls true_exit false_exit free old
+  flag_of a after ls true_exit false_exit free old go b sh text new k g = go Int b sh text new k g
 
   -- what the code of a condition does: from its two places back to its beginning, by at least one instruction
   abbrev pub BranchingFollows : LocalScope → Action Value → Branching → Type 0
   BranchingFollows scope run tests =
-      (N K from met unmet free : ℕ) (a : Around) (sh : Shared) (text : List ℕ) (ls : List Local) (old : List ℕ) (after : Answer Value → Outcome) →
-      tests from met unmet free → Holds scope ls layout free old → IsGood code a sh → IsSeen a after →
-      GoesBoth N K a after ls met unmet free old → Does N (suc K) a sh text ls from old (λ s. after (run s))
+      (N K from true_exit false_exit free : ℕ) (a : Around) (sh : Shared) (text : List ℕ) (ls : List Local) (old : List ℕ) (after : Answer Value → Outcome) →
+      tests from true_exit false_exit free → Holds scope ls layout free old → IsGood code a sh → IsSeen a after →
+      GoesBoth N K a after ls true_exit false_exit free old → Does N (suc K) a sh text ls from old (λ s. after (run s))
 
   -- the same of one that gives a 0 or 1
   abbrev OwnFollows : LocalScope → Action Value → Branching → Type 0
   OwnFollows scope run tests =
-      (N K from met unmet free : ℕ) (a : Around) (sh : Shared) (text : List ℕ) (ls : List Local) (old : List ℕ) (after : Answer Value → Outcome) →
-      tests from met unmet free → Holds scope ls layout free old → IsGood code a sh → IsSeen a after →
-      GoesTruth N K a after ls met unmet free old → Does N (suc K) a sh text ls from old (λ s. after (run s))
+      (N K from true_exit false_exit free : ℕ) (a : Around) (sh : Shared) (text : List ℕ) (ls : List Local) (old : List ℕ) (after : Answer Value → Outcome) →
+      tests from true_exit false_exit free → Holds scope ls layout free old → IsGood code a sh → IsSeen a after →
+      GoesTruth N K a after ls true_exit false_exit free old → Does N (suc K) a sh text ls from old (λ s. after (run s))
 
   -- and of one that gives a flag
   abbrev FlagFollows : LocalScope → Action Value → Branching → Type 0
   FlagFollows scope run tests =
-      (N K from met unmet free : ℕ) (a : Around) (sh : Shared) (text : List ℕ) (ls : List Local) (old : List ℕ) (after : Answer Value → Outcome) →
-      tests from met unmet free → Holds scope ls layout free old → IsGood code a sh → IsSeen a after →
-      GoesFlag N K a after ls met unmet free old → Does N (suc K) a sh text ls from old (λ s. after (run s))
+      (N K from true_exit false_exit free : ℕ) (a : Around) (sh : Shared) (text : List ℕ) (ls : List Local) (old : List ℕ) (after : Answer Value → Outcome) →
+      tests from true_exit false_exit free → Holds scope ls layout free old → IsGood code a sh → IsSeen a after →
+      GoesFlag N K a after ls true_exit false_exit free old → Does N (suc K) a sh text ls from old (λ s. after (run s))
 
   zero_jumps : {N K : ℕ} (b : Bool) (w : ℕ) (a : Around) (sh : Shared) (text : List ℕ) (q r there on : ℕ) (rs : List ℕ) (does : ℕ → Outcome) → InstructionAt code q (Instr.JumpZero r there) → LeadsTo code (suc q) on → slice_index rs r ≡ w → (w == 0) ≡ b → Agrees (effect code) N K (holding a sh text (configuration code (if b then there else on) rs frames)) does → Agrees (effect code) N (suc K) (holding a sh text (configuration code q rs frames)) does
   zero_jumps true w a sh text q r there on rs does at l here e go = jumps (Instr.JumpZero r there) there (suc q) true w a sh text q r rs does at refl here e go
@@ -294,70 +294,70 @@ module _ (p : Program) (call : Caller) (code : Code) (layout : Layout) (frames :
 
   -- a condition, by its value or by its operator
   branches_follow : (scope : LocalScope) (e : Expr) (own : Branching) → AlwaysFollows None scope e → OwnFollows scope (expr p call e) own → BranchingFollows scope (expr p call e) (Branches code layout (ExprCode code layout p None scope e) own)
-  branches_follow scope e own ih iho N K from met unmet free a sh text ls old after (inl c) h good s go =
+  branches_follow scope e own ih iho N K from true_exit false_exit free a sh text ls old after (inl c) h good s go =
       ih N (suc K) from c.mid free c.r c.t a sh text ls old after c.computes h good s
-      (λ v sh1 text1 rs1 d. zero_jumps (is_zero v) v.word a sh1 text1 c.mid c.r unmet met rs1 _ c.jumps c.leads d.here refl (go v (is_zero v) sh1 text1 rs1 refl d.word d.keeps d.good))
-  branches_follow scope e own ih iho N K from met unmet free a sh text ls old after (inr (inl c)) h good s go =
+      (λ v sh1 text1 rs1 d. zero_jumps (is_zero v) v.word a sh1 text1 c.mid c.r false_exit true_exit rs1 _ c.jumps c.leads d.here refl (go v (is_zero v) sh1 text1 rs1 refl d.word d.keeps d.good))
+  branches_follow scope e own ih iho N K from true_exit false_exit free a sh text ls old after (inr (inl c)) h good s go =
       ih N (suc K) from c.mid free c.r c.t a sh text ls old after c.computes h good s
-      (λ v sh1 text1 rs1 d. nonzero_jumps (is_zero v) v.word a sh1 text1 c.mid c.r met unmet rs1 _ c.jumps c.leads d.here refl (go v (is_zero v) sh1 text1 rs1 refl d.word d.keeps d.good))
-  branches_follow scope e own ih iho N K from met unmet free a sh text ls old after (inr (inr c)) h good s go =
-      iho N K from met unmet free a sh text ls old after c h good s (truth_of a after ls met unmet free old go)
+      (λ v sh1 text1 rs1 d. nonzero_jumps (is_zero v) v.word a sh1 text1 c.mid c.r true_exit false_exit rs1 _ c.jumps c.leads d.here refl (go v (is_zero v) sh1 text1 rs1 refl d.word d.keeps d.good))
+  branches_follow scope e own ih iho N K from true_exit false_exit free a sh text ls old after (inr (inr c)) h good s go =
+      iho N K from true_exit false_exit free a sh text ls old after c h good s (truth_of a after ls true_exit false_exit free old go)
 
   abbrev tested : Value → Action Value
   tested w = pure (flag (not (is_zero w)))
 
   -- the last operand of `&&` and `||`, which gives the answer
-  goes_tested : {N K : ℕ} (a : Around) (after : Answer Value → Outcome) (ls : List Local) (met unmet free : ℕ) (old : List ℕ) → GoesFlag N K a after ls met unmet free old → GoesBoth N K a (λ q. after (go_on q tested)) ls met unmet free old
-  goes_tested a after ls met unmet free old go v b sh text new e below k g =
+  goes_tested : {N K : ℕ} (a : Around) (after : Answer Value → Outcome) (ls : List Local) (true_exit false_exit free : ℕ) (old : List ℕ) → GoesFlag N K a after ls true_exit false_exit free old → GoesBoth N K a (λ q. after (go_on q tested)) ls true_exit false_exit free old
+  goes_tested a after ls true_exit false_exit free old go v b sh text new e below k g =
       same (effect code) (λ n. after (Gives (flag (not b)) (state n ls (context_of a sh) text))) (λ n. ap (λ x. after (Gives (flag (not x)) (state n ls (context_of a sh) text))) e)
       (go b sh text new k g)
 
   -- further on, with the registers of before
-  goes_later : {N K : ℕ} (a : Around) (after : Answer Value → Outcome) (ls : List Local) (met unmet free : ℕ) (old mid : List ℕ) → Keeps layout None free old mid → GoesFlag N K a after ls met unmet free old → GoesFlag N K a after ls met unmet free mid
-  goes_later a after ls met unmet free old mid k go b sh text new l g = go b sh text new (keeps_on layout None free free old mid new (omega arith) k l) g
+  goes_later : {N K : ℕ} (a : Around) (after : Answer Value → Outcome) (ls : List Local) (true_exit false_exit free : ℕ) (old mid : List ℕ) → Keeps layout None free old mid → GoesFlag N K a after ls true_exit false_exit free old → GoesFlag N K a after ls true_exit false_exit free mid
+  goes_later a after ls true_exit false_exit free old mid k go b sh text new l g = go b sh text new (keeps_on layout None free free old mid new (omega arith) k l) g
 
   both_follow : (scope : LocalScope) (x y : Action Value) (A B : Branching) → BranchingFollows scope x A → BranchingFollows scope y B → FlagFollows scope (x >>= λ v. (if is_zero v then pure v else y) >>= tested) (BothHold code layout A B)
-  both_follow scope x y A B ihx ihy N K from met unmet free a sh text ls old after c h good s go =
+  both_follow scope x y A B ihx ihy N K from true_exit false_exit free a sh text ls old after c h good s go =
       let rest : Value → Action Value = λ v. (if is_zero v then pure v else y) >>= tested in
-      ihx N K from c.mid unmet free a sh text ls old (λ q. after (go_on q rest)) c.first h good (on_seen a after rest s) first
+      ihx N K from c.mid false_exit free a sh text ls old (λ q. after (go_on q rest)) c.first h good (on_seen a after rest s) first
     where
-      first : GoesBoth N K a (λ q. after (go_on q (λ v. (if is_zero v then pure v else y) >>= tested))) ls c.mid unmet free old
+      first : GoesBoth N K a (λ q. after (go_on q (λ v. (if is_zero v then pure v else y) >>= tested))) ls c.mid false_exit free old
       first v true sh1 text1 new e below k g =
           same (effect code) (λ n. after (Gives (flag (not (is_zero v))) (state n ls (context_of a sh1) text1))) (λ n. ap (λ z. after (go_on ((if z then pure v else y) (state n ls (context_of a sh1) text1)) tested)) e)
-          (goes_tested a after ls met unmet free old go v true sh1 text1 new e below k g)
+          (goes_tested a after ls true_exit false_exit free old go v true sh1 text1 new e below k g)
       first v false sh1 text1 new e below k g =
           same (effect code) (λ n. after (go_on (y (state n ls (context_of a sh1) text1)) tested)) (λ n. ap (λ z. after (go_on ((if z then pure v else y) (state n ls (context_of a sh1) text1)) tested)) e)
           (fewer (effect code) (omega arith) (omega arith)
-          (ihy N K c.mid met unmet free a sh1 text1 ls new (λ q. after (go_on q tested)) c.second (holds_on scope ls layout free free old new (omega arith) h k) g (on_seen a after tested s)
-          (goes_tested a after ls met unmet free new (goes_later a after ls met unmet free old new k go))))
+          (ihy N K c.mid true_exit false_exit free a sh1 text1 ls new (λ q. after (go_on q tested)) c.second (holds_on scope ls layout free free old new (omega arith) h k) g (on_seen a after tested s)
+          (goes_tested a after ls true_exit false_exit free new (goes_later a after ls true_exit false_exit free old new k go))))
 
   either_follows : (scope : LocalScope) (x y : Action Value) (A B : Branching) → BranchingFollows scope x A → BranchingFollows scope y B → FlagFollows scope (x >>= λ v. (if is_zero v then y else pure v) >>= tested) (EitherHolds code layout A B)
-  either_follows scope x y A B ihx ihy N K from met unmet free a sh text ls old after c h good s go =
+  either_follows scope x y A B ihx ihy N K from true_exit false_exit free a sh text ls old after c h good s go =
       let rest : Value → Action Value = λ v. (if is_zero v then y else pure v) >>= tested in
-      ihx N K from met c.mid free a sh text ls old (λ q. after (go_on q rest)) c.first h good (on_seen a after rest s) first
+      ihx N K from true_exit c.mid free a sh text ls old (λ q. after (go_on q rest)) c.first h good (on_seen a after rest s) first
     where
-      first : GoesBoth N K a (λ q. after (go_on q (λ v. (if is_zero v then y else pure v) >>= tested))) ls met c.mid free old
+      first : GoesBoth N K a (λ q. after (go_on q (λ v. (if is_zero v then y else pure v) >>= tested))) ls true_exit c.mid free old
       first v false sh1 text1 new e below k g =
           same (effect code) (λ n. after (Gives (flag (not (is_zero v))) (state n ls (context_of a sh1) text1))) (λ n. ap (λ z. after (go_on ((if z then y else pure v) (state n ls (context_of a sh1) text1)) tested)) e)
-          (goes_tested a after ls met unmet free old go v false sh1 text1 new e below k g)
+          (goes_tested a after ls true_exit false_exit free old go v false sh1 text1 new e below k g)
       first v true sh1 text1 new e below k g =
           same (effect code) (λ n. after (go_on (y (state n ls (context_of a sh1) text1)) tested)) (λ n. ap (λ z. after (go_on ((if z then y else pure v) (state n ls (context_of a sh1) text1)) tested)) e)
           (fewer (effect code) (omega arith) (omega arith)
-          (ihy N K c.mid met unmet free a sh1 text1 ls new (λ q. after (go_on q tested)) c.second (holds_on scope ls layout free free old new (omega arith) h k) g (on_seen a after tested s)
-          (goes_tested a after ls met unmet free new (goes_later a after ls met unmet free old new k go))))
+          (ihy N K c.mid true_exit false_exit free a sh1 text1 ls new (λ q. after (go_on q tested)) c.second (holds_on scope ls layout free free old new (omega arith) h k) g (on_seen a after tested s)
+          (goes_tested a after ls true_exit false_exit free new (goes_later a after ls true_exit false_exit free old new k go))))
 
   -- the other way round
-  goes_swapped : {N K : ℕ} (a : Around) (after : Answer Value → Outcome) (ls : List Local) (met unmet free : ℕ) (old : List ℕ) (rest : Value → Action Value) → ((v : Value) (s : State) → v.word < modulus v.ty → rest v s ≡ Gives (flag (is_zero v)) s) → GoesFlag N K a after ls met unmet free old → GoesBoth N K a (λ q. after (go_on q rest)) ls unmet met free old
-  goes_swapped a after ls met unmet free old rest is go v true sh text new e below k g =
+  goes_swapped : {N K : ℕ} (a : Around) (after : Answer Value → Outcome) (ls : List Local) (true_exit false_exit free : ℕ) (old : List ℕ) (rest : Value → Action Value) → ((v : Value) (s : State) → v.word < modulus v.ty → rest v s ≡ Gives (flag (is_zero v)) s) → GoesFlag N K a after ls true_exit false_exit free old → GoesBoth N K a (λ q. after (go_on q rest)) ls false_exit true_exit free old
+  goes_swapped a after ls true_exit false_exit free old rest is go v true sh text new e below k g =
       same (effect code) (λ n. after (Gives (flag true) (state n ls (context_of a sh) text))) (λ n. ap after (is v (state n ls (context_of a sh) text) below) ∙ ap (λ x. after (Gives (flag x) (state n ls (context_of a sh) text))) e)
       (go false sh text new k g)
-  goes_swapped a after ls met unmet free old rest is go v false sh text new e below k g =
+  goes_swapped a after ls true_exit false_exit free old rest is go v false sh text new e below k g =
       same (effect code) (λ n. after (Gives (flag false) (state n ls (context_of a sh) text))) (λ n. ap after (is v (state n ls (context_of a sh) text) below) ∙ ap (λ x. after (Gives (flag x) (state n ls (context_of a sh) text))) e)
       (go true sh text new k g)
 
   -- a comparison with the constant 0
-  goes_same : {N K : ℕ} (a : Around) (after : Answer Value → Outcome) (ls : List Local) (met unmet free : ℕ) (old : List ℕ) (rest : Value → Action Value) → ((v : Value) (s : State) → v.word < modulus v.ty → rest v s ≡ Gives (flag (not (is_zero v))) s) → GoesFlag N K a after ls met unmet free old → GoesBoth N K a (λ q. after (go_on q rest)) ls met unmet free old
-  goes_same a after ls met unmet free old rest is go v b sh text new e below k g =
+  goes_same : {N K : ℕ} (a : Around) (after : Answer Value → Outcome) (ls : List Local) (true_exit false_exit free : ℕ) (old : List ℕ) (rest : Value → Action Value) → ((v : Value) (s : State) → v.word < modulus v.ty → rest v s ≡ Gives (flag (not (is_zero v))) s) → GoesFlag N K a after ls true_exit false_exit free old → GoesBoth N K a (λ q. after (go_on q rest)) ls true_exit false_exit free old
+  goes_same a after ls true_exit false_exit free old rest is go v b sh text new e below k g =
       same (effect code) (λ n. after (Gives (flag (not b)) (state n ls (context_of a sh) text))) (λ n. ap after (is v (state n ls (context_of a sh) text) below) ∙ ap (λ x. after (Gives (flag (not x)) (state n ls (context_of a sh) text))) e)
       (go b sh text new k g)
 
@@ -375,27 +375,27 @@ module _ (p : Program) (call : Caller) (code : Code) (layout : Layout) (frames :
   zero_equals t at v s below = ap (λ b. Gives (flag b) s) (zero_asked t v below)
 
   compared_follows : (scope : LocalScope) (op : BinaryOp) (x y : Expr) (A : Branching) → BranchingFollows scope (expr p call x) A → FlagFollows scope (expr p call x >>= comparing op y) (ComparedWithZero code layout op y A)
-  compared_follows scope op x y A ih N K from met unmet free a sh text ls old after (nought, inl c) h good s go =
-      ih N K from met unmet free a sh text ls old (λ q. after (go_on q (comparing op y))) c.1 h good (on_seen a after (comparing op y) s)
-      (goes_same a after ls met unmet free old (comparing op y)
+  compared_follows scope op x y A ih N K from true_exit false_exit free a sh text ls old after (nought, inl c) h good s go =
+      ih N K from true_exit false_exit free a sh text ls old (λ q. after (go_on q (comparing op y))) c.1 h good (on_seen a after (comparing op y) s)
+      (goes_same a after ls true_exit false_exit free old (comparing op y)
       (λ v s below. ap (λ z. comparing z y v s) c.0 ∙ ap (λ z. comparing NotEqual z v s) nought.2 ∙ zero_differs nought.0 nought.1 v s below) go)
-  compared_follows scope op x y A ih N K from met unmet free a sh text ls old after (nought, inr c) h good s go =
-      ih N K from unmet met free a sh text ls old (λ q. after (go_on q (comparing op y))) c.1 h good (on_seen a after (comparing op y) s)
-      (goes_swapped a after ls met unmet free old (comparing op y)
+  compared_follows scope op x y A ih N K from true_exit false_exit free a sh text ls old after (nought, inr c) h good s go =
+      ih N K from false_exit true_exit free a sh text ls old (λ q. after (go_on q (comparing op y))) c.1 h good (on_seen a after (comparing op y) s)
+      (goes_swapped a after ls true_exit false_exit free old (comparing op y)
       (λ v s below. ap (λ z. comparing z y v s) c.0 ∙ ap (λ z. comparing Equal z v s) nought.2 ∙ zero_equals nought.0 nought.1 v s below) go)
 
   -- the flag of a condition in a register
   truth_follows : (home : Option ℕ) (scope : LocalScope) (run : Action Value) (tests : Branching) → FlagFollows scope run tests → (N K from to free r : ℕ) (t : Scalar) (a : Around) (sh : Shared) (text : List ℕ) (ls : List Local) (old : List ℕ) (after : Answer Value → Outcome) → TruthCode code layout home tests from to free r t → Holds scope ls layout free old → IsGood code a sh → IsSeen a after → GoesOn N K a after ls to home free r t old → Does N K a sh text ls from old (λ s. after (run s))
   truth_follows home scope run tests ih N K from to free r t a sh text ls old after c h good s go =
-      fewer (effect code) (omega arith) (omega arith) (ih N K from c.met c.unmet free a sh text ls old after c.decides h good s places)
+      fewer (effect code) (omega arith) (omega arith) (ih N K from c.true_exit c.false_exit free a sh text ls old after c.decides h good s places)
     where
-      places : GoesFlag N K a after ls c.met c.unmet free old
+      places : GoesFlag N K a after ls c.true_exit c.false_exit free old
       places true sh1 text1 new k g =
-          sets (Instr.Constant r 0) Int a sh1 text1 ls after c.unmet (suc c.unmet) home free r 0 t old new c.gives_zero refl (k.size ∙ h.size_is) (omega arith) (keeps_more layout home free old new k) g
-          (λ v sh2 text2 rs2 d. leads a sh2 text2 (suc c.unmet) to rs2 c.zero_leads (go v sh2 text2 rs2 d))
+          sets (Instr.Constant r 0) Int a sh1 text1 ls after c.false_exit (suc c.false_exit) home free r 0 t old new c.gives_zero refl (k.size ∙ h.size_is) (omega arith) (keeps_more layout home free old new k) g
+          (λ v sh2 text2 rs2 d. leads a sh2 text2 (suc c.false_exit) to rs2 c.zero_leads (go v sh2 text2 rs2 d))
       places false sh1 text1 new k g =
-          sets (Instr.Constant r 1) Int a sh1 text1 ls after c.met (suc c.met) home free r 1 t old new c.gives_one refl (k.size ∙ h.size_is) (omega arith) (keeps_more layout home free old new k) g
-          (λ v sh2 text2 rs2 d. leads a sh2 text2 (suc c.met) to rs2 c.one_leads (go v sh2 text2 rs2 d))
+          sets (Instr.Constant r 1) Int a sh1 text1 ls after c.true_exit (suc c.true_exit) home free r 1 t old new c.gives_one refl (k.size ∙ h.size_is) (omega arith) (keeps_more layout home free old new k) g
+          (λ v sh2 text2 rs2 d. leads a sh2 text2 (suc c.true_exit) to rs2 c.one_leads (go v sh2 text2 rs2 d))
 
   -- `?:` once the chosen operand is there
   abbrev choosing : Expr → Value → Action Value
@@ -465,16 +465,16 @@ module _ (p : Program) (call : Caller) (code : Code) (layout : Layout) (frames :
   conditional_follows home whole scope run x y T iht ihx ihy N K from to free r t a sh text ls old after c is h good s go =
       let rest : Value → Action Value = λ v. (if is_zero v then expr p call y else expr p call x) >>= choosing whole in
       fewer (effect code) (omega arith) (omega arith)
-      (iht N K from c.met c.unmet free a sh text ls old (λ q. after (go_on q rest)) c.tests h good (on_seen a after rest s) places)
+      (iht N K from c.true_exit c.false_exit free a sh text ls old (λ q. after (go_on q rest)) c.tests h good (on_seen a after rest s) places)
     where
-      places : GoesBoth N K a (λ q. after (go_on q (λ v. (if is_zero v then expr p call y else expr p call x) >>= choosing whole))) ls c.met c.unmet free old
+      places : GoesBoth N K a (λ q. after (go_on q (λ v. (if is_zero v then expr p call y else expr p call x) >>= choosing whole))) ls c.true_exit c.false_exit free old
       places v true sh1 text1 new e below k g =
           same (effect code) (λ n. after (go_on (expr p call y (state n ls (context_of a sh1) text1)) (choosing whole))) (λ n. ap (λ z. after (go_on ((if z then expr p call y else expr p call x) (state n ls (context_of a sh1) text1)) (choosing whole))) e)
-          (branch_follows home whole scope y ihy N K c.unmet c.end free r t a sh1 text1 ls new after c.else_code is (holds_on scope ls layout free free old new (omega arith) h k) g s
+          (branch_follows home whole scope y ihy N K c.false_exit c.end free r t a sh1 text1 ls new after c.else_code is (holds_on scope ls layout free free old new (omega arith) h k) g s
           (λ w sh2 text2 rs2 d. leads a sh2 text2 c.end to rs2 c.else_leads (goes_after a after ls to home free r t old new k go w sh2 text2 rs2 d)))
       places v false sh1 text1 new e below k g =
           same (effect code) (λ n. after (go_on (expr p call x (state n ls (context_of a sh1) text1)) (choosing whole))) (λ n. ap (λ z. after (go_on ((if z then expr p call y else expr p call x) (state n ls (context_of a sh1) text1)) (choosing whole))) e)
-          (branch_follows home whole scope x ihx N K c.met c.last free r t a sh1 text1 ls new after c.then_code is (holds_on scope ls layout free free old new (omega arith) h k) g s
+          (branch_follows home whole scope x ihx N K c.true_exit c.last free r t a sh1 text1 ls new after c.then_code is (holds_on scope ls layout free free old new (omega arith) h k) g s
           (λ w sh2 text2 rs2 d. leads a sh2 text2 c.last to rs2 c.then_leads (goes_after a after ls to home free r t old new k go w sh2 text2 rs2 d)))
 
   -- a value that is computed in a transaction of its own: its body's end is the value
@@ -632,9 +632,9 @@ module _ (p : Program) (call : Caller) (code : Code) (layout : Layout) (frames :
           operand_follows scope x (expr_follows None scope x) (operand_type op c.ta c.tb) N K from c.mid free c.ra c.ta a sh text ls old (λ q. after (go_on q rest)) c.left h good (on_seen a after rest s)
           (λ v sh1 text1 rs1 d.
           let rest1 : Value → Action Value = λ w. or_trap (binary op v w) in
-          operand_follows scope y (expr_follows None scope y) (operand_type op c.tb c.ta) N K c.mid c.last c.later c.rb c.tb a sh1 text1 ls rs1 (λ q. after (go_on q rest1)) c.right (holds_on scope ls layout free c.later old rs1 c.kept h d.keeps) d.good (on_seen a after rest1 s)
+          operand_follows scope y (expr_follows None scope y) (operand_type op c.tb c.ta) N K c.mid c.last c.later c.rb c.tb a sh1 text1 ls rs1 (λ q. after (go_on q rest1)) c.right (holds_on scope ls layout free c.later old rs1 c.is_above h d.keeps) d.good (on_seen a after rest1 s)
           (λ w sh2 text2 rs2 e.
-          let keeps : Keeps layout None free old rs2 = keeps_on layout None free c.later old rs1 rs2 c.kept d.keeps e.keeps in
+          let keeps : Keeps layout None free old rs2 = keeps_on layout None free c.later old rs1 rs2 c.is_above d.keeps e.keeps in
           operates op v w c.ta c.tb c.ra c.rb a sh2 text2 ls after c.last to home free r t old rs2 d.typed_so e.typed_so (kept_at layout c.later c.ra rs1 rs2 c.apart e.keeps ∙ d.here) e.here c.operates (keeps.size ∙ h.size_is) (keeps_more layout home free old rs2 keeps) e.good s go))
       expr_follows home scope (Logical AndThen x y at) N K from to free r t a sh text ls old after c h good s go =
           truth_follows home scope (expr p call x >>= λ v. (if is_zero v then pure v else expr p call y) >>= tested)
@@ -655,32 +655,32 @@ module _ (p : Program) (call : Caller) (code : Code) (layout : Layout) (frames :
 
       -- conditions that lead on by themselves
       pub own_follows : (scope : LocalScope) (e : Expr) → OwnFollows scope (expr p call e) (OwnTests code layout p scope e)
-      own_follows scope (Parenthesized e at) N K from met unmet free a sh text ls old after c h good s go =
-          own_follows scope e N K from met unmet free a sh text ls old after c h good s go
-      own_follows scope (Cast u e at) N K from met unmet free a sh text ls old after c h good s go =
+      own_follows scope (Parenthesized e at) N K from true_exit false_exit free a sh text ls old after c h good s go =
+          own_follows scope e N K from true_exit false_exit free a sh text ls old after c h good s go
+      own_follows scope (Cast u e at) N K from true_exit false_exit free a sh text ls old after c h good s go =
           let rest : Value → Action Value = λ v. pure (value_in_type u v) in
-          own_follows scope e N K from met unmet free a sh text ls old (λ q. after (go_on q rest)) c h good (on_seen a after rest s)
+          own_follows scope e N K from true_exit false_exit free a sh text ls old (λ q. after (go_on q rest)) c h good (on_seen a after rest s)
           (λ t b sh1 text1 new k g.
           same (effect code) (λ n. after (Gives (record { ty = u; word = truth (not b) }) (state n ls (context_of a sh1) text1)))
           (λ n. ap (λ v. after (Gives v (state n ls (context_of a sh1) text1))) (truth_converted t u (not b)))
           (go u b sh1 text1 new k g))
-      own_follows scope (Unary Keep e at) N K from met unmet free a sh text ls old after c h good s go =
+      own_follows scope (Unary Keep e at) N K from true_exit false_exit free a sh text ls old after c h good s go =
           let rest : Value → Action Value = λ v. or_trap (unary Keep v) in
-          own_follows scope e N K from met unmet free a sh text ls old (λ q. after (go_on q rest)) c h good (on_seen a after rest s) go
-      own_follows scope (Unary Not e at) N K from met unmet free a sh text ls old after c h good s go =
+          own_follows scope e N K from true_exit false_exit free a sh text ls old (λ q. after (go_on q rest)) c h good (on_seen a after rest s) go
+      own_follows scope (Unary Not e at) N K from true_exit false_exit free a sh text ls old after c h good s go =
           let rest : Value → Action Value = λ v. or_trap (unary Not v) in
-          branches_follow scope e (OwnTests code layout p scope e) (expr_follows None scope e) (own_follows scope e) N K from unmet met free a sh text ls old (λ q. after (go_on q rest)) c h good (on_seen a after rest s)
-          (goes_swapped a after ls met unmet free old rest (λ v s below. refl) (flag_of a after ls met unmet free old go))
-      own_follows scope (Binary op x y at) N K from met unmet free a sh text ls old after c h good s go =
+          branches_follow scope e (OwnTests code layout p scope e) (expr_follows None scope e) (own_follows scope e) N K from false_exit true_exit free a sh text ls old (λ q. after (go_on q rest)) c h good (on_seen a after rest s)
+          (goes_swapped a after ls true_exit false_exit free old rest (λ v s below. refl) (flag_of a after ls true_exit false_exit free old go))
+      own_follows scope (Binary op x y at) N K from true_exit false_exit free a sh text ls old after c h good s go =
           compared_follows scope op x y (Branches code layout (ExprCode code layout p None scope x) (OwnTests code layout p scope x)) (branches_follow scope x _ (expr_follows None scope x) (own_follows scope x))
-          N K from met unmet free a sh text ls old after c h good s (flag_of a after ls met unmet free old go)
-      own_follows scope (Logical AndThen x y at) N K from met unmet free a sh text ls old after c h good s go =
+          N K from true_exit false_exit free a sh text ls old after c h good s (flag_of a after ls true_exit false_exit free old go)
+      own_follows scope (Logical AndThen x y at) N K from true_exit false_exit free a sh text ls old after c h good s go =
           both_follow scope (expr p call x) (expr p call y) _ _ (branches_follow scope x _ (expr_follows None scope x) (own_follows scope x)) (branches_follow scope y _ (expr_follows None scope y) (own_follows scope y))
-          N K from met unmet free a sh text ls old after c h good s (flag_of a after ls met unmet free old go)
-      own_follows scope (Logical OrElse x y at) N K from met unmet free a sh text ls old after c h good s go =
+          N K from true_exit false_exit free a sh text ls old after c h good s (flag_of a after ls true_exit false_exit free old go)
+      own_follows scope (Logical OrElse x y at) N K from true_exit false_exit free a sh text ls old after c h good s go =
           either_follows scope (expr p call x) (expr p call y) _ _ (branches_follow scope x _ (expr_follows None scope x) (own_follows scope x)) (branches_follow scope y _ (expr_follows None scope y) (own_follows scope y))
-          N K from met unmet free a sh text ls old after c h good s (flag_of a after ls met unmet free old go)
-      own_follows scope e N K from met unmet free a sh text ls old after c h good s go = absurd c
+          N K from true_exit false_exit free a sh text ls old after c h good s (flag_of a after ls true_exit false_exit free old go)
+      own_follows scope e N K from true_exit false_exit free a sh text ls old after c h good s go = absurd c
 
       pub args_follow : (scope : LocalScope) (ts : List Scalar) (es : Exprs) (N K from to free : ℕ) (args : List ℕ) (a : Around) (sh : Shared) (text : List ℕ) (ls : List Local) (old : List ℕ) (after : Answer (List Value) → Outcome) → ArgsCode code layout p scope ts es from to free args → Holds scope ls layout free old → IsGood code a sh → IsSeen a after → GoesArgs N K a after ls ts to free args old → Does N K a sh text ls from old (λ s. after (exprs p call es s))
       args_follow scope ts Exprs.[] N K from to free args a sh text ls old after c h good s go =
@@ -690,9 +690,9 @@ module _ (p : Program) (call : Caller) (code : Code) (layout : Layout) (frames :
           handed_follows scope ts e (expr_follows None scope e) N K from c.last free c.r a sh text ls old (λ q. after (go_on q rest)) c.computes h good (on_seen a after rest s)
           (λ v sh1 text1 rs1 here keeps1 good1.
           let rest1 : List Value → Action (List Value) = λ vs. pure (v ∷ vs) in
-          args_follow scope (types_left ts) es N K c.last to c.later c.others a sh1 text1 ls rs1 (λ q. after (go_on q rest1)) c.goes_on (holds_on scope ls layout free c.later old rs1 c.kept h keeps1) good1 (on_seen a after rest1 s)
+          args_follow scope (types_left ts) es N K c.last to c.later c.others a sh1 text1 ls rs1 (λ q. after (go_on q rest1)) c.goes_on (holds_on scope ls layout free c.later old rs1 c.is_above h keeps1) good1 (on_seen a after rest1 s)
           (λ vs sh2 text2 rs2 words keeps good2.
-          go (v ∷ vs) sh2 text2 rs2 (ap (map (slice_index rs2)) c.are ∙ ap (λ w. w ∷ map (slice_index rs2) c.others) (keeps.below c.r c.apart tt ∙ here) ∙ ap (λ ws. first_word ts v ∷ ws) words) (keeps_on layout None free c.later old rs1 rs2 c.kept keeps1 keeps) good2))
+          go (v ∷ vs) sh2 text2 rs2 (ap (map (slice_index rs2)) c.are ∙ ap (λ w. w ∷ map (slice_index rs2) c.others) (keeps.below c.r c.apart tt ∙ here) ∙ ap (λ ws. first_word ts v ∷ ws) words) (keeps_on layout None free c.later old rs1 rs2 c.is_above keeps1 keeps) good2))
 
     -- a condition's code
     pub cond_follows : (scope : LocalScope) (e : Expr) → BranchingFollows scope (expr p call e) (CondCode code layout p scope e)

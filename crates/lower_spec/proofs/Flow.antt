@@ -429,16 +429,16 @@ module _ (p : Program) (call : Caller) (code : Code) (layout : Layout) (frames :
       (λ sh1 text1 ls1 rs1 good1 h1. leads p call code layout frames a sh1 text1 last head rs1 i (again sh1 text1 ls1 rs1 good1 h1))
 
   -- a condition that may be missing
-  holds_follows : {N K : ℕ} (scope : LocalScope) (o : Option Expr) (rest : Bool → Action (Option Completion)) (from met out : ℕ) → HoldsCode code layout p scope o from met out → (a : Around) (sh : Shared) (text : List ℕ) (ls : List Local) (rs : List ℕ) (after : Answer (Option Completion) → Outcome) → Here scope ls rs → IsGood code a sh → IsSeen a after
-      → ((sh1 : Shared) (text1 : List ℕ) (rs1 : List ℕ) → IsGood code a sh1 → Here scope ls rs1 → Goes p call code layout frames cf are N K a sh1 text1 ls met rs1 (λ s. after (rest true s)))
+  holds_follows : {N K : ℕ} (scope : LocalScope) (o : Option Expr) (rest : Bool → Action (Option Completion)) (from true_exit out : ℕ) → HoldsCode code layout p scope o from true_exit out → (a : Around) (sh : Shared) (text : List ℕ) (ls : List Local) (rs : List ℕ) (after : Answer (Option Completion) → Outcome) → Here scope ls rs → IsGood code a sh → IsSeen a after
+      → ((sh1 : Shared) (text1 : List ℕ) (rs1 : List ℕ) → IsGood code a sh1 → Here scope ls rs1 → Goes p call code layout frames cf are N K a sh1 text1 ls true_exit rs1 (λ s. after (rest true s)))
       → ((sh1 : Shared) (text1 : List ℕ) (rs1 : List ℕ) → IsGood code a sh1 → Here scope ls rs1 → Goes p call code layout frames cf are N K a sh1 text1 ls out rs1 (λ s. after (rest false s)))
       → Goes p call code layout frames cf are N (suc K) a sh text ls from rs (λ s. after ((for_condition p call o >>= rest) s))
-  holds_follows {N = N} {K = K} scope None rest from met out c a sh text ls rs after h good s where_so where_not =
-      goes code a sh text (configuration code from rs frames) (configuration code met rs frames) (effect_at code from (Instr.Jump met) rs frames c) (where_so sh text rs good h)
-  holds_follows {N = N} {K = K} scope (Some e) rest from met out c a sh text ls rs after h good s where_so where_not =
-      test_follows p call code layout frames cf are scope e from met out c a sh text ls rs (λ q. after (go_on (go_on q (λ v. pure (not (is_zero v)))) rest)) h good (on_seen a (λ q. after (go_on q rest)) (λ v. pure (not (is_zero v))) (on_seen a after rest s)) places
+  holds_follows {N = N} {K = K} scope None rest from true_exit out c a sh text ls rs after h good s where_so where_not =
+      goes code a sh text (configuration code from rs frames) (configuration code true_exit rs frames) (effect_at code from (Instr.Jump true_exit) rs frames c) (where_so sh text rs good h)
+  holds_follows {N = N} {K = K} scope (Some e) rest from true_exit out c a sh text ls rs after h good s where_so where_not =
+      test_follows p call code layout frames cf are scope e from true_exit out c a sh text ls rs (λ q. after (go_on (go_on q (λ v. pure (not (is_zero v)))) rest)) h good (on_seen a (λ q. after (go_on q rest)) (λ v. pure (not (is_zero v))) (on_seen a after rest s)) places
     where
-      places : GoesTest p call code layout frames cf are N K a (λ q. after (go_on (go_on q (λ v. pure (not (is_zero v)))) rest)) scope ls met out
+      places : GoesTest p call code layout frames cf are N K a (λ q. after (go_on (go_on q (λ v. pure (not (is_zero v)))) rest)) scope ls true_exit out
       places v true sh1 text1 rs1 z h1 good1 =
           same (effect code) (λ n. after (rest false (state n ls (context_of a sh1) text1))) (λ n. ap (λ b. after (rest (not b) (state n ls (context_of a sh1) text1))) z) (where_not sh1 text1 rs1 good1 h1)
       places v false sh1 text1 rs1 z h1 good1 =
@@ -634,38 +634,38 @@ module _ (p : Program) (call : Caller) (code : Code) (layout : Layout) (frames :
   if_follows : {N K : ℕ} (x : Exits) (scope : LocalScope) (e : Expr) (st : Stmt) → StmtFollows st → (from to : ℕ) (c : IfCode code layout p scope (Testing code layout p scope e) (StmtCode code layout p x scope st) from to) (a : Around) (sh : Shared) (text : List ℕ) (ls : List Local) (old : List ℕ) (after : Answer Completion → Outcome) → Here scope ls old → IsGood code a sh → IsSeen a after → GoesEnd N K a after x (Here scope) (Here scope) to → Goes p call code layout frames cf are N K a sh text ls from old (λ s. after ((expr p call e >>= λ v. if is_zero v then pure Next else in_scope (stmt p call st)) s))
   if_follows {N = N} {K = K} x scope e st ih from to c a sh text ls old after h good s go =
       fewer (effect code) (omega arith) (omega arith)
-      (test_follows p call code layout frames cf are scope e from c.met c.unmet c.tests a sh text ls old (λ q. after (go_on q rest)) h good (on_seen a after rest s) places)
+      (test_follows p call code layout frames cf are scope e from c.true_exit c.false_exit c.tests a sh text ls old (λ q. after (go_on q rest)) h good (on_seen a after rest s) places)
     where
       rest : Value → Action Completion
       rest v = if is_zero v then pure Next else in_scope (stmt p call st)
 
-      places : GoesTest p call code layout frames cf are N K a (λ q. after (go_on q rest)) scope ls c.met c.unmet
+      places : GoesTest p call code layout frames cf are N K a (λ q. after (go_on q rest)) scope ls c.true_exit c.false_exit
       places v true sh1 text1 rs1 z h1 good1 =
           same (effect code) (λ n. after (Gives Next (state n ls (context_of a sh1) text1)))
           (λ n. ap (λ b. after ((if b then pure Next else in_scope (stmt p call st)) (state n ls (context_of a sh1) text1))) z)
-          (leads p call code layout frames a sh1 text1 c.unmet to rs1 c.else_leads (go.ends Next sh1 text1 ls rs1 to good1 (refl, h1)))
+          (leads p call code layout frames a sh1 text1 c.false_exit to rs1 c.else_leads (go.ends Next sh1 text1 ls rs1 to good1 (refl, h1)))
       places v false sh1 text1 rs1 z h1 good1 =
           same (effect code) (λ n. after (in_scope (stmt p call st) (state n ls (context_of a sh1) text1)))
           (λ n. ap (λ b. after ((if b then pure Next else in_scope (stmt p call st)) (state n ls (context_of a sh1) text1))) z)
-          (part_follows st ih N K x scope c.met c.last a sh1 text1 ls rs1 after c.then_code h1 good1 s (leads_end a after x scope c.last to c.then_leads go))
+          (part_follows st ih N K x scope c.true_exit c.last a sh1 text1 ls rs1 after c.then_code h1 good1 s (leads_end a after x scope c.last to c.then_leads go))
 
   else_follows : {N K : ℕ} (x : Exits) (scope : LocalScope) (e : Expr) (st su : Stmt) → StmtFollows st → StmtFollows su → (from to : ℕ) (c : IfElseCode code layout p scope (Testing code layout p scope e) (StmtCode code layout p x scope st) (StmtCode code layout p x scope su) from to) (a : Around) (sh : Shared) (text : List ℕ) (ls : List Local) (old : List ℕ) (after : Answer Completion → Outcome) → Here scope ls old → IsGood code a sh → IsSeen a after → GoesEnd N K a after x (Here scope) (Here scope) to → Goes p call code layout frames cf are N K a sh text ls from old (λ s. after ((expr p call e >>= λ v. if is_zero v then in_scope (stmt p call su) else in_scope (stmt p call st)) s))
   else_follows {N = N} {K = K} x scope e st su iht ihu from to c a sh text ls old after h good s go =
       fewer (effect code) (omega arith) (omega arith)
-      (test_follows p call code layout frames cf are scope e from c.met c.unmet c.tests a sh text ls old (λ q. after (go_on q rest)) h good (on_seen a after rest s) places)
+      (test_follows p call code layout frames cf are scope e from c.true_exit c.false_exit c.tests a sh text ls old (λ q. after (go_on q rest)) h good (on_seen a after rest s) places)
     where
       rest : Value → Action Completion
       rest v = if is_zero v then in_scope (stmt p call su) else in_scope (stmt p call st)
 
-      places : GoesTest p call code layout frames cf are N K a (λ q. after (go_on q rest)) scope ls c.met c.unmet
+      places : GoesTest p call code layout frames cf are N K a (λ q. after (go_on q rest)) scope ls c.true_exit c.false_exit
       places v true sh1 text1 rs1 z h1 good1 =
           same (effect code) (λ n. after (in_scope (stmt p call su) (state n ls (context_of a sh1) text1)))
           (λ n. ap (λ b. after ((if b then in_scope (stmt p call su) else in_scope (stmt p call st)) (state n ls (context_of a sh1) text1))) z)
-          (part_follows su ihu N K x scope c.unmet c.end a sh1 text1 ls rs1 after c.else_code h1 good1 s (leads_end a after x scope c.end to c.else_leads go))
+          (part_follows su ihu N K x scope c.false_exit c.end a sh1 text1 ls rs1 after c.else_code h1 good1 s (leads_end a after x scope c.end to c.else_leads go))
       places v false sh1 text1 rs1 z h1 good1 =
           same (effect code) (λ n. after (in_scope (stmt p call st) (state n ls (context_of a sh1) text1)))
           (λ n. ap (λ b. after ((if b then in_scope (stmt p call su) else in_scope (stmt p call st)) (state n ls (context_of a sh1) text1))) z)
-          (part_follows st iht N K x scope c.met c.last a sh1 text1 ls rs1 after c.then_code h1 good1 s (leads_end a after x scope c.last to c.then_leads go))
+          (part_follows st iht N K x scope c.true_exit c.last a sh1 text1 ls rs1 after c.then_code h1 good1 s (leads_end a after x scope c.last to c.then_leads go))
 
   -- turns gain no ticks
   pub record TurnsFall : Type 0 where

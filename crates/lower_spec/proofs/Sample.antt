@@ -124,7 +124,7 @@ worker_is_lowered = record {
               ta = Int;
               tb = Int;
               left = own_is code layout _ _ _ _ _ _ _ (record { known = omega arith; to_is = refl; register = refl; type_is = refl });
-              kept = omega arith;
+              is_above = omega arith;
               apart = inl (omega arith);
               right = (refl, inr (record { number = 0; known = refl; to_is = refl; register = refl; type_is = refl }));
               operates = record { to_is = refl; takes = omega arith; register = omega arith; type_is = refl; instr = refl };
@@ -162,7 +162,7 @@ worker_is_lowered = record {
                   ta = Int;
                   tb = Int;
                   left = own_is code layout _ _ _ _ _ _ _ (record { to_is = refl; takes = omega arith; register = omega arith; type_is = refl; instr = refl });
-                  kept = omega arith;
+                  is_above = omega arith;
                   apart = inl (omega arith);
                   right = own_is code layout _ _ _ _ _ _ _ (record { known = omega arith; to_is = refl; register = refl; type_is = refl });
                   operates = record { to_is = refl; takes = omega arith; register = omega arith; type_is = refl; instr = refl };
@@ -193,7 +193,7 @@ worker_is_lowered = record {
                 ta = Int;
                 tb = Int;
                 left = own_is code layout _ _ _ _ _ _ _ (refl, refl, refl);
-                kept = omega arith;
+                is_above = omega arith;
                 apart = inl (omega arith);
                 right = (refl, inr (record { number = 1; known = refl; to_is = refl; register = refl; type_is = refl }));
                 operates = record { to_is = refl; takes = inr refl; register = omega arith; type_is = refl; instr = refl };

@@ -300,9 +300,9 @@ module _ (p : Program) (call : Caller) (code : Code) (layout : Layout) (frames :
       taken p call code layout frames (operand_type op b.ta b.tb) b.ta o a sh2 text2 ls (λ q. after1 (go_on q rest1)) b.left.mid b.mid None c.later b.left.ra b.ra rs1 rs2 b.left.converts d (d.keeps.size ∙ h1.size_is)
       (λ o1 sh3 text3 rs3 e.
       let rest2 : Value → Action (Unit {0}) = λ v. or_trap (binary op o1 v) >>= assign at in
-      follow (operand_type op b.tb b.ta) N K b.mid b.last b.later b.rb b.tb a sh3 text3 ls rs3 (λ q. after1 (go_on q rest2)) b.right (holds_on scope ls layout c.later b.later rs1 rs3 b.kept (raised scope ls layout c.later rs1 c.room h1) e.keeps) e.good (on_seen a after1 rest2 seen1)
+      follow (operand_type op b.tb b.ta) N K b.mid b.last b.later b.rb b.tb a sh3 text3 ls rs3 (λ q. after1 (go_on q rest2)) b.right (holds_on scope ls layout c.later b.later rs1 rs3 b.is_above (raised scope ls layout c.later rs1 c.room h1) e.keeps) e.good (on_seen a after1 rest2 seen1)
       (λ v sh4 text4 rs4 f.
-      let keeps : Keeps layout None c.later rs1 rs4 = keeps_on layout None c.later b.later rs1 rs3 rs4 b.kept e.keeps f.keeps in
+      let keeps : Keeps layout None c.later rs1 rs4 = keeps_on layout None c.later b.later rs1 rs3 rs4 b.is_above e.keeps f.keeps in
       operates p call code layout frames op o1 v b.ta b.tb b.ra b.rb a sh4 text4 ls (λ q. after1 (go_on q (assign at))) b.last c.done (home_of c.target) c.later c.r c.t rs1 rs4 e.typed_so f.typed_so (kept_at layout b.later b.ra rs3 rs4 b.apart f.keeps ∙ e.here) f.here b.operates (keeps.size ∙ h1.size_is) (keeps_more layout (home_of c.target) c.later rs1 rs4 keeps) f.good (on_seen a after1 (assign at) seen1)
       (λ new sh5 text5 rs5 g. stores c.target at scope c.later a sh5 text5 ls after c.done to c.r c.t rs1 rs5 new c.room is_at c.spares c.stores g (g.keeps.size ∙ h1.size_is) h1 s go))))
 
@@ -347,13 +347,13 @@ module _ (p : Program) (call : Caller) (code : Code) (layout : Layout) (frames :
       (λ v sh1 text1 rs1 d. go v sh1 text1 rs1 d.here (lowered scope ls layout c.free old rs1 c.room h d.keeps) d.good)
 
   -- a condition, from its two places back to its beginning
-  abbrev pub GoesTest : ℕ → ℕ → (a : Around) → (Answer Value → Outcome) → LocalScope → List Local → (met unmet : ℕ) → Type 0
-  GoesTest N K a after scope ls met unmet =
-      (v : Value) (b : Bool) (sh : Shared) (text : List ℕ) (rs : List ℕ) → is_zero v ≡ b → Holds scope ls layout (length scope) rs → IsGood code a sh → Goes N K a sh text ls (if b then unmet else met) rs (λ s. after (Gives v s))
+  abbrev pub GoesTest : ℕ → ℕ → (a : Around) → (Answer Value → Outcome) → LocalScope → List Local → (true_exit false_exit : ℕ) → Type 0
+  GoesTest N K a after scope ls true_exit false_exit =
+      (v : Value) (b : Bool) (sh : Shared) (text : List ℕ) (rs : List ℕ) → is_zero v ≡ b → Holds scope ls layout (length scope) rs → IsGood code a sh → Goes N K a sh text ls (if b then false_exit else true_exit) rs (λ s. after (Gives v s))
 
-  pub test_follows : {N K : ℕ} (scope : LocalScope) (e : Expr) (from met unmet : ℕ) → TestCode code layout p scope (Testing code layout p scope e) from met unmet → (a : Around) (sh : Shared) (text : List ℕ) (ls : List Local) (old : List ℕ) (after : Answer Value → Outcome) → Holds scope ls layout (length scope) old → IsGood code a sh → IsSeen a after → GoesTest N K a after scope ls met unmet → Goes N (suc K) a sh text ls from old (λ s. after (expr p call e s))
-  test_follows {N = N} {K = K} scope e from met unmet c a sh text ls old after h good s go =
-      cond_follows p call code layout frames cf are scope e N K from met unmet c.free a sh text ls old after c.leads (raised scope ls layout c.free old c.room h) good s
+  pub test_follows : {N K : ℕ} (scope : LocalScope) (e : Expr) (from true_exit false_exit : ℕ) → TestCode code layout p scope (Testing code layout p scope e) from true_exit false_exit → (a : Around) (sh : Shared) (text : List ℕ) (ls : List Local) (old : List ℕ) (after : Answer Value → Outcome) → Holds scope ls layout (length scope) old → IsGood code a sh → IsSeen a after → GoesTest N K a after scope ls true_exit false_exit → Goes N (suc K) a sh text ls from old (λ s. after (expr p call e s))
+  test_follows {N = N} {K = K} scope e from true_exit false_exit c a sh text ls old after h good s go =
+      cond_follows p call code layout frames cf are scope e N K from true_exit false_exit c.free a sh text ls old after c.leads (raised scope ls layout c.free old c.room h) good s
       (λ v b sh1 text1 rs1 z below k g. go v b sh1 text1 rs1 z (lowered scope ls layout c.free old rs1 c.room h k) g)
 
   pub simple_follows : {N K : ℕ} (scope : LocalScope) (st : Simple) (from to : ℕ) → SimpleCode code layout p scope st from to → (a : Around) (sh : Shared) (text : List ℕ) (ls : List Local) (old : List ℕ) (after : Answer Completion → Outcome) → Holds scope ls layout (length scope) old → IsGood code a sh → IsSeen a after → GoesNext N K a after scope to → Goes N K a sh text ls from old (λ s. after (simple p call st s))

@@ -44,7 +44,7 @@ Due = (due : Scalar) → Coded
 
 -- code from a place that leads to one place where a condition holds, and to another where it does not
 abbrev pub Branching : Type 1
-Branching = (from met unmet free : ℕ) → Type 0
+Branching = (from true_exit false_exit free : ℕ) → Type 0
 
 -- a register that a value may come to: a free one, or its home, the register of the local that is to take it
 abbrev pub MayTake : Option ℕ → (free r : ℕ) → Type 0
@@ -221,7 +221,7 @@ module _ (code : Code) (layout : Layout) where
     pub ta : Scalar
     pub tb : Scalar
     pub left : a (operand_type op ta tb) from mid free ra ta
-    pub kept : free ≤ later
+    pub is_above : free ≤ later
     pub apart : (ra < later) ⊎ (layout.writable ≤ ra)
     pub right : b (operand_type op tb ta) mid last later rb tb
     pub operates : GivenBy home (computing op (operand_type op ta tb) r ra rb)
@@ -238,35 +238,36 @@ module _ (code : Code) (layout : Layout) where
 
   -- a condition: by its value, or as its operator has it
   abbrev pub Branches : Coded → Branching → Branching
-  Branches value own from met unmet free =
-      ValueTested Instr.JumpZero value from unmet met free
-      ⊎ (ValueTested Instr.JumpNonzero value from met unmet free ⊎ own from met unmet free)
+  Branches value own from true_exit false_exit free =
+      ValueTested Instr.JumpZero value from false_exit true_exit free
+      ⊎ (ValueTested Instr.JumpNonzero value from true_exit false_exit free ⊎ own from true_exit false_exit free)
 
   -- one condition and then another: both hold, or either does
-  pub record BothHold (a b : Branching) (from met unmet free : ℕ) : Type 0 where
+  pub record BothHold (a b : Branching) (from true_exit false_exit free : ℕ) : Type 0 where
     pub mid : ℕ
-    pub first : a from mid unmet free
-    pub second : b mid met unmet free
+    pub first : a from mid false_exit free
+    pub second : b mid true_exit false_exit free
 
-  pub record EitherHolds (a b : Branching) (from met unmet free : ℕ) : Type 0 where
+  pub record EitherHolds (a b : Branching) (from true_exit false_exit free : ℕ) : Type 0 where
     pub mid : ℕ
-    pub first : a from met mid free
-    pub second : b mid met unmet free
+    pub first : a from true_exit mid free
+    pub second : b mid true_exit false_exit free
 
   -- a comparison with 0
   abbrev pub ComparedWithZero : BinaryOp → Expr → Branching → Branching
-  ComparedWithZero op b tests from met unmet free =
-      IsZeroConstant b × (((op ≡ NotEqual) × tests from met unmet free) ⊎ ((op ≡ Equal) × tests from unmet met free))
+  ComparedWithZero op b tests from true_exit false_exit free =
+      IsZeroConstant b × (((op ≡ NotEqual) × tests from true_exit false_exit free)
+      ⊎ ((op ≡ Equal) × tests from false_exit true_exit free))
 
   -- the int 1 where a condition holds, and 0 where it does not
   pub record TruthCode (home : Option ℕ) (tests : Branching) (from to free r : ℕ) (t : Scalar) : Type 0 where
-    pub met : ℕ
-    pub unmet : ℕ
-    pub decides : tests from met unmet free
-    pub gives_one : GivenBy home (Instr.Constant r 1) Int met (suc met) free r t
-    pub one_leads : LeadsTo code (suc met) to
-    pub gives_zero : GivenBy home (Instr.Constant r 0) Int unmet (suc unmet) free r t
-    pub zero_leads : LeadsTo code (suc unmet) to
+    pub true_exit : ℕ
+    pub false_exit : ℕ
+    pub decides : tests from true_exit false_exit free
+    pub gives_one : GivenBy home (Instr.Constant r 1) Int true_exit (suc true_exit) free r t
+    pub one_leads : LeadsTo code (suc true_exit) to
+    pub gives_zero : GivenBy home (Instr.Constant r 0) Int false_exit (suc false_exit) free r t
+    pub zero_leads : LeadsTo code (suc false_exit) to
 
   -- a branch's value, in the type of both, comes to a register straight, or is moved there
   pub record MovedCode (home : Option ℕ) (e' : Expr) (e : Coded) (from to free r : ℕ) (t : Scalar) : Type 0 where
@@ -281,14 +282,14 @@ module _ (code : Code) (layout : Layout) where
 
   pub record ConditionalCode (home : Option ℕ) (c : Branching) (a b : Coded) (from to free r : ℕ) (t : Scalar) :
       Type 0 where
-    pub met : ℕ
-    pub unmet : ℕ
+    pub true_exit : ℕ
+    pub false_exit : ℕ
     pub last : ℕ
     pub end : ℕ
-    pub tests : c from met unmet free
-    pub then_code : a met last free r t
+    pub tests : c from true_exit false_exit free
+    pub then_code : a true_exit last free r t
     pub then_leads : LeadsTo code last to
-    pub else_code : b unmet end free r t
+    pub else_code : b false_exit end free r t
     pub else_leads : LeadsTo code end to
 
   -- the first of several values, which are due in these types: without a type it stays in its own
@@ -304,7 +305,7 @@ module _ (code : Code) (layout : Layout) where
     pub r : ℕ
     pub others : List ℕ
     pub computes : first from last free r
-    pub kept : free ≤ later
+    pub is_above : free ≤ later
     pub apart : r < later
     pub goes_on : rest last later others
     pub are : rs ≡ r ∷ others
@@ -369,8 +370,8 @@ module _ (code : Code) (layout : Layout) where
       OwnTests scope (Parenthesized e at) = OwnTests scope e
       OwnTests scope (Cast u e at) = OwnTests scope e
       OwnTests scope (Unary Keep e at) = OwnTests scope e
-      OwnTests scope (Unary Not e at) = λ from met unmet free.
-          Branches (ExprCode None scope e) (OwnTests scope e) from unmet met free
+      OwnTests scope (Unary Not e at) = λ from true_exit false_exit free.
+          Branches (ExprCode None scope e) (OwnTests scope e) from false_exit true_exit free
       OwnTests scope (Binary op a b at) = ComparedWithZero op b (Branches (ExprCode None scope a) (OwnTests scope a))
       OwnTests scope (Logical AndThen a b at) =
           BothHold (Branches (ExprCode None scope a) (OwnTests scope a))
@@ -378,7 +379,7 @@ module _ (code : Code) (layout : Layout) where
       OwnTests scope (Logical OrElse a b at) =
           EitherHolds (Branches (ExprCode None scope a) (OwnTests scope a))
           (Branches (ExprCode None scope b) (OwnTests scope b))
-      OwnTests scope e = λ from met unmet free. ⊥
+      OwnTests scope e = λ from true_exit false_exit free. ⊥
 
       pub ArgsCode : LocalScope → List Scalar → Exprs → (from to free : ℕ) → List ℕ → Type 0
       ArgsCode scope ts Exprs.[] from to free rs = (to ≡ from) × (rs ≡ [])
@@ -386,6 +387,6 @@ module _ (code : Code) (layout : Layout) where
           ArgCode (HandedCode ts e (ExprCode None scope e))
           (λ mid later others. ArgsCode scope (types_left ts) es mid to later others) from free rs
 
-    -- code that leads to `met` where an expression's value is not 0, and to `unmet` where it is
+    -- code that leads to `true_exit` where an expression's value is not 0, and to `false_exit` where it is
     abbrev pub CondCode : LocalScope → Expr → Branching
     CondCode scope e = Branches (ExprCode None scope e) (OwnTests scope e)

@@ -130,10 +130,10 @@ module _ (code : Code) (layout : Layout) (p : Program) where
     pub computes : TypedCode code layout None e (Coding None scope e) u from to free r
 
   -- a condition, with what it needs above the locals
-  pub record TestCode (scope : LocalScope) (c : Branching) (from met unmet : ℕ) : Type 0 where
+  pub record TestCode (scope : LocalScope) (c : Branching) (from true_exit false_exit : ℕ) : Type 0 where
     pub free : ℕ
     pub room : length scope ≤ free
-    pub leads : c from met unmet free
+    pub leads : c from true_exit false_exit free
 
   abbrev pub VariableTarget : LocalScope → Option (ℕ × Scalar) → Option GlobalCells → Target → Type 0
   VariableTarget scope (Some l) g target = (l.0 < length scope) × (target ≡ LocalAt l)
@@ -284,23 +284,23 @@ module _ (code : Code) (layout : Layout) (p : Program) where
       DeclaratorCode scope inner t d.first (λ mid. DeclareCode t ds inner mid to) from
 
   pub record IfCode (scope : LocalScope) (c : Branching) (a : ℕ → ℕ → Type 0) (from to : ℕ) : Type 0 where
-    pub met : ℕ
-    pub unmet : ℕ
+    pub true_exit : ℕ
+    pub false_exit : ℕ
     pub last : ℕ
-    pub tests : TestCode scope c from met unmet
-    pub then_code : a met last
+    pub tests : TestCode scope c from true_exit false_exit
+    pub then_code : a true_exit last
     pub then_leads : LeadsTo code last to
-    pub else_leads : LeadsTo code unmet to
+    pub else_leads : LeadsTo code false_exit to
 
   pub record IfElseCode (scope : LocalScope) (c : Branching) (a b : ℕ → ℕ → Type 0) (from to : ℕ) : Type 0 where
-    pub met : ℕ
-    pub unmet : ℕ
+    pub true_exit : ℕ
+    pub false_exit : ℕ
     pub last : ℕ
     pub end : ℕ
-    pub tests : TestCode scope c from met unmet
-    pub then_code : a met last
+    pub tests : TestCode scope c from true_exit false_exit
+    pub then_code : a true_exit last
     pub then_leads : LeadsTo code last to
-    pub else_code : b unmet end
+    pub else_code : b false_exit end
     pub else_leads : LeadsTo code end to
 
   -- a loop's test may stand before its body or behind it
@@ -339,9 +339,9 @@ module _ (code : Code) (layout : Layout) (p : Program) where
     pub continues : LeadsTo code continue_to test_at
 
   -- a condition; one that is missing always holds
-  abbrev pub HoldsCode : LocalScope → Option Expr → (from met unmet : ℕ) → Type 0
-  HoldsCode scope None from met unmet = InstructionAt code from (Instr.Jump met)
-  HoldsCode scope (Some e) from met unmet = TestCode scope (Testing scope e) from met unmet
+  abbrev pub HoldsCode : LocalScope → Option Expr → (from true_exit false_exit : ℕ) → Type 0
+  HoldsCode scope None from true_exit false_exit = InstructionAt code from (Instr.Jump true_exit)
+  HoldsCode scope (Some e) from true_exit false_exit = TestCode scope (Testing scope e) from true_exit false_exit
 
   abbrev pub SteppedCode : LocalScope → Option Simple → (from to : ℕ) → Type 0
   SteppedCode scope None from to = to ≡ from

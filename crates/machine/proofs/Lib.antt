@@ -17,6 +17,6 @@ pub mod tallies
 -- what threads were answered, the cells that they use, where attempts begin
 pub mod answers
 -- a thread as code keeps it makes the machine's steps
-pub mod keeping
+pub mod contexts
 -- worked schedules, and that their codes meet the premises
 pub mod samples

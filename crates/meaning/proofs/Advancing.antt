@@ -17,14 +17,14 @@ use Rattle.meaning.specs.declared.left.Left.TheVariants as left
 use Rattle.meaning.specs.declared.left.Task.{Task}
 use Rattle.meaning.specs.declared.left.Stepped.{Stepped}
 use Rattle.meaning.specs.declared.left.Stepped.TheVariants as to
-use Rattle.meaning.specs.declared.machine.StmtCompletion.{StmtCompletion as OwnEnd}
+use Rattle.meaning.specs.declared.machine.StmtCompletion.{StmtCompletion as OwnCompletion}
 use Rattle.meaning.specs.declared.standing.Point.{Point}
 use Rattle.meaning.specs.declared.standing.Shown.{Shown}
 use Rattle.meaning.specs.declared.standing.Thread.{Thread}
 use Rattle.meaning.specs.declared.standing.StoppedThread.{StoppedThread}
 use Rattle.meaning.specs.declared.program.ProgramTables.{ProgramTables}
 use Rattle.meaning.specs.declared.machine.Local.{Local as OwnLocal}
-use Rattle.meaning.specs.inner.Machine.{end_of, items_in, local_in, program_in}
+use Rattle.meaning.specs.inner.Machine.{completion_of, items_in, local_in, program_in}
 use Rattle.meaning.specs.Frames.{StateExtension, context_framed, extended_state}
 use Rattle.meaning.specs.inner.Calls.{Begins, begin_call}
 use Rattle.meaning.specs.inner.Going.{Follow, IsStep, call_left, follows, gone_on}
@@ -56,7 +56,7 @@ module _ {A : Type 0} (source : ProgramTables A) where
   behind ls l (Stops why s) = refl
 
   -- what comes next is put behind what is left
-  pub puts_end : (ls : List (Left A)) (e : OwnEnd) (next : Stepped A) (s : State) → next ≡ to.Ends e → left_gone_on source ls (end_of e) s ≡ go_on (follows (follow_of source next) s) (left_gone_on source ls)
+  pub puts_end : (ls : List (Left A)) (e : OwnCompletion) (next : Stepped A) (s : State) → next ≡ to.Ends e → left_gone_on source ls (completion_of e) s ≡ go_on (follows (follow_of source next) s) (left_gone_on source ls)
   puts_end ls e next s is = ap (λ n. go_on (follows (follow_of source n) s) (left_gone_on source ls)) (sym is)
 
   pub puts_task : (ls new : List (Left A)) (t : Task A) (next : Stepped A) (s : State) → next ≡ to.Goes t → new ≡ ls ++ left.Next t ∷ [] → left_gone_on source new Next s ≡ go_on (follows (follow_of source next) s) (left_gone_on source ls)
@@ -71,18 +71,18 @@ module _ {A : Type 0} (source : ProgramTables A) where
 
   -- a thread that has made a step has the same left to do
   pub advanced : (thread new : Thread A) (l : Left A) (ls : List (Left A)) (run : Action Follow) (next : Stepped A) (at : Point A) (more : Shown A) →
-      thread.left.items ≡ ls ++ l ∷ [] → IsStep (continue_with source l) (end_of thread.end) run → run (bare thread.at) ≡ Gives (follow_of source next) (state_at at more) →
-      ((s : State) → left_gone_on source new.left.items (end_of new.end) s ≡ go_on (follows (follow_of source next) s) (left_gone_on source ls)) → new.at ≡ at →
+      thread.left.items ≡ ls ++ l ∷ [] → IsStep (continue_with source l) (completion_of thread.end) run → run (bare thread.at) ≡ Gives (follow_of source next) (state_at at more) →
+      ((s : State) → left_gone_on source new.left.items (completion_of new.end) s ≡ go_on (follows (follow_of source next) s) (left_gone_on source ls)) → new.at ≡ at →
       new.shown.lefts.items ≡ thread.shown.lefts.items ++ more.lefts.items → new.shown.text.items ≡ thread.shown.text.items ++ more.text.items →
       (founds : List Memory) → rest source new founds ≡ rest source thread founds
   advanced thread new l ls run next at more last step h put there lefts text founds =
       let f = frame_of founds thread.shown in
       ap (λ r. go_on r (λ _. tick))
-      (ap (λ p. left_gone_on source new.left.items (end_of new.end) (extended_state (frame_of founds new.shown) (bare p))) there
-      ∙ ap (left_gone_on source new.left.items (end_of new.end)) (sym (reached founds thread.shown more new.shown at lefts text))
+      (ap (λ p. left_gone_on source new.left.items (completion_of new.end) (extended_state (frame_of founds new.shown) (bare p))) there
+      ∙ ap (left_gone_on source new.left.items (completion_of new.end)) (sym (reached founds thread.shown more new.shown at lefts text))
       ∙ put (extended_state f (state_at at more))
-      ∙ sym (went_is (continue_with source l) (map (continue_with source) ls) (end_of thread.end) run step f (bare thread.at) (state_at at more) (follow_of source next) h)
-      ∙ sym (at_last thread.left.items ls l (end_of thread.end) (extended_state f (bare thread.at)) last))
+      ∙ sym (went_is (continue_with source l) (map (continue_with source) ls) (completion_of thread.end) run step f (bare thread.at) (state_at at more) (follow_of source next) h)
+      ∙ sym (at_last thread.left.items ls l (completion_of thread.end) (extended_state f (bare thread.at)) last))
 
   shown_by : (why : Halt) (f : StateExtension) (s : State) (founds lefts : List Memory) (text : List ℕ) → s.context ≡ Outside founds lefts → s.text ≡ text →
       outcome_of (Stops why (extended_state f s)) ≡ record { lefts = f.lefts ++ lefts; text = f.text ++ text; end = Stopped why }
@@ -90,11 +90,11 @@ module _ {A : Type 0} (source : ProgramTables A) where
 
   -- a thread that stops at a step
   pub stops_at : (thread : Thread A) (l : Left A) (ls : List (Left A)) (run : Action Follow) (why : Halt) (more : Shown A) (s : State) (founds : List Memory) →
-      thread.left.items ≡ ls ++ l ∷ [] → IsStep (continue_with source l) (end_of thread.end) run → run (bare thread.at) ≡ Stops why s →
+      thread.left.items ≡ ls ++ l ∷ [] → IsStep (continue_with source l) (completion_of thread.end) run → run (bare thread.at) ≡ Stops why s →
       s.context ≡ Outside founds (memories_in more.lefts.items) → s.text ≡ more.text.items → (stop : StoppedThread A) → stop.why ≡ Some why → stop.shown ≡ more → IsStop source thread stop
   stops_at thread l ls run why more s founds last step h there printed stop is what =
       let f = frame_of [] thread.shown in
-      ap (λ r. outcome_of (go_on r (λ _. tick))) (at_last thread.left.items ls l (end_of thread.end) (extended_state f (bare thread.at)) last ∙ stopped_is (continue_with source l) (map (continue_with source) ls) (end_of thread.end) run step f (bare thread.at) s why refl h)
+      ap (λ r. outcome_of (go_on r (λ _. tick))) (at_last thread.left.items ls l (completion_of thread.end) (extended_state f (bare thread.at)) last ∙ stopped_is (continue_with source l) (map (continue_with source) ls) (completion_of thread.end) run step f (bare thread.at) s why refl h)
       ∙ shown_by why f s founds (memories_in more.lefts.items) more.text.items there printed
       ∙ (λ i. record { lefts = f.lefts ++ memories_in (sym what i).lefts.items; text = f.text ++ (sym what i).text.items; end = end_by (sym is i) })
 
@@ -103,7 +103,7 @@ module _ {A : Type 0} (source : ProgramTables A) where
       memories_in new.at.due.items ≡ memories_in thread.at.due.items ++ m ∷ [] → (further : List Memory) → rest source new further ≡ rest source thread (m ∷ further)
   finds thread new m left end shown ticks locals due further =
       let all = ap (λ ms. ms ++ further) due ∙ append_assoc (memories_in thread.at.due.items) (m ∷ []) further in
-      λ i. go_on (left_gone_on source (left i).items (end_of (end i)) (state (ticks i) (items_in (locals i)) (all i) (memories_in (shown i).lefts.items ++ []) ((shown i).text.items ++ []))) (λ _. tick)
+      λ i. go_on (left_gone_on source (left i).items (completion_of (end i)) (state (ticks i) (items_in (locals i)) (all i) (memories_in (shown i).lefts.items ++ []) ((shown i).text.items ++ []))) (λ _. tick)
 
   -- what is known of a thread from its beginning on
   module _ (p : Program) (ticks t : ℕ) (thread : Thread A) (founds : List Memory) (stands : (further : List Memory) → rest source thread further ≡ worker_run p t (first_state (founds ++ further) ticks)) where
@@ -162,14 +162,14 @@ module _ {A : Type 0} (source : ProgramTables A) where
 
   -- a thread before its first tick
   pub begins_so : (thread : Thread A) (ticks t : ℕ) (b : Begins) (s s1 : State) → begin_call (program_in source) (codes "worker") (record { ty = Unsigned; word = t } ∷ []) s ≡ Gives b s1 →
-      ((now : State) → left_gone_on source thread.left.items (end_of thread.end) now ≡ go_on (stmts (program_in source) (calls (program_in source) 63) b.body now) (call_left b.ty [])) →
+      ((now : State) → left_gone_on source thread.left.items (completion_of thread.end) now ≡ go_on (stmts (program_in source) (calls (program_in source) 63) b.body now) (call_left b.ty [])) →
       thread.at.ticks ≡ ticks → items_in thread.at.locals ≡ b.mine → memories_in thread.at.due.items ≡ [] → memories_in thread.shown.lefts.items ≡ [] → thread.shown.text.items ≡ [] →
       (founds : List Memory) → rest source thread founds ≡ worker_run (program_in source) t (first_state founds ticks)
   begins_so thread ticks t b s s1 h left same mine due lefts text founds =
       let p = program_in source in
       let there : extended_state (frame_of founds thread.shown) (bare thread.at) ≡ state ticks b.mine founds [] [] =
       λ i. extended_state (record { founds = founds; lefts = lefts i; text = text i }) (state (same i) (mine i) (due i) [] []) in
-      ap (λ r. go_on r (λ _. tick)) (ap (left_gone_on source thread.left.items (end_of thread.end)) there ∙ left (state ticks b.mine founds [] []))
+      ap (λ r. go_on r (λ _. tick)) (ap (left_gone_on source thread.left.items (completion_of thread.end)) there ∙ left (state ticks b.mine founds [] []))
       ∙ ends_call b.ty (stmts p (calls p 63) b.body (state ticks b.mine founds [] []))
       ∙ ap (λ r. go_on r (λ _. tick)) (sym (invoke_is p 63 (codes "worker") (record { ty = Unsigned; word = t } ∷ []) b s s1 h (first_state founds ticks)))
 

@@ -13,9 +13,9 @@ use Rattle.syntax.specs.Views.{expr_of, exprs_of, stmt_of, stmts_of, declarator_
 use Rattle.syntax.specs.Names.{Local}
 use Rattle.syntax.specs.Actions.{State, Answer, Gives, Stops, Action, pure, go_on, tick, ◌>>=◌}
 use Rattle.syntax.specs.Meaning.{Caller, Completion, Next, expr, exprs, stmt, stmts, declare, in_scope, on_next, after_body, after_turn, turns}
-use Rattle.meaning.specs.declared.machine.StmtCompletion.{StmtCompletion as OwnEnd}
+use Rattle.meaning.specs.declared.machine.StmtCompletion.{StmtCompletion as OwnCompletion}
 use Rattle.meaning.specs.declared.machine.StmtCompletion.TheVariants as end
-use Rattle.meaning.specs.inner.Machine.{end_of}
+use Rattle.meaning.specs.inner.Machine.{completion_of}
 use Rattle.meaning.specs.inner.Does.{declared_one, joined_to, left_or, loop_condition, while_turn}
 
 -- a part that gives something, and one that stops
@@ -31,7 +31,7 @@ twice (Gives x s) f rest = refl
 twice (Stops why s) f rest = refl
 
 -- an end that is not the next statement's
-pub left_at : (rest : Action Completion) (e : OwnEnd) (s : State) → (e ≡ end.Next → ⊥) → on_next rest (end_of e) s ≡ Gives (end_of e) s
+pub left_at : (rest : Action Completion) (e : OwnCompletion) (s : State) → (e ≡ end.Next → ⊥) → on_next rest (completion_of e) s ≡ Gives (completion_of e) s
 left_at rest end.Next s differs = absurd (differs refl)
 left_at rest e s differs = refl
 
@@ -51,15 +51,15 @@ module _ {A : Type 0} (p : Program) (call : Caller) where
       at_drop_more (λ xs. stmts p call (stmts_of xs) s) ss i x h
       ∙ ap (λ y. go_on (stmt p call (stmt_of y) s) (on_next (stmts p call (stmts_of (drop (i + 1) ss))))) (sym is)
 
-  pub stmts_next : (ss : List (S.Stmt A)) (i : ℕ) (x : S.Stmt A) (s now : State) (e : OwnEnd) (whole : Answer Completion) → i < length ss → x ≡ get_or ss i x →
-      stmts p call (stmts_of (drop i ss)) s ≡ whole → stmt p call (stmt_of x) s ≡ Gives (end_of e) now → e ≡ end.Next → stmts p call (stmts_of (drop (i + 1) ss)) now ≡ whole
+  pub stmts_next : (ss : List (S.Stmt A)) (i : ℕ) (x : S.Stmt A) (s now : State) (e : OwnCompletion) (whole : Answer Completion) → i < length ss → x ≡ get_or ss i x →
+      stmts p call (stmts_of (drop i ss)) s ≡ whole → stmt p call (stmt_of x) s ≡ Gives (completion_of e) now → e ≡ end.Next → stmts p call (stmts_of (drop (i + 1) ss)) now ≡ whole
   stmts_next ss i x s now e whole h is inv d next =
-      sym (stmts_more ss i x s h is ∙ after _ (on_next (stmts p call (stmts_of (drop (i + 1) ss)))) (end_of e) now d ∙ ap (λ k. on_next (stmts p call (stmts_of (drop (i + 1) ss))) (end_of k) now) next) ∙ inv
+      sym (stmts_more ss i x s h is ∙ after _ (on_next (stmts p call (stmts_of (drop (i + 1) ss)))) (completion_of e) now d ∙ ap (λ k. on_next (stmts p call (stmts_of (drop (i + 1) ss))) (completion_of k) now) next) ∙ inv
 
-  pub stmts_left : (ss : List (S.Stmt A)) (i : ℕ) (x : S.Stmt A) (s now : State) (e : OwnEnd) (whole : Answer Completion) → i < length ss → x ≡ get_or ss i x →
-      stmts p call (stmts_of (drop i ss)) s ≡ whole → stmt p call (stmt_of x) s ≡ Gives (end_of e) now → (e ≡ end.Next → ⊥) → whole ≡ Gives (end_of e) now
+  pub stmts_left : (ss : List (S.Stmt A)) (i : ℕ) (x : S.Stmt A) (s now : State) (e : OwnCompletion) (whole : Answer Completion) → i < length ss → x ≡ get_or ss i x →
+      stmts p call (stmts_of (drop i ss)) s ≡ whole → stmt p call (stmt_of x) s ≡ Gives (completion_of e) now → (e ≡ end.Next → ⊥) → whole ≡ Gives (completion_of e) now
   stmts_left ss i x s now e whole h is inv d differs =
-      sym inv ∙ stmts_more ss i x s h is ∙ after _ (on_next (stmts p call (stmts_of (drop (i + 1) ss)))) (end_of e) now d ∙ left_at (stmts p call (stmts_of (drop (i + 1) ss))) e now differs
+      sym inv ∙ stmts_more ss i x s h is ∙ after _ (on_next (stmts p call (stmts_of (drop (i + 1) ss)))) (completion_of e) now d ∙ left_at (stmts p call (stmts_of (drop (i + 1) ss))) e now differs
 
   pub stmts_halt : (ss : List (S.Stmt A)) (i : ℕ) (x : S.Stmt A) (s now : State) (why : Halt) (whole : Answer Completion) → i < length ss → x ≡ get_or ss i x →
       stmts p call (stmts_of (drop i ss)) s ≡ whole → stmt p call (stmt_of x) s ≡ Stops why now → whole ≡ Stops why now
@@ -144,11 +144,11 @@ module _ (turn : Action (Option Completion)) (n k : ℕ) (s now : State) (whole 
     ticked : whole ≡ go_on (turn then_) (after_turn (turns k turn))
     ticked = next_turn inv more ∙ after _ (λ _. turn >>= after_turn (turns k turn)) u then_ t
 
-    pub turns_next : (o : Option OwnEnd) → turn then_ ≡ Gives (option_map end_of o) now → o ≡ None → turns k turn now ≡ whole
-    turns_next o d none = sym (ticked ∙ after _ (after_turn (turns k turn)) (option_map end_of o) now d ∙ ap (λ x. after_turn (turns k turn) (option_map end_of x) now) none)
+    pub turns_next : (o : Option OwnCompletion) → turn then_ ≡ Gives (option_map completion_of o) now → o ≡ None → turns k turn now ≡ whole
+    turns_next o d none = sym (ticked ∙ after _ (after_turn (turns k turn)) (option_map completion_of o) now d ∙ ap (λ x. after_turn (turns k turn) (option_map completion_of x) now) none)
 
-    pub turns_ended : (o : Option OwnEnd) (e : OwnEnd) → turn then_ ≡ Gives (option_map end_of o) now → o ≡ Some e → whole ≡ Gives (end_of e) now
-    turns_ended o e d some = ticked ∙ after _ (after_turn (turns k turn)) (option_map end_of o) now d ∙ ap (λ x. after_turn (turns k turn) (option_map end_of x) now) some
+    pub turns_ended : (o : Option OwnCompletion) (e : OwnCompletion) → turn then_ ≡ Gives (option_map completion_of o) now → o ≡ Some e → whole ≡ Gives (completion_of e) now
+    turns_ended o e d some = ticked ∙ after _ (after_turn (turns k turn)) (option_map completion_of o) now d ∙ ap (λ x. after_turn (turns k turn) (option_map completion_of x) now) some
 
 -- a test before a body: it ends the loop, or the body runs
 abbrev or_body : Action (Option Completion) → Option Completion → Action (Option Completion)
@@ -163,7 +163,7 @@ tested_first : (body : Action (Option Completion)) (r : Answer Value) → go_on 
 tested_first body (Gives v s) = tested_here body (is_zero v) s
 tested_first body (Stops why s) = refl
 
-left_behind : (o : Option OwnEnd) (s : State) → left_or (pure None) o s ≡ Gives (option_map end_of o) s
+left_behind : (o : Option OwnCompletion) (s : State) → left_or (pure None) o s ≡ Gives (option_map completion_of o) s
 left_behind None s = refl
 left_behind (Some e) s = refl
 
@@ -174,21 +174,21 @@ module _ (p : Program) (call : Caller) (c : Expr) (a : Stmt) (s now : State) whe
   pub while_stops : (why : Halt) → loop_condition p call c s ≡ Stops why now → while_turn p call c a s ≡ Stops why now
   while_stops why d = tested_first body_turn (expr p call c s) ∙ halts (loop_condition p call c s) (or_body body_turn) why now d
 
-  while_tested : (o : Option OwnEnd) → loop_condition p call c s ≡ Gives (option_map end_of o) now → while_turn p call c a s ≡ or_body body_turn (option_map end_of o) now
-  while_tested o d = tested_first body_turn (expr p call c s) ∙ after (loop_condition p call c s) (or_body body_turn) (option_map end_of o) now d
+  while_tested : (o : Option OwnCompletion) → loop_condition p call c s ≡ Gives (option_map completion_of o) now → while_turn p call c a s ≡ or_body body_turn (option_map completion_of o) now
+  while_tested o d = tested_first body_turn (expr p call c s) ∙ after (loop_condition p call c s) (or_body body_turn) (option_map completion_of o) now d
 
-  module _ (o : Option OwnEnd) (d : loop_condition p call c s ≡ Gives (option_map end_of o) now) where
-    pub while_ends : (e : OwnEnd) → o ≡ Some e → while_turn p call c a s ≡ Gives (Some (end_of e)) now
-    while_ends e some = while_tested o d ∙ ap (λ x. or_body body_turn (option_map end_of x) now) some
+  module _ (o : Option OwnCompletion) (d : loop_condition p call c s ≡ Gives (option_map completion_of o) now) where
+    pub while_ends : (e : OwnCompletion) → o ≡ Some e → while_turn p call c a s ≡ Gives (Some (completion_of e)) now
+    while_ends e some = while_tested o d ∙ ap (λ x. or_body body_turn (option_map completion_of x) now) some
 
     module _ (then_ : State) (none : o ≡ None) where
       while_runs : while_turn p call c a s ≡ body_turn now
-      while_runs = while_tested o d ∙ ap (λ x. or_body body_turn (option_map end_of x) now) none
+      while_runs = while_tested o d ∙ ap (λ x. or_body body_turn (option_map completion_of x) now) none
 
       pub while_halts : (why : Halt) → in_scope (stmt p call a) now ≡ Stops why then_ → while_turn p call c a s ≡ Stops why then_
       while_halts why h = while_runs ∙ halts (in_scope (stmt p call a) now) (after_body (pure None)) why then_ h
 
-      pub while_goes : (e : OwnEnd) (r : Option OwnEnd) → in_scope (stmt p call a) now ≡ Gives (end_of e) then_ → after_body (pure None) (end_of e) then_ ≡ left_or (pure None) r then_ →
-          while_turn p call c a s ≡ Gives (option_map end_of r) then_
+      pub while_goes : (e : OwnCompletion) (r : Option OwnCompletion) → in_scope (stmt p call a) now ≡ Gives (completion_of e) then_ → after_body (pure None) (completion_of e) then_ ≡ left_or (pure None) r then_ →
+          while_turn p call c a s ≡ Gives (option_map completion_of r) then_
       while_goes e r h left =
-          while_runs ∙ after (in_scope (stmt p call a) now) (after_body (pure None)) (end_of e) then_ h ∙ left ∙ left_behind r then_
+          while_runs ∙ after (in_scope (stmt p call a) now) (after_body (pure None)) (completion_of e) then_ h ∙ left ∙ left_behind r then_

@@ -17,7 +17,7 @@ pub mod Printing
 pub mod Turns
 -- what a thread has still to do
 pub mod Going
--- what a thread has still to do, as it is kept
+-- what a thread has still to do, as its machine has it
 pub mod Left
 -- how a thread stands
 pub mod Standing

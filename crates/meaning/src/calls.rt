@@ -9,7 +9,8 @@ ghost use Rattle.meaning.specs.inner.Calls.{begin_call, begun_in};
 ghost use Rattle.syntax.specs.Tree as tree;
 ghost use Rattle.syntax.specs.Tree.{Int};
 ghost use Rattle.meaning.specs.inner.Does.{caller_in};
-ghost use Rattle.meaning.specs.inner.Machine.{end_of, MeansAs, MeansWord, MeansWords, items_in, program_in, state_in};
+ghost use Rattle.meaning.specs.inner.Machine.{completion_of, MeansAs, MeansWord, MeansWords, items_in, program_in};
+ghost use Rattle.meaning.specs.inner.Machine.{state_in};
 
 use crate::arithmetic::convert;
 use crate::expr::eval;
@@ -68,7 +69,7 @@ pub(crate) fn result_of<A: Allocator>(
     ty: Option<Scalar>,
     end: StmtCompletion,
 ) -> Result<Word, Halted>
-    ensures { MeansWord result (meaning.result_of ty (end_of end) (state_in m.old)) m.new }
+    ensures { MeansWord result (meaning.result_of ty (completion_of end) (state_in m.old)) m.new }
 {
     match end {
         StmtCompletion::Next => Ok(convert_word(type_or_int(ty), flag(false))),

@@ -10,7 +10,8 @@ ghost use Rattle.meaning.specs.inner.Going as going;
 ghost use Rattle.meaning.specs.inner.Going.{call_left};
 ghost use Rattle.meaning.specs.inner.Left as lefts;
 ghost use Rattle.meaning.specs.inner.Left.{MeansStepped, follow_of};
-ghost use Rattle.meaning.specs.inner.Machine.{Means, MeansEnd, MeansTurn, end_of, local_in, program_in, state_in};
+ghost use Rattle.meaning.specs.inner.Machine.{Means, MeansCompletion, MeansTurn, completion_of, local_in, program_in};
+ghost use Rattle.meaning.specs.inner.Machine.{state_in};
 ghost use Rattle.meaning.specs.inner.Does.{caller_in, does_turn};
 
 use crate::calls::{Begun, begin as begin_body, result_of, values};
@@ -369,7 +370,7 @@ fn after_body<'p, A: Allocator + Copy>(
 ) -> Result<Option<StmtCompletion>, Halted>
     ensures { MeansTurn result
         (meaning.after_body (going.turn_end_of (program_in source.now) (caller_in source.now frames) (stmt_of s.now))
-        (end_of end) (state_in m.old)) m.new }
+        (completion_of end) (state_in m.old)) m.new }
 {
     if let Some(end) = left_by_body(end) {
         return Ok(Some(end));
@@ -391,7 +392,7 @@ fn leave_body<'p, A: Allocator + Copy>(
     m: &mut Machine<'p, '_, A>,
 ) -> Result<Stepped<'p, A>, Halted>
     ensures { MeansStepped source.now result
-        (lefts.body_step source.now frames (stmt_of s.now) turns (end_of end) (state_in m.old)) m.new }
+        (lefts.body_step source.now frames (stmt_of s.now) turns (completion_of end) (state_in m.old)) m.new }
 {
     match after_body(source, frames, s, end, m)? {
         Some(end) => Ok(Stepped::Ends(end)),
@@ -407,7 +408,8 @@ fn leave_call<'p, A: Allocator + Copy>(
     end: StmtCompletion,
     m: &mut Machine<'p, '_, A>,
 ) -> Result<StmtCompletion, Halted>
-    ensures { MeansEnd result (call_left ty (map local_in outer.now) (end_of end) (state_in m.old)) m.new }
+    ensures { MeansCompletion result (call_left ty (map local_in outer.now) (completion_of end) (state_in m.old))
+        m.new }
 {
     let Ok(mine) = copy_locals(alloc, outer) else {
         m.why = None;
@@ -463,7 +465,8 @@ pub(crate) fn step<'p, A: Allocator + Copy>(
     end: StmtCompletion,
     m: &mut Machine<'p, '_, A>,
 ) -> Result<Stepped<'p, A>, Halted>
-    ensures { MeansStepped source.now result (lefts.step_of source.now left.now (end_of end) (state_in m.old)) m.new }
+    ensures { MeansStepped source.now result (lefts.step_of source.now left.now (completion_of end) (state_in m.old))
+        m.new }
 {
     match left {
         Left::Next(task) => match end {

@@ -5,7 +5,7 @@ ghost use Rattle.syntax.specs.Views.{expr_of, simple_of, start_of, stmt_of};
 ghost use Rattle.syntax.specs.Actions as act;
 ghost use Rattle.syntax.specs.Actions.{State};
 ghost use Rattle.syntax.specs.Meaning as meaning;
-ghost use Rattle.meaning.specs.inner.Machine.{Means, MeansEnd, MeansTurn, end_of, program_in, state_in};
+ghost use Rattle.meaning.specs.inner.Machine.{Means, MeansCompletion, MeansTurn, completion_of, program_in, state_in};
 ghost use Rattle.meaning.specs.inner.Does.{caller_in, does_turn, do_turn, for_all, for_turn, left_or};
 ghost use Rattle.meaning.specs.inner.Does.{loop_condition as tested_due, while_turn};
 
@@ -30,7 +30,7 @@ pub(crate) enum Loop<'p, A: Allocator> {
 /// The end of a loop that its body's end is, if it is one.
 pub(crate) fn left_by_body(end: StmtCompletion) -> Option<StmtCompletion>
     ensures { (go : act.Action (Option meaning.Completion)) → (s : State)
-        → meaning.after_body go (end_of end) s ≡ left_or go result s }
+        → meaning.after_body go (completion_of end) s ≡ left_or go result s }
 {
     match end {
         StmtCompletion::Next | StmtCompletion::Continues => None,
@@ -48,7 +48,7 @@ pub(crate) fn repeat<'p, A: Allocator + Copy>(
     which: &Loop<'p, A>,
     m: &mut Machine<'p, '_, A>,
 ) -> Result<StmtCompletion, Halted>
-    ensures { MeansEnd result (meaning.loop (does_turn source.now frames which.now) (state_in m.old)) m.new }
+    ensures { MeansCompletion result (meaning.loop (does_turn source.now frames which.now) (state_in m.old)) m.new }
 {
     let most = m.ticks;
     'turns: for _ in 0..most {
@@ -213,7 +213,7 @@ pub(crate) fn for_scoped<'p, A: Allocator + Copy>(
     a: &'p Stmt<A>,
     m: &mut Machine<'p, '_, A>,
 ) -> Result<StmtCompletion, Halted>
-    ensures { MeansEnd result
+    ensures { MeansCompletion result
         (meaning.in_scope (for_all (program_in source.now) (caller_in source.now frames) (start_of head.now.start)
         (option_map expr_of head.now.condition) (option_map simple_of head.now.step) (stmt_of a.now)) (state_in m.old))
         m.new }
@@ -233,7 +233,7 @@ fn for_run<'p, A: Allocator + Copy>(
     a: &'p Stmt<A>,
     m: &mut Machine<'p, '_, A>,
 ) -> Result<StmtCompletion, Halted>
-    ensures { MeansEnd result
+    ensures { MeansCompletion result
         (for_all (program_in source.now) (caller_in source.now frames) (start_of head.now.start)
         (option_map expr_of head.now.condition) (option_map simple_of head.now.step) (stmt_of a.now) (state_in m.old))
         m.new }
@@ -250,7 +250,7 @@ pub(crate) fn for_start<'p, A: Allocator + Copy>(
     start: &'p Start<A>,
     m: &mut Machine<'p, '_, A>,
 ) -> Result<StmtCompletion, Halted>
-    ensures { MeansEnd result
+    ensures { MeansCompletion result
         (meaning.start_with (program_in source.now) (caller_in source.now frames) (start_of start.now) (state_in m.old))
         m.new }
 {

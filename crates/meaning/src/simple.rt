@@ -6,7 +6,7 @@ ghost use Rattle.syntax.specs.Tree as tree;
 ghost use Rattle.syntax.specs.Actions as act;
 ghost use Rattle.syntax.specs.Meaning as meaning;
 ghost use Rattle.syntax.specs.Numbers.{binary};
-ghost use Rattle.meaning.specs.inner.Machine.{Means, MeansEnd, MeansLvalue, program_in, lvalue_of, state_in};
+ghost use Rattle.meaning.specs.inner.Machine.{Means, MeansCompletion, MeansLvalue, program_in, lvalue_of, state_in};
 ghost use Rattle.meaning.specs.inner.Word.{value_of};
 ghost use Rattle.meaning.specs.inner.Does.{caller_in, declared_one};
 
@@ -28,7 +28,7 @@ fn rewrite<A: Allocator>(
     old: Word,
     by: Word,
 ) -> Result<StmtCompletion, Halted>
-    ensures { MeansEnd result
+    ensures { MeansCompletion result
         (act.go_on (act.go_on (act.or_trap (binary op (value_of old) (value_of by)) (state_in m.old))
         (meaning.assign (lvalue_of at))) (λ _. act.pure meaning.Next)) m.new }
 {
@@ -67,7 +67,7 @@ fn simple_assignment<'p, A: Allocator + Copy>(
     e: &'p Expr<A>,
     m: &mut Machine<'p, '_, A>,
 ) -> Result<StmtCompletion, Halted>
-    ensures { MeansEnd result
+    ensures { MeansCompletion result
         (meaning.simple (program_in source.now) (caller_in source.now frames)
         (tree.Assign (expr_of to.now) None (expr_of e.now)) (state_in m.old)) m.new }
 {
@@ -87,7 +87,7 @@ fn compound_assignment<'p, A: Allocator + Copy>(
     e: &'p Expr<A>,
     m: &mut Machine<'p, '_, A>,
 ) -> Result<StmtCompletion, Halted>
-    ensures { MeansEnd result
+    ensures { MeansCompletion result
         (meaning.simple (program_in source.now) (caller_in source.now frames)
         (tree.Assign (expr_of to.now) (Some op) (expr_of e.now)) (state_in m.old)) m.new }
 {
@@ -105,7 +105,7 @@ pub(crate) fn simple<'p, A: Allocator + Copy>(
     s: &'p Simple<A>,
     m: &mut Machine<'p, '_, A>,
 ) -> Result<StmtCompletion, Halted>
-    ensures { MeansEnd result
+    ensures { MeansCompletion result
         (meaning.simple (program_in source.now) (caller_in source.now frames) (simple_of s.now) (state_in m.old))
         m.new }
 {
@@ -135,7 +135,7 @@ pub(crate) fn declare<'p, A: Allocator + Copy>(
     ds: &'p [Declarator<A>],
     m: &mut Machine<'p, '_, A>,
 ) -> Result<StmtCompletion, Halted>
-    ensures { MeansEnd result
+    ensures { MeansCompletion result
         (meaning.declare (program_in source.now) (caller_in source.now frames) ty (map declarator_of ds.now)
         (state_in m.old)) m.new }
 {

@@ -12,7 +12,7 @@ ghost use Rattle.meaning.specs.declared.left.Task.TheVariants as tasks;
 ghost use Rattle.meaning.specs.declared.left.Direction.TheVariants as ways;
 ghost use Rattle.meaning.specs.inner.Going.{Follow, IsStep, call_begun, follows};
 ghost use Rattle.meaning.specs.inner.Left.{follow_of, left_gone_on, first_step, continue_with, step_of};
-ghost use Rattle.meaning.specs.inner.Machine.{Happened, end_of, halt_of, program_in, state_in};
+ghost use Rattle.meaning.specs.inner.Machine.{Happened, completion_of, halt_of, program_in, state_in};
 ghost use Rattle.meaning.specs.inner.Standing.{IsGone, IsStop, bare, rest};
 
 use crate::calls::{Begun, begin};
@@ -155,7 +155,7 @@ fn go<'p, A: Allocator + Copy>(
     end: StmtCompletion,
     at: &Point<'p, A>,
 ) -> Result<Gone<'p, A>, AllocError>
-    ensures { IfOk result (λ g. IsGone source.now g (step_of source.now left.now (end_of end) (bare at.now))) }
+    ensures { IfOk result (λ g. IsGone source.now g (step_of source.now left.now (completion_of end) (bare at.now))) }
 {
     let mut m = machine(source.alloc, at)?;
     match step(source, left, end, &mut m) {
@@ -207,7 +207,7 @@ fn push_next<'p, A: Allocator + Copy>(
     next: Stepped<'p, A>,
 ) -> Result<StmtCompletion, AllocError>
     ensures { IfOk result (λ e. (source : ProgramTables A) (s : act.State)
-        → left_gone_on source left.new.items (end_of e) s ≡ act.go_on (follows (follow_of source next.entry) s)
+        → left_gone_on source left.new.items (completion_of e) s ≡ act.go_on (follows (follow_of source next.entry) s)
         (left_gone_on source left.old.items)) }
 {
     match next {
@@ -232,7 +232,7 @@ fn arrive<'p, A: Allocator + Copy>(
     shown: Shown<A>,
 ) -> Result<(), AllocError>
     ensures left { (source : ProgramTables A)
-        → OnOk result ((s : act.State) → left_gone_on source thread.new.left.items (end_of thread.new.end) s
+        → OnOk result ((s : act.State) → left_gone_on source thread.new.left.items (completion_of thread.new.end) s
         ≡ act.go_on (follows (follow_of source next.entry) s) (left_gone_on source thread.old.left.items)) }
     ensures at { OnOk result (thread.new.at ≡ at.entry) }
     ensures lefts { OnOk result (thread.new.shown.lefts.items ≡ thread.old.shown.lefts.items ++ shown.lefts.items) }
@@ -252,7 +252,7 @@ fn wanting<'p, A: Allocator + Copy>(
     why: Halt,
 ) -> Option<(u64, &'p Stmt<A>)>
     ensures left { IfSome result (λ w. left.now ≡ lefts.Next (tasks.Alone ways.Whole w.0 w.1)) }
-    ensures end { IfSome result (λ w. end_of end ≡ meaning.Next) }
+    ensures end { IfSome result (λ w. completion_of end ≡ meaning.Next) }
 {
     match (left, end, why) {
         (Left::Next(Task::Alone(Direction::Whole, frames, s)), StmtCompletion::Next, Halt::Wants) =>
@@ -269,7 +269,8 @@ fn try_step<'p, A: Allocator + Copy>(
     end: StmtCompletion,
     at: &Point<'p, A>,
 ) -> Result<Gone<'p, A>, AllocError>
-    ensures { IfOk result (λ g. (run : act.Action Follow) × IsStep (continue_with source.now left.now) (end_of end) run
+    ensures { IfOk result (λ g. (run : act.Action Follow)
+        × IsStep (continue_with source.now left.now) (completion_of end) run
         × IsGone source.now g (run (bare at.now))) }
 {
     let gone = go(source, left, end, at)?;

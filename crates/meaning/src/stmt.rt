@@ -6,7 +6,7 @@ ghost use Rattle.syntax.specs.Views.{expr_of, exprs_of, stmt_of};
 ghost use Rattle.syntax.specs.Tree as tree;
 ghost use Rattle.syntax.specs.Actions as act;
 ghost use Rattle.syntax.specs.Meaning as meaning;
-ghost use Rattle.meaning.specs.inner.Machine.{MeansEnd, program_in, state_in};
+ghost use Rattle.meaning.specs.inner.Machine.{MeansCompletion, program_in, state_in};
 ghost use Rattle.meaning.specs.inner.Does.{caller_in, does_stmt, does_stmts, if_of};
 
 use crate::calls::values;
@@ -30,7 +30,7 @@ pub(crate) fn stmt<'p, A: Allocator + Copy>(
     s: &'p Stmt<A>,
     m: &mut Machine<'p, '_, A>,
 ) -> Result<StmtCompletion, Halted>
-    ensures { MeansEnd result (does_stmt source.now frames s.now (state_in m.old)) m.new }
+    ensures { MeansCompletion result (does_stmt source.now frames s.now (state_in m.old)) m.new }
 {
     tick(m)?;
     match s {
@@ -70,7 +70,7 @@ pub(crate) fn stmts<'p, A: Allocator + Copy>(
     ss: &'p [Stmt<A>],
     m: &mut Machine<'p, '_, A>,
 ) -> Result<StmtCompletion, Halted>
-    ensures { MeansEnd result (does_stmts source.now frames ss.now (state_in m.old)) m.new }
+    ensures { MeansCompletion result (does_stmts source.now frames ss.now (state_in m.old)) m.new }
 {
     'statements: for s in ss {
         match stmt(source, frames, s, m)? {
@@ -89,7 +89,7 @@ pub(crate) fn block<'p, A: Allocator + Copy>(
     ss: &'p [Stmt<A>],
     m: &mut Machine<'p, '_, A>,
 ) -> Result<StmtCompletion, Halted>
-    ensures { MeansEnd result (meaning.in_scope (does_stmts source.now frames ss.now) (state_in m.old)) m.new }
+    ensures { MeansCompletion result (meaning.in_scope (does_stmts source.now frames ss.now) (state_in m.old)) m.new }
 {
     let outer = m.locals.len();
     let end = stmts(source, frames, ss, m)?;
@@ -105,7 +105,7 @@ pub(crate) fn scoped_stmt<'p, A: Allocator + Copy>(
     s: &'p Stmt<A>,
     m: &mut Machine<'p, '_, A>,
 ) -> Result<StmtCompletion, Halted>
-    ensures { MeansEnd result (meaning.in_scope (does_stmt source.now frames s.now) (state_in m.old)) m.new }
+    ensures { MeansCompletion result (meaning.in_scope (does_stmt source.now frames s.now) (state_in m.old)) m.new }
 {
     let outer = m.locals.len();
     let end = stmt(source, frames, s, m)?;
@@ -124,7 +124,7 @@ fn print_output<'p, A: Allocator + Copy>(
     m: &mut Machine<'p, '_, A>,
 ) -> Result<StmtCompletion, Halted>
     ensures { (at format_at : Span) (begun : act.State) → act.tick begun ≡ act.Gives tt (state_in m.old)
-        → MeansEnd result (meaning.stmt (program_in source.now) (caller_in source.now frames)
+        → MeansCompletion result (meaning.stmt (program_in source.now) (caller_in source.now frames)
         (tree.Print at format.now format_at (exprs_of args.now)) begun) m.new }
 {
     may_print(m)?;
@@ -144,7 +144,7 @@ fn either<'p, A: Allocator + Copy>(
     m: &mut Machine<'p, '_, A>,
 ) -> Result<StmtCompletion, Halted>
     ensures { (begun : act.State) → act.tick begun ≡ act.Gives tt (state_in m.old)
-        → MeansEnd result (meaning.stmt (program_in source.now) (caller_in source.now frames)
+        → MeansCompletion result (meaning.stmt (program_in source.now) (caller_in source.now frames)
         (if_of (expr_of c.now) (stmt_of a.now) (option_map stmt_of b.now)) begun) m.new }
 {
     let v = eval(source, frames, c, m)?;
@@ -166,7 +166,7 @@ fn return_end<'p, A: Allocator + Copy>(
     m: &mut Machine<'p, '_, A>,
 ) -> Result<StmtCompletion, Halted>
     ensures { (at : Span) (begun : act.State) → act.tick begun ≡ act.Gives tt (state_in m.old)
-        → MeansEnd result (meaning.stmt (program_in source.now) (caller_in source.now frames)
+        → MeansCompletion result (meaning.stmt (program_in source.now) (caller_in source.now frames)
         (tree.Return (option_map expr_of e.now) at) begun) m.new }
 {
     match e {

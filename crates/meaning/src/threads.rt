@@ -81,7 +81,7 @@ pub(crate) fn start<'p, 'f, A: Allocator + Copy>(
 }
 
 /// The end that is told of a thread that has stopped.
-fn end_of(why: Halt) -> ThreadEnd
+fn completion_of(why: Halt) -> ThreadEnd
     requires { why ≢ Astray }
     ensures { thread_end_in result ≡ Stopped why }
 {
@@ -100,7 +100,7 @@ pub(crate) fn end_by(why: Option<Halt>) -> Option<ThreadEnd>
     match why {
         None => Some(ThreadEnd::Ended),
         Some(Halt::Astray) => None,
-        Some(why) => Some(end_of(why)),
+        Some(why) => Some(completion_of(why)),
     }
 }
 
@@ -129,7 +129,7 @@ pub fn thread<A: Allocator + Copy>(
     match work(&source, t, &mut m) {
         Ok(()) => Ok(finish(alloc, ThreadEnd::Ended, m)),
         Err(_) => match m.why {
-            Some(why) => Ok(finish(alloc, end_of(why), m)),
+            Some(why) => Ok(finish(alloc, completion_of(why), m)),
             None => Err(AllocError),
         },
     }

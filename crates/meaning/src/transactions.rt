@@ -7,7 +7,8 @@ ghost use Rattle.syntax.specs.Meaning as meaning;
 ghost use Rattle.syntax.specs.Names as Names;
 ghost use Rattle.meaning.specs.Outcomes.{memories_in};
 ghost use Rattle.meaning.specs.inner.Does.{does_body, does_expr, is_forbidden as is_forbidden_due};
-ghost use Rattle.meaning.specs.inner.Machine.{local_in, end_of, Means, MeansEnd, MeansWord, context_in, state_in};
+ghost use Rattle.meaning.specs.inner.Machine.{local_in, completion_of, Means, MeansCompletion, MeansWord, context_in};
+ghost use Rattle.meaning.specs.inner.Machine.{state_in};
 ghost use Rattle.meaning.specs.inner.Machine.{items_in, left_too, Happened, halt_of};
 
 use crate::expr::eval;
@@ -89,7 +90,7 @@ fn mode_of(kind: TransactionKind) -> Mode
 
 /// Whether a transaction of this kind is undone where its body ends so: an outer cancel undoes an outer one alone.
 fn is_undone(end: StmtCompletion, kind: TransactionKind) -> bool
-    ensures { result ≡ meaning.undoes (end_of end) kind }
+    ensures { result ≡ meaning.undoes (completion_of end) kind }
 {
     match end {
         StmtCompletion::Cancels => true,
@@ -112,8 +113,8 @@ fn leave_inner<'p, A: Allocator + Copy>(
     m: &mut Machine<'p, '_, A>,
 ) -> StmtCompletion
     ensures { meaning.leave_inner outer
-        (meaning.left_by kind (items_in before.entry) found.items (end_of end) (state_in m.old)) (state_in m.old)
-        ≡ act.Gives (end_of result) (state_in m.new) }
+        (meaning.left_by kind (items_in before.entry) found.items (completion_of end) (state_in m.old)) (state_in m.old)
+        ≡ act.Gives (completion_of result) (state_in m.new) }
 {
     if is_undone(end, kind) {
         m.locals = before;
@@ -136,9 +137,9 @@ fn leave<'p, 'f, A: Allocator + Copy>(
     end: StmtCompletion,
     m: &mut Machine<'p, 'f, A>,
 ) -> Result<StmtCompletion, Halted>
-    ensures { MeansEnd result
+    ensures { MeansCompletion result
         (meaning.leave (memories_in founds.now) (memories_in lefts.items)
-        (meaning.left_by kind (items_in mine.entry) found.now (end_of end) (state_in m.old)) (state_in m.old))
+        (meaning.left_by kind (items_in mine.entry) found.now (completion_of end) (state_in m.old)) (state_in m.old))
         m.new }
 {
     let inside = mem::replace(&mut m.context, Context::Outside(founds, lefts));
@@ -225,7 +226,7 @@ fn begin_value<A: Allocator>(m: &mut Machine<A>) -> Result<(), Halted>
 
 /// What an expression gives that is a transaction, by its body's end.
 fn value_at<A: Allocator>(m: &mut Machine<A>, end: StmtCompletion) -> Result<Word, Halted>
-    ensures { MeansWord result (meaning.value_at (end_of end) (state_in m.old)) m.new }
+    ensures { MeansWord result (meaning.value_at (completion_of end) (state_in m.old)) m.new }
 {
     match end {
         StmtCompletion::Returns(v) => Ok(v),
@@ -271,7 +272,8 @@ pub(crate) fn transaction<'p, A: Allocator + Copy>(
     body: &Body<'p, A>,
     m: &mut Machine<'p, '_, A>,
 ) -> Result<StmtCompletion, Halted>
-    ensures { MeansEnd result (meaning.transaction kind (does_body source.now frames body.now) (state_in m.old)) m.new }
+    ensures { MeansCompletion result (meaning.transaction kind (does_body source.now frames body.now) (state_in m.old))
+        m.new }
 {
     let none = Context::Inside(Mode::Atomic, Vec::new(source.alloc));
     match mem::replace(&mut m.context, none) {
@@ -294,7 +296,7 @@ fn outermost<'p, 'f, A: Allocator + Copy>(
     body: &Body<'p, A>,
     m: &mut Machine<'p, 'f, A>,
 ) -> Result<StmtCompletion, Halted>
-    ensures { MeansEnd result (let before = act.Outside (memories_in founds.now) (memories_in lefts.items)
+    ensures { MeansCompletion result (let before = act.Outside (memories_in founds.now) (memories_in lefts.items)
         in meaning.enter before kind (does_body source.now frames body.now)
         (record (state_in m.old) { context = before })) m.new }
 {
@@ -342,7 +344,7 @@ fn nested_transaction<'p, A: Allocator + Copy>(
     body: &Body<'p, A>,
     m: &mut Machine<'p, '_, A>,
 ) -> Result<StmtCompletion, Halted>
-    ensures { MeansEnd result (let before = act.Inside outer found.items
+    ensures { MeansCompletion result (let before = act.Inside outer found.items
         in meaning.enter before kind (does_body source.now frames body.now)
         (record (state_in m.old) { context = before })) m.new }
 {
@@ -373,7 +375,7 @@ fn run_body<'p, A: Allocator + Copy>(
     body: &Body<'p, A>,
     m: &mut Machine<'p, '_, A>,
 ) -> Result<StmtCompletion, Halted>
-    ensures { MeansEnd result (does_body source.now frames body.now (state_in m.old)) m.new }
+    ensures { MeansCompletion result (does_body source.now frames body.now (state_in m.old)) m.new }
 {
     match body {
         Body::Block(ss) => block(source, frames, ss, m),

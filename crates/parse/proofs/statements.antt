@@ -3,8 +3,8 @@
 pub mod Simples
 -- Declarations, and the first part of a loop's head, are read exactly.
 pub mod Declarations
--- The mark of an outer transaction, and of what cancels it, is read exactly.
-pub mod Marks
+-- The attribute `outer` of a transaction, and of what cancels it, is read exactly.
+pub mod Attributes
 -- What statements begin with.
 pub mod Leads
 -- Statements that hold no others are read exactly.

@@ -33,7 +33,7 @@ type Sized<'t, 'a, A> = (
     &'t [Token<'a>],
 );
 
-/// A constant, with its type and its place.
+/// A constant, with its type and its span.
 fn constant<'t, 'a>(tokens: &'t [Token<'a>]) -> Result<Placed<'t, 'a>, Failure<'t, 'a>>
     ensures { Gives (λ x. (x.0, toks x.1.now)) result (take value_with_span (toks tokens.now)) }
 {

@@ -13,7 +13,7 @@ use lex::token::{Scalar, Span};
 use std::alloc::{AllocError, Allocator};
 use syntax::tree::{Expr, Mode, Name, UnaryOp};
 
-/// From the start of one place to the end of another.
+/// From the start of one span to the end of another.
 pub fn across(first: Span, last: Span) -> Span
     ensures { result ≡ across first last }
 {
@@ -42,7 +42,7 @@ pub fn span_of<A: Allocator>(e: &Expr<A>) -> Span
     }
 }
 
-/// An element of an array, up to the place of its closing bracket.
+/// An element of an array, up to the span of its closing bracket.
 pub fn element<A: Allocator + Copy>(
     alloc: A,
     name: Name<A>,
@@ -55,7 +55,7 @@ pub fn element<A: Allocator + Copy>(
     Ok(Expr::Element(name, Boxed::new(alloc, index)?, span))
 }
 
-/// A call, up to the place of its closing parenthesis.
+/// A call, up to the span of its closing parenthesis.
 pub fn call<A: Allocator>(name: Name<A>, args: Items<Expr<A>, A>, last: Span) -> Expr<A>
     ensures { expr_of result ≡ Call (name_of name) (exprs_of args) (across name.span last) }
 {
@@ -63,7 +63,7 @@ pub fn call<A: Allocator>(name: Name<A>, args: Items<Expr<A>, A>, last: Span) ->
     Expr::Call(name, args, span)
 }
 
-/// An expression in parentheses, which stand at these places.
+/// An expression in parentheses, which have these spans.
 pub fn group<A: Allocator + Copy>(
     alloc: A,
     first: Span,
@@ -76,7 +76,7 @@ pub fn group<A: Allocator + Copy>(
     Ok(Expr::Parenthesized(Boxed::new(alloc, inner)?, span))
 }
 
-/// An expression that is a transaction: its keyword, which stands at a place, and its operand, up to the place of its
+/// An expression that is a transaction: its keyword, which has a span, and its operand, up to the span of its
 /// closing parenthesis.
 pub fn transaction<A: Allocator + Copy>(
     alloc: A,
@@ -91,7 +91,7 @@ pub fn transaction<A: Allocator + Copy>(
     Ok(Expr::InTransaction(mode, first, Boxed::new(alloc, inner)?, span))
 }
 
-/// A cast of an operand, from the place of its opening parenthesis.
+/// A cast of an operand, from the span of its opening parenthesis.
 pub fn cast<A: Allocator + Copy>(
     alloc: A,
     first: Span,
@@ -104,7 +104,7 @@ pub fn cast<A: Allocator + Copy>(
     Ok(Expr::Cast(ty, Boxed::new(alloc, inner)?, span))
 }
 
-/// An operator, which stands at a place, and its operand.
+/// An operator, which has a span, and its operand.
 pub fn unary<A: Allocator + Copy>(
     alloc: A,
     first: Span,

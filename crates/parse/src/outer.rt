@@ -72,7 +72,7 @@ fn outer_attribute<'t, 'a>(tokens: &'t [Token<'a>]) -> Result<&'t [Token<'a>], F
     )
 }
 
-/// Whether a mark begins here.
+/// Whether an attribute begins here.
 fn begins_outer_attribute(tokens: &[Token]) -> bool
     ensures { result ≡ begins_outer_attribute (head (toks tokens.now)) }
 {
@@ -81,7 +81,7 @@ fn begins_outer_attribute(tokens: &[Token]) -> bool
 }
 
 /// `[outer]`: whether it stands here.
-pub fn has_outer_mark<'t, 'a>(
+pub fn has_outer_attribute<'t, 'a>(
     tokens: &'t [Token<'a>],
 ) -> Result<(bool, &'t [Token<'a>]), Failure<'t, 'a>>
     ensures { Gives (λ x. (x.0, toks x.1.now)) result (outer_attribute_if_any (toks tokens.now)) }

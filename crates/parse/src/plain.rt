@@ -14,7 +14,7 @@ ghost use Rattle.parse.specs.inner.Statements.{simple_at, print_arguments, print
 use crate::cursor::{expect, expect_close, expect_span};
 use crate::expr::further;
 use crate::fault::Failure;
-use crate::outer::has_outer_mark;
+use crate::outer::has_outer_attribute;
 use crate::simple::{last_expression, simple_before};
 use containers::{Items, Text};
 use lex::token::{Fixed, Keyword, Kind, Punctuator, Span, Token};
@@ -52,7 +52,7 @@ pub fn simple_stmt<'t, 'a, A: Allocator + Copy>(
     Ok((Stmt::Do(simple), rest))
 }
 
-/// A string: what it stands for, and its place.
+/// A string: what it stands for, and its span.
 fn text<'t, 'a, A: Allocator + Copy>(
     alloc: A,
     tokens: &'t [Token<'a>],
@@ -148,7 +148,7 @@ pub fn cancel_stmt<'t, 'a, A: Allocator + Copy>(
     ensures { Gives (λ x. (stmt_of x.0, toks x.1.now)) result (cancel_stmt (toks tokens.now)) }
 {
     let (span, rest) = expect_span(tokens, Fixed::Keyword(Keyword::Cancel))?;
-    let (outer, rest) = has_outer_mark(rest)?;
+    let (outer, rest) = has_outer_attribute(rest)?;
     let rest = expect(rest, Fixed::Punctuator(Punctuator::Semicolon))?;
     if outer {
         Ok((Stmt::CancelOuter(span), rest))

@@ -18,7 +18,7 @@ use crate::cursor::{eat, expect, expect_close, expect_span, is_next};
 use crate::expr::expression;
 use crate::fault::Failure;
 use crate::lead::{Lead, lead_at, mode_keyword};
-use crate::outer::has_outer_mark;
+use crate::outer::has_outer_attribute;
 use crate::plain::{
     break_stmt, cancel_stmt, continue_stmt, empty_stmt, print_stmt, return_stmt, simple_stmt,
 };
@@ -363,7 +363,7 @@ fn for_stmt<'t, 'a, A: Allocator + Copy>(
     for_of(head, boxed_stmt(alloc, rest, depth))
 }
 
-/// `[outer]`, behind the keyword of a transaction: what kind it is. A relaxed one has no mark.
+/// `[outer]`, behind the keyword of a transaction: what kind it is. A relaxed one has no attribute.
 fn kind<'t, 'a>(
     tokens: &'t [Token<'a>],
     mode: Mode,
@@ -373,7 +373,7 @@ fn kind<'t, 'a>(
     match mode {
         Mode::Relaxed => Ok((TransactionKind::Plain(Mode::Relaxed), tokens)),
         Mode::Atomic => {
-            let (outer, rest) = has_outer_mark(tokens)?;
+            let (outer, rest) = has_outer_attribute(tokens)?;
             if outer {
                 Ok((TransactionKind::Outer, rest))
             } else {

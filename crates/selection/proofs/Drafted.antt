@@ -23,8 +23,8 @@ whole_are m u (i ∷ is) = ap (λ xs. i ∷ xs) (whole_are m u is)
 
 turned_one : (m u : ℕ) (d : Draft) → instruction_of_draft m u (opposite_draft d) ≡ instruction_of_draft u m d
 turned_one m u (draft.Whole i) = refl
-turned_one m u (draft.ToMet z r) = refl
-turned_one m u (draft.ToUnmet z r) = refl
+turned_one m u (draft.ToTrueExit z r) = refl
+turned_one m u (draft.ToFalseExit z r) = refl
 
 pub turned_are : (m u : ℕ) (ds : List Draft) → map (instruction_of_draft m u) (map opposite_draft ds) ≡ map (instruction_of_draft u m) ds
 turned_are m u [] = refl
@@ -32,13 +32,13 @@ turned_are m u (d ∷ ds) = λ j. turned_one m u d j ∷ turned_are m u ds j
 
 and_one : (next m u : ℕ) (d : Draft) → instruction_of_draft m u (with_second_at AndThen next d) ≡ instruction_of_draft next u d
 and_one next m u (draft.Whole i) = refl
-and_one next m u (draft.ToMet z r) = refl
-and_one next m u (draft.ToUnmet z r) = refl
+and_one next m u (draft.ToTrueExit z r) = refl
+and_one next m u (draft.ToFalseExit z r) = refl
 
 or_one : (next m u : ℕ) (d : Draft) → instruction_of_draft m u (with_second_at OrElse next d) ≡ instruction_of_draft m next d
 or_one next m u (draft.Whole i) = refl
-or_one next m u (draft.ToMet z r) = refl
-or_one next m u (draft.ToUnmet z r) = refl
+or_one next m u (draft.ToTrueExit z r) = refl
+or_one next m u (draft.ToFalseExit z r) = refl
 
 and_are : (next m u : ℕ) (ds : List Draft) → map (instruction_of_draft m u) (map (with_second_at AndThen next) ds) ≡ map (instruction_of_draft next u) ds
 and_are next m u [] = refl

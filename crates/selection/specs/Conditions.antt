@@ -37,37 +37,39 @@ jump_if_not true r to = own.JumpNonzero r to
 jump_if_not false r to = own.JumpZero r to
 
 -- the instruction, once it is known where the condition leads
-abbrev pub instruction_of_draft : (met unmet : ℕ) → Draft → Instr
-instruction_of_draft met unmet (draft.Whole i) = i
-instruction_of_draft met unmet (draft.ToMet at_zero r) = jump_if at_zero r met
-instruction_of_draft met unmet (draft.ToUnmet at_zero r) = jump_if at_zero r unmet
+abbrev pub instruction_of_draft : (true_exit false_exit : ℕ) → Draft → Instr
+instruction_of_draft true_exit false_exit (draft.Whole i) = i
+instruction_of_draft true_exit false_exit (draft.ToTrueExit at_zero r) = jump_if at_zero r true_exit
+instruction_of_draft true_exit false_exit (draft.ToFalseExit at_zero r) = jump_if at_zero r false_exit
 
 -- an instruction of the opposite condition
 abbrev pub opposite_draft : Draft → Draft
 opposite_draft (draft.Whole i) = draft.Whole i
-opposite_draft (draft.ToMet at_zero r) = draft.ToUnmet at_zero r
-opposite_draft (draft.ToUnmet at_zero r) = draft.ToMet at_zero r
+opposite_draft (draft.ToTrueExit at_zero r) = draft.ToFalseExit at_zero r
+opposite_draft (draft.ToFalseExit at_zero r) = draft.ToTrueExit at_zero r
 
 -- an instruction of the first condition of `&&` and `||`, once it is known where the second one begins
 abbrev pub with_second_at : LogicalOp → ℕ → Draft → Draft
 with_second_at AndThen next (draft.Whole i) = draft.Whole i
-with_second_at AndThen next (draft.ToMet at_zero r) = draft.Whole (jump_if at_zero r next)
-with_second_at AndThen next (draft.ToUnmet at_zero r) = draft.ToUnmet at_zero r
+with_second_at AndThen next (draft.ToTrueExit at_zero r) = draft.Whole (jump_if at_zero r next)
+with_second_at AndThen next (draft.ToFalseExit at_zero r) = draft.ToFalseExit at_zero r
 with_second_at OrElse next (draft.Whole i) = draft.Whole i
-with_second_at OrElse next (draft.ToMet at_zero r) = draft.ToMet at_zero r
-with_second_at OrElse next (draft.ToUnmet at_zero r) = draft.Whole (jump_if at_zero r next)
+with_second_at OrElse next (draft.ToTrueExit at_zero r) = draft.ToTrueExit at_zero r
+with_second_at OrElse next (draft.ToFalseExit at_zero r) = draft.Whole (jump_if at_zero r next)
 
 -- the jump of the first condition of `&&` and `||` past the second one
 abbrev pub short_jump : LogicalOp → ConditionRegister → Draft
-short_jump AndThen t = draft.ToUnmet (not t.at_zero) t.register
-short_jump OrElse t = draft.ToMet t.at_zero t.register
+short_jump AndThen t = draft.ToFalseExit (not t.at_zero) t.register
+short_jump OrElse t = draft.ToTrueExit t.at_zero t.register
 
 -- a condition with its jump: behind it stands what is done where it holds, or where it does not
-abbrev pub going_on : List Draft → ConditionRegister → (unmet : ℕ) → List Instr
-going_on code t unmet = map (instruction_of_draft (t.to + 1) unmet) code ++ jump_if_not t.at_zero t.register unmet ∷ []
+abbrev pub going_on : List Draft → ConditionRegister → (false_exit : ℕ) → List Instr
+going_on code t false_exit = map (instruction_of_draft (t.to + 1) false_exit) code
+    ++ jump_if_not t.at_zero t.register false_exit ∷ []
 
-abbrev pub going_back : List Draft → ConditionRegister → (met : ℕ) → List Instr
-going_back code t met = map (instruction_of_draft met (t.to + 1)) code ++ jump_if t.at_zero t.register met ∷ []
+abbrev pub going_back : List Draft → ConditionRegister → (true_exit : ℕ) → List Instr
+going_back code t true_exit = map (instruction_of_draft true_exit (t.to + 1)) code
+    ++ jump_if t.at_zero t.register true_exit ∷ []
 
 abbrev pub by_value : List Instr → Lists → ValueRegister → Condition
 by_value code l location = record {

@@ -9,8 +9,8 @@ pub enum Draft {
     Whole(Instr),
 
     /// A jump to where the condition holds, taken where this register is 0, or else where it is not.
-    ToMet(bool, u16),
+    ToTrueExit(bool, u16),
 
     /// A jump to where the condition does not hold, taken where this register is 0, or else where it is not.
-    ToUnmet(bool, u16),
+    ToFalseExit(bool, u16),
 }

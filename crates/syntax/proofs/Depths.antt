@@ -1,4 +1,4 @@
--- The depth of a list of expressions from a place on, and depths that are cut at the greatest number of a type.
+-- The depth of a list of expressions from an index on, and depths that are cut at the greatest number of a type.
 use Rattle.std.proofs.Common.{◌≡◌, ℕ, ◌+◌, ◌<◌, ◌≤◌, min, max, List, length, drop, get_or, map, option_map, sym, ap, ◌∙◌, arith}
 use Rattle.std.proofs.lemmas.Bool.Decides.{nat_tests}
 use Rattle.std.proofs.lemmas.List.{at_drop_more, at_drop_all}

@@ -64,7 +64,7 @@ parens n = record {
   second = record { front = x_token (n + 1) ∷ []; back = sign (Punctuator punct.CloseParen) (n + 2) ∷ []; whole = refl; first = record { token = x_token (n + 1); has = refl; whole = refl }; second = record { token = sign (Punctuator punct.CloseParen) (n + 2); has = refl; whole = refl } };
 }
 
--- `__transaction_atomic (x)`, of tokens one byte long: the keyword's place stands beside the whole's
+-- `__transaction_atomic (x)`, of tokens one byte long: the keyword's span stands beside the whole's
 pub one_transaction : expr (InTransaction Atomic (byte 0) (Variable (x_name 2)) (record { start = 0; «end» = 4 })) (sign (Keyword key.Atomic) 0 ∷ sign (Punctuator punct.OpenParen) 1 ∷ x_token 2 ∷ sign (Punctuator punct.CloseParen) 3 ∷ [])
 one_transaction = (
   refl,
@@ -81,8 +81,8 @@ one_transaction = (
 abbrev outer_token : ℕ → Tok
 outer_token n = record { terminal = name (codes "outer"); span = byte n }
 
-marked : (n : ℕ) → outer_phrase (sign (Punctuator punct.OpenBracket) n ∷ sign (Punctuator punct.OpenBracket) (n + 1) ∷ outer_token (n + 2) ∷ sign (Punctuator punct.CloseBracket) (n + 3) ∷ sign (Punctuator punct.CloseBracket) (n + 4) ∷ [])
-marked n = inl (record {
+outer_spelled : (n : ℕ) → outer_phrase (sign (Punctuator punct.OpenBracket) n ∷ sign (Punctuator punct.OpenBracket) (n + 1) ∷ outer_token (n + 2) ∷ sign (Punctuator punct.CloseBracket) (n + 3) ∷ sign (Punctuator punct.CloseBracket) (n + 4) ∷ [])
+outer_spelled n = inl (record {
   front = sign (Punctuator punct.OpenBracket) n ∷ [];
   back = _;
   whole = refl;
@@ -119,7 +119,7 @@ one_outer_cancel = record {
     front = sign (Punctuator punct.OpenBracket) 1 ∷ sign (Punctuator punct.OpenBracket) 2 ∷ outer_token 3 ∷ sign (Punctuator punct.CloseBracket) 4 ∷ sign (Punctuator punct.CloseBracket) 5 ∷ [];
     back = sign (Punctuator punct.Semicolon) 6 ∷ [];
     whole = refl;
-    first = marked 1;
+    first = outer_spelled 1;
     second = record { token = sign (Punctuator punct.Semicolon) 6; has = refl; whole = refl };
   };
 }

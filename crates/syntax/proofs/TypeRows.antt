@@ -12,21 +12,21 @@ use Rattle.syntax.proofs.Rows.{num, sets_one, atomic, just, worker_with}
 sets_one_typed : IsTypedProgram sets_one
 sets_one_typed = all_met (Meets 0 sets_one) refl
 
--- places in the text
-abbrev place : ℕ → ℕ → Span
-place start end = record { start = start; end = end }
+-- spans of the text
+abbrev between : ℕ → ℕ → Span
+between start end = record { start = start; end = end }
 
 abbrev name_at : List ℕ → ℕ → ℕ → Name
-name_at x start end = record { text = x; span = place start end }
+name_at x start end = record { text = x; span = between start end }
 
 -- W{ atomic { z = 1; } }: no name z is known
 abbrev sets_unknown : Program
 sets_unknown = worker_with (just (atomic (just (Do (Assign (Variable (name_at (codes "z") 47 48)) None (num 1)))))) ∷ []
 
-unknown_name : first_unmet (Meets 80 sets_unknown) ≡ Some (20, place 47 48)
+unknown_name : first_unmet (Meets 80 sets_unknown) ≡ Some (20, between 47 48)
 unknown_name = refl
 
-no_worker : first_unmet (Meets 3 []) ≡ Some (28, place 3 3)
+no_worker : first_unmet (Meets 3 []) ≡ Some (28, between 3 3)
 no_worker = refl
 
 -- an else never belongs to the outer of two ifs

@@ -1,4 +1,4 @@
--- A number that stands at a place of a format.
+-- A number that stands at an index of a format.
 use Rattle.std.proofs.Common.{◌≡◌, ℕ, zero, suc, ◌+◌, ◌<◌, ◌≤◌, List, [], ◌∷◌, length, drop, Some, true, refl, ap, ◌∙◌, arith}
 use Rattle.std.specs.Prelude.{◌==◌, slice_index}
 use Rattle.std.proofs.lemmas.List.{drop-drop, drop_more}

@@ -101,13 +101,13 @@ nested_depth : expr_depth (atomic_value (relaxed_value (num 1))) ≡ 3
 nested_depth = refl
 
 -- void f(void) { } W{ __transaction_relaxed(f()); }: an operand without a value is refused, and in its own place
-abbrev place : ℕ → ℕ → Span
-place start end = record { start = start; end = end }
+abbrev between : ℕ → ℕ → Span
+between start end = record { start = start; end = end }
 
 abbrev no_value : Program
 no_value =
     Defines (record { attributes = []; result = None; name = called (codes "f"); parameters = []; body = Some Tree.[] })
-    ∷ worker_with (just (Do (Evaluate (InTransaction Relaxed (place 40 61) (Call (called (codes "f")) Tree.[] (place 62 65)) (place 40 66))))) ∷ []
+    ∷ worker_with (just (Do (Evaluate (InTransaction Relaxed (between 40 61) (Call (called (codes "f")) Tree.[] (between 62 65)) (between 40 66))))) ∷ []
 
-no_value_refused : first_unmet (Meets 80 no_value) ≡ Some (22, place 62 65)
+no_value_refused : first_unmet (Meets 80 no_value) ≡ Some (22, between 62 65)
 no_value_refused = refl

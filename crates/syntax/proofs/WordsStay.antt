@@ -57,7 +57,7 @@ abbrev IsTurn : Option Completion → Type 0
 IsTurn None = Unit {0}
 IsTurn (Some end) = IsEnd end
 
--- the local at a place has this type, if there is one
+-- the local at an index has this type, if there is one
 abbrev TypeIs : List Local → ℕ → Scalar → Type 0
 TypeIs [] i t = Unit {0}
 TypeIs (l ∷ ls) zero t = l.ty ≡ t

@@ -34,7 +34,7 @@ name_in _ at = None
 abbrev pub the_name : Tok → Option Name
 the_name t = name_in t.terminal t.span
 
--- a constant: its value, its type, and its place
+-- a constant: its value, its type, and its span
 pub record IntegerConstant : Type 0 where
   pub value : ℕ
   pub ty : Scalar
@@ -47,7 +47,7 @@ integer_constant_in _ at = None
 abbrev pub the_integer_constant : Tok → Option IntegerConstant
 the_integer_constant t = integer_constant_in t.terminal t.span
 
--- what a string stands for, and its place
+-- what a string stands for, and its span
 abbrev pub text_in : Terminal → Span → Option (List ℕ × Span)
 text_in (Terminal.string_literal s) at = Some (string_value s, at)
 text_in _ at = None
@@ -250,7 +250,7 @@ outer_phrase =
     ∣ Word key.Attribute ⨾ Sign punct.OpenParen ⨾ Sign punct.OpenParen ⨾ One the_outer tt ⨾ Sign punct.CloseParen
     ⨾ Sign punct.CloseParen
 
--- how a transaction's statement begins, with its keyword at this place (the C++ draft on transactions 1.1, in GCC's
+-- how a transaction's statement begins, with its keyword at this span (the C++ draft on transactions 1.1, in GCC's
 -- words for C)
 abbrev pub kind : TransactionKind → Span → Phrase
 kind (Plain mode) at = IsAt (mode_keyword mode) at
@@ -360,7 +360,7 @@ the_value t = value_in t.terminal
 abbrev pub initialiser : Initialiser → Phrase
 initialiser i = spanning i.span (minus i.negative ⨾ One the_value (i.value, i.ty))
 
--- a length: a constant of any type, by its value and place
+-- a length: a constant of any type, by its value and span
 abbrev pub length_in : Terminal → Span → Option (ℕ × Span)
 length_in terminal at = option_map (λ v. (v.0, at)) (value_in terminal)
 

@@ -3,7 +3,7 @@ pub mod Tree
 pub mod Views
 pub mod Depth
 -- numbers, what names stand for, the types of expressions, and formats with
--- what stands at their places
+-- what stands at their indices
 pub mod Numbers
 pub mod Names
 pub mod Types

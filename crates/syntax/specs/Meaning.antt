@@ -18,7 +18,7 @@ use Rattle.syntax.specs.Actions.{Context, Outside, Inside, State, Answer, Gives,
 use Rattle.syntax.specs.Actions.{◌>>=◌, ◌>>◌, tick, trap, or_trap, or_astray, locals, put_locals, load, store}
 use Rattle.syntax.specs.Actions.{may_print, print_piece, memory_in}
 
--- where a value stands: in a local variable, by its place among the locals, or in a shared cell
+-- where a value stands: in a local variable, by its index among the locals, or in a shared cell
 pub data Lvalue : Type 0 where
   InLocal : (i : ℕ) (ty : Scalar) → Lvalue
   InCell : (cell : ℕ) (ty : Scalar) → Lvalue

@@ -76,7 +76,7 @@ Sign p = Is (Punctuator p)
 abbrev pub Word : keyword_type.Keyword → Phrase
 Word k = Is (Keyword k)
 
--- the keyword m, by its place
+-- the keyword m, by its span
 abbrev pub fixed_span : Fixed → Tok → Option Span
 fixed_span m t = if is_fixed m t.terminal then Some t.span else None
 
@@ -88,7 +88,7 @@ abbrev pub Listed : {A : Type 0} → (A → Phrase) → List A → Phrase
 Listed L [] = never
 Listed L (x ∷ xs) = L x ⨾ Many (λ y. Is (Punctuator punct.Comma) ⨾ L y) xs
 
--- ---- places
+-- ---- spans
 
 abbrev pub end_from : ℕ → List Tok → ℕ
 end_from e [] = e
@@ -98,18 +98,18 @@ end_from e (t ∷ ts) = end_from t.span.end ts
 abbrev pub end_of : List Tok → ℕ
 end_of ts = end_from 0 ts
 
--- a place from the first token's start to the last one's end
+-- a span from the first token's start to the last one's end
 abbrev pub Covers : Span → Phrase
 Covers at [] = ⊥
 Covers at (t ∷ ts) = at ≡ record { start = t.span.start; end = end_from t.span.end ts }
 
--- a phrase whose tokens cover this place
+-- a phrase whose tokens cover this span
 abbrev pub spanning : Span → Phrase → Phrase
 spanning at L ts = Covers at ts × L ts
 
 -- ---- what is wrong with tokens that spell nothing
 
--- the place of one of the tokens
+-- the span of one of the tokens
 pub record At (ts : List Tok) (at : Span) : Type 0 where
   pub before : List Tok
   pub token : Tok
@@ -130,11 +130,11 @@ module _ {A : Type 0} (L : A → Phrase) where
     pub begins : Begins here.before
     pub not : Begins (here.before ++ here.token ∷ []) → ⊥
 
-  -- the tokens begin something and are nothing; the place is empty, where the last one ends
+  -- the tokens begin something and are nothing; the span is empty, where the last one ends
   pub record IsUnfinished (ts : List Tok) (at : Span) : Type 0 where
     pub begins : Begins ts
     pub not : (x : A) → L x ts → ⊥
-    pub place : at ≡ record { start = end_of ts; end = end_of ts }
+    pub empty : at ≡ record { start = end_of ts; end = end_of ts }
 
   -- something begins with the tokens up to this one, and all that does is deeper than the limit
   pub record IsTooDeep (depth : A → ℕ) (limit : ℕ) (ts : List Tok) (at : Span) : Type 0 where

@@ -1,6 +1,6 @@
 -- Which programs are typed, demand by demand.
 --
--- Each rule is a demand: a fault number, a place, and whether it is met. They stand in one list, in the order in which
+-- Each rule is a demand: a fault number, a span, and whether it is met. They stand in one list, in the order in which
 -- they are looked at: a program is typed where every demand is met, and its fault is the first that is not.
 use Rattle.std.specs.Prelude.{ℕ, ◌+◌, List, [], ◌∷◌, ◌++◌, length, map, drop, sum_by, Option, Some, None, Bool, true}
 use Rattle.std.specs.Prelude.{false, not, ◌&&◌, ◌||◌, IsTrue, is_some, is_none, if◌then◌else◌, codes, option_map}
@@ -141,7 +141,7 @@ abbrev pub is_worker : Known → Bool
 is_worker (Callable result takes) = is_none result && same_types takes (Int ∷ [])
 is_worker other = false
 
--- what a program has to meet, by the constraints of C11 6.5 to 6.9: a fault's number, its place, and whether it is met
+-- what a program has to meet, by the constraints of C11 6.5 to 6.9: a fault's number, its span, and whether it is met
 pub record Demand : Type 0 where
   pub number : ℕ
   pub span : Span
@@ -313,7 +313,7 @@ abbrev pub AreTypedItems : List Item → List Item → List Demand
 AreTypedItems earlier [] = []
 AreTypedItems earlier (i ∷ items) = IsTypedItem earlier i ++ AreTypedItems (earlier ++ i ∷ []) items
 
--- each function that is declared is defined (6.9); the place is its first name
+-- each function that is declared is defined (6.9); the span is its first name's
 abbrev pub AreDefined : Program → (earlier items : List Item) → List Demand
 AreDefined p earlier [] = []
 AreDefined p earlier (Shares gs ∷ items) = AreDefined p (earlier ++ Shares gs ∷ []) items
@@ -321,7 +321,7 @@ AreDefined p earlier (Defines f ∷ items) =
     demand 29 f.name.span (not (is_unknown (file_scope earlier f.name.text)) || is_some (definition_of p f.name.text))
     ++ AreDefined p (earlier ++ Defines f ∷ []) items
 
--- the demands of a program whose last token ends at this place
+-- the demands of a program whose last token ends at this offset
 abbrev pub Meets : ℕ → Program → List Demand
 Meets end p =
     AreTypedItems [] p

@@ -1,4 +1,4 @@
--- What stands at a place of a format, and where the rest begins.
+-- What stands at an index of a format, and where the rest begins.
 use Rattle.std.specs.Prelude.{◌≡◌, ℕ, ◌-◌, ◌<◌, ◌≤◌, List, ◌∷◌, length, drop, Bool, ◌==◌, ◌&&◌, if◌then◌else◌}
 use Rattle.syntax.specs.Tree.{Scalar}
 use Rattle.syntax.specs.Formats.{Specifier, literal, pieces, is_format}

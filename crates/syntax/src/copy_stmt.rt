@@ -60,7 +60,7 @@ impl<A: Allocator + Copy> Copied<A> for ForHead<A> {
 }
 
 impl<A: Allocator + Copy> Stmt<A> {
-    /// A copy of the statement with all its places, in memory of its own; an `Err` only where `alloc` refuses it.
+    /// A copy of the statement with all its spans, in memory of its own; an `Err` only where `alloc` refuses it.
     #[cycle(copy_stmt)]
     pub fn copy(&self, alloc: A) -> Result<Stmt<A>, AllocError>
         ensures { IfOk result (λ s. s ≡ self.now) }

@@ -1,4 +1,4 @@
-//! What stands at a place of a format.
+//! What stands at an index of a format.
 
 ghost use Rattle.std.specs.Prelude.{◌≡◌, ◌<◌, ◌≤◌, ◌+◌, length, drop, IfSome};
 ghost use Rattle.syntax.specs.Formats.{specifier_at};
@@ -6,13 +6,13 @@ ghost use Rattle.syntax.specs.Units.{IsUnitAt};
 
 use lex::token::Scalar;
 
-/// A byte of literal text or a number, and the place behind what says it.
+/// A byte of literal text or a number, and the index behind what says it.
 pub enum FormatUnit {
     Byte(u8, usize),
     Specifier(Scalar, usize),
 }
 
-/// The number that stands at a place behind a percent sign: its type, and how many bytes say it (C11 7.21.6.1).
+/// The number that stands at an index behind a percent sign: its type, and how many bytes say it (C11 7.21.6.1).
 fn specifier_at(format: &[u8], i: usize) -> Option<(Scalar, usize)>
     requires { i < length format.now }
     ensures is { result ≡ specifier_at (drop i format.now) }
@@ -27,7 +27,7 @@ fn specifier_at(format: &[u8], i: usize) -> Option<(Scalar, usize)>
     }
 }
 
-/// What stands at a place of a format.
+/// What stands at an index of a format.
 pub fn unit_at(format: &[u8], i: usize) -> FormatUnit
     requires { i < length format.now }
     ensures { IsUnitAt result format.now i }

@@ -58,7 +58,7 @@ impl<'a, A: Allocator + Copy> ScopeTable<'a, A> {
         ensures { result ≡ is_behind start (newest (locals_of self.now) name.now) }
     {
         match self.locals.newest(name) {
-            Some((place, _)) => start <= place,
+            Some((index, _)) => start <= index,
             None => false,
         }
     }

@@ -9,7 +9,7 @@ use Rattle.bytecode.specs.Valid.{cells_of}
 use Rattle.machine.specs.Threads.{Thread, access, step_with}
 use Rattle.machine.specs.Standing.{IsThreadOf}
 use Rattle.machine.specs.States.{IsWordOf, told_twice}
-use Rattle.machine.proofs.keeping.Words.{word_fits}
+use Rattle.machine.proofs.contexts.Words.{word_fits}
 use Rattle.seats.specs.Setup.{Setup}
 use Rattle.seats.specs.Rule.{IsNext, IsSeatStep, SeatView, Took}
 use Rattle.workers.specs.Works.{GoesOnFrom, Works}

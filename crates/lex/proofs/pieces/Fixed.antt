@@ -32,7 +32,7 @@ abbrev pub Every : (Fixed → Type 0) → List Fixed → Type 0
 Every P [] = Unit {0}
 Every P (k ∷ ks) = P k × Every P ks
 
--- what stands in a list at a place, and at last an `int`
+-- what stands in a list at an index, and at last an `int`
 abbrev pub nth : List Fixed → ℕ → Fixed
 nth [] n = Keyword key.Int
 nth (k ∷ ks) zero = k

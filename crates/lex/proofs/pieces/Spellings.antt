@@ -13,35 +13,35 @@ same [] (y ∷ ys) = false
 same (x ∷ xs) [] = false
 same (x ∷ xs) (y ∷ ys) = x == y && same xs ys
 
--- at which place of a list a spelling stands first
-abbrev place_of : List Fixed → List ℕ → ℕ
-place_of [] w = 0
-place_of (k ∷ ks) w = if same w (spelling k) then 0 else 1 + place_of ks w
+-- at which index of a list a spelling stands first
+abbrev index_of : List Fixed → List ℕ → ℕ
+index_of [] w = 0
+index_of (k ∷ ks) w = if same w (spelling k) then 0 else 1 + index_of ks w
 
--- from a place of the whole list on, each spelling stands first where it is listed
+-- from an index of the whole list on, each spelling stands first where it is listed
 abbrev stand_first : List Fixed → ℕ → Bool
 stand_first [] n = true
-stand_first (k ∷ ks) n = place_of all (spelling k) == n && stand_first ks (1 + n)
+stand_first (k ∷ ks) n = index_of all (spelling k) == n && stand_first ks (1 + n)
 
-first_places : (ks : List Fixed) (m n : ℕ) → stand_first ks m ≡ true → n < length ks → place_of all (spelling (nth ks n)) ≡ m + n
-first_places [] m n e lt = absurd (omega arith)
-first_places (k ∷ ks) m zero e lt =
-    let h : place_of all (spelling k) ≡ m = eqb-true (place_of all (spelling k)) m (and_parts (place_of all (spelling k) == m) (stand_first ks (1 + m)) e).0 in
+first_indices : (ks : List Fixed) (m n : ℕ) → stand_first ks m ≡ true → n < length ks → index_of all (spelling (nth ks n)) ≡ m + n
+first_indices [] m n e lt = absurd (omega arith)
+first_indices (k ∷ ks) m zero e lt =
+    let h : index_of all (spelling k) ≡ m = eqb-true (index_of all (spelling k)) m (and_parts (index_of all (spelling k) == m) (stand_first ks (1 + m)) e).0 in
     omega arith
-first_places (k ∷ ks) m (suc n) e lt =
-    let h = first_places ks (1 + m) n (and_parts (place_of all (spelling k) == m) (stand_first ks (1 + m)) e).1 (omega arith) in
+first_indices (k ∷ ks) m (suc n) e lt =
+    let h = first_indices ks (1 + m) n (and_parts (index_of all (spelling k) == m) (stand_first ks (1 + m)) e).1 (omega arith) in
     omega arith
 
-place : (k : Fixed) → place_of all (spelling k) ≡ (placed k).n
-place k =
-    let h : place_of all (spelling (nth all (placed k).n)) ≡ 0 + (placed k).n = first_places all 0 (placed k).n refl (placed k).within in
-    let first : place_of all (spelling (nth all (placed k).n)) ≡ (placed k).n = omega arith in
-    subst (λ (j : Fixed). place_of all (spelling j) ≡ (placed k).n) (placed k).is first
+has_index : (k : Fixed) → index_of all (spelling k) ≡ (placed k).n
+has_index k =
+    let h : index_of all (spelling (nth all (placed k).n)) ≡ 0 + (placed k).n = first_indices all 0 (placed k).n refl (placed k).within in
+    let first : index_of all (spelling (nth all (placed k).n)) ≡ (placed k).n = omega arith in
+    subst (λ (j : Fixed). index_of all (spelling j) ≡ (placed k).n) (placed k).is first
 
 -- no two tokens have one spelling
 pub one_fixed : (w : List ℕ) (j k : Fixed) → w ≡ spelling j → w ≡ spelling k → j ≡ k
 one_fixed w j k e f =
-    let same : (placed j).n ≡ (placed k).n = sym (place j) ∙ ap (place_of all) (sym e ∙ f) ∙ place k in
+    let same : (placed j).n ≡ (placed k).n = sym (has_index j) ∙ ap (index_of all) (sym e ∙ f) ∙ has_index k in
     sym (placed j).is ∙ ap (nth all) same ∙ (placed k).is
 
 abbrev is_one_of : List (List ℕ) → List ℕ → Bool

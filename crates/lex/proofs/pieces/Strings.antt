@@ -50,7 +50,7 @@ closing_inside (a ∷ b ∷ w) more h = elim h [
       omega arith
 ]
 
--- a string ends at one place
+-- a string ends at one offset
 pub inside_same : (a b more less : List ℕ) → a ++ 34 ∷ more ≡ b ++ 34 ∷ less → IsStringBody a → IsStringBody b → length a ≡ length b
 inside_same a b more less e h k = sym (closing_inside a more h) ∙ ap closing e ∙ closing_inside b less k
 

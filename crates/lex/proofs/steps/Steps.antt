@@ -1,4 +1,4 @@
--- From what stands behind a place to what the text has there.
+-- From what stands behind an offset to what the text has there.
 use Rattle.std.proofs.Common.{◌≡◌, ℕ, zero, suc, ◌+◌, ◌-◌, ◌<◌, ◌≤◌, true, false, ◌==◌, List, ◌∷◌, length, take, drop, slice_index, Option, Some, None, sym, ap, ◌∙◌, arith, subst, length-drop, add-zero, IsUtf8}
 use Rattle.std.specs.List.{prefix_len}
 use Rattle.std.specs.Str.{IsCharBoundary}
@@ -167,7 +167,7 @@ word_step text rest word at len t e lt a h w m p =
 
 -- ---- constants
 
--- the constant at a place, with its type
+-- the constant at an offset, with its type
 record At (text : List ℕ) (at len : ℕ) (o : Option Scalar) (v : ℕ) : Type 0 where
   long : Longest (drop at text) len
   constant : Constant (take len (drop at text))

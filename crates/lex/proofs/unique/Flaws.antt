@@ -1,4 +1,4 @@
--- What is wrong at a place is one thing, and nothing else can be read there.
+-- What is wrong at an offset is one thing, and nothing else can be read there.
 use Rattle.std.proofs.Common.{◌≡◌, ℕ, ◌+◌, ◌-◌, ◌<◌, inl, inr, Bool, true, false, List, [], ◌∷◌, ◌++◌, length, take, drop, slice_index, codes, Option, Some, None, refl, sym, ap, ◌∙◌, arith, subst, length-drop}
 use Rattle.lex.specs.declared.token.Scalar.{Scalar}
 use Rattle.lex.specs.declared.fault.LexFault.{LexFault}

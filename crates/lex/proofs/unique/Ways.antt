@@ -12,7 +12,7 @@ use Rattle.lex.proofs.unique.Flaws.{one_length, fault_gap, fault_token, one_faul
 abbrev tok_at : ℕ → ℕ → Terminal → Tok
 tok_at at len says = record { terminal = says; span = record { start = at; «end» = at + len } }
 
--- the text from a place on, its tokens, and the fault behind them or none
+-- the text from an offset on, its tokens, and the fault behind them or none
 data Rest (text : List ℕ) : ℕ → List Tok → Option LexFault → Type 0 where
   ended : {at : ℕ} → at ≡ length text → Rest text at [] None
   wrong : {at : ℕ} (f : LexFault) → FaultAt text at f → Rest text at [] (Some f)

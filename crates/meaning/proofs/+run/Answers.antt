@@ -11,7 +11,7 @@ use Rattle.syntax.specs.Meaning as meaning
 use Rattle.syntax.specs.Meaning.{expr, exprs, stmt, simple, declare, in_scope, turns}
 use Rattle.meaning.specs.inner.Calls.{begun_in}
 use Rattle.meaning.specs.Outcomes.{memories_in}
-use Rattle.meaning.specs.inner.Machine.{context_in, end_of, items_in, local_in, program_in, lvalue_of, state_in}
+use Rattle.meaning.specs.inner.Machine.{context_in, completion_of, items_in, local_in, program_in, lvalue_of, state_in}
 use Rattle.meaning.specs.inner.Does.{caller_in, does_expr, does_stmt, does_stmts, does_turn, do_turn, else_depth, does_body, depth_within, for_all, is_forbidden, joined_to, loop_depth, while_turn}
 use Rattle.meaning.specs.inner.Word.{value_of}
 use Rattle.meaning.proofs.Stops.{err_of, stops_as}
@@ -26,13 +26,13 @@ use Rattle.meaning.proofs.+run.Goals.{expr::conditional-then-is_zero+in_ok-w, ex
 pub stmt::block-returns : goal.stmt::block-returns
 stmt::block-returns g t c done =
     let len : c.len-outer.result ≡ length c.args.m.now.locals.items = search (arith, c.len-outer.ensures) in
-    scoped_gives (does_stmts c.args.source.now c.args.frames c.args.ss.now) (state_in c.args.m.now) (state_in c.stmts.new.m) (end_of c.in_ok-end.end) _ (c.in_ok-end.ensures tt)
+    scoped_gives (does_stmts c.args.source.now c.args.frames c.args.ss.now) (state_in c.args.m.now) (state_in c.stmts.new.m) (completion_of c.in_ok-end.end) _ (c.in_ok-end.ensures tt)
     (truncated local_in c.args.m.now.locals.items c.stmts.new.m.locals.items c.truncate.new.self.items c.len-outer.result len c.truncate.ensures.items)
 
 pub stmt::block-returns-in_err-end : goal.stmt::block-returns-in_err-end
 stmt::block-returns-in_err-end g t c =
     let is : c.from_residual.result ≡ Err c.in_err-end.field-0.0 = err_of c.from_residual.result c.in_err-end.field-0.0 c.from_residual.ensures.1 in
-    stops_as end_of c.from_residual.result c.in_err-end.field-0.0 _ c.stmts.new.m is (λ d. scoped_stops (does_stmts c.args.source.now c.args.frames c.args.ss.now) (state_in c.args.m.now) (state_in c.stmts.new.m) _ (c.in_err-end.ensures d))
+    stops_as completion_of c.from_residual.result c.in_err-end.field-0.0 _ c.stmts.new.m is (λ d. scoped_stops (does_stmts c.args.source.now c.args.frames c.args.ss.now) (state_in c.args.m.now) (state_in c.stmts.new.m) _ (c.in_err-end.ensures d))
 
 pub expr::conditional-returns : goal.expr::conditional-returns
 expr::conditional-returns g t c at done =
@@ -66,12 +66,12 @@ simple::declare-declare_one-requires g t c κs within =
 pub simple::declare-returns-in_err-declare_one : goal.simple::declare-returns-in_err-declare_one
 simple::declare-returns-in_err-declare_one g t c =
     let is : c.from_residual.result ≡ Err c.in_err-declare_one.field-0.0 = err_of c.from_residual.result c.in_err-declare_one.field-0.0 c.from_residual.ensures.1 in
-    stops_as end_of c.from_residual.result c.in_err-declare_one.field-0.0 _ c.declare_one.new.m is (λ d. declare_halt (program_in c.args.source.now) (caller_in c.args.source.now c.args.frames) c.args.ty c.args.ds.now c.declarators.d-index c.d-item.result (state_in c.declarators.m) (state_in c.declare_one.new.m) _ (declare (program_in c.args.source.now) (caller_in c.args.source.now c.args.frames) c.args.ty (map declarator_of c.args.ds.now) (state_in c.args.m.now)) c.declarators-test.true c.d-item.is c.declarators.invariant (c.in_err-declare_one.ensures d))
+    stops_as completion_of c.from_residual.result c.in_err-declare_one.field-0.0 _ c.declare_one.new.m is (λ d. declare_halt (program_in c.args.source.now) (caller_in c.args.source.now c.args.frames) c.args.ty c.args.ds.now c.declarators.d-index c.d-item.result (state_in c.declarators.m) (state_in c.declare_one.new.m) _ (declare (program_in c.args.source.now) (caller_in c.args.source.now c.args.frames) c.args.ty (map declarator_of c.args.ds.now) (state_in c.args.m.now)) c.declarators-test.true c.d-item.is c.declarators.invariant (c.in_err-declare_one.ensures d))
 
 pub calls::enter_function-returns : goal.calls::enter_function-returns
 calls::enter_function-returns g t c done =
     let more : c.args.frames ≡ suc (c.args.frames - 1) = omega (arith, c.if-frames-eq0.false) in
-    call_gives (program_in c.args.source.now) c.args.frames (c.args.frames - 1) c.args.f.now c.args.values.now (state_in c.args.m.now) (state_in c.begin.new.m) (begun_in c.in_ok-ty.field-0) (items_in c.replace-outer.new.dest) (items_in c.replace-outer.result) more (c.in_ok-ty.ensures.value tt) (ap items_in c.replace-outer.ensures.after) (ap items_in c.replace-outer.ensures.value) (state_in c.stmts.new.m) (end_of c.in_ok-end.end) _ (c.in_ok-end.ensures tt) (c.result_of.ensures done)
+    call_gives (program_in c.args.source.now) c.args.frames (c.args.frames - 1) c.args.f.now c.args.values.now (state_in c.args.m.now) (state_in c.begin.new.m) (begun_in c.in_ok-ty.field-0) (items_in c.replace-outer.new.dest) (items_in c.replace-outer.result) more (c.in_ok-ty.ensures.value tt) (ap items_in c.replace-outer.ensures.after) (ap items_in c.replace-outer.ensures.value) (state_in c.stmts.new.m) (completion_of c.in_ok-end.end) _ (c.in_ok-end.ensures tt) (c.result_of.ensures done)
 
 pub calls::enter_function-returns-in_err-end : goal.calls::enter_function-returns-in_err-end
 calls::enter_function-returns-in_err-end g t c =
@@ -168,17 +168,17 @@ expr::eval-returns-in_err-w-in-Binary g t c =
 pub loops::for_scoped-returns : goal.loops::for_scoped-returns
 loops::for_scoped-returns g t c done =
     let len : c.len-outer.result ≡ length c.args.m.now.locals.items = search (arith, c.len-outer.ensures) in
-    scoped_gives (for_all (program_in c.args.source.now) (caller_in c.args.source.now c.args.frames) (start_of c.args.head.now.start) (option_map expr_of c.args.head.now.condition) (option_map simple_of c.args.head.now.step) (stmt_of c.args.a.now)) (state_in c.args.m.now) (state_in c.for_run.new.m) (end_of c.in_ok-end.end) _ (c.in_ok-end.ensures tt)
+    scoped_gives (for_all (program_in c.args.source.now) (caller_in c.args.source.now c.args.frames) (start_of c.args.head.now.start) (option_map expr_of c.args.head.now.condition) (option_map simple_of c.args.head.now.step) (stmt_of c.args.a.now)) (state_in c.args.m.now) (state_in c.for_run.new.m) (completion_of c.in_ok-end.end) _ (c.in_ok-end.ensures tt)
     (truncated local_in c.args.m.now.locals.items c.for_run.new.m.locals.items c.truncate.new.self.items c.len-outer.result len c.truncate.ensures.items)
 
 pub transactions::nested_transaction-returns : goal.transactions::nested_transaction-returns
 transactions::nested_transaction-returns g t c done =
-    nested_gives c.args.outer c.args.kind c.mode_of-mode.result c.args.found.items c.in-Ok-copy_memory.memory.items (does_body c.args.source.now c.args.frames c.args.body.now) (record (state_in c.args.m.now) { context = act.Inside c.args.outer c.args.found.items }) (state_in c.run_body.new.m) c.mode_of-mode.ensures (sym c.is_forbidden.ensures ∙ c.if-is_forbidden.false) (c.in-Ok-copy_memory.ensures ∙ c.as_slice-2.ensures.value) (items_in c.in-Ok.mine) (end_of c.in_ok-end.end) _ (c.in-Ok.ensures ∙ ap (map local_in) c.as_slice.ensures.value) (c.in_ok-end.ensures tt) c.leave_inner.ensures
+    nested_gives c.args.outer c.args.kind c.mode_of-mode.result c.args.found.items c.in-Ok-copy_memory.memory.items (does_body c.args.source.now c.args.frames c.args.body.now) (record (state_in c.args.m.now) { context = act.Inside c.args.outer c.args.found.items }) (state_in c.run_body.new.m) c.mode_of-mode.ensures (sym c.is_forbidden.ensures ∙ c.if-is_forbidden.false) (c.in-Ok-copy_memory.ensures ∙ c.as_slice-2.ensures.value) (items_in c.in-Ok.mine) (completion_of c.in_ok-end.end) _ (c.in-Ok.ensures ∙ ap (map local_in) c.as_slice.ensures.value) (c.in_ok-end.ensures tt) c.leave_inner.ensures
 
 pub transactions::nested_transaction-returns-in_err-end : goal.transactions::nested_transaction-returns-in_err-end
 transactions::nested_transaction-returns-in_err-end g t c =
     let is : c.from_residual.result ≡ Err c.in_err-end.field-0.0 = err_of c.from_residual.result c.in_err-end.field-0.0 c.from_residual.ensures.1 in
-    stops_as end_of c.from_residual.result c.in_err-end.field-0.0 _ c.run_body.new.m is (λ d. nested_stops c.args.outer c.args.kind c.mode_of-mode.result c.args.found.items c.in-Ok-copy_memory.memory.items (does_body c.args.source.now c.args.frames c.args.body.now) (record (state_in c.args.m.now) { context = act.Inside c.args.outer c.args.found.items }) (state_in c.run_body.new.m) c.mode_of-mode.ensures (sym c.is_forbidden.ensures ∙ c.if-is_forbidden.false) (c.in-Ok-copy_memory.ensures ∙ c.as_slice-2.ensures.value) _ (c.in_err-end.ensures d))
+    stops_as completion_of c.from_residual.result c.in_err-end.field-0.0 _ c.run_body.new.m is (λ d. nested_stops c.args.outer c.args.kind c.mode_of-mode.result c.args.found.items c.in-Ok-copy_memory.memory.items (does_body c.args.source.now c.args.frames c.args.body.now) (record (state_in c.args.m.now) { context = act.Inside c.args.outer c.args.found.items }) (state_in c.run_body.new.m) c.mode_of-mode.ensures (sym c.is_forbidden.ensures ∙ c.if-is_forbidden.false) (c.in-Ok-copy_memory.ensures ∙ c.as_slice-2.ensures.value) _ (c.in_err-end.ensures d))
 
 pub transactions::nested_transaction-returns-then-is_forbidden : goal.transactions::nested_transaction-returns-then-is_forbidden
 transactions::nested_transaction-returns-then-is_forbidden g t c done =
@@ -190,7 +190,7 @@ transactions::outermost-returns-in-Err g t c done =
 
 pub transactions::outermost-returns-in-Ok-run_body : goal.transactions::outermost-returns-in-Ok-run_body
 transactions::outermost-returns-in-Ok-run_body g t c done =
-    outermost_gives c.args.kind c.mode_of.result (memories_in c.args.founds.now) (memories_in (take (length c.args.founds.now - 1) (drop 1 c.args.founds.now))) (memories_in c.args.lefts.items) c.as_slice-in-Ok-run_body.result.now c.in-Ok-copy_memory.memory.items (does_body c.args.source.now c.args.frames c.args.body.now) (record (state_in c.args.m.now) { context = act.Outside (memories_in c.args.founds.now) (memories_in c.args.lefts.items) }) (state_in c.run_body.new.m) c.mode_of.ensures (found_first c.args.founds.now c.found-item.result c.as_slice-in-Ok-run_body.result.now c.in-len1-up.len_at_least c.found-item.is c.as_slice-in-Ok-run_body.ensures.value) (c.in-Ok-copy_memory.ensures ∙ c.as_slice-2.ensures.value ∙ sym c.as_slice-in-Ok-run_body.ensures.value) (items_in c.in-Ok.mine) (end_of c.in-Ok-run_body.end) _ (c.in-Ok.ensures ∙ ap (map local_in) c.as_slice.ensures.value) (c.in-Ok-run_body.ensures tt) (c.leave.ensures done)
+    outermost_gives c.args.kind c.mode_of.result (memories_in c.args.founds.now) (memories_in (take (length c.args.founds.now - 1) (drop 1 c.args.founds.now))) (memories_in c.args.lefts.items) c.as_slice-in-Ok-run_body.result.now c.in-Ok-copy_memory.memory.items (does_body c.args.source.now c.args.frames c.args.body.now) (record (state_in c.args.m.now) { context = act.Outside (memories_in c.args.founds.now) (memories_in c.args.lefts.items) }) (state_in c.run_body.new.m) c.mode_of.ensures (found_first c.args.founds.now c.found-item.result c.as_slice-in-Ok-run_body.result.now c.in-len1-up.len_at_least c.found-item.is c.as_slice-in-Ok-run_body.ensures.value) (c.in-Ok-copy_memory.ensures ∙ c.as_slice-2.ensures.value ∙ sym c.as_slice-in-Ok-run_body.ensures.value) (items_in c.in-Ok.mine) (completion_of c.in-Ok-run_body.end) _ (c.in-Ok.ensures ∙ ap (map local_in) c.as_slice.ensures.value) (c.in-Ok-run_body.ensures tt) (c.leave.ensures done)
 
 pub transactions::outermost-returns-in_default : goal.transactions::outermost-returns-in_default
 transactions::outermost-returns-in_default g t c done =
@@ -203,7 +203,7 @@ stmt::print_output-returns g t c at format_at begun ticked done =
 pub stmt::print_output-returns-in_err-print_pieces : goal.stmt::print_output-returns-in_err-print_pieces
 stmt::print_output-returns-in_err-print_pieces g t c at format_at begun ticked =
     let is : c.from_residual-in_err-print_pieces.result ≡ Err c.in_err-print_pieces.field-0.0 = err_of c.from_residual-in_err-print_pieces.result c.in_err-print_pieces.field-0.0 c.from_residual-in_err-print_pieces.ensures.1 in
-    stops_as end_of c.from_residual-in_err-print_pieces.result c.in_err-print_pieces.field-0.0 _ c.print_pieces.new.m is (λ d. print_until (program_in c.args.source.now) (caller_in c.args.source.now c.args.frames) at format_at c.args.format.now (exprs_of c.args.args.now) begun (state_in c.args.m.now) (state_in c.may_print.new.m) (state_in c.values.new.m) c.as_slice.result.now ticked (c.in_ok-may_print.ensures tt) (c.in_ok-values.ensures tt ∙ ap (λ vs. Gives vs (state_in c.values.new.m)) (sym c.as_slice.ensures.value)) ∙ halts _ (λ _. act.pure meaning.Next) _ (state_in c.print_pieces.new.m) (c.in_err-print_pieces.ensures d))
+    stops_as completion_of c.from_residual-in_err-print_pieces.result c.in_err-print_pieces.field-0.0 _ c.print_pieces.new.m is (λ d. print_until (program_in c.args.source.now) (caller_in c.args.source.now c.args.frames) at format_at c.args.format.now (exprs_of c.args.args.now) begun (state_in c.args.m.now) (state_in c.may_print.new.m) (state_in c.values.new.m) c.as_slice.result.now ticked (c.in_ok-may_print.ensures tt) (c.in_ok-values.ensures tt ∙ ap (λ vs. Gives vs (state_in c.values.new.m)) (sym c.as_slice.ensures.value)) ∙ halts _ (λ _. act.pure meaning.Next) _ (state_in c.print_pieces.new.m) (c.in_err-print_pieces.ensures d))
 
 pub loops::repeat-returns-in-Some : goal.loops::repeat-returns-in-Some
 loops::repeat-returns-in-Some g t c done =
@@ -212,7 +212,7 @@ loops::repeat-returns-in-Some g t c done =
 pub loops::repeat-returns-in_err-tick : goal.loops::repeat-returns-in_err-tick
 loops::repeat-returns-in_err-tick g t c =
     let is : c.from_residual.result ≡ Err c.in_err-tick.field-0.0 = err_of c.from_residual.result c.in_err-tick.field-0.0 c.from_residual.ensures.1 in
-    stops_as end_of c.from_residual.result c.in_err-tick.field-0.0 _ c.tick.new.m is (λ d. turns_spent (does_turn c.args.source.now c.args.frames c.args.which.now) (c.args.m.now.ticks - c.turns.counter) (c.args.m.now.ticks - (c.turns.counter + 1)) (state_in c.turns.m) (state_in c.tick.new.m) (turns c.args.m.now.ticks (does_turn c.args.source.now c.args.frames c.args.which.now) (state_in c.args.m.now)) _ c.turns.invariant (omega (arith, c.turns-test.true)) (c.in_err-tick.ensures d))
+    stops_as completion_of c.from_residual.result c.in_err-tick.field-0.0 _ c.tick.new.m is (λ d. turns_spent (does_turn c.args.source.now c.args.frames c.args.which.now) (c.args.m.now.ticks - c.turns.counter) (c.args.m.now.ticks - (c.turns.counter + 1)) (state_in c.turns.m) (state_in c.tick.new.m) (turns c.args.m.now.ticks (does_turn c.args.source.now c.args.frames c.args.which.now) (state_in c.args.m.now)) _ c.turns.invariant (omega (arith, c.turns-test.true)) (c.in_err-tick.ensures d))
 
 pub loops::repeat-turns-preserved : goal.loops::repeat-turns-preserved
 loops::repeat-turns-preserved g t c =
@@ -229,17 +229,17 @@ loops::turn_while-returns-in-Some g t c done =
 pub loops::turn_while-returns-in_err-end : goal.loops::turn_while-returns-in_err-end
 loops::turn_while-returns-in_err-end g t c =
     let is : c.from_residual.result ≡ Err c.in_err-end.field-0.0 = err_of c.from_residual.result c.in_err-end.field-0.0 c.from_residual.ensures.1 in
-    stops_as (option_map end_of) c.from_residual.result c.in_err-end.field-0.0 _ c.loop_test.new.m is (λ d. while_stops (program_in c.args.source.now) (caller_in c.args.source.now c.args.frames) (expr_of c.args.c.now) (stmt_of c.args.a.now) (state_in c.args.m.now) (state_in c.loop_test.new.m) _ (c.in_err-end.ensures d))
+    stops_as (option_map completion_of) c.from_residual.result c.in_err-end.field-0.0 _ c.loop_test.new.m is (λ d. while_stops (program_in c.args.source.now) (caller_in c.args.source.now c.args.frames) (expr_of c.args.c.now) (stmt_of c.args.a.now) (state_in c.args.m.now) (state_in c.loop_test.new.m) _ (c.in_err-end.ensures d))
 
 pub loops::turn_while-returns-in_err-end-2 : goal.loops::turn_while-returns-in_err-end-2
 loops::turn_while-returns-in_err-end-2 g t c =
     let is : c.from_residual-in_err-end-2.result ≡ Err c.in_err-end-2.field-0.0 = err_of c.from_residual-in_err-end-2.result c.in_err-end-2.field-0.0 c.from_residual-in_err-end-2.ensures.1 in
-    stops_as (option_map end_of) c.from_residual-in_err-end-2.result c.in_err-end-2.field-0.0 _ c.scoped_stmt.new.m is (λ d. while_halts (program_in c.args.source.now) (caller_in c.args.source.now c.args.frames) (expr_of c.args.c.now) (stmt_of c.args.a.now) (state_in c.args.m.now) (state_in c.loop_test.new.m) _ (c.in_ok-end.ensures tt) (state_in c.scoped_stmt.new.m) c.in_default.is _ (c.in_err-end-2.ensures d))
+    stops_as (option_map completion_of) c.from_residual-in_err-end-2.result c.in_err-end-2.field-0.0 _ c.scoped_stmt.new.m is (λ d. while_halts (program_in c.args.source.now) (caller_in c.args.source.now c.args.frames) (expr_of c.args.c.now) (stmt_of c.args.a.now) (state_in c.args.m.now) (state_in c.loop_test.new.m) _ (c.in_ok-end.ensures tt) (state_in c.scoped_stmt.new.m) c.in_default.is _ (c.in_err-end-2.ensures d))
 
 pub stmt::scoped_stmt-returns : goal.stmt::scoped_stmt-returns
 stmt::scoped_stmt-returns g t c done =
     let len : c.len-outer.result ≡ length c.args.m.now.locals.items = search (arith, c.len-outer.ensures) in
-    scoped_gives (does_stmt c.args.source.now c.args.frames c.args.s.now) (state_in c.args.m.now) (state_in c.stmt.new.m) (end_of c.in_ok-end.end) _ (c.in_ok-end.ensures tt)
+    scoped_gives (does_stmt c.args.source.now c.args.frames c.args.s.now) (state_in c.args.m.now) (state_in c.stmt.new.m) (completion_of c.in_ok-end.end) _ (c.in_ok-end.ensures tt)
     (truncated local_in c.args.m.now.locals.items c.stmt.new.m.locals.items c.truncate.new.self.items c.len-outer.result len c.truncate.ensures.items)
 
 pub simple::compound_assignment-returns : goal.simple::compound_assignment-returns
@@ -274,7 +274,7 @@ stmt::stmt-returns-in-If g t c done =
 pub stmt::stmt-returns-in_err-tick : goal.stmt::stmt-returns-in_err-tick
 stmt::stmt-returns-in_err-tick g t c =
     let is : c.from_residual.result ≡ Err c.in_err-tick.field-0.0 = err_of c.from_residual.result c.in_err-tick.field-0.0 c.from_residual.ensures.1 in
-    stops_as end_of c.from_residual.result c.in_err-tick.field-0.0 _ c.tick.new.m is (λ d. spent_first (program_in c.args.source.now) (caller_in c.args.source.now c.args.frames) (stmt_of c.args.s.now) (state_in c.args.m.now) (state_in c.tick.new.m) _ (c.in_err-tick.ensures d))
+    stops_as completion_of c.from_residual.result c.in_err-tick.field-0.0 _ c.tick.new.m is (λ d. spent_first (program_in c.args.source.now) (caller_in c.args.source.now c.args.frames) (stmt_of c.args.s.now) (state_in c.args.m.now) (state_in c.tick.new.m) _ (c.in_err-tick.ensures d))
 
 pub stmt::stmt-returns-in-Print : goal.stmt::stmt-returns-in-Print
 stmt::stmt-returns-in-Print g t c done =
@@ -323,7 +323,7 @@ stmt::stmts-returns-in_default g t c done =
 pub stmt::stmts-returns-in_err-end : goal.stmt::stmts-returns-in_err-end
 stmt::stmts-returns-in_err-end g t c =
     let is : c.from_residual.result ≡ Err c.in_err-end.field-0.0 = err_of c.from_residual.result c.in_err-end.field-0.0 c.from_residual.ensures.1 in
-    stops_as end_of c.from_residual.result c.in_err-end.field-0.0 _ c.stmt.new.m is (λ d. stmts_halt (program_in c.args.source.now) (caller_in c.args.source.now c.args.frames) c.args.ss.now c.statements.s-index c.s-item.result (state_in c.statements.m) (state_in c.stmt.new.m) _ (does_stmts c.args.source.now c.args.frames c.args.ss.now (state_in c.args.m.now)) c.statements-test.true c.s-item.is c.statements.invariant (c.in_err-end.ensures d))
+    stops_as completion_of c.from_residual.result c.in_err-end.field-0.0 _ c.stmt.new.m is (λ d. stmts_halt (program_in c.args.source.now) (caller_in c.args.source.now c.args.frames) c.args.ss.now c.statements.s-index c.s-item.result (state_in c.statements.m) (state_in c.stmt.new.m) _ (does_stmts c.args.source.now c.args.frames c.args.ss.now (state_in c.args.m.now)) c.statements-test.true c.s-item.is c.statements.invariant (c.in_err-end.ensures d))
 
 pub stmt::stmts-statements-preserved : goal.stmt::stmts-statements-preserved
 stmt::stmts-statements-preserved g t c =
@@ -347,7 +347,7 @@ transactions::run_body-returns-in-Block g t c done =
 
 pub transactions::value_transaction-returns : goal.transactions::value_transaction-returns
 transactions::value_transaction-returns g t c done =
-    value_gives c.args.mode (does_expr c.args.source.now c.args.frames c.args.e.now) (state_in c.args.m.now) (state_in c.begin_value.new.m) (state_in c.transaction.new.m) (end_of c.in_ok-end.end) _ (c.in_ok-begin_value.ensures tt) (c.in_ok-end.ensures tt) (c.value_at.ensures done)
+    value_gives c.args.mode (does_expr c.args.source.now c.args.frames c.args.e.now) (state_in c.args.m.now) (state_in c.begin_value.new.m) (state_in c.transaction.new.m) (completion_of c.in_ok-end.end) _ (c.in_ok-begin_value.ensures tt) (c.in_ok-end.ensures tt) (c.value_at.ensures done)
 
 pub transactions::value_transaction-returns-in_err-begin_value : goal.transactions::value_transaction-returns-in_err-begin_value
 transactions::value_transaction-returns-in_err-begin_value g t c =

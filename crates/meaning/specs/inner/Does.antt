@@ -17,13 +17,13 @@ use Rattle.syntax.specs.Meaning.{Caller, Completion, Next, calls, expr, stmt, st
 use Rattle.syntax.specs.Meaning.{for_condition}
 use Rattle.syntax.specs.Meaning.{optional_step}
 use Rattle.syntax.specs.Meaning.{first_value, InLocal, start_with, loop, Returns}
-use Rattle.meaning.specs.declared.machine.StmtCompletion.{StmtCompletion as OwnEnd}
+use Rattle.meaning.specs.declared.machine.StmtCompletion.{StmtCompletion as OwnCompletion}
 use Rattle.meaning.specs.declared.program.ProgramTables.{ProgramTables}
 use Rattle.meaning.specs.declared.loops.Loop.{Loop}
 use Rattle.meaning.specs.declared.loops.Loop.TheVariants as kind
 use Rattle.meaning.specs.declared.transactions.Body.{Body}
 use Rattle.meaning.specs.declared.transactions.Body.TheVariants as body
-use Rattle.meaning.specs.inner.Machine.{program_in, end_of}
+use Rattle.meaning.specs.inner.Machine.{program_in, completion_of}
 use Rattle.std.specs.Prelude.{◌+◌, ◌*◌, max, Bool, true, false, [], ◌∷◌, ◌++◌, length}
 
 -- one of two statements, or of one and nothing
@@ -32,9 +32,9 @@ if_of c a None = If c a
 if_of c a (Some b) = IfElse c a b
 
 -- the end of the loop that a body's end is, or else what goes on
-abbrev pub left_or : Action (Option Completion) → Option OwnEnd → Action (Option Completion)
+abbrev pub left_or : Action (Option Completion) → Option OwnCompletion → Action (Option Completion)
 left_or go None s = go s
-left_or go (Some e) s = Gives (Some (end_of e)) s
+left_or go (Some e) s = Gives (Some (completion_of e)) s
 
 -- one turn of a loop
 abbrev pub while_turn : Program → Caller → Expr → Stmt → Action (Option Completion)

@@ -1,4 +1,4 @@
--- What a thread has still to do, as it is kept.
+-- What a thread has still to do, as its machine has it.
 use Rattle.std.specs.Prelude.{ℕ, List, map, Option, option_map, Result}
 use Rattle.syntax.specs.declared.tree.Stmt.{Stmt as OwnStmt}
 use Rattle.syntax.specs.Tree.{Stmt, Block, While, DoWhile, For}
@@ -20,7 +20,7 @@ use Rattle.meaning.specs.declared.loops.Loop.TheVariants as kind
 use Rattle.meaning.specs.declared.machine.Halted.{Halted}
 use Rattle.meaning.specs.declared.machine.Machine.{Machine}
 use Rattle.meaning.specs.declared.program.ProgramTables.{ProgramTables}
-use Rattle.meaning.specs.inner.Machine.{MeansAs, end_of, items_in, program_in}
+use Rattle.meaning.specs.inner.Machine.{MeansAs, completion_of, items_in, program_in}
 use Rattle.meaning.specs.inner.Does.{caller_in, does_stmts, if_of}
 use Rattle.meaning.specs.inner.Going.{Follow, Ends, Goes, Nests, drop_names, call_left, when_next, scope_begun}
 use Rattle.meaning.specs.inner.Going.{loop_begun}
@@ -106,7 +106,7 @@ module _ {A : Type 0} (source : ProgramTables A) where
   left_gone_on ls = gone_on (map continue_with ls)
 
   abbrev pub follow_of : Stepped A → Follow
-  follow_of (to.Ends end) = Ends (end_of end)
+  follow_of (to.Ends end) = Ends (completion_of end)
   follow_of (to.Goes t) = Goes (does_task t)
   follow_of (to.Nests outer inner) = Nests (continue_with outer) (does_task inner)
 

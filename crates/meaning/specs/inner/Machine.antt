@@ -24,13 +24,13 @@ use Rattle.meaning.specs.declared.machine.StmtCompletion.TheVariants as end
 use Rattle.meaning.specs.declared.word.Word.{Word}
 use Rattle.meaning.specs.inner.Word.{value_of}
 
-abbrev pub end_of : StmtCompletion → Meaning.Completion
-end_of end.Next = Meaning.Next
-end_of end.Breaks = Meaning.Breaks
-end_of end.Continues = Meaning.Continues
-end_of (end.Returns w) = Meaning.Returns (value_of w)
-end_of end.Cancels = Meaning.Cancels
-end_of end.CancelsOuter = Meaning.CancelsOuter
+abbrev pub completion_of : StmtCompletion → Meaning.Completion
+completion_of end.Next = Meaning.Next
+completion_of end.Breaks = Meaning.Breaks
+completion_of end.Continues = Meaning.Continues
+completion_of (end.Returns w) = Meaning.Returns (value_of w)
+completion_of end.Cancels = Meaning.Cancels
+completion_of end.CancelsOuter = Meaning.CancelsOuter
 
 abbrev pub lvalue_of : Lvalue → Meaning.Lvalue
 lvalue_of (lvalue.InLocal i t) = Meaning.InLocal i t
@@ -100,8 +100,8 @@ module _ {A : Type 0} where
   abbrev pub MeansLvalue : Result Lvalue Halted → Answer Meaning.Lvalue → Machine A → Type 0
   MeansLvalue = MeansAs lvalue_of
 
-  abbrev pub MeansEnd : Result StmtCompletion Halted → Answer Meaning.Completion → Machine A → Type 0
-  MeansEnd = MeansAs end_of
+  abbrev pub MeansCompletion : Result StmtCompletion Halted → Answer Meaning.Completion → Machine A → Type 0
+  MeansCompletion = MeansAs completion_of
 
   abbrev pub MeansTurn : Result (Option StmtCompletion) Halted → Answer (Option Meaning.Completion) → Machine A → Type 0
-  MeansTurn = MeansAs (option_map end_of)
+  MeansTurn = MeansAs (option_map completion_of)

@@ -12,7 +12,7 @@ use Rattle.meaning.specs.declared.standing.StoppedThread.{StoppedThread}
 use Rattle.meaning.specs.declared.standing.Gone.{Gone}
 use Rattle.meaning.specs.declared.standing.Gone.TheVariants as gone
 use Rattle.meaning.specs.declared.program.ProgramTables.{ProgramTables}
-use Rattle.meaning.specs.inner.Machine.{end_of, items_in}
+use Rattle.meaning.specs.inner.Machine.{completion_of, items_in}
 use Rattle.meaning.specs.Frames.{StateExtension, extended_state}
 use Rattle.meaning.specs.inner.Going.{Follow}
 use Rattle.meaning.specs.inner.Left.{follow_of, left_gone_on}
@@ -53,7 +53,7 @@ module _ {A : Type 0} where
   -- what is left of a thread that finds these memories too, up to the tick of its end
   abbrev pub rest : ProgramTables A → Thread A → List Memory → Answer (Unit {0})
   rest source thread founds =
-      go_on (left_gone_on source thread.left.items (end_of thread.end)
+      go_on (left_gone_on source thread.left.items (completion_of thread.end)
       (extended_state (frame_of founds thread.shown) (bare thread.at)))
       (λ _. tick)
 

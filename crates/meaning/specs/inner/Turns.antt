@@ -27,7 +27,7 @@ TakesTurn p ticks t m founds n further =
     × (further ≡ founds ++ m ∷ []))
 
 module _ {A : Type 0} where
-  -- what is seen of a thread, as it is kept
+  -- what is seen of a thread, as the turns have it
   abbrev pub seen_in : Standing A → Outcome
   seen_in s = record {
     lefts = memories_in s.thread.shown.lefts.items ++ memories_in s.further.lefts.items;

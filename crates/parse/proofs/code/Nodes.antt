@@ -20,7 +20,7 @@ use Rattle.parse.specs.inner.Expressions.{whole_at, starts_type}
 use Rattle.parse.specs.inner.Statements as read
 use Rattle.parse.proofs.combinators.Exact.{taken_ok}
 use Rattle.parse.proofs.combinators.FixedTokens.{fixed_is}
-use Rattle.parse.proofs.combinators.Parts.{place_fixed}
+use Rattle.parse.proofs.combinators.Parts.{span_is_fixed}
 use Rattle.parse.proofs.code.ExprSteps.{alone}
 use Rattle.parse.proofs.code.Made.{second_is_left}
 
@@ -28,12 +28,12 @@ pub print_stmt_is : (d : ℕ) (ts t1 t2 t3 r : List Tok) (at : Span) (x : List �
     → read.print_stmt d ts ≡ Ok (Print at x.0 x.1 (exprs_from es), r)
 print_stmt_is d ts t1 t2 t3 r at x es a b c e = rw (a, b, c, e) refl
 
--- a fixed token that was read, at its place
+-- a fixed token that was read, with its span
 expect_span_is : (k : Fixed) (ts : List Tok) (at : Span) (r : List Tok) → expect_span k ts ≡ Ok (at, r) → ts ≡ record { terminal = fixed k; span = at } ∷ r
 expect_span_is k [] at r e = absurd cc
 expect_span_is k (t ∷ ts) at r e =
     let one = taken_ok (fixed_span k t) t ts at r e in
-    let both = place_fixed k t at one.0 in
+    let both = span_is_fixed k t at one.0 in
     let terminal = fixed_is k t tt both.0 in
     rw (← terminal, ← both.1, ← one.1) refl
 
@@ -143,12 +143,12 @@ module _ (d : ℕ) (mode : Mode) (ts t1 : List Tok) (at : Span) (keyword : expec
     pub kind_fails : (f : Fault) → read.kind mode t1 ≡ Err f → transaction ≡ Err f
     kind_fails f e = transaction_goes ∙ rw (other, e) refl
 
-    module _ (k : TransactionKind) (t2 : List Tok) (marked : read.kind mode t1 ≡ Ok (k, t2)) where
+    module _ (k : TransactionKind) (t2 : List Tok) (kind_read : read.kind mode t1 ≡ Ok (k, t2)) where
       pub transaction_stmt_fails : (f : Fault) → read.block_at d t2 ≡ Err f → transaction ≡ Err f
-      transaction_stmt_fails f e = transaction_goes ∙ rw (other, marked, e) refl
+      transaction_stmt_fails f e = transaction_goes ∙ rw (other, kind_read, e) refl
 
       pub transaction_stmt_is : (body : List Stmt) (r : List Tok) → read.block_at d t2 ≡ Ok (body, r) → transaction ≡ Ok (Transaction k (stmts_from body) at, r)
-      transaction_stmt_is body r e = transaction_goes ∙ rw (other, marked, e) refl
+      transaction_stmt_is body r e = transaction_goes ∙ rw (other, kind_read, e) refl
 
 -- an if with an else or without one
 pub stmt_of_any_if : {A : Type 0} (c : E.Expr A) (a : S.Stmt A) (b : Option (S.Stmt A)) → stmt_of (S.If c a b) ≡ read.if_tree (expr_of c, (stmt_of a, option_map stmt_of b))

@@ -66,16 +66,16 @@ seq_here k M p q s = subst (λ (z : List Tok). is_next k (head z) ≡ true) (sym
 pub seq_not_here : (k j : Fixed) (M : Phrase) (p q : List Tok) → is_fixed j (fixed k) ≡ false → Seq (Is k) M p → is_next j (head (p ++ q)) ≡ false
 seq_not_here k j M p q apart s = subst (λ (z : List Tok). is_next j (head z) ≡ false) (sym (ap (λ (z : List Tok). z ++ q) s.whole ∙ append_assoc s.front s.back q)) (is_not_here k j s.front (s.back ++ q) apart s.first)
 
--- the place of a fixed token
-pub fixed_place : (k : Fixed) (t : Tok) → the_fixed k t ≡ Some tt → fixed_span k t ≡ Some t.span
-fixed_place k t e = go (is_fixed k t.terminal) refl
+-- the span of a fixed token
+pub fixed_has_span : (k : Fixed) (t : Tok) → the_fixed k t ≡ Some tt → fixed_span k t ≡ Some t.span
+fixed_has_span k t e = go (is_fixed k t.terminal) refl
   where
     go : (b : Bool) → is_fixed k t.terminal ≡ b → fixed_span k t ≡ Some t.span
     go true is = rw is refl
     go false is = absurd (let n : the_fixed k t ≡ None = rw is refl in cc)
 
-pub place_fixed : (k : Fixed) (t : Tok) (at : Span) → fixed_span k t ≡ Some at → (the_fixed k t ≡ Some tt) × (t.span ≡ at)
-place_fixed k t at e = go (is_fixed k t.terminal) refl
+pub span_is_fixed : (k : Fixed) (t : Tok) (at : Span) → fixed_span k t ≡ Some at → (the_fixed k t ≡ Some tt) × (t.span ≡ at)
+span_is_fixed k t at e = go (is_fixed k t.terminal) refl
   where
     go : (b : Bool) → is_fixed k t.terminal ≡ b → (the_fixed k t ≡ Some tt) × (t.span ≡ at)
     go true is = (rw is refl, let h : fixed_span k t ≡ Some t.span = rw is refl in cc)

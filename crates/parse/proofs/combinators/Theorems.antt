@@ -58,7 +58,7 @@ module _ {A : Type 0} (P : ℕ → Parser A) (L : A → Phrase) (depth : A → �
   begun_any [] b = some
   begun_any (t ∷ p) b = b tt
 
-  -- a fault at a place, and why nothing goes on there
+  -- a fault with its span, and why nothing goes on there
   pub record Blocked (d : ℕ) (ts r : List Tok) : Type 0 where
     pub front : List Tok
     pub parts : ts ≡ front ++ r

@@ -31,7 +31,7 @@ use Rattle.parse.proofs.combinators.Exact.{Exact, Always, Nothing, Comes, Two, D
 use Rattle.parse.proofs.combinators.Many.{ManyFit}
 use Rattle.parse.proofs.combinators.FixedTokens.{that_fixed, fixed_is, fixed_has, a_fixed, one_head}
 use Rattle.parse.proofs.code.Ends.{covers_across, covers_one}
-use Rattle.parse.proofs.combinators.Parts.{seq_left, seq_right, is_here, seq_here, seq_not_here, fixed_place, place_fixed, head_begins, behind_exact, before_exact}
+use Rattle.parse.proofs.combinators.Parts.{seq_left, seq_right, is_here, seq_here, seq_not_here, fixed_has_span, span_is_fixed, head_begins, behind_exact, before_exact}
 use Rattle.parse.proofs.combinators.Choices.{kinds_exact, either_exact}
 use Rattle.parse.proofs.combinators.Lists.{Behind, listed_exact}
 use Rattle.parse.proofs.expressions.Scalars.{mark_not_fixed, mark_ends, scalar_exact, scalar_first}
@@ -61,7 +61,7 @@ imaged {A = A} {B = B} f {L = L} {W = W} W' {S = S} S' C' {d = d} E w_from w_to 
       stops = λ h s. s_from i.0 h (subst (λ (z : B). S' z h) i.1 s);
     }
 
--- ---- places
+-- ---- spans
 
 -- from the first part to the last
 pub span_is : (at a b : Span) (p pa mid pb : List Tok) → p ≡ pa ++ (mid ++ pb) → Covers at p → Covers a pa → Covers b pb → at ≡ across a b
@@ -78,16 +78,16 @@ abbrev Spot : Fixed → Span → Phrase
 Spot k = One (fixed_span k)
 
 expect_span_of : (k : Fixed) {p : List Tok} (o : Is k p) → Spot k o.token.span p
-expect_span_of k o = record { token = o.token; has = fixed_place k o.token o.has; whole = o.whole }
+expect_span_of k o = record { token = o.token; has = fixed_has_span k o.token o.has; whole = o.whole }
 
 expect_span_is : (k : Fixed) (at : Span) (p : List Tok) → Spot k at p → Is k p
-expect_span_is k at p o = record { token = o.token; has = (place_fixed k o.token at o.has).0; whole = o.whole }
+expect_span_is k at p o = record { token = o.token; has = (span_is_fixed k o.token at o.has).0; whole = o.whole }
 
 expect_span_covers : (k : Fixed) (at : Span) (p : List Tok) → Spot k at p → Covers at p
-expect_span_covers k at p o = subst (λ (z : Span). Covers z p) (place_fixed k o.token at o.has).1 (one_covers o)
+expect_span_covers k at p o = subst (λ (z : Span). Covers z p) (span_is_fixed k o.token at o.has).1 (one_covers o)
 
 abbrev expect_span_begins : (k : Fixed) → Begins (Spot k) []
-expect_span_begins k = record { value = (a_fixed k).span; more = a_fixed k ∷ []; spelled = record { token = a_fixed k; has = fixed_place k (a_fixed k) (fixed_has k (a_fixed k) refl); whole = refl } }
+expect_span_begins k = record { value = (a_fixed k).span; more = a_fixed k ∷ []; spelled = record { token = a_fixed k; has = fixed_has_span k (a_fixed k) (fixed_has k (a_fixed k) refl); whole = refl } }
 
 -- ---- what the depth allows and what may follow
 
@@ -136,7 +136,7 @@ none_tight (Some t) = go (the_infix t) refl
     go (Some op) is = infix_low op
 
 closes_with : (k : Fixed) → (e : Expr) (c : Span) (p q : List Tok) → Spot k c p → ((t : Tok) → t.terminal ≡ fixed k → WholeS e (Some t)) → WholeS e (head (p ++ q))
-closes_with k e c p q o follows = subst (WholeS e) (sym (one_head o q)) (follows o.token (fixed_is k o.token tt (place_fixed k o.token c o.has).0))
+closes_with k e c p q o follows = subst (WholeS e) (sym (one_head o q)) (follows o.token (fixed_is k o.token tt (span_is_fixed k o.token c o.has).0))
 
 -- ---- a list of arguments
 
@@ -671,7 +671,7 @@ module _ (whole tight : ℕ → Parser Expr) (d : ℕ) (EW : Exact whole expr Fi
       let i = s.second in
       let c = i.second.token.span in
       let parts : p ≡ n.front ++ ((s.front ++ i.front) ++ i.back) = n.whole ∙ ap (λ (z : List Tok). n.front ++ z) (s.whole ∙ ap (λ (z : List Tok). s.front ++ z) i.whole ∙ sym (append_assoc s.front i.front i.back)) in
-      let place : at ≡ across x.span c = span_is at x.span c p n.front (s.front ++ i.front) i.back parts l.0 (name_covers x n.front n.first) (one_covers i.second) in
+      let covers : at ≡ across x.span c = span_is at x.span c p n.front (s.front ++ i.front) i.back parts l.0 (name_covers x n.front n.first) (one_covers i.second) in
       record {
         value = (x, Call x es at);
         same = refl;
@@ -681,7 +681,7 @@ module _ (whole tight : ℕ → Parser Expr) (d : ℕ) (EW : Exact whole expr Fi
           first = n.first;
           second = inr (inl (
             (exprs_list es, c),
-            ap (Call x es) place ∙ ap (λ (z : Exprs). Call x z (across x.span c)) (list_exprs es),
+            ap (Call x es) covers ∙ ap (λ (z : Exprs). Call x z (across x.span c)) (list_exprs es),
             record { front = s.front; back = s.back; first = s.first; second = record { front = i.front; back = i.back; first = arguments_comes (exprs_list es) i.front (subst (λ (z : Exprs). Grammar.arguments z i.front) (list_exprs es) i.first); second = expect_span_of (Punctuator punct.CloseParen) i.second; whole = i.whole }; whole = s.whole },
           ));
           whole = n.whole;

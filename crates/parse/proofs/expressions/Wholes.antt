@@ -22,7 +22,7 @@ use Rattle.parse.specs.declared.lead.Operand.TheVariants as kind
 use Rattle.parse.specs.inner.Reading.{head, is_next, at_least, op_at}
 use Rattle.parse.specs.inner.Expressions.{says, type_of_fixed, starts_type, infix_of, operators, operand_terminal, operand_at, is_operand, starts_expr}
 use Rattle.parse.proofs.combinators.FixedTokens.{that_fixed, fixed_is, fixed_has, a_fixed, one_head, seq_head}
-use Rattle.parse.proofs.combinators.Parts.{fixed_place, place_fixed}
+use Rattle.parse.proofs.combinators.Parts.{fixed_has_span, span_is_fixed}
 use Rattle.parse.proofs.expressions.Scalars.{some_name, some_name_token}
 
 -- ---- what may follow
@@ -210,7 +210,7 @@ first_kind (Logical op a b at) p q l = let s = l.1.1 in ap operand_at (seq_heads
 first_kind (Conditional c a b at) p q l = let s = l.1.1 in ap operand_at (seq_heads s q) ∙ first_kind c s.front (s.back ++ q) s.first
 first_kind (InTransaction mode keyword e at) p q l =
     let t = l.1.first.token in
-    ap operand_at (seq_head l.1 q) ∙ ap operand_terminal (fixed_is (mode_keyword mode) t tt (place_fixed (mode_keyword mode) t keyword l.1.first.has).0) ∙ mode_kind mode
+    ap operand_at (seq_head l.1 q) ∙ ap operand_terminal (fixed_is (mode_keyword mode) t tt (span_is_fixed (mode_keyword mode) t keyword l.1.first.has).0) ∙ mode_kind mode
 
 pub whole_first : (e : Expr) (p q : List Tok) → expr e p → starts_expr (head (p ++ q)) ≡ true
 whole_first e p q l = ap is_operand (first_kind e p q l) ∙ lead_some e
@@ -262,28 +262,28 @@ start_not_step (Some t) e = go t.terminal e
     go (fixed k) e = at_fixed k e
     go reserved e = refl
 
--- ---- depths and places
+-- ---- depths and spans
 
 pub positive : (e : Expr) → 1 ≤ expr_depth e
 positive (Variable x) = omega arith
 positive e = omega arith
 
-name_place : (k : Terminal) (at : Span) (x : Name) → name_in k at ≡ Some x → x.span ≡ at
-name_place (name s) at x h = let same : record { text = s; span = at } ≡ x = cc in ap (λ (z : Name). z.span) (sym same)
-name_place k at x h = absurd cc
+name_has_span : (k : Terminal) (at : Span) (x : Name) → name_in k at ≡ Some x → x.span ≡ at
+name_has_span (name s) at x h = let same : record { text = s; span = at } ≡ x = cc in ap (λ (z : Name). z.span) (sym same)
+name_has_span k at x h = absurd cc
 
-number_place : (k : Terminal) (at : Span) (x : IntegerConstant) → integer_constant_in k at ≡ Some x → x.span ≡ at
-number_place (constant n t) at x h = let same : record { value = n; ty = t; span = at } ≡ x = cc in ap (λ (z : IntegerConstant). z.span) (sym same)
-number_place k at x h = absurd cc
+constant_has_span : (k : Terminal) (at : Span) (x : IntegerConstant) → integer_constant_in k at ≡ Some x → x.span ≡ at
+constant_has_span (constant n t) at x h = let same : record { value = n; ty = t; span = at } ≡ x = cc in ap (λ (z : IntegerConstant). z.span) (sym same)
+constant_has_span k at x h = absurd cc
 
 -- a name stands where its token does
 pub name_covers : (x : Name) (p : List Tok) → One the_name x p → Covers x.span p
-name_covers x p l = subst (Covers x.span) (sym l.whole) (name_place l.token.terminal l.token.span x l.has)
+name_covers x p l = subst (Covers x.span) (sym l.whole) (name_has_span l.token.terminal l.token.span x l.has)
 
 -- an expression stands where its tokens do
 pub expr_covers : (e : Expr) (p : List Tok) → expr e p → Covers (span_of e) p
 expr_covers (Variable x) p l = name_covers x p l
-expr_covers (Constant n t at) p l = subst (Covers at) (sym l.whole) (number_place l.token.terminal l.token.span (record { value = n; ty = t; span = at }) l.has)
+expr_covers (Constant n t at) p l = subst (Covers at) (sym l.whole) (constant_has_span l.token.terminal l.token.span (record { value = n; ty = t; span = at }) l.has)
 expr_covers (Element x i at) p l = l.0
 expr_covers (Call f es at) p l = l.0
 expr_covers (Parenthesized e at) p l = l.0
@@ -315,7 +315,7 @@ transaction_begins mode t u is paren =
           record {
             front = t ∷ [];
             back = u ∷ some_name_token ∷ close ∷ [];
-            first = record { token = t; has = fixed_place (mode_keyword mode) t (fixed_has (mode_keyword mode) t is); whole = refl };
+            first = record { token = t; has = fixed_has_span (mode_keyword mode) t (fixed_has (mode_keyword mode) t is); whole = refl };
             second = record {
               front = u ∷ [];
               back = some_name_token ∷ close ∷ [];

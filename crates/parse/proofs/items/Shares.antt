@@ -19,7 +19,7 @@ use Rattle.parse.specs.inner.Items as read
 use Rattle.parse.proofs.combinators.Exact.{Exact, Always, Shallow, Comes, Two, Empty, take_exact, give_exact, restated, two, value_of}
 use Rattle.parse.proofs.combinators.Many.{ManyFit}
 use Rattle.parse.proofs.combinators.FixedTokens.{one_head}
-use Rattle.parse.proofs.combinators.Parts.{seq_map, seq_left, seq_right, un_seq_left, is_here, is_not_here, seq_here, seq_not_here, fixed_place, place_fixed, head_begins, tail_begins, behind_exact, before_exact, perhaps_exact, MaybeW, MaybeS}
+use Rattle.parse.proofs.combinators.Parts.{seq_map, seq_left, seq_right, un_seq_left, is_here, is_not_here, seq_here, seq_not_here, fixed_has_span, span_is_fixed, head_begins, tail_begins, behind_exact, before_exact, perhaps_exact, MaybeW, MaybeS}
 use Rattle.parse.proofs.combinators.Lists as lists
 use Rattle.parse.proofs.combinators.Trailing.{Trailed, trailing_exact}
 use Rattle.parse.proofs.expressions.Scalars.{name_begins}
@@ -27,16 +27,16 @@ use Rattle.parse.proofs.items.Headers.{Next, Parted, parted_not, front_head, all
 
 -- ---- first values
 
--- a constant that is seen with its place
-with_place : (k : Terminal) (at : Span) (x : ℕ × Scalar) → grammar.value_in k ≡ Some x → value_in k at ≡ Some (x, at)
-with_place (constant n t) at x h = let same : ◌≡◌ {A = ℕ × Scalar} (n, t) x = cc in ap (λ (z : ℕ × Scalar). Some (z, at)) same
-with_place k at x h = absurd cc
+-- a constant that is seen with its span
+value_has_span : (k : Terminal) (at : Span) (x : ℕ × Scalar) → grammar.value_in k ≡ Some x → value_in k at ≡ Some (x, at)
+value_has_span (constant n t) at x h = let same : ◌≡◌ {A = ℕ × Scalar} (n, t) x = cc in ap (λ (z : ℕ × Scalar). Some (z, at)) same
+value_has_span k at x h = absurd cc
 
-without_place : (k : Terminal) (at : Span) (x : (ℕ × Scalar) × Span) → value_in k at ≡ Some x → (grammar.value_in k ≡ Some x.0) × (at ≡ x.1) × (is_fixed (Punctuator punct.Minus) k ≡ false)
-without_place (constant n t) at x h =
+span_has_value : (k : Terminal) (at : Span) (x : (ℕ × Scalar) × Span) → value_in k at ≡ Some x → (grammar.value_in k ≡ Some x.0) × (at ≡ x.1) × (is_fixed (Punctuator punct.Minus) k ≡ false)
+span_has_value (constant n t) at x h =
     let same : ◌≡◌ {A = (ℕ × Scalar) × Span} ((n, t), at) x = cc in
     (ap (λ (z : (ℕ × Scalar) × Span). Some z.0) same, ap (λ (z : (ℕ × Scalar) × Span). z.1) same, refl)
-without_place k at x h = absurd cc
+span_has_value k at x h = absurd cc
 
 abbrev SignedL : Option Span × ((ℕ × Scalar) × Span) → Phrase
 SignedL = Two (optional (One (fixed_span (Punctuator punct.Minus)))) (One value_with_span)
@@ -44,14 +44,14 @@ SignedL = Two (optional (One (fixed_span (Punctuator punct.Minus)))) (One value_
 first_goes : (x : Option Span × ((ℕ × Scalar) × Span)) (p : List Tok) → SignedL x p → initialiser (first_tree x) p
 first_goes (None, n) p s =
     let o = s.second in
-    let i = without_place o.token.terminal o.token.span n o.has in
+    let i = span_has_value o.token.terminal o.token.span n o.has in
     let whole : p ≡ o.token ∷ [] = s.whole ∙ ap (λ (z : List Tok). z ++ s.back) s.first ∙ o.whole in
     subst (initialiser (first_tree (None, n))) (sym whole)
     (sym i.1, record { front = []; back = o.token ∷ []; first = refl; second = record { token = o.token; has = i.0; whole = refl }; whole = refl })
 first_goes (Some at, n) p s =
     let o = s.second in
-    let i = without_place o.token.terminal o.token.span n o.has in
-    let h = place_fixed (Punctuator punct.Minus) s.first.token at s.first.has in
+    let i = span_has_value o.token.terminal o.token.span n o.has in
+    let h = span_is_fixed (Punctuator punct.Minus) s.first.token at s.first.has in
     let whole : p ≡ s.first.token ∷ o.token ∷ [] = rw (s.whole, s.first.whole, o.whole) refl in
     let covers : ◌≡◌ (across at n.1) (record { start = s.first.token.span.start; «end» = o.token.span.«end» }) = rw (h.1, i.1) refl in
     subst (initialiser (first_tree (Some at, n))) (sym whole)
@@ -69,7 +69,7 @@ first_comes d i p l = go i.negative refl l.1
         record {
           value = (Some s.first.token.span, ((i.value, i.ty), o.token.span));
           same = same;
-          spelled = record { front = s.front; back = s.back; first = record { token = s.first.token; has = fixed_place (Punctuator punct.Minus) s.first.token s.first.has; whole = s.first.whole }; second = record { token = o.token; has = with_place o.token.terminal o.token.span (i.value, i.ty) o.has; whole = o.whole }; whole = s.whole };
+          spelled = record { front = s.front; back = s.back; first = record { token = s.first.token; has = fixed_has_span (Punctuator punct.Minus) s.first.token s.first.has; whole = s.first.whole }; second = record { token = o.token; has = value_has_span o.token.terminal o.token.span (i.value, i.ty) o.has; whole = o.whole }; whole = s.whole };
           within = λ w. (tt, tt);
           stops = λ h c. tt;
         }
@@ -81,14 +81,14 @@ first_comes d i p l = go i.negative refl l.1
         record {
           value = (None, ((i.value, i.ty), o.token.span));
           same = same;
-          spelled = record { front = s.front; back = s.back; first = s.first; second = record { token = o.token; has = with_place o.token.terminal o.token.span (i.value, i.ty) o.has; whole = o.whole }; whole = s.whole };
+          spelled = record { front = s.front; back = s.back; first = s.first; second = record { token = o.token; has = value_has_span o.token.terminal o.token.span (i.value, i.ty) o.has; whole = o.whole }; whole = s.whole };
           within = λ w. (tt, tt);
           stops = λ h c. tt;
         }
 
--- a place says its fixed token
+-- a span says its fixed token
 expect_span_here : (k : Fixed) (at : Span) (p q : List Tok) → One (fixed_span k) at p → is_next k (head (p ++ q)) ≡ true
-expect_span_here k at p q o = let pm = place_fixed k o.token at o.has in is_here k p q (record { token = o.token; has = pm.0; whole = o.whole })
+expect_span_here k at p q o = let pm = span_is_fixed k o.token at o.has in is_here k p q (record { token = o.token; has = pm.0; whole = o.whole })
 
 abbrev some_constant : Tok
 some_constant = record { terminal = constant 0 Int; span = record { start = 0; «end» = 0 } }
@@ -103,7 +103,7 @@ first_exact d =
     (first_comes d) first_goes (λ x w. tt) (λ x h c. tt)
   where
     follow : (a : Option Span) (b : (ℕ × Scalar) × Span) (p q : List Tok) → One value_with_span b p → Unit {0} → MaybeS (Punctuator punct.Minus) Always a (head (p ++ q))
-    follow None b p q o h = ap (is_next (Punctuator punct.Minus)) (one_head o q) ∙ (without_place o.token.terminal o.token.span b o.has).2
+    follow None b p q o h = ap (is_next (Punctuator punct.Minus)) (one_head o q) ∙ (span_has_value o.token.terminal o.token.span b o.has).2
     follow (Some x) b p q o h = tt
 
 abbrev first_begins : Begins initialiser []

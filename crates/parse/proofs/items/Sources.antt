@@ -15,7 +15,7 @@ use Rattle.parse.proofs.combinators.Theorems as theorems
 some_program : Begins (Many item) []
 some_program = record { value = []; more = []; spelled = refl }
 
--- ---- programs with the place of their end
+-- ---- programs with the offset of their end
 
 source_spells : (p : Program) (ts : List Tok) → Many item p ts → Spells (record { program = p; ends = end_of ts }) ts
 source_spells p ts l = (l, refl)
@@ -67,7 +67,7 @@ pub unfinished_at : (ts : List Tok) (rest : List Token) (e : ℕ) → length res
 unfinished_at ts [] e short is h = record {
   begins = source_begins ts (theorems.begins_all program_at (Many item) program_depth program_exact some_program ts 100 h);
   not = λ s l. theorems.spells_none program_at (Many item) program_depth program_exact some_program ts 100 h s.program l.0;
-  place = rw is refl;
+  empty = rw is refl;
 }
 unfinished_at ts (t ∷ rest) e short is h = absurd (omega arith)
 

@@ -20,7 +20,7 @@ use Rattle.parse.specs.inner.Expressions.{starts_type}
 use Rattle.parse.specs.inner.Statements.{starts_simple, lead_fixed, lead_terminal, lead_at, is_lead, starts_stmt}
 use Rattle.parse.proofs.combinators.Exact.{Nonempty}
 use Rattle.parse.proofs.combinators.FixedTokens.{fixed_is, that_fixed, a_fixed, seq_head, one_head}
-use Rattle.parse.proofs.combinators.Parts.{seq_right, place_fixed}
+use Rattle.parse.proofs.combinators.Parts.{seq_right, span_is_fixed}
 use Rattle.parse.proofs.combinators.Starts.{true_not_false}
 use Rattle.parse.proofs.expressions.Wholes.{seq_heads}
 use Rattle.parse.proofs.statements.Simples.{simple_first}
@@ -122,8 +122,8 @@ lead_of (CancelOuter at) h = lead.Cancel
 seq_lead : (k : Fixed) {M : Phrase} {p : List Tok} (q : List Tok) → Seq (Is k) M p → lead_at (head (p ++ q)) ≡ lead_fixed k
 seq_lead k q s = ap lead_at (seq_head s q) ∙ ap lead_terminal (fixed_is k s.first.token tt s.first.has)
 
-place_lead : (k : Fixed) {at : Span} {M : Phrase} {p : List Tok} (q : List Tok) → Seq (IsAt k at) M p → lead_at (head (p ++ q)) ≡ lead_fixed k
-place_lead k {at = at} q s = ap lead_at (seq_head s q) ∙ ap lead_terminal (fixed_is k s.first.token tt (place_fixed k s.first.token at s.first.has).0)
+span_lead : (k : Fixed) {at : Span} {M : Phrase} {p : List Tok} (q : List Tok) → Seq (IsAt k at) M p → lead_at (head (p ++ q)) ≡ lead_fixed k
+span_lead k {at = at} q s = ap lead_at (seq_head s q) ∙ ap lead_terminal (fixed_is k s.first.token tt (span_is_fixed k s.first.token at s.first.has).0)
 
 mode_lead : (mode : Mode) → lead_fixed (mode_keyword mode) ≡ lead.Transaction mode
 mode_lead Atomic = refl
@@ -138,19 +138,19 @@ stmt_lead Empty p q l = ap lead_at (one_head l q) ∙ ap lead_terminal (fixed_is
 stmt_lead (Declare d) p q l = absurd l
 stmt_lead (Do s) p q l = refl
 stmt_lead (Block ss) p q l = seq_lead (Punctuator punct.OpenBrace) q l
-stmt_lead (Print at format format_at es) p q l = place_lead (Keyword key.Printf) q l
+stmt_lead (Print at format format_at es) p q l = span_lead (Keyword key.Printf) q l
 stmt_lead (If c a) p q l = seq_lead (Keyword key.If) q l
 stmt_lead (IfElse c a b) p q l = seq_lead (Keyword key.If) q l.1
 stmt_lead (While c a) p q l = seq_lead (Keyword key.While) q l
 stmt_lead (DoWhile a c) p q l = seq_lead (Keyword key.Do) q l
 stmt_lead (For first c step a) p q l = seq_lead (Keyword key.For) q l
-stmt_lead (Break at) p q l = place_lead (Keyword key.Break) q l
-stmt_lead (Continue at) p q l = place_lead (Keyword key.Continue) q l
-stmt_lead (Return e at) p q l = place_lead (Keyword key.Return) q l
-stmt_lead (Transaction (Plain mode) ss at) p q l = place_lead (mode_keyword mode) q l ∙ mode_lead mode
-stmt_lead (Transaction Outer ss at) p q l = place_lead (mode_keyword Atomic) q (seq_right l)
-stmt_lead (Cancel at) p q l = place_lead (Keyword key.Cancel) q l
-stmt_lead (CancelOuter at) p q l = place_lead (Keyword key.Cancel) q l
+stmt_lead (Break at) p q l = span_lead (Keyword key.Break) q l
+stmt_lead (Continue at) p q l = span_lead (Keyword key.Continue) q l
+stmt_lead (Return e at) p q l = span_lead (Keyword key.Return) q l
+stmt_lead (Transaction (Plain mode) ss at) p q l = span_lead (mode_keyword mode) q l ∙ mode_lead mode
+stmt_lead (Transaction Outer ss at) p q l = span_lead (mode_keyword Atomic) q (seq_right l)
+stmt_lead (Cancel at) p q l = span_lead (Keyword key.Cancel) q l
+stmt_lead (CancelOuter at) p q l = span_lead (Keyword key.Cancel) q l
 
 -- and with one that may begin a statement
 pub stmt_starts : (s : Stmt) (p q : List Tok) → stmt s p → starts_stmt (head (p ++ q)) ≡ true

@@ -23,7 +23,7 @@ use Rattle.parse.proofs.combinators.Parts.{MaybeW, seq_map, seq_left, seq_right,
 use Rattle.parse.proofs.expressions.Wholes.{WholeS, whole_begins, not_fixed, closing_follows}
 use Rattle.parse.proofs.expressions.Levels.{whole_exact}
 use Rattle.parse.proofs.statements.Simples.{simple_exact, semicolon_ends}
-use Rattle.parse.proofs.statements.Marks.{MarkedL, MarkedS, marked_begins, marked_exact}
+use Rattle.parse.proofs.statements.Attributes.{MaybeAttributeL, MaybeAttributeS, maybe_attribute_begins, maybe_attribute_exact}
 
 -- ---- expressions behind commas
 
@@ -165,15 +165,15 @@ continue_exact d = alone_stmt_exact (Keyword key.Continue) Continue ContinueL d 
     comes _ p l = absurd l
 
 abbrev CancelPart : Span × Bool → Phrase
-CancelPart = Two (One (fixed_span (Keyword key.Cancel))) (λ b. Seq (MarkedL b) (Is (Punctuator punct.Semicolon)))
+CancelPart = Two (One (fixed_span (Keyword key.Cancel))) (λ b. Seq (MaybeAttributeL b) (Is (Punctuator punct.Semicolon)))
 
 pub cancel_exact : (d : ℕ) → Exact (λ D. cancel_stmt) CancelL StmtW Always Always d
 cancel_exact d =
     value_of cancel_tree CancelL StmtW Always Always
-    (two (take_exact (fixed_span (Keyword key.Cancel)) d) (before_exact (Punctuator punct.Semicolon) (marked_exact d) ends) (λ a b p q l h. tt) (tail_begins (Punctuator punct.Semicolon) MarkedL marked_begins))
+    (two (take_exact (fixed_span (Keyword key.Cancel)) d) (before_exact (Punctuator punct.Semicolon) (maybe_attribute_exact d) ends) (λ a b p q l h. tt) (tail_begins (Punctuator punct.Semicolon) MaybeAttributeL maybe_attribute_begins))
     comes goes (λ x w. flat x) (λ x h c. tt)
   where
-    ends : (b : Bool) (t : Tok) → t.terminal ≡ fixed (Punctuator punct.Semicolon) → MarkedS b (Some t)
+    ends : (b : Bool) (t : Tok) → t.terminal ≡ fixed (Punctuator punct.Semicolon) → MaybeAttributeS b (Some t)
     ends true t is = tt
     ends false t is = rw is refl
 

@@ -21,7 +21,7 @@ use Rattle.parse.specs.inner.Reading.{wrong, deep, Parser, head, is_next}
 use Rattle.parse.specs.inner.Statements.{for_tree, starts_simple, lead_at, starts_stmt, entry, stmt_of, any_stmt, block_items, stmt_at, block_at}
 use Rattle.parse.proofs.combinators.Exact.{Exact, Always, Two, restated}
 use Rattle.parse.proofs.combinators.FixedTokens.{that_fixed, fixed_has, one_begins}
-use Rattle.parse.proofs.combinators.Parts.{fixed_place, head_begins}
+use Rattle.parse.proofs.combinators.Parts.{fixed_has_span, head_begins}
 use Rattle.parse.proofs.combinators.Choices.{kinds_exact}
 use Rattle.parse.proofs.code.Braces.{expect_not}
 use Rattle.parse.proofs.combinators.Starts.{stops_exact}
@@ -165,8 +165,8 @@ module _ (P : ℕ → Parser Stmt) (B : ℕ → Parser (List Stmt)) (d : ℕ) (E
 from_fixed : {A : Type 0} {M : A → List Tok → Type 0} (k : Fixed) (t : Tok) → t.terminal ≡ fixed k → Begins M [] → Begins (λ x. Seq (Is k) (M x)) (t ∷ [])
 from_fixed k t is b = record { value = b.value; more = b.more; spelled = record { front = t ∷ []; back = b.more; first = record { token = t; has = fixed_has k t is; whole = refl }; second = b.spelled; whole = refl } }
 
-from_place : {A : Type 0} {M : A → List Tok → Type 0} (k : Fixed) (t : Tok) → t.terminal ≡ fixed k → Begins M [] → Begins (λ x. Seq (IsAt k t.span) (M x)) (t ∷ [])
-from_place k t is b = record { value = b.value; more = b.more; spelled = record { front = t ∷ []; back = b.more; first = record { token = t; has = fixed_place k t (fixed_has k t is); whole = refl }; second = b.spelled; whole = refl } }
+from_span : {A : Type 0} {M : A → List Tok → Type 0} (k : Fixed) (t : Tok) → t.terminal ≡ fixed k → Begins M [] → Begins (λ x. Seq (IsAt k t.span) (M x)) (t ∷ [])
+from_span k t is b = record { value = b.value; more = b.more; spelled = record { front = t ∷ []; back = b.more; first = record { token = t; has = fixed_has_span k t (fixed_has k t is); whole = refl }; second = b.spelled; whole = refl } }
 
 as_stmt : {A : Type 0} {L : A → List Tok → Type 0} {q : List Tok} (f : A → Stmt) → ((x : A) (p : List Tok) → L x p → stmt (f x) p) → Begins L q → Begins stmt q
 as_stmt {q = q} f goes b = record { value = f b.value; more = b.more; spelled = goes b.value (q ++ b.more) b.spelled }
@@ -208,12 +208,12 @@ stmt_begun t h = go t.terminal refl h
     plain k is h = simple_stmt_begun t (subst (λ (z : Terminal). starts_simple (Some (made z t.span)) ≡ true) (sym is) h)
 
     alone_stmt : (k : Fixed) (tree : Span → Stmt) → ((p : List Tok) → Seq (IsAt k t.span) (Is (Punctuator punct.Semicolon)) p → stmt (tree t.span) p) → t.terminal ≡ fixed k → Begins stmt (t ∷ [])
-    alone_stmt k tree goes is = as_stmt (λ x. tree t.span) (λ x p l. goes p l) (from_place {M = λ (x : Unit {0}). Is (Punctuator punct.Semicolon)} k t is (one_begins (Punctuator punct.Semicolon)))
+    alone_stmt k tree goes is = as_stmt (λ x. tree t.span) (λ x p l. goes p l) (from_span {M = λ (x : Unit {0}). Is (Punctuator punct.Semicolon)} k t is (one_begins (Punctuator punct.Semicolon)))
 
     go : (k : Terminal) → t.terminal ≡ k → starts_stmt (Some (made k t.span)) ≡ true → Begins stmt (t ∷ [])
     go (fixed (Punctuator punct.Semicolon)) is h = record { value = Empty; more = []; spelled = record { token = t; has = fixed_has (Punctuator punct.Semicolon) t is; whole = refl } }
     go (fixed (Punctuator punct.OpenBrace)) is h = as_stmt (λ xs. Block (stmts_from xs)) (λ x p l. l) (from_fixed {M = InnerL} (Punctuator punct.OpenBrace) t is inner_begins)
-    go (fixed (Keyword key.Printf)) is h = as_stmt (λ x. Print t.span x.0 x.1 Tree.[]) (λ x p l. l) (from_place {M = FormatL} (Keyword key.Printf) t is format_begins)
+    go (fixed (Keyword key.Printf)) is h = as_stmt (λ x. Print t.span x.0 x.1 Tree.[]) (λ x p l. l) (from_span {M = FormatL} (Keyword key.Printf) t is format_begins)
     go (fixed (Keyword key.If)) is h = as_stmt (λ (x : Expr × Stmt). If x.0 x.1) (λ x p l. l) (from_fixed {M = Two Grammar.in_parens stmt} (Keyword key.If) t is body_begins)
     go (fixed (Keyword key.While)) is h = as_stmt (λ (x : Expr × Stmt). While x.0 x.1) (λ x p l. l) (from_fixed {M = Two Grammar.in_parens stmt} (Keyword key.While) t is body_begins)
     go (fixed (Keyword key.Do)) is h = as_stmt (λ (x : Stmt × Expr). DoWhile x.0 x.1) (λ x p l. l) (from_fixed {M = Two stmt UntilL} (Keyword key.Do) t is until_begins)
@@ -221,9 +221,9 @@ stmt_begun t h = go t.terminal refl h
     go (fixed (Keyword key.Break)) is h = alone_stmt (Keyword key.Break) Break (λ p l. l) is
     go (fixed (Keyword key.Continue)) is h = alone_stmt (Keyword key.Continue) Continue (λ p l. l) is
     go (fixed (Keyword key.Cancel)) is h = alone_stmt (Keyword key.Cancel) Cancel (λ p l. l) is
-    go (fixed (Keyword key.Return)) is h = as_stmt (λ x. Return None t.span) (λ x p l. l) (from_place (Keyword key.Return) t is nothing_begins)
-    go (fixed (Keyword key.Atomic)) is h = as_stmt (λ xs. Transaction (Plain Atomic) (stmts_from xs) t.span) (λ x p l. l) (from_place {M = BlockL} (Keyword key.Atomic) t is block_begins)
-    go (fixed (Keyword key.Relaxed)) is h = as_stmt (λ xs. Transaction (Plain Relaxed) (stmts_from xs) t.span) (λ x p l. l) (from_place {M = BlockL} (Keyword key.Relaxed) t is block_begins)
+    go (fixed (Keyword key.Return)) is h = as_stmt (λ x. Return None t.span) (λ x p l. l) (from_span (Keyword key.Return) t is nothing_begins)
+    go (fixed (Keyword key.Atomic)) is h = as_stmt (λ xs. Transaction (Plain Atomic) (stmts_from xs) t.span) (λ x p l. l) (from_span {M = BlockL} (Keyword key.Atomic) t is block_begins)
+    go (fixed (Keyword key.Relaxed)) is h = as_stmt (λ xs. Transaction (Plain Relaxed) (stmts_from xs) t.span) (λ x p l. l) (from_span {M = BlockL} (Keyword key.Relaxed) t is block_begins)
     go (fixed _) is h = plain _ is h
     go (name s) is h = plain (name s) is h
     go (constant n ty) is h = plain (constant n ty) is h

@@ -20,7 +20,7 @@ use Rattle.parse.specs.inner.Expressions.{says, expr_at, whole_at, operand, tran
 use Rattle.parse.specs.inner.Statements.{kind, simple_stmt, mode_token, value_stmt, transaction_from, transaction_stmt}
 use Rattle.parse.proofs.combinators.Exact.{Exact, Always, Comes, Two, Dep, take_exact, two, chained_one, value_of, restated}
 use Rattle.parse.proofs.combinators.FixedTokens.{fixed_is, that_fixed, fixed_has, one_begins}
-use Rattle.parse.proofs.combinators.Parts.{seq_map, seq_left, seq_right, un_seq_left, fixed_place, place_fixed, is_here, seq_not_here}
+use Rattle.parse.proofs.combinators.Parts.{seq_map, seq_left, seq_right, un_seq_left, fixed_has_span, span_is_fixed, is_here, seq_not_here}
 use Rattle.parse.proofs.combinators.Choices.{shift_exact, guarded_either}
 use Rattle.parse.proofs.combinators.Knot.{knot_exact, base_exact}
 use Rattle.parse.proofs.combinators.Rest.{rest_exact}
@@ -29,7 +29,7 @@ use Rattle.parse.proofs.code.ExprSteps.{climb_start, whole_fails}
 use Rattle.parse.proofs.expressions.Wholes.{positive, mode_kind, transaction_begins}
 use Rattle.parse.proofs.expressions.Operands.{Image, imaged}
 use Rattle.parse.proofs.combinators.Starts.{first_of}
-use Rattle.parse.proofs.statements.Marks.{KindL, KindS, mark_not_here, not_marked, kind_exact}
+use Rattle.parse.proofs.statements.Attributes.{KindL, KindS, attribute_not_here, no_attribute, kind_exact}
 use Rattle.parse.proofs.statements.Leads.{stmt_solid}
 use Rattle.parse.proofs.statements.Leaves.{DoesL, simple_stmt_exact}
 use Rattle.parse.proofs.statements.Entries.{Below, BlockL, BlockW, statements, from_statements, block_begins}
@@ -69,7 +69,7 @@ module _ (mode : Mode) (at : Span) (ts : List Tok) (other : is_next (Punctuator 
   here = mode_token mode at ∷ ts
 
   here_at : expect_span (mode_keyword mode) here ≡ Ok (at, ts)
-  here_at = let place = fixed_place (mode_keyword mode) (mode_token mode at) (fixed_has (mode_keyword mode) (mode_token mode at) refl) in rw place refl
+  here_at = let has = fixed_has_span (mode_keyword mode) (mode_token mode at) (fixed_has (mode_keyword mode) (mode_token mode at) refl) in rw has refl
 
   no_value : (whole tight : Parser Expr) → operand whole tight here ≡ Err (wrong ts)
   no_value whole tight =
@@ -92,12 +92,12 @@ module _ (mode : Mode) (at : Span) (ts : List Tok) (other : is_next (Punctuator 
   pub value_stops : (d : ℕ) → simple_stmt (suc d) here ≡ Err (wrong ts)
   value_stops d = rw (no_step, no_whole d) refl
 
--- ---- a mark, if any, and a block
+-- ---- an attribute, if any, and a block
 
 -- neither begins with `(`
 not_paren : (mode : Mode) (k : TransactionKind) (ss : Stmts) (p q : List Tok) → Seq (KindL mode k) (block ss) p → is_next (Punctuator punct.OpenParen) (head (p ++ q)) ≡ false
 not_paren mode (Plain of) ss p q l = seq_not_here (Punctuator punct.OpenBrace) (Punctuator punct.OpenParen) _ p q refl (un_seq_left (seq_map l (λ r o. o.1) (λ r o. o)))
-not_paren Atomic Outer ss p q l = first_of (λ h. is_next (Punctuator punct.OpenParen) h ≡ false) p q l (mark_not_here (Punctuator punct.OpenParen) refl refl)
+not_paren Atomic Outer ss p q l = first_of (λ h. is_next (Punctuator punct.OpenParen) h ≡ false) p q l (attribute_not_here (Punctuator punct.OpenParen) refl refl)
 not_paren Relaxed Outer ss p q l = absurd l.first
 
 kind_goes : (mode : Mode) (k : TransactionKind) (ss : Stmts) (at : Span) (p : List Tok) → Seq (IsAt (mode_keyword mode) at) (Seq (KindL mode k) (block ss)) p → (mode_of k ≡ mode) × stmt (Transaction k ss at) p
@@ -112,7 +112,7 @@ kind_comes mode (Plain of) ss at p e l = seq_map l (λ q o. subst (λ (z : Mode)
 kind_comes Atomic Outer ss at p e l = seq_right l
 kind_comes Relaxed Outer ss at p e l = absurd cc
 
--- ---- behind the keyword, which stands at a place
+-- ---- behind the keyword, which has a span
 
 does_solid : (s : Stmt) → DoesL s [] → ⊥
 does_solid (Do s) l = stmt_solid (Do s) [] l
@@ -184,7 +184,7 @@ module _ (mode : Mode) (at : Span) where
   abbrev block_tree : TransactionKind × List Stmt → Stmt
   block_tree x = Transaction x.0 (stmts_from x.1) at
 
-  -- a mark, if any, and a block
+  -- an attribute, if any, and a block
   abbrev MarkedBlockL : TransactionKind × List Stmt → Phrase
   MarkedBlockL = Two (KindL mode) BlockL
 
@@ -201,10 +201,10 @@ module _ (mode : Mode) (at : Span) where
 
   module _ (P : ℕ → Parser Stmt) (B : ℕ → Parser (List Stmt)) (d : ℕ) (E : Exact B BlockL BlockW Always Always d) where
     block_exact : Exact (λ D. map_parser block_tree (seq (kind mode) (B D))) (Image block_tree MarkedBlockL) Below Always Always d
-    block_exact = imaged block_tree Below Always Always (two (kind_exact mode d) E no_mark_follows block_begins) shallower deepens (λ x h s. tt) (λ x h c. tt)
+    block_exact = imaged block_tree Below Always Always (two (kind_exact mode d) E no_attribute_follows block_begins) shallower deepens (λ x h s. tt) (λ x h c. tt)
       where
-        no_mark_follows : (k : TransactionKind) (ss : List Stmt) (p q : List Tok) → BlockL ss p → Unit {0} → KindS k (head (p ++ q))
-        no_mark_follows k ss p q l h = not_marked (head (p ++ q)) (seq_not_here (Punctuator punct.OpenBrace) (Punctuator punct.OpenBracket) _ p q refl l) (seq_not_here (Punctuator punct.OpenBrace) (Keyword key.Attribute) _ p q refl l)
+        no_attribute_follows : (k : TransactionKind) (ss : List Stmt) (p q : List Tok) → BlockL ss p → Unit {0} → KindS k (head (p ++ q))
+        no_attribute_follows k ss p q l h = no_attribute (head (p ++ q)) (seq_not_here (Punctuator punct.OpenBrace) (Punctuator punct.OpenBracket) _ p q refl l) (seq_not_here (Punctuator punct.OpenBrace) (Keyword key.Attribute) _ p q refl l)
 
         shallower : (x : TransactionKind × List Stmt) → Below d (block_tree x) → Unit {0} × BlockW d x.1
         shallower x w = let h : block_depth (stmts_from x.1) + 1 ≤ suc d = w in (tt, omega arith)
@@ -226,7 +226,7 @@ module _ (mode : Mode) where
   abbrev PartsL : Span × Stmt → Phrase
   PartsL = Dep (One (fixed_span (mode_keyword mode))) (FromL mode)
 
-  -- a token of the keyword is that keyword at its place
+  -- a token of the keyword is that keyword with its span
   token_is : (t : Tok) → t.terminal ≡ fixed (mode_keyword mode) → t ≡ mode_token mode t.span
   token_is t is = ap (λ (k : Terminal). record { terminal = k; span = t.span }) is
 
@@ -235,14 +235,14 @@ module _ (mode : Mode) where
     where
       token : l.first.token ≡ mode_token mode at
       token =
-          let both = place_fixed (mode_keyword mode) l.first.token at l.first.has in
+          let both = span_is_fixed (mode_keyword mode) l.first.token at l.first.has in
           token_is l.first.token (fixed_is (mode_keyword mode) l.first.token tt both.0) ∙ ap (mode_token mode) both.1
 
       whole : p ≡ mode_token mode at ∷ l.back
       whole = l.whole ∙ ap (λ (z : List Tok). z ++ l.back) l.first.whole ∙ ap (λ (z : Tok). z ∷ l.back) token
 
       next : is_next (mode_keyword mode) (head p) ≡ true
-      next = ap (λ (z : List Tok). is_next (mode_keyword mode) (head z)) l.whole ∙ is_here (mode_keyword mode) l.front l.back (record { token = l.first.token; has = (place_fixed (mode_keyword mode) l.first.token at l.first.has).0; whole = l.first.whole })
+      next = ap (λ (z : List Tok). is_next (mode_keyword mode) (head z)) l.whole ∙ is_here (mode_keyword mode) l.front l.back (record { token = l.first.token; has = (span_is_fixed (mode_keyword mode) l.first.token at l.first.has).0; whole = l.first.whole })
 
       go : (s : Stmt) → FromL mode at s l.back → BegunL mode s p
       go (Do x) (inl v) = inr (subst (stmt (Do x)) (sym whole) v, next)
@@ -275,7 +275,7 @@ module _ (mode : Mode) where
         spelled = record {
           front = t ∷ [];
           back = p;
-          first = record { token = t; has = fixed_place (mode_keyword mode) t (fixed_has (mode_keyword mode) t is); whole = refl };
+          first = record { token = t; has = fixed_has_span (mode_keyword mode) t (fixed_has (mode_keyword mode) t is); whole = refl };
           second = inl (subst (λ (z : Tok). stmt (Do x) (z ∷ p)) (token_is t is) l.0);
           whole = refl;
         };

@@ -95,7 +95,7 @@ operators = record { the = the_infix; precedence = infix_precedence; node = infi
 
 -- ---- operands
 
--- an operator before its operand, and its place
+-- an operator before its operand, and its span
 abbrev pub with_span : {A : Type 0} → Span → Option A → Option (A × Span)
 with_span at None = None
 with_span at (Some x) = Some (x, at)
@@ -118,7 +118,7 @@ module _ (whole tight : Parser Expr) where
   abbrev pub prefix_expr : Parser Expr
   prefix_expr = map_parser (λ x. Unary x.0.0 x.1 (across x.0.1 (span_of x.1))) (seq (take the_prefix) tight)
 
-  -- a cast, behind its `(`, which stands at a place
+  -- a cast, behind its `(`, which has a span
   abbrev pub cast_from : Span → Parser Expr
   cast_from at =
       map_parser (λ x. Cast x.0 x.1 (across at (span_of x.1))) (seq (before (Punctuator punct.CloseParen) scalar) tight)

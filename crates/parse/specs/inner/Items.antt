@@ -110,7 +110,7 @@ value_in (string_literal s) at = None
 value_in (fixed k) at = None
 value_in reserved at = None
 
--- a constant, and its place
+-- a constant, and its span
 abbrev pub value_with_span : Tok → Option ((ℕ × Scalar) × Span)
 value_with_span t = value_in t.terminal t.span
 

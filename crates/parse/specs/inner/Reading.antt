@@ -112,7 +112,7 @@ GivesBefore k (Ok x) other =
     × Gives {Y = Unit {0} × List Tok} (λ y. (tt, toks y.1.now)) other (expect k (toks x.1.now))
 GivesBefore k (Err e) other = other ≡ Err e
 
--- a fixed token, by its place
+-- a fixed token, by its span
 abbrev pub expect_span : Fixed → Parser Span
 expect_span m = take (fixed_span m)
 

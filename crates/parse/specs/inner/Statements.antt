@@ -119,7 +119,7 @@ is_lead _ h = true
 abbrev pub starts_stmt : Option Tok → Bool
 starts_stmt h = is_lead (lead_at h) h
 
--- ---- the mark of an outer transaction, and of what cancels it
+-- ---- the attribute `outer` of a transaction, and of what cancels it
 
 abbrev pub begins_outer_attribute : Option Tok → Bool
 begins_outer_attribute h = if is_next (Punctuator punct.OpenBracket) h then true else is_next (Keyword key.Attribute) h
@@ -133,7 +133,7 @@ outer_attribute =
     (enclosed_outer (Punctuator punct.OpenBracket) (Punctuator punct.CloseBracket))
     (behind (Keyword key.Attribute) (enclosed_outer (Punctuator punct.OpenParen) (Punctuator punct.CloseParen)))
 
--- whether the mark of an outer transaction stands here
+-- whether the attribute `outer` stands here
 abbrev pub outer_attribute_if_any : Parser Bool
 outer_attribute_if_any = either begins_outer_attribute (map_parser (λ x. true) outer_attribute) (give false)
 
@@ -180,7 +180,7 @@ block_items P =
 abbrev pub branches : Parser Stmt → Parser (Stmt × Option Stmt)
 branches stmt = seq stmt (perhaps (Keyword key.Else) (behind (Keyword key.Else) stmt))
 
--- the keyword of a transaction, at a place
+-- the keyword of a transaction, with its span
 abbrev pub mode_token : Mode → Span → Tok
 mode_token mode at = record { terminal = fixed (mode_keyword mode); span = at }
 
@@ -237,7 +237,7 @@ module _ (d : ℕ) where
   abbrev pub simple_stmt : Parser Stmt
   simple_stmt = map_parser Do (before (Punctuator punct.Semicolon) (simple_at (suc d)))
 
-  -- a statement behind the keyword of a transaction, which stands at a place: an expression begins with it
+  -- a statement behind the keyword of a transaction, which has a span: an expression begins with it
   abbrev pub value_stmt : Mode → Span → Parser Stmt
   value_stmt mode at = unless_too_deep d (λ ts. simple_stmt (mode_token mode at ∷ ts))
 
@@ -255,7 +255,7 @@ module _ (d : ℕ) where
     abbrev pub for_stmt : Parser Stmt
     for_stmt = map_parser for_tree (behind (Keyword key.For) (seq head_of_for stmt))
 
-    -- a statement that is a transaction, behind its keyword, which stands at a place
+    -- a statement that is a transaction, behind its keyword, which has a span
     abbrev pub transaction_from : Mode → Span → Parser Stmt
     transaction_from mode at =
         either (is_next (Punctuator punct.OpenParen)) (value_stmt mode at)

@@ -46,7 +46,7 @@ module _ (code : Code) (arguments : List ℕ) (layout : Layout) where
   }
 
   -- the same in other words, and the other way round
-  pub same_decides : (T U : Branching) (from free : ℕ) (l : Lists) (c : Condition) → ((met unmet : ℕ) → T from met unmet free → U from met unmet free) → Decides T from free l c → Decides U from free l c
+  pub same_decides : (T U : Branching) (from free : ℕ) (l : Lists) (c : Condition) → ((true_exit false_exit : ℕ) → T from true_exit false_exit free → U from true_exit false_exit free) → Decides T from free l c → Decides U from free l c
   same_decides T U from free l c make h = record {
     to_is = h.to_is;
     grows = h.grows;
@@ -54,7 +54,7 @@ module _ (code : Code) (arguments : List ℕ) (layout : Layout) where
     fails = λ f there on st at leads. make on there (h.fails f there on st at leads);
   }
 
-  pub opposite_decides : (T U : Branching) (from free : ℕ) (l : Lists) (c : Condition) → ((met unmet : ℕ) → T from unmet met free → U from met unmet free) → Decides T from free l c → Decides U from free l (opposite c)
+  pub opposite_decides : (T U : Branching) (from free : ℕ) (l : Lists) (c : Condition) → ((true_exit false_exit : ℕ) → T from false_exit true_exit free → U from true_exit false_exit free) → Decides T from free l c → Decides U from free l (opposite c)
   opposite_decides T U from free l c make h = record {
     to_is = let x = h.to_is in let y : length (map opposite_draft c.code) ≡ length c.code = length-map c.code opposite_draft in omega (arith, x, y);
     grows = h.grows;
@@ -69,23 +69,23 @@ module _ (code : Code) (arguments : List ℕ) (layout : Layout) where
     at_jump : (m u : ℕ) → c.to ≡ from + length (map (instruction_of_draft m u) c.code)
     at_jump m u = let x = h.to_is in let y = completed_length m u c.code in omega (arith, x, y)
 
-    pub on_is : (unmet : ℕ) → c.to + 1 ≡ from + length (going_on c.code (test_in c) unmet)
-    on_is unmet = let x = h.to_is in let y = on_length c.code (test_in c) unmet in omega (arith, x, y)
+    pub on_is : (false_exit : ℕ) → c.to + 1 ≡ from + length (going_on c.code (test_in c) false_exit)
+    on_is false_exit = let x = h.to_is in let y = on_length c.code (test_in c) false_exit in omega (arith, x, y)
 
-    pub back_is : (met : ℕ) → c.to + 1 ≡ from + length (going_back c.code (test_in c) met)
-    back_is met = let x = h.to_is in let y = back_length c.code (test_in c) met in omega (arith, x, y)
+    pub back_is : (true_exit : ℕ) → c.to + 1 ≡ from + length (going_back c.code (test_in c) true_exit)
+    back_is true_exit = let x = h.to_is in let y = back_length c.code (test_in c) true_exit in omega (arith, x, y)
 
-    pub goes_on : Fits code arguments layout c.lists → (unmet : ℕ) → Stand code arguments from (going_on c.code (test_in c) unmet) → T from (c.to + 1) unmet free
-    goes_on f unmet st =
-        let own_code : List Instr = map (instruction_of_draft (c.to + 1) unmet) c.code in
-        let jump : Instr = jump_if_not c.at_zero c.register unmet in
-        h.fails f unmet (c.to + 1) (front code arguments from own_code (jump ∷ []) st) (behind code arguments from c.to own_code (jump ∷ []) (at_jump (c.to + 1) unmet) st).0 (inl (omega arith))
+    pub goes_on : Fits code arguments layout c.lists → (false_exit : ℕ) → Stand code arguments from (going_on c.code (test_in c) false_exit) → T from (c.to + 1) false_exit free
+    goes_on f false_exit st =
+        let own_code : List Instr = map (instruction_of_draft (c.to + 1) false_exit) c.code in
+        let jump : Instr = jump_if_not c.at_zero c.register false_exit in
+        h.fails f false_exit (c.to + 1) (front code arguments from own_code (jump ∷ []) st) (behind code arguments from c.to own_code (jump ∷ []) (at_jump (c.to + 1) false_exit) st).0 (inl (omega arith))
 
-    pub goes_back : Fits code arguments layout c.lists → (met : ℕ) → Stand code arguments from (going_back c.code (test_in c) met) → T from met (c.to + 1) free
-    goes_back f met st =
-        let own_code : List Instr = map (instruction_of_draft met (c.to + 1)) c.code in
-        let jump : Instr = jump_if c.at_zero c.register met in
-        h.holds f met (c.to + 1) (front code arguments from own_code (jump ∷ []) st) (behind code arguments from c.to own_code (jump ∷ []) (at_jump met (c.to + 1)) st).0 (inl (omega arith))
+    pub goes_back : Fits code arguments layout c.lists → (true_exit : ℕ) → Stand code arguments from (going_back c.code (test_in c) true_exit) → T from true_exit (c.to + 1) free
+    goes_back f true_exit st =
+        let own_code : List Instr = map (instruction_of_draft true_exit (c.to + 1)) c.code in
+        let jump : Instr = jump_if c.at_zero c.register true_exit in
+        h.holds f true_exit (c.to + 1) (front code arguments from own_code (jump ∷ []) st) (behind code arguments from c.to own_code (jump ∷ []) (at_jump true_exit (c.to + 1)) st).0 (inl (omega arith))
 
   -- two conditions, one behind the other
   module _ (A B : Branching) (from free : ℕ) (l : Lists) (a b : Condition) (h : Decides A from free l a) (g : Decides B (a.to + 1) free a.lists b) where
@@ -140,20 +140,20 @@ module _ (code : Code) (arguments : List ℕ) (layout : Layout) where
   pub tested_decides : (A : Coded) (B : Branching) (from free : ℕ) (l : Lists) (o : Option Condition) (e : Emitted) → IfSome o (Decides B from free l) → Emits code arguments layout A from free l e →
       Decides (Branches code layout A B) from free l (condition_of o e)
   tested_decides A B from free l None e h g = value_decides A B from free l e g
-  tested_decides A B from free l (Some c) e h g = same_decides B (Branches code layout A B) from free l c (λ met unmet t. inr (inr t)) h
+  tested_decides A B from free l (Some c) e h g = same_decides B (Branches code layout A B) from free l c (λ true_exit false_exit t. inr (inr t)) h
 
   -- a comparison with 0
   pub zero_decides : (op : BinaryOp) (b : Expr) (A : Branching) (T : Branching) (from free : ℕ) (l : Lists) (other : Condition) → Decides A from free l other →
-      ((met unmet : ℕ) → ComparedWithZero code layout op b A from met unmet free → T from met unmet free) → IfSome (zero_tested (zero_test op b) other) (Decides T from free l)
+      ((true_exit false_exit : ℕ) → ComparedWithZero code layout op b A from true_exit false_exit free → T from true_exit false_exit free) → IfSome (zero_tested (zero_test op b) other) (Decides T from free l)
   zero_decides Equal b A T from free l other h make = by (is_zero_constant b) refl
     where
       by : (n : Bool) → is_zero_constant b ≡ n → IfSome (zero_tested (if n then Some true else None) other) (Decides T from free l)
-      by true n = opposite_decides A T from free l other (λ met unmet t. make met unmet (nought b n, inr (refl, t))) h
+      by true n = opposite_decides A T from free l other (λ true_exit false_exit t. make true_exit false_exit (nought b n, inr (refl, t))) h
       by false n = tt
   zero_decides NotEqual b A T from free l other h make = by (is_zero_constant b) refl
     where
       by : (n : Bool) → is_zero_constant b ≡ n → IfSome (zero_tested (if n then Some false else None) other) (Decides T from free l)
-      by true n = same_decides A T from free l other (λ met unmet t. make met unmet (nought b n, inl (refl, t))) h
+      by true n = same_decides A T from free l other (λ true_exit false_exit t. make true_exit false_exit (nought b n, inl (refl, t))) h
       by false n = tt
   zero_decides op b A T from free l other h make = tt
 
@@ -174,8 +174,8 @@ module _ (code : Code) (arguments : List ℕ) (layout : Layout) where
             let rest = behind code arguments from (c.to + 1) head tail next st in
             let register = is_register code arguments layout c.lists into f in
             record {
-              met = c.to + 1;
-              unmet = c.to + 3;
+              true_exit = c.to + 1;
+              false_exit = c.to + 3;
               decides = goes_on T from free l c h (fits_before code arguments layout c.lists (with_register into c.lists) (grows_used c.lists c.lists into (grows_same c.lists)) f) (c.to + 3) first;
               gives_one = given code arguments layout home long Int (c.to + 1) (suc (c.to + 1)) free into refl m register rest.0;
               one_leads = inr rest.1.0;
@@ -204,8 +204,8 @@ module _ (code : Code) (arguments : List ℕ) (layout : Layout) where
             let rest = behind code arguments from a.location.to head (skip ∷ b.code) last_is st in
             let fa = fits_before code arguments layout a.lists b.lists k.grows f in
             record {
-              met = c.to + 1;
-              unmet = a.location.to + 1;
+              true_exit = c.to + 1;
+              false_exit = a.location.to + 1;
               last = a.location.to;
               end = b.location.to;
               tests = goes_on T from free l c h (fits_before code arguments layout c.lists a.lists g.grows fa) (a.location.to + 1) (front code arguments from test a.code first);

@@ -283,7 +283,7 @@ module _ (code : Code) (arguments : List ℕ) (layout : Layout) where
               ta = ta;
               tb = tb;
               left = h.stands (fits_before code arguments layout a.lists b.lists g.grows inner) (front code arguments from a.code b.code first);
-              kept = above_free free a.location.register;
+              is_above = above_free free a.location.register;
               apart = inl (above_it free a.location.register);
               right = g.stands inner (behind code arguments from a.location.to a.code b.code h.to_is first);
               operates = subst (λ j. GivenBy code layout home j (result_type op t) b.location.to (b.location.to + 1) free into (result_type op t)) (computing_is arguments op t into a.location.register b.location.register)

@@ -345,12 +345,12 @@ module _ (p : Program) (code : Code) (arguments : List ℕ) (layout : Layout) (t
       own_decides (Cast t e at) h from free l = same_decides (converting (emitted_type p scope e) t) (OwnTests code layout p scope e) from free l (own_condition p scope e from free l) (own_decides e h from free l)
       own_decides (Unary Keep e at) h from free l = own_decides e h.0 from free l
       own_decides (Unary Not e at) h from free l =
-          opposite_decides code arguments layout (Tests e) (OwnTests code layout p scope (Unary Not e at)) from free l (condition p scope e from free l) (λ met unmet t. t)
+          opposite_decides code arguments layout (Tests e) (OwnTests code layout p scope (Unary Not e at)) from free l (condition p scope e from free l) (λ true_exit false_exit t. t)
           (by_parts e from free l (own_decides e h.0 from free l) (expr_emits None e h.0 from free free l (omega arith)))
       own_decides (Binary op a b at) h from free l =
           zero_decides code arguments layout op b (Tests a) (OwnTests code layout p scope (Binary op a b at)) from free l (condition p scope a from free l)
           (by_parts a from free l (own_decides a h.0 from free l) (expr_emits None a h.0 from free free l (omega arith)))
-          (λ met unmet t. t)
+          (λ true_exit false_exit t. t)
       own_decides (Logical AndThen a b at) h from free l =
           let first = condition p scope a from free l in
           let second = condition p scope b (first.to + 1) free first.lists in
@@ -384,7 +384,7 @@ module _ (p : Program) (code : Code) (arguments : List ℕ) (layout : Layout) (t
               r = first.location.register;
               others = rest.registers;
               computes = one.stands (fits_before code arguments layout first.lists rest.lists others.grows f) (front code arguments from first.code rest.code st);
-              kept = above_free free first.location.register;
+              is_above = above_free free first.location.register;
               apart = above_it free first.location.register;
               goes_on = others.stands f (behind code arguments from first.location.to first.code rest.code one.to_is st);
               are = refl;

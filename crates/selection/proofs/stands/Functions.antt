@@ -294,12 +294,12 @@ module _ (p : Program) (typed : IsTypedProgram p) (cancels : CancelsAreFit p) wh
     where
       own : IsTrue (may_be_function (file_scope earlier f.name.text) && (is_none f.body || not (has_name (defined_names earlier) f.name.text)))
       own =
-          let met = may_be_function (file_scope earlier f.name.text) && (is_none f.body || not (has_name (defined_names earlier) f.name.text)) in
+          let true_exit = may_be_function (file_scope earlier f.name.text) && (is_none f.body || not (has_name (defined_names earlier) f.name.text)) in
           let all : AreMet (IsTypedFunction earlier f) = met_before (IsTypedFunction earlier f) (AreTypedItems (earlier ++ Defines f ∷ []) items) h in
           let type = demand 22 f.name.span (agrees f (file_scope earlier f.name.text)) in
-          let two = met_before (demand 21 f.name.span met ++ type ++ AreDistinct [] f.parameters) (IsTypedBody earlier f f.body) all in
-          let one = met_before (demand 21 f.name.span met ++ type) (AreDistinct [] f.parameters) two in
-          is_met 21 f.name.span met (met_before (demand 21 f.name.span met) type one)
+          let two = met_before (demand 21 f.name.span true_exit ++ type ++ AreDistinct [] f.parameters) (IsTypedBody earlier f f.body) all in
+          let one = met_before (demand 21 f.name.span true_exit ++ type) (AreDistinct [] f.parameters) two in
+          is_met 21 f.name.span true_exit (met_before (demand 21 f.name.span true_exit) type one)
 
   pub items_met : AreMet (AreTypedItems [] p)
   items_met =

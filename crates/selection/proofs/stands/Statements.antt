@@ -235,8 +235,8 @@ module _ (p : Program) (code : Code) (arguments : List ℕ) (layout : Layout) (t
       to_is = head_is a.to a.code a.to g.to_is;
       grows = grows_further l k.lists a.lists d.grows g.grows;
       stands = λ f st. record {
-        met = k.to + 1;
-        unmet = a.to;
+        true_exit = k.to + 1;
+        false_exit = a.to;
         last = a.to;
         tests = forward_test a.to a.code (fits_before code arguments layout k.lists a.lists g.grows f) st;
         then_code = g.stands f (forward_rest a.to a.code st);
@@ -259,8 +259,8 @@ module _ (p : Program) (code : Code) (arguments : List ℕ) (layout : Layout) (t
               let rest = behind code arguments from a.to head (skip ∷ b.code) last_is st in
               let fa = fits_before code arguments layout a.lists b.lists w.grows f in
               record {
-                met = k.to + 1;
-                unmet = a.to + 1;
+                true_exit = k.to + 1;
+                false_exit = a.to + 1;
                 last = a.to;
                 end = b.to;
                 tests = forward_test (a.to + 1) a.code (fits_before code arguments layout k.lists a.lists g.grows fa) first;

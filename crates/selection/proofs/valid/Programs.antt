@@ -85,13 +85,13 @@ parameters_of f result takes e =
 -- a definition's name is not that of an earlier one
 new_name : (earlier items : Program) (f : Function) (body : Stmts) → f.body ≡ Some body → AreMet (AreTypedItems earlier (Defines f ∷ items)) → (p : Program) → IsTypedProgram p → CancelsAreFit p → has_name (defined_names earlier) f.name.text ≡ false
 new_name earlier items f body e h p typed cancels =
-    let met = may_be_function (file_scope earlier f.name.text) && (is_none f.body || not (has_name (defined_names earlier) f.name.text)) in
+    let true_exit = may_be_function (file_scope earlier f.name.text) && (is_none f.body || not (has_name (defined_names earlier) f.name.text)) in
     let all : AreMet (IsTypedFunction earlier f) = met_before (IsTypedFunction earlier f) (AreTypedItems (earlier ++ Defines f ∷ []) items) h in
     let type = demand 22 f.name.span (agrees f (file_scope earlier f.name.text)) in
-    let two = met_before (demand 21 f.name.span met ++ type ++ AreDistinct [] f.parameters) (IsTypedBody earlier f f.body) all in
-    let one = met_before (demand 21 f.name.span met ++ type) (AreDistinct [] f.parameters) two in
+    let two = met_before (demand 21 f.name.span true_exit ++ type ++ AreDistinct [] f.parameters) (IsTypedBody earlier f f.body) all in
+    let one = met_before (demand 21 f.name.span true_exit ++ type) (AreDistinct [] f.parameters) two in
     own_first p typed cancels f body (may_be_function (file_scope earlier f.name.text)) (has_name (defined_names earlier) f.name.text) e
-    (is_met 21 f.name.span met (met_before (demand 21 f.name.span met) type one))
+    (is_met 21 f.name.span true_exit (met_before (demand 21 f.name.span true_exit) type one))
 
 module _ (code : Code) (arguments : List ℕ) (g : FunctionCode) (end : ℕ) (open_at : ℕ → List ℕ) where
   -- the constants of loops are words

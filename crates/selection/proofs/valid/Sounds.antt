@@ -308,17 +308,17 @@ module _ (code : Code) (arguments : List ℕ) (f : FunctionCode) (end : ℕ) whe
     pub to_is : c.to ≡ from + length c.code
     pub grows : Grows l c.lists
     pub location : c.register < c.lists.registers
-    pub balanced : (met unmet : ℕ) → IsBalanced arguments (map (instruction_of_draft met unmet) c.code)
-    pub goods : (open_at : ℕ → List ℕ) (bs : List ℕ) → Fits code arguments f.registers c.lists → (met unmet : ℕ) → Meets code arguments f end open_at (met, bs) → Meets code arguments f end open_at (unmet, bs) →
-        Runs code arguments f end open_at from bs (map (instruction_of_draft met unmet) c.code) → AreGood code arguments f end open_at from (map (instruction_of_draft met unmet) c.code)
+    pub balanced : (true_exit false_exit : ℕ) → IsBalanced arguments (map (instruction_of_draft true_exit false_exit) c.code)
+    pub goods : (open_at : ℕ → List ℕ) (bs : List ℕ) → Fits code arguments f.registers c.lists → (true_exit false_exit : ℕ) → Meets code arguments f end open_at (true_exit, bs) → Meets code arguments f end open_at (false_exit, bs) →
+        Runs code arguments f end open_at from bs (map (instruction_of_draft true_exit false_exit) c.code) → AreGood code arguments f end open_at from (map (instruction_of_draft true_exit false_exit) c.code)
 
   value_sound : (from : ℕ) (l : Lists) (e : Emitted) → Sound from l e → TestSound from l (by_value e.code e.lists e.location)
   value_sound from l e h = record {
     to_is = let x = h.to_is in let y : length (map draft.Whole e.code) ≡ length e.code = length-map e.code draft.Whole in omega (arith, x, y);
     grows = h.grows;
     location = h.location;
-    balanced = λ met unmet. subst (IsBalanced arguments) (sym (whole_are met unmet e.code)) h.balanced;
-    goods = λ o bs k met unmet m u run. subst (AreGood code arguments f end o from) (sym (whole_are met unmet e.code)) (h.goods o bs k (subst (Runs code arguments f end o from bs) (whole_are met unmet e.code) run));
+    balanced = λ true_exit false_exit. subst (IsBalanced arguments) (sym (whole_are true_exit false_exit e.code)) h.balanced;
+    goods = λ o bs k true_exit false_exit m u run. subst (AreGood code arguments f end o from) (sym (whole_are true_exit false_exit e.code)) (h.goods o bs k (subst (Runs code arguments f end o from bs) (whole_are true_exit false_exit e.code) run));
   }
 
   pub opposite_sound : (from : ℕ) (l : Lists) (c : Condition) → TestSound from l c → TestSound from l (opposite c)
@@ -326,8 +326,8 @@ module _ (code : Code) (arguments : List ℕ) (f : FunctionCode) (end : ℕ) whe
     to_is = let x = h.to_is in let y : length (map opposite_draft c.code) ≡ length c.code = length-map c.code opposite_draft in omega (arith, x, y);
     grows = h.grows;
     location = h.location;
-    balanced = λ met unmet. subst (IsBalanced arguments) (sym (turned_are met unmet c.code)) (h.balanced unmet met);
-    goods = λ o bs k met unmet m u run. subst (AreGood code arguments f end o from) (sym (turned_are met unmet c.code)) (h.goods o bs k unmet met u m (subst (Runs code arguments f end o from bs) (turned_are met unmet c.code) run));
+    balanced = λ true_exit false_exit. subst (IsBalanced arguments) (sym (turned_are true_exit false_exit c.code)) (h.balanced false_exit true_exit);
+    goods = λ o bs k true_exit false_exit m u run. subst (AreGood code arguments f end o from) (sym (turned_are true_exit false_exit c.code)) (h.goods o bs k false_exit true_exit u m (subst (Runs code arguments f end o from bs) (turned_are true_exit false_exit c.code) run));
   }
 
   good_if : (open_at : ℕ → List ℕ) (zero : Bool) (q : ℕ) (bs : List ℕ) (a there : ℕ) (is : List Instr) → a < f.registers → Meets code arguments f end open_at (there, bs) → Runs code arguments f end open_at q bs (jump_if zero a there ∷ is) →
@@ -350,20 +350,20 @@ module _ (code : Code) (arguments : List ℕ) (f : FunctionCode) (end : ℕ) whe
 
   -- a condition with its jump
   module _ (from : ℕ) (l : Lists) (c : Condition) (h : TestSound from l c) where
-    at_jump : (met unmet : ℕ) → c.to ≡ from + length (map (instruction_of_draft met unmet) c.code)
-    at_jump met unmet = let x = h.to_is in let y = completed_length met unmet c.code in omega (arith, x, y)
+    at_jump : (true_exit false_exit : ℕ) → c.to ≡ from + length (map (instruction_of_draft true_exit false_exit) c.code)
+    at_jump true_exit false_exit = let x = h.to_is in let y = completed_length true_exit false_exit c.code in omega (arith, x, y)
 
-    pub test_on_is : (unmet : ℕ) → c.to + 1 ≡ from + length (going_on c.code (test_in c) unmet)
-    test_on_is unmet = let x = h.to_is in let y = on_length c.code (test_in c) unmet in omega (arith, x, y)
+    pub test_on_is : (false_exit : ℕ) → c.to + 1 ≡ from + length (going_on c.code (test_in c) false_exit)
+    test_on_is false_exit = let x = h.to_is in let y = on_length c.code (test_in c) false_exit in omega (arith, x, y)
 
-    pub test_back_is : (met : ℕ) → c.to + 1 ≡ from + length (going_back c.code (test_in c) met)
-    test_back_is met = let x = h.to_is in let y = back_length c.code (test_in c) met in omega (arith, x, y)
+    pub test_back_is : (true_exit : ℕ) → c.to + 1 ≡ from + length (going_back c.code (test_in c) true_exit)
+    test_back_is true_exit = let x = h.to_is in let y = back_length c.code (test_in c) true_exit in omega (arith, x, y)
 
-    pub on_balanced : (unmet : ℕ) → IsBalanced arguments (going_on c.code (test_in c) unmet)
-    on_balanced unmet = balanced_append arguments (map (instruction_of_draft (c.to + 1) unmet) c.code) (jump_if_not c.at_zero c.register unmet ∷ []) (h.balanced (c.to + 1) unmet) (balanced_if_not c.at_zero c.register unmet)
+    pub on_balanced : (false_exit : ℕ) → IsBalanced arguments (going_on c.code (test_in c) false_exit)
+    on_balanced false_exit = balanced_append arguments (map (instruction_of_draft (c.to + 1) false_exit) c.code) (jump_if_not c.at_zero c.register false_exit ∷ []) (h.balanced (c.to + 1) false_exit) (balanced_if_not c.at_zero c.register false_exit)
 
-    pub back_balanced : (met : ℕ) → IsBalanced arguments (going_back c.code (test_in c) met)
-    back_balanced met = balanced_append arguments (map (instruction_of_draft met (c.to + 1)) c.code) (jump_if c.at_zero c.register met ∷ []) (h.balanced met (c.to + 1)) (balanced_if c.at_zero c.register met)
+    pub back_balanced : (true_exit : ℕ) → IsBalanced arguments (going_back c.code (test_in c) true_exit)
+    back_balanced true_exit = balanced_append arguments (map (instruction_of_draft true_exit (c.to + 1)) c.code) (jump_if c.at_zero c.register true_exit ∷ []) (h.balanced true_exit (c.to + 1)) (balanced_if c.at_zero c.register true_exit)
 
     module _ (open_at : ℕ → List ℕ) (bs : List ℕ) (k : Fits code arguments f.registers c.lists) (there : ℕ) (m : Meets code arguments f end open_at (there, bs)) where
       pub going_on_good : Runs code arguments f end open_at from bs (going_on c.code (test_in c) there) → AreGood code arguments f end open_at from (going_on c.code (test_in c) there)
@@ -392,29 +392,29 @@ module _ (code : Code) (arguments : List ℕ) (f : FunctionCode) (end : ℕ) whe
         to_is = let u : length (first_of op a ++ b.code) ≡ length (first_of op a) + length b.code = length-append (first_of op a) b.code in omega (arith, x, y, z, u);
         grows = grows_further l a.lists b.lists h.grows g.grows;
         location = g.location;
-        balanced = λ met unmet.
-            subst (IsBalanced arguments) (sym (map-append (instruction_of_draft met unmet) (first_of op a) b.code))
-            (balanced_append arguments (map (instruction_of_draft met unmet) (first_of op a)) (map (instruction_of_draft met unmet) b.code) (first_balanced op met unmet) (g.balanced met unmet));
-        goods = λ o bs k met unmet m u run.
-            let first : List Instr = map (instruction_of_draft met unmet) (first_of op a) in
-            let second : List Instr = map (instruction_of_draft met unmet) b.code in
-            let apart = map-append (instruction_of_draft met unmet) (first_of op a) b.code in
-            let mid_is : a.to + 1 ≡ from + length first = (let v = completed_length met unmet (first_of op a) in omega (arith, x, z, v)) in
+        balanced = λ true_exit false_exit.
+            subst (IsBalanced arguments) (sym (map-append (instruction_of_draft true_exit false_exit) (first_of op a) b.code))
+            (balanced_append arguments (map (instruction_of_draft true_exit false_exit) (first_of op a)) (map (instruction_of_draft true_exit false_exit) b.code) (first_balanced op true_exit false_exit) (g.balanced true_exit false_exit));
+        goods = λ o bs k true_exit false_exit m u run.
+            let first : List Instr = map (instruction_of_draft true_exit false_exit) (first_of op a) in
+            let second : List Instr = map (instruction_of_draft true_exit false_exit) b.code in
+            let apart = map-append (instruction_of_draft true_exit false_exit) (first_of op a) b.code in
+            let mid_is : a.to + 1 ≡ from + length first = (let v = completed_length true_exit false_exit (first_of op a) in omega (arith, x, z, v)) in
             subst (AreGood code arguments f end o from) (sym apart)
-            (good_parts code arguments f end o from (a.to + 1) bs first second mid_is (first_balanced op met unmet) (subst (Runs code arguments f end o from bs) apart run)
-            (by op o bs (fits_before code arguments f.registers a.lists b.lists g.grows k) met unmet m u) (g.goods o bs k met unmet m u));
+            (good_parts code arguments f end o from (a.to + 1) bs first second mid_is (first_balanced op true_exit false_exit) (subst (Runs code arguments f end o from bs) apart run)
+            (by op o bs (fits_before code arguments f.registers a.lists b.lists g.grows k) true_exit false_exit m u) (g.goods o bs k true_exit false_exit m u));
       }
     where
-      first_balanced : (op : LogicalOp) (met unmet : ℕ) → IsBalanced arguments (map (instruction_of_draft met unmet) (first_of op a))
-      first_balanced AndThen met unmet = subst (IsBalanced arguments) (sym (first_and met unmet a)) (on_balanced from l a h unmet)
-      first_balanced OrElse met unmet = subst (IsBalanced arguments) (sym (first_or met unmet a)) (back_balanced from l a h met)
+      first_balanced : (op : LogicalOp) (true_exit false_exit : ℕ) → IsBalanced arguments (map (instruction_of_draft true_exit false_exit) (first_of op a))
+      first_balanced AndThen true_exit false_exit = subst (IsBalanced arguments) (sym (first_and true_exit false_exit a)) (on_balanced from l a h false_exit)
+      first_balanced OrElse true_exit false_exit = subst (IsBalanced arguments) (sym (first_or true_exit false_exit a)) (back_balanced from l a h true_exit)
 
-      by : (op : LogicalOp) (o : ℕ → List ℕ) (bs : List ℕ) → Fits code arguments f.registers a.lists → (met unmet : ℕ) → Meets code arguments f end o (met, bs) → Meets code arguments f end o (unmet, bs) →
-          Runs code arguments f end o from bs (map (instruction_of_draft met unmet) (first_of op a)) → AreGood code arguments f end o from (map (instruction_of_draft met unmet) (first_of op a))
-      by AndThen o bs k met unmet m u run =
-          subst (AreGood code arguments f end o from) (sym (first_and met unmet a)) (going_on_good from l a h o bs k unmet u (subst (Runs code arguments f end o from bs) (first_and met unmet a) run))
-      by OrElse o bs k met unmet m u run =
-          subst (AreGood code arguments f end o from) (sym (first_or met unmet a)) (going_back_good from l a h o bs k met m (subst (Runs code arguments f end o from bs) (first_or met unmet a) run))
+      by : (op : LogicalOp) (o : ℕ → List ℕ) (bs : List ℕ) → Fits code arguments f.registers a.lists → (true_exit false_exit : ℕ) → Meets code arguments f end o (true_exit, bs) → Meets code arguments f end o (false_exit, bs) →
+          Runs code arguments f end o from bs (map (instruction_of_draft true_exit false_exit) (first_of op a)) → AreGood code arguments f end o from (map (instruction_of_draft true_exit false_exit) (first_of op a))
+      by AndThen o bs k true_exit false_exit m u run =
+          subst (AreGood code arguments f end o from) (sym (first_and true_exit false_exit a)) (going_on_good from l a h o bs k false_exit u (subst (Runs code arguments f end o from bs) (first_and true_exit false_exit a) run))
+      by OrElse o bs k true_exit false_exit m u run =
+          subst (AreGood code arguments f end o from) (sym (first_or true_exit false_exit a)) (going_back_good from l a h o bs k true_exit m (subst (Runs code arguments f end o from bs) (first_or true_exit false_exit a) run))
 
   pub tested_sound : (from : ℕ) (l : Lists) (o : Option Condition) (e : Emitted) → IfSome o (TestSound from l) → Sound from l e → TestSound from l (condition_of o e)
   tested_sound from l None e h g = value_sound from l e g

@@ -37,7 +37,7 @@ use Rattle.selection.proofs.valid.Parts.{Exiting, Part, along_part, flat_part, k
 
 -- a condition with its jump, and the values of arguments, as what is written
 abbrev leading : Condition → ℕ → Written
-leading c unmet = record { code = going_on c.code (test_in c) unmet; lists = c.lists; to = c.to + 1 }
+leading c false_exit = record { code = going_on c.code (test_in c) false_exit; lists = c.lists; to = c.to + 1 }
 
 abbrev arguments_code : AllEmitted → Written
 arguments_code e = record { code = e.code; lists = e.lists; to = e.to }

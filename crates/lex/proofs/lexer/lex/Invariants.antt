@@ -3,7 +3,7 @@ use Rattle.lex.specs.Tokens.{toks}
 use Rattle.lex.specs.Pieces.{Cut}
 use Rattle.lex.proofs.lexer.lex.Given as goal
 
--- the text up to the place is cut into the tokens found so far
+-- the text up to the offset is cut into the tokens found so far
 abbrev pub invariant-pieces : goal.invariant-pieces
 invariant-pieces g l = record {
   within : l.at ≤ length l.text;

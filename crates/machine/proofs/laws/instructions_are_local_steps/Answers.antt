@@ -1,4 +1,4 @@
-use Rattle.machine.proofs.keeping.Advancing.{replays_local}
+use Rattle.machine.proofs.contexts.Advancing.{replays_local}
 use Rattle.machine.proofs.laws.instructions_are_local_steps.Goals as goal
 
 pub returns : goal.returns

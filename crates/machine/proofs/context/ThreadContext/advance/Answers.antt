@@ -5,8 +5,8 @@ use Rattle.local_steps.proofs.Known.{found}
 use Rattle.frames.proofs.Keeping.{begins_stay_open}
 use Rattle.machine.specs.Loads.{Counted}
 use Rattle.machine.specs.inner.Contexts.{Advances, ContextWith, context_of, machine_thread}
-use Rattle.machine.proofs.keeping.Inside.{advances_to}
-use Rattle.machine.proofs.keeping.Seen.{within}
+use Rattle.machine.proofs.contexts.Inside.{advances_to}
+use Rattle.machine.proofs.contexts.Seen.{within}
 use Rattle.machine.proofs.context.ThreadContext.advance.Goals as goal
 
 pub passes-init : goal.passes-init

@@ -2,8 +2,8 @@ use Rattle.std.proofs.Common.{rules, sym, subst}
 use Rattle.machine.specs.Standing.{begins_of}
 use Rattle.machine.specs.inner.Inside.{MayAdvance}
 use Rattle.machine.specs.inner.Contexts.{PlainContext, RunsInContext, context_of, machine_thread}
-use Rattle.machine.proofs.keeping.Inside.{leads_as, runs_at}
-use Rattle.machine.proofs.keeping.Left.{not_local}
+use Rattle.machine.proofs.contexts.Inside.{leads_as, runs_at}
+use Rattle.machine.proofs.contexts.Left.{not_local}
 use Rattle.machine.proofs.context.ThreadContext.advance_frames.Goals as goal
 
 pub advance-requires-clause-of : goal.advance-requires-clause-of

@@ -1,7 +1,7 @@
 use Rattle.frames.proofs.Keeping.{begins_stay_open}
-use Rattle.machine.proofs.keeping.Advancing.{passed}
+use Rattle.machine.proofs.contexts.Advancing.{passed}
 use Rattle.machine.specs.inner.Contexts.{context_of}
-use Rattle.machine.proofs.keeping.Left.{left_commit, left_other}
+use Rattle.machine.proofs.contexts.Left.{left_commit, left_other}
 use Rattle.machine.proofs.context.ThreadContext.pass.Goals as goal
 
 pub returns-in_default-clause-advances : goal.returns-in_default-clause-advances

@@ -4,7 +4,7 @@ use Rattle.norec_core.specs.declared.step.Access.{Access}
 use Rattle.norec_core.specs.declared.step.Stop.{Stop}
 use Rattle.nesting.specs.Begins.{Saved}
 use Rattle.frames.specs.Open.{saved_in}
-use Rattle.machine.proofs.keeping.Calls.{ok_access, used_up_at, saved_same, ready_operation, access_operation}
+use Rattle.machine.proofs.contexts.Calls.{ok_access, used_up_at, saved_same, ready_operation, access_operation}
 use Rattle.machine.specs.inner.Contexts.{context_of}
 use Rattle.machine.proofs.context.ThreadContext.prepare.Goals as goal
 

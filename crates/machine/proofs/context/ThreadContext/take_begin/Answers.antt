@@ -1,6 +1,6 @@
 use Rattle.std.proofs.Common.{refl}
 use Rattle.frames.proofs.Keeping.{begins_stay_open}
-use Rattle.machine.proofs.keeping.Committing.{begin_back, begin_makes}
+use Rattle.machine.proofs.contexts.Committing.{begin_back, begin_makes}
 use Rattle.machine.specs.inner.Contexts.{context_of}
 use Rattle.machine.proofs.context.ThreadContext.take_begin.Goals as goal
 

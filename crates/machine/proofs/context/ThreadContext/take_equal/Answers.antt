@@ -1,7 +1,7 @@
 use Rattle.std.proofs.Common.{refl}
 use Rattle.frames.proofs.Keeping.{begins_stay_open}
 use Rattle.machine.specs.inner.Contexts.{context_of}
-use Rattle.machine.proofs.keeping.Validating.{compares_makes}
+use Rattle.machine.proofs.contexts.Validating.{compares_makes}
 use Rattle.machine.proofs.context.ThreadContext.take_equal.Goals as goal
 
 pub returns-clause-makes : goal.returns-clause-makes

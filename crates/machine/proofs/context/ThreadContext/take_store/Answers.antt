@@ -5,7 +5,7 @@ use Rattle.frames.proofs.Keeping.{begins_stay_open}
 use Rattle.norec_core.specs.declared.step.Answer.TheVariants.{Done}
 use Rattle.norec_core.specs.declared.step.Outcome.{Outcome}
 use Rattle.machine.specs.Threads.{resume}
-use Rattle.machine.proofs.keeping.Committing.{store_back, store_makes}
+use Rattle.machine.proofs.contexts.Committing.{store_back, store_makes}
 use Rattle.machine.specs.inner.Contexts.{back_by, context_of}
 use Rattle.machine.proofs.context.ThreadContext.take_store.Goals as goal
 

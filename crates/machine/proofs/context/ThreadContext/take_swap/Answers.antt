@@ -5,7 +5,7 @@ use Rattle.frames.proofs.Keeping.{begins_stay_open}
 use Rattle.norec_core.specs.declared.step.Outcome.{Outcome}
 use Rattle.norec_core.proofs.Committing.{swap_goes_on}
 use Rattle.machine.specs.Threads.{resume}
-use Rattle.machine.proofs.keeping.Committing.{swap_back, swap_makes}
+use Rattle.machine.proofs.contexts.Committing.{swap_back, swap_makes}
 use Rattle.machine.specs.inner.Contexts.{back_by, context_of}
 use Rattle.machine.proofs.context.ThreadContext.take_swap.Goals as goal
 

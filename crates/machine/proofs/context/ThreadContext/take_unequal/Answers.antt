@@ -1,7 +1,7 @@
 use Rattle.std.proofs.Common.{refl}
 use Rattle.frames.proofs.Keeping.{begins_stay_open}
 use Rattle.machine.specs.inner.Contexts.{context_of}
-use Rattle.machine.proofs.keeping.Validating.{drops_back, drops_makes}
+use Rattle.machine.proofs.contexts.Validating.{drops_back, drops_makes}
 use Rattle.machine.proofs.context.ThreadContext.take_unequal.Goals as goal
 
 pub go_back-requires : goal.go_back-requires

@@ -4,7 +4,7 @@ use Rattle.frames.specs.Open.{begin_configuration}
 use Rattle.norec_core.specs.declared.step.Outcome.{Outcome}
 use Rattle.machine.specs.Threads.{resume}
 use Rattle.frames.proofs.Keeping.{begins_stay_open}
-use Rattle.machine.proofs.keeping.Asking.{operation_answered, operation_back, operation_makes}
+use Rattle.machine.proofs.contexts.Asking.{operation_answered, operation_back, operation_makes}
 use Rattle.machine.specs.inner.Contexts.{context_of, ready, back_by}
 use Rattle.machine.proofs.context.ThreadContext.told_operation.Goals as goal
 

@@ -2,8 +2,8 @@ use Rattle.std.proofs.Common.{◌≡◌, ◌∙◌, true, None, refl, subst, rul
 use Rattle.std.specs.Prelude.{is_some}
 use Rattle.frames.specs.Doings.{IsDoingAt}
 use Rattle.frames.proofs.Keeping.{begins_stay_open}
-use Rattle.machine.proofs.keeping.Calls.{traps_asked, irrevocable_asked}
-use Rattle.machine.proofs.keeping.Work.{work_moves, work_traps_inside, work_irrevocable_outside, work_end_inside}
+use Rattle.machine.proofs.contexts.Calls.{traps_asked, irrevocable_asked}
+use Rattle.machine.proofs.contexts.Work.{work_moves, work_traps_inside, work_irrevocable_outside, work_end_inside}
 use Rattle.machine.specs.inner.Contexts.{context_of, op_asked}
 use Rattle.machine.proofs.context.ThreadContext.work.Goals as goal
 

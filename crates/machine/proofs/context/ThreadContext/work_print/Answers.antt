@@ -2,7 +2,7 @@ use Rattle.std.proofs.Common.{◌≡◌, true, false, refl, rules}
 use Rattle.std.specs.Prelude.{is_some}
 use Rattle.norec_core.specs.Cores.{is_kept}
 use Rattle.frames.proofs.Keeping.{begins_stay_open}
-use Rattle.machine.proofs.keeping.Work.{work_waits, work_prints}
+use Rattle.machine.proofs.contexts.Work.{work_waits, work_prints}
 use Rattle.machine.specs.inner.Contexts.{context_of}
 use Rattle.machine.proofs.context.ThreadContext.work_print.Goals as goal
 use Rattle.machine.proofs.context.ThreadContext.work_print.Goals.{else-has_attempt-via-then-has_attempt+else-not-is_kept, else-has_attempt-via-else-has_attempt}

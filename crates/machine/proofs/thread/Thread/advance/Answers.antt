@@ -2,9 +2,9 @@ use Rattle.std.proofs.Common.{sym, ap, subst}
 use Rattle.machine.specs.Loads.{Counted, counted_thread}
 use Rattle.machine.specs.States.{ThreadState}
 use Rattle.machine.specs.inner.Contexts.{context_of, machine_thread}
-use Rattle.machine.proofs.keeping.Calls.{runs_of}
-use Rattle.machine.proofs.keeping.Seen.{thread_of}
-use Rattle.machine.proofs.keeping.Left.{left_shown}
+use Rattle.machine.proofs.contexts.Calls.{runs_of}
+use Rattle.machine.proofs.contexts.Seen.{thread_of}
+use Rattle.machine.proofs.contexts.Left.{left_shown}
 use Rattle.machine.proofs.thread.Thread.advance.Goals as goal
 
 pub advance-requires-clause-runs : goal.advance-requires-clause-runs

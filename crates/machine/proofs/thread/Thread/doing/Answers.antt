@@ -1,5 +1,5 @@
 use Rattle.std.proofs.Common.{ap}
-use Rattle.machine.proofs.keeping.Calls.{runs_of}
+use Rattle.machine.proofs.contexts.Calls.{runs_of}
 use Rattle.machine.specs.States.{ThreadState}
 use Rattle.machine.specs.inner.Contexts.{context_of}
 use Rattle.machine.proofs.thread.Thread.doing.Goals as goal

@@ -1,5 +1,5 @@
 use Rattle.std.proofs.Common.{ap, ◌∙◌}
-use Rattle.machine.proofs.keeping.Calls.{lock_shown}
+use Rattle.machine.proofs.contexts.Calls.{lock_shown}
 use Rattle.machine.specs.States.{ThreadState, thread_has_lock}
 use Rattle.machine.proofs.thread.Thread.has_lock.Goals as goal
 

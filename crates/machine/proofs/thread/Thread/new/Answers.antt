@@ -1,6 +1,6 @@
 use Rattle.std.proofs.Common.{false, refl, arith}
 use Rattle.syntax.specs.declared.numbers.Status.TheVariants.{Running}
-use Rattle.machine.proofs.keeping.Calls.{new_thread_of}
+use Rattle.machine.proofs.contexts.Calls.{new_thread_of}
 use Rattle.machine.proofs.thread.Thread.new.Goals as goal
 
 pub returns-clause-of : goal.returns-clause-of

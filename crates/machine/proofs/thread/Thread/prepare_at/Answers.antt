@@ -1,5 +1,5 @@
 use Rattle.std.proofs.Common.{Some, refl, ap, sym}
-use Rattle.machine.proofs.keeping.Calls.{ended_over, trapped_over, runs_of, over_local, over_shown, used_up_never}
+use Rattle.machine.proofs.contexts.Calls.{ended_over, trapped_over, runs_of, over_local, over_shown, used_up_never}
 use Rattle.machine.specs.States.{ThreadState}
 use Rattle.machine.specs.inner.Contexts.{context_of}
 use Rattle.machine.proofs.thread.Thread.prepare_at.Goals as goal

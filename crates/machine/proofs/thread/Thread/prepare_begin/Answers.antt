@@ -2,13 +2,13 @@ use Rattle.std.proofs.Common.{◌∙◌, refl, sym, ap, subst}
 use Rattle.syntax.specs.declared.numbers.Status.TheVariants.{Running}
 use Rattle.frames.specs.declared.doing.Doing.TheVariants as doing
 use Rattle.frames.proofs.Keeping.{begins_stay_open}
-use Rattle.machine.proofs.keeping.Calls.{runs_of, saved_same}
-use Rattle.machine.proofs.keeping.Committing.{begin_access}
-use Rattle.machine.proofs.keeping.Makes.{kept_same}
+use Rattle.machine.proofs.contexts.Calls.{runs_of, saved_same}
+use Rattle.machine.proofs.contexts.Committing.{begin_access}
+use Rattle.machine.proofs.contexts.Makes.{kept_same}
 use Rattle.machine.specs.States.{StandsAt, ThreadState}
 use Rattle.machine.specs.inner.Contexts.{context_of, shown_from}
 use Rattle.std.specs.Prelude.{◌<◌, ℕ, List, length}
-use Rattle.machine.proofs.keeping.Left.{none_shown}
+use Rattle.machine.proofs.contexts.Left.{none_shown}
 use Rattle.machine.proofs.thread.Thread.prepare_begin.Goals as goal
 
 pub frames-requires : goal.frames-requires

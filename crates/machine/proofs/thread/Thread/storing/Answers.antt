@@ -1,5 +1,5 @@
 use Rattle.std.proofs.Common.{ap}
-use Rattle.machine.proofs.keeping.Nexts.{no_store}
+use Rattle.machine.proofs.contexts.Nexts.{no_store}
 use Rattle.machine.specs.States.{ThreadState}
 use Rattle.machine.specs.inner.Contexts.{context_of}
 use Rattle.machine.proofs.thread.Thread.storing.Goals as goal

@@ -1,7 +1,7 @@
 use Rattle.std.proofs.Common.{◌∙◌, ap}
-use Rattle.machine.proofs.keeping.Calls.{runs_of}
-use Rattle.machine.proofs.keeping.Committing.{kept_none}
-use Rattle.machine.proofs.keeping.Seen.{thread_of}
+use Rattle.machine.proofs.contexts.Calls.{runs_of}
+use Rattle.machine.proofs.contexts.Committing.{kept_none}
+use Rattle.machine.proofs.contexts.Seen.{thread_of}
 use Rattle.machine.specs.States.{ThreadState}
 use Rattle.machine.specs.inner.Contexts.{context_of}
 use Rattle.machine.proofs.thread.Thread.take_begin.Goals as goal

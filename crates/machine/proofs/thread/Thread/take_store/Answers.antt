@@ -2,9 +2,9 @@ use Rattle.std.proofs.Common.{◌∙◌, ap, subst, sym, rules}
 use Rattle.std.specs.Prelude.{IsSomeAnd}
 use Rattle.norec_core.specs.Cores.{IsStoring}
 use Rattle.norec_core.specs.declared.step.Answer.TheVariants.{Done}
-use Rattle.machine.proofs.keeping.Calls.{runs_of}
-use Rattle.machine.proofs.keeping.Committing.{kept_stores}
-use Rattle.machine.proofs.keeping.Seen.{thread_of}
+use Rattle.machine.proofs.contexts.Calls.{runs_of}
+use Rattle.machine.proofs.contexts.Committing.{kept_stores}
+use Rattle.machine.proofs.contexts.Seen.{thread_of}
 use Rattle.machine.specs.States.{ThreadState}
 use Rattle.machine.specs.inner.Contexts.{context_of}
 use Rattle.machine.proofs.thread.Thread.take_store.Goals as goal

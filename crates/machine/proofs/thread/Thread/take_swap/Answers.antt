@@ -2,9 +2,9 @@ use Rattle.std.proofs.Common.{◌∙◌, ap, subst, sym}
 use Rattle.bytecode.specs.Code.{effect}
 use Rattle.frames.specs.declared.doing.Doing.TheVariants as doing
 use Rattle.frames.proofs.Keeping.{begins_stay_open}
-use Rattle.machine.proofs.keeping.Calls.{runs_of}
-use Rattle.machine.proofs.keeping.Committing.{core_swaps}
-use Rattle.machine.proofs.keeping.Seen.{thread_of}
+use Rattle.machine.proofs.contexts.Calls.{runs_of}
+use Rattle.machine.proofs.contexts.Committing.{core_swaps}
+use Rattle.machine.proofs.contexts.Seen.{thread_of}
 use Rattle.machine.specs.States.{StandsAt, ThreadState}
 use Rattle.machine.specs.Threads.{access}
 use Rattle.machine.specs.inner.Contexts.{context_of}

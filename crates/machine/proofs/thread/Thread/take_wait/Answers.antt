@@ -1,6 +1,6 @@
 use Rattle.std.proofs.Common.{◌∙◌, ap}
-use Rattle.machine.proofs.keeping.Calls.{runs_of}
-use Rattle.machine.proofs.keeping.Seen.{thread_of}
+use Rattle.machine.proofs.contexts.Calls.{runs_of}
+use Rattle.machine.proofs.contexts.Seen.{thread_of}
 use Rattle.machine.specs.States.{ThreadState}
 use Rattle.machine.specs.inner.Contexts.{context_of}
 use Rattle.machine.proofs.thread.Thread.take_wait.Goals as goal

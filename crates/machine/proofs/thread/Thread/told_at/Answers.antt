@@ -2,8 +2,8 @@ use Rattle.std.proofs.Common.{◌≡◌, ◌∙◌, ap, arith}
 use Rattle.norec_core.specs.Accesses.{cost}
 use Rattle.bytecode.specs.Code.{effect}
 use Rattle.machine.specs.Threads.{access}
-use Rattle.machine.proofs.keeping.Calls.{ended_over, trapped_over, runs_of, over_makes}
-use Rattle.machine.proofs.keeping.Seen.{thread_of}
+use Rattle.machine.proofs.contexts.Calls.{ended_over, trapped_over, runs_of, over_makes}
+use Rattle.machine.proofs.contexts.Seen.{thread_of}
 use Rattle.machine.specs.States.{ThreadState}
 use Rattle.machine.specs.inner.Contexts.{context_of, cost_if}
 use Rattle.machine.proofs.thread.Thread.told_at.Goals as goal

@@ -2,19 +2,19 @@
 pub mod Words
 -- what a step of the core does with begins and words
 pub mod Operations
--- what a kept thread shows
+-- what a thread's context shows
 pub mod Seen
--- where the operations of a kept thread lead
+-- where the operations of a context lead
 pub mod Steps
 -- each step of the core makes the machine's step
 pub mod Makes
 -- each step of the thread's own makes the machine's step
 pub mod Work
--- what a kept thread asks of the core
+-- what a context asks of the core
 pub mod Asking
 -- what the calls of a thread owe
 pub mod Calls
--- many local steps of a kept thread are as many of the machine's
+-- many local steps of a context are as many of the machine's
 pub mod Advancing
 -- a read that loads its word and then the lock
 pub mod Reading

@@ -24,12 +24,12 @@ use Rattle.machine.specs.Threads.{Thread, Next, access, access_of, resume, statu
 use Rattle.machine.specs.States.{asks}
 use Rattle.machine.specs.Standing.{begins_of, GivesWordsIf}
 use Rattle.machine.specs.inner.Contexts.{PlainContext, shown_from, machine_thread, RunsInContext, ContextWith, Advances, Makes, back_by, event_by, op_asked, op_by}
-use Rattle.machine.proofs.keeping.Asking.{access_is, access_none, asks_is, writes_word}
-use Rattle.machine.proofs.keeping.Calls.{asks_pure}
-use Rattle.machine.proofs.keeping.Makes.{core_makes, same_thread}
-use Rattle.machine.proofs.keeping.Seen.{agree, within}
-use Rattle.machine.proofs.keeping.Work.{told_pure}
-use Rattle.machine.proofs.keeping.Words.{FitsRegister}
+use Rattle.machine.proofs.contexts.Asking.{access_is, access_none, asks_is, writes_word}
+use Rattle.machine.proofs.contexts.Calls.{asks_pure}
+use Rattle.machine.proofs.contexts.Makes.{core_makes, same_thread}
+use Rattle.machine.proofs.contexts.Seen.{agree, within}
+use Rattle.machine.proofs.contexts.Work.{told_pure}
+use Rattle.machine.proofs.contexts.Words.{FitsRegister}
 
 pure_is : (x : Effect Configuration) (d : Configuration) → pure_of x ≡ Some d → x ≡ Pure d
 pure_is (Pure e) d h = let same : e ≡ d = cc in ap (λ (z : Configuration). Pure z) same

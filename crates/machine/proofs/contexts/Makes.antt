@@ -1,4 +1,4 @@
--- Each step of a kept thread makes the machine's step.
+-- Each step of a thread's context makes the machine's step.
 use Rattle.std.proofs.Common.{◌≡◌, ◌≢◌, true, false, List, [], ◌∷◌, ◌++◌, Option, None, Some, refl, sym, ◌∙◌, ap, subst}
 use Rattle.std.specs.Prelude.{IfSome}
 use Rattle.syntax.specs.declared.numbers.Status.{Status}
@@ -21,11 +21,11 @@ use Rattle.machine.specs.Threads.{Thread, Next, step_with, resume_next, resume, 
 use Rattle.machine.specs.Standing.{begins_of, GivesWordsIf}
 use Rattle.machine.specs.States.{asks_by}
 use Rattle.machine.specs.inner.Contexts.{PlainContext, shown_from, machine_thread, AreWithin, RunsInContext, ContextWith, back_done, back_by, MayGoBack, event_by, event_done, commit_told, Makes}
-use Rattle.machine.proofs.keeping.Operations.{Does, is_cancel, is_plain, cancels_so, plain_stays, tells_commit, WritesWord, does}
-use Rattle.machine.proofs.keeping.Operations.Does.{goes, reads, works, begins, commits, cancels, drops, releases}
-use Rattle.machine.proofs.keeping.Seen.{agree}
-use Rattle.machine.proofs.keeping.Steps.{Matches, matches, told_asked, core_shown, Leaves, leaves}
-use Rattle.machine.proofs.keeping.Words.{FitsRegister}
+use Rattle.machine.proofs.contexts.Operations.{Does, is_cancel, is_plain, cancels_so, plain_stays, tells_commit, WritesWord, does}
+use Rattle.machine.proofs.contexts.Operations.Does.{goes, reads, works, begins, commits, cancels, drops, releases}
+use Rattle.machine.proofs.contexts.Seen.{agree}
+use Rattle.machine.proofs.contexts.Steps.{Matches, matches, told_asked, core_shown, Leaves, leaves}
+use Rattle.machine.proofs.contexts.Words.{FitsRegister}
 
 module _ (x : Effect Configuration) (o : Op) (q : Matches x o) where
   -- only a cancel goes back where it is done

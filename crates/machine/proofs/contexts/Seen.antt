@@ -1,4 +1,4 @@
--- What a kept thread shows: attempts by a map of what their begins saved.
+-- What a thread's context shows: attempts by a map of what their begins saved.
 use Rattle.std.proofs.Common.{◌≡◌, ◌≢◌, ◌<◌, ◌≤◌, ◌-◌, ℕ, suc, List, [], ◌∷◌, ◌++◌, Option, None, Some, refl, sym, ◌∙◌, ap, subst, map, length, drop, arith}
 use Rattle.std.proofs.lemmas.List.{length-drop}
 use Rattle.std.specs.List.{AllByRecursion}
@@ -34,9 +34,9 @@ module _ {S T : Type 0} where
   marks_shown f [] h = tt
   marks_shown f (k ∷ ks) h = (h.0, marks_shown f ks h.1)
 
-  marks_kept : (f : S → T) (ks : List (Checkpoint S)) → AllByRecursion (λ (k : Checkpoint T). HaveWords k.writes) (map (checkpoint_as f) ks) → AllByRecursion (λ (k : Checkpoint S). HaveWords k.writes) ks
-  marks_kept f [] h = tt
-  marks_kept f (k ∷ ks) h = (h.0, marks_kept f ks h.1)
+  marks_in_context : (f : S → T) (ks : List (Checkpoint S)) → AllByRecursion (λ (k : Checkpoint T). HaveWords k.writes) (map (checkpoint_as f) ks) → AllByRecursion (λ (k : Checkpoint S). HaveWords k.writes) ks
+  marks_in_context f [] h = tt
+  marks_in_context f (k ∷ ks) h = (h.0, marks_in_context f ks h.1)
 
   hand_shown : (f : S → T) (ks : List (Checkpoint S)) (q : Phase) → HasInHand ks q → HasInHand (map (checkpoint_as f) ks) q
   hand_shown f ks AtOperation h = tt
@@ -45,24 +45,24 @@ module _ {S T : Type 0} where
   hand_shown f ks (ValidatesEntry t i) h = tt
   hand_shown f ks (Stores i) h = ap (map (checkpoint_as f)) h
 
-  none_kept : (f : S → T) (ks : List (Checkpoint S)) → map (checkpoint_as f) ks ≡ [] → ks ≡ []
-  none_kept f [] e = refl
-  none_kept f (k ∷ ks) e = absurd (cc)
+  none_in_context : (f : S → T) (ks : List (Checkpoint S)) → map (checkpoint_as f) ks ≡ [] → ks ≡ []
+  none_in_context f [] e = refl
+  none_in_context f (k ∷ ks) e = absurd (cc)
 
-  hand_kept : (f : S → T) (ks : List (Checkpoint S)) (q : Phase) → HasInHand (map (checkpoint_as f) ks) q → HasInHand ks q
-  hand_kept f ks AtOperation h = tt
-  hand_kept f ks (ReadsLock v) h = h
-  hand_kept f ks ValidatesTime h = tt
-  hand_kept f ks (ValidatesEntry t i) h = tt
-  hand_kept f ks (Stores i) h = none_kept f ks h
+  hand_in_context : (f : S → T) (ks : List (Checkpoint S)) (q : Phase) → HasInHand (map (checkpoint_as f) ks) q → HasInHand ks q
+  hand_in_context f ks AtOperation h = tt
+  hand_in_context f ks (ReadsLock v) h = h
+  hand_in_context f ks ValidatesTime h = tt
+  hand_in_context f ks (ValidatesEntry t i) h = tt
+  hand_in_context f ks (Stores i) h = none_in_context f ks h
 
   pub words_shown : (f : S → T) (o : Option (Attempt S)) → GivesWordsIf o → GivesWordsIf (if_some (attempt_as f) o)
   words_shown f None w = tt
   words_shown f (Some a) w = record { writes = w.writes; marks = marks_shown f a.inner w.marks; in_hand = hand_shown f a.inner a.phase w.in_hand }
 
-  pub words_kept : (f : S → T) (o : Option (Attempt S)) → GivesWordsIf (if_some (attempt_as f) o) → GivesWordsIf o
-  words_kept f None w = tt
-  words_kept f (Some a) w = record { writes = w.writes; marks = marks_kept f a.inner w.marks; in_hand = hand_kept f a.inner a.phase w.in_hand }
+  pub words_in_context : (f : S → T) (o : Option (Attempt S)) → GivesWordsIf (if_some (attempt_as f) o) → GivesWordsIf o
+  words_in_context f None w = tt
+  words_in_context f (Some a) w = record { writes = w.writes; marks = marks_in_context f a.inner w.marks; in_hand = hand_in_context f a.inner a.phase w.in_hand }
 
   pub none_shown : (f : S → T) (o : Option (Attempt S)) → if_some (attempt_as f) o ≡ None → o ≡ None
   none_shown f None e = refl
@@ -158,11 +158,11 @@ module _ (code : Code) (law : BeginsStayOpen code) where
   pub within : (c : Configuration) (ss : List Saved) → MayStand code c ss → AreWithin c ss
   within c ss m = all_within c [] ss m
 
-  -- what the thread that is shown says of the one that is kept, and back
+  -- what the thread that is shown says of the context that shows it, and back
   kept_by : (k : PlainContext) (s : Status) → AreWithin k.configuration (begins_of k.core.attempt) → IsStanding code (machine_thread k) s → ContextWith code k s
   kept_by k Running w r =
       let same = same_begins k.configuration (begins_of k.core.attempt) r.saved w (within k.configuration r.saved r.stands) (sym (begins_shown (begin_configuration k.configuration) k.core.attempt) ∙ r.begins) in
-      record { stands = subst (MayStand code k.configuration) (sym same) r.stands; words = words_kept (begin_configuration k.configuration) k.core.attempt r.words }
+      record { stands = subst (MayStand code k.configuration) (sym same) r.stands; words = words_in_context (begin_configuration k.configuration) k.core.attempt r.words }
   kept_by k HasEnded w r = none_shown (begin_configuration k.configuration) k.core.attempt r
   kept_by k (HasTrapped cause) w r = none_shown (begin_configuration k.configuration) k.core.attempt r
 

@@ -27,10 +27,10 @@ use Rattle.machine.specs.Standing.{IsThreadOf}
 use Rattle.machine.specs.Loads.{LoadsNext}
 use Rattle.machine.specs.States.{asks, told_twice}
 use Rattle.machine.specs.inner.Contexts.{PlainContext, ContextWith, Makes, RunsInContext, op_asked, machine_thread}
-use Rattle.machine.proofs.keeping.Asking.{access_is, asks_is}
-use Rattle.machine.proofs.keeping.Makes.{Resumes, core_makes}
-use Rattle.machine.proofs.keeping.Seen.{thread_of}
-use Rattle.machine.proofs.keeping.Words.{FitsRegister}
+use Rattle.machine.proofs.contexts.Asking.{access_is, asks_is}
+use Rattle.machine.proofs.contexts.Makes.{Resumes, core_makes}
+use Rattle.machine.proofs.contexts.Seen.{thread_of}
+use Rattle.machine.proofs.contexts.Words.{FitsRegister}
 
 -- what is under way
 pub some_and : {X : Type 0} (P : X → Type 0) (o : Option X) → IsSomeAnd o P → (x : X) × (o ≡ Some x) × P x

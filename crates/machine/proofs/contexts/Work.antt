@@ -1,4 +1,4 @@
--- The work of a kept thread's own makes the machine's step.
+-- The work of a context's own makes the machine's step.
 use Rattle.std.proofs.Common.{◌≡◌, ℕ, Bool, true, false, List, ◌++◌, Option, None, Some, refl, sym, ◌∙◌, ap, subst}
 use Rattle.std.specs.Prelude.{is_some}
 use Rattle.syntax.specs.declared.numbers.Status.{Status}
@@ -18,8 +18,8 @@ use Rattle.machine.specs.Threads.{Thread, Next, step_with, told_of, told_outside
 use Rattle.machine.specs.Standing.{begins_of, GivesWordsIf}
 use Rattle.norec_core.specs.Saved.{attempt_as}
 use Rattle.machine.specs.inner.Contexts.{PlainContext, shown_from, machine_thread, AreWithin, RunsInContext, ContextWith, Makes}
-use Rattle.machine.proofs.keeping.Seen.{agree, within}
-use Rattle.machine.proofs.keeping.Makes.{same_thread, kept_same}
+use Rattle.machine.proofs.contexts.Seen.{agree, within}
+use Rattle.machine.proofs.contexts.Makes.{same_thread, kept_same}
 
 abbrev traps_of : Trap → Effect Configuration
 traps_of cause = Traps cause

@@ -20,10 +20,10 @@ use Rattle.machine.specs.declared.event.Event.TheVariants as event
 use Rattle.machine.specs.Threads.{step_with}
 use Rattle.machine.specs.States.{IsValidated, asks}
 use Rattle.machine.specs.inner.Contexts.{PlainContext, Makes, RunsInContext, machine_thread}
-use Rattle.machine.proofs.keeping.Makes.{core_makes, may_go_back}
-use Rattle.machine.proofs.keeping.Operations.{WritesWord}
-use Rattle.machine.proofs.keeping.Reading.{some_and}
-use Rattle.machine.proofs.keeping.Words.{FitsRegister}
+use Rattle.machine.proofs.contexts.Makes.{core_makes, may_go_back}
+use Rattle.machine.proofs.contexts.Operations.{WritesWord}
+use Rattle.machine.proofs.contexts.Reading.{some_and}
+use Rattle.machine.proofs.contexts.Words.{FitsRegister}
 
 -- such an operation saves nothing, and writes no word
 no_begin : (o : Op) → IsValidated o → {X : Type 0} → o ≡ op.Begin → X

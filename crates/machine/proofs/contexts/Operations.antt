@@ -16,7 +16,7 @@ use Rattle.norec_core.specs.Attempts.{Checkpoint, Attempt, Completed}
 use Rattle.norec_core.specs.Phases.{CoreStep, on, on_snapshot, validating, idle, core_word, core_read, core_store, core_swap, core_commit, core_cancel, core_operation, core_check, core_time, core_compare, core_phase, core_begin, core_step, core_access, phase_access, operation_access, read_access}
 use Rattle.machine.specs.Standing.{begins_of, HaveWords, HasInHand, GivesRegisterWords, GivesWordsIf}
 use Rattle.machine.proofs.Levels.{all_left}
-use Rattle.machine.proofs.keeping.Words.{FitsRegister}
+use Rattle.machine.proofs.contexts.Words.{FitsRegister}
 
 -- operations that leave the begins as they are
 abbrev pub is_plain : Op → Bool

@@ -1,4 +1,4 @@
--- What a kept thread asks of the core, by what is to be done.
+-- What a thread's context asks of the core, by what is to be done.
 use Rattle.std.proofs.Common.{◌≡◌, ◌<◌, ℕ, Bool, true, false, List, [], ◌∷◌, Option, None, Some, refl, sym, ◌∙◌, ap, subst, length, arith}
 use Rattle.std.specs.Prelude.{IfSome, IsSomeAnd, slice_set}
 use Rattle.syntax.specs.declared.numbers.Status.{Status}
@@ -27,9 +27,9 @@ use Rattle.machine.specs.declared.event.Event.{Event}
 use Rattle.machine.specs.Threads.{Thread, access, access_of, outside_access, inside_access, step_with, op_of}
 use Rattle.machine.specs.States.{Ready, IsReady, IsWordOf, asks, asks_by, asks_outside}
 use Rattle.machine.specs.inner.Contexts.{PlainContext, machine_thread, shown_from, RunsInContext, MayGoBack, Makes, back_by, op_by, op_outside, op_asked}
-use Rattle.machine.proofs.keeping.Operations.{WritesWord}
-use Rattle.machine.proofs.keeping.Makes.{Resumes, may_go_back, core_makes}
-use Rattle.machine.proofs.keeping.Words.{FitsRegister, word_fits}
+use Rattle.machine.proofs.contexts.Operations.{WritesWord}
+use Rattle.machine.proofs.contexts.Makes.{Resumes, may_go_back, core_makes}
+use Rattle.machine.proofs.contexts.Words.{FitsRegister, word_fits}
 
 module _ (code : Code) (c : Configuration) where
   -- a return goes on
@@ -140,7 +140,7 @@ module _ {C : Type 0} (th : Thread C) where
   access_none None x e = outside_none th.status x e
   access_none (Some a) x e = ap (inside_access a) e
 
--- the access of a kept thread
+-- the access of a thread's context
 pub access_is : (code : Code) (k : PlainContext) (o : Op) → asks (effect code) (machine_thread k) ≡ Some o → access (effect code) (machine_thread k) ≡ core_access k.core.attempt o
 access_is code k o e = access_asked (machine_thread k) (machine_thread k).attempt (effect code k.configuration) o e ∙ (commutes (begin_configuration k.configuration)).access k.core.attempt o
 

@@ -35,9 +35,9 @@ use Rattle.machine.specs.Threads.{Thread, access, access_of, outside_access, ste
 use Rattle.machine.specs.Standing.{begins_of, GivesWordsIf, IsThreadOf}
 use Rattle.machine.specs.States.{Ready, IsReady, asks, asks_by, asks_outside, attempt_has_lock}
 use Rattle.machine.specs.inner.Contexts.{PlainContext, machine_thread, shown_from, AreWithin, RunsInContext, ContextWith, IsContextOf, op_by, op_asked}
-use Rattle.machine.proofs.keeping.Asking.{asks_is, access_is}
-use Rattle.machine.proofs.keeping.Seen.{kept_of, thread_of}
-use Rattle.machine.proofs.keeping.Work.{work_over}
+use Rattle.machine.proofs.contexts.Asking.{asks_is, access_is}
+use Rattle.machine.proofs.contexts.Seen.{kept_of, thread_of}
+use Rattle.machine.proofs.contexts.Work.{work_over}
 
 -- what is to be done without the core
 traps_by : (b t : Bool) (cause : Trap) → op_by (doing.Traps cause) b t ≡ None → (b ≡ true) × (t ≡ false)

@@ -22,10 +22,10 @@ use Rattle.machine.specs.declared.event.Event.{Event}
 use Rattle.machine.specs.Threads.{access, step_with}
 use Rattle.machine.specs.States.{asks}
 use Rattle.machine.specs.inner.Contexts.{PlainContext, Makes, MayGoBack, RunsInContext, back_by, op_asked, machine_thread, shown_from}
-use Rattle.machine.proofs.keeping.Asking.{access_is, access_local, asks_is}
-use Rattle.machine.proofs.keeping.Makes.{Resumes, core_makes, may_go_back}
-use Rattle.machine.proofs.keeping.Reading.{some_and}
-use Rattle.machine.proofs.keeping.Words.{FitsRegister}
+use Rattle.machine.proofs.contexts.Asking.{access_is, access_local, asks_is}
+use Rattle.machine.proofs.contexts.Makes.{Resumes, core_makes, may_go_back}
+use Rattle.machine.proofs.contexts.Reading.{some_and}
+use Rattle.machine.proofs.contexts.Words.{FitsRegister}
 
 module _ (code : Code) (law : BeginsStayOpen code) (k : PlainContext) (running : k.status ≡ Running) (runs : RunsInContext code k) (t : IsDoingAt code k.configuration doing.Commit) where
   module _ (a : Attempt Saved) (under : k.core.attempt ≡ Some a) where
@@ -124,7 +124,7 @@ module _ (code : Code) (law : BeginsStayOpen code) (k : PlainContext) (to : ℕ)
     pub begin_makes : (l : PlainContext) (r : Outcome) (e : Event) → r ≡ (core_step k.core.saved k.core.attempt op.Begin (Value lock)).outcome → l.core.attempt ≡ (core_step k.core.saved k.core.attempt op.Begin (Value lock)).attempt → Resumes code law k l r e → Makes code (step_with (effect code) (machine_thread k) (Value lock)) l e
     begin_makes l r e er ea z = core_makes code law k op.Begin (Value lock) running runs begin_asked (λ h. same) tt begin_word l r e er ea (begin_stays l.core.saved) z
 
--- what is under way in the thread that is shown is so in the one that is kept
+-- what is under way in the thread that is shown is so in the context that shows it
 pub kept_stores : (c : Configuration) (index : ℕ) (o : Option (Attempt Saved)) → IsSomeAnd (shown_from c o) (λ a. IsStoring index a) → IsSomeAnd o (λ a. IsStoring index a)
 kept_stores c index None h = absurd h
 kept_stores c index (Some a) h = h

@@ -1,4 +1,4 @@
--- A kept thread that says that no store, or no comparison, comes next is right of the thread that is shown.
+-- A context that says that no store, or no comparison, comes next is right of the thread that is shown.
 use Rattle.std.proofs.Common.{◌≡◌, ℕ, Option, None, Some, sym, subst}
 use Rattle.std.specs.Prelude.{IfNone, IsSomeAnd}
 use Rattle.nesting.specs.Begins.{Saved}
@@ -8,7 +8,7 @@ use Rattle.norec_core.specs.Cores.{IsComparing, IsStoring}
 use Rattle.machine.specs.Threads.{Thread}
 use Rattle.machine.specs.States.{ComparesNext, StoresNext, ThreadState}
 use Rattle.machine.specs.inner.Contexts.{PlainContext, machine_thread, shown_from}
-use Rattle.machine.proofs.keeping.Committing.{kept_stores}
+use Rattle.machine.proofs.contexts.Committing.{kept_stores}
 
 kept_compares : (c : Configuration) (time index : ℕ) (o : Option (Attempt Saved)) → IsSomeAnd (shown_from c o) (λ a. IsComparing time index a) → IsSomeAnd o (λ a. IsComparing time index a)
 kept_compares c time index None h = absurd h

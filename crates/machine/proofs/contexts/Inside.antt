@@ -29,12 +29,12 @@ use Rattle.machine.specs.States.{told_twice}
 use Rattle.machine.specs.Threads.{Thread, resume, status_after, with_value}
 use Rattle.machine.specs.inner.Inside.{CanStepInside, Inside, LeadsInside, LeadsTo, counted_at, context_at}
 use Rattle.machine.specs.inner.Contexts.{Advances, AreWithin, PlainContext, Makes, RunsInContext, back_by, op_by, machine_thread}
-use Rattle.machine.proofs.keeping.Advancing.{advances, advances_once, once_asked}
-use Rattle.machine.proofs.keeping.Makes.{kept_same}
-use Rattle.machine.proofs.keeping.Operations.{does, reads_word}
-use Rattle.machine.proofs.keeping.Reading.{loads_next, makes_both, word_or_going}
-use Rattle.machine.proofs.keeping.Seen.{thread_of, within}
-use Rattle.machine.proofs.keeping.Words.{FitsRegister}
+use Rattle.machine.proofs.contexts.Advancing.{advances, advances_once, once_asked}
+use Rattle.machine.proofs.contexts.Makes.{kept_same}
+use Rattle.machine.proofs.contexts.Operations.{does, reads_word}
+use Rattle.machine.proofs.contexts.Reading.{loads_next, makes_both, word_or_going}
+use Rattle.machine.proofs.contexts.Seen.{thread_of, within}
+use Rattle.machine.proofs.contexts.Words.{FitsRegister}
 
 module _ {X : Type 0} (leads : Code → X → Counted → ℕ → X → Counted → Type 0) (code : Code) where
   pub inside_stays : (a : Inside X) (from : Configuration) → LeadsInside leads code a from 0 a from

@@ -1,4 +1,4 @@
--- The steps of a kept thread: each shows as the machine's step.
+-- The steps of a thread's context: each shows as the machine's step.
 use Rattle.std.proofs.Common.{◌≡◌, ◌<◌, ◌+◌, ◌-◌, ◌^◌, ℕ, suc, Bool, true, false, List, [], ◌∷◌, ◌++◌, Option, None, Some, refl, sym, ◌∙◌, ap, subst, map, length, length-append, arith}
 use Rattle.syntax.specs.declared.numbers.Status.{Status}
 use Rattle.syntax.specs.declared.numbers.Status.TheVariants.{Running, Trapped as HasTrapped}
@@ -22,9 +22,9 @@ use Rattle.machine.specs.Standing.{begins_of, GivesWordsIf}
 use Rattle.machine.specs.States.{asks_outside, asks_by}
 use Rattle.machine.specs.inner.Contexts.{shown_from, AreWithin, ContextWith}
 use Rattle.machine.proofs.Levels.{same_split}
-use Rattle.machine.proofs.keeping.Operations.{Does, TakesAway, cancels_so, is_cancel, is_plain, is_read}
-use Rattle.machine.proofs.keeping.Operations.Does.{goes, reads, works, begins, commits, cancels, drops, releases}
-use Rattle.machine.proofs.keeping.Seen.{restored_saved, now_unused, within}
+use Rattle.machine.proofs.contexts.Operations.{Does, TakesAway, cancels_so, is_cancel, is_plain, is_read}
+use Rattle.machine.proofs.contexts.Operations.Does.{goes, reads, works, begins, commits, cancels, drops, releases}
+use Rattle.machine.proofs.contexts.Seen.{restored_saved, now_unused, within}
 
 -- a step of the core shows as the core's step on what is shown
 pub core_shown : (c : Configuration) (s : Saved) (att : Option (Attempt Saved)) (o : Op) (y : Answer) → (o ≡ op.Begin → s ≡ saved_in c) → core_step c (shown_from c att) o y ≡ core_step_as (begin_configuration c) (core_step s att o y)
