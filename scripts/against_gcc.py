@@ -1,20 +1,22 @@
 #!/usr/bin/env python3
-"""Judges GCC's transactions (-fgnu-tm, libitm) by txc: tells each outcome of a program that no order of whole transactions gives.
+"""Judges GCC's transactions (-fgnu-tm, libitm) by txc: tells each outcome of a program that no order of whole
+transactions gives.
 
     scripts/against_gcc.py FILE [--threads T] [--runs N] [--pauses] [--all] ..
     scripts/against_gcc.py --generate SEED [--count N] [--threads T] [--keep FOLDER] ..
     scripts/against_gcc.py --guide
 
-GCC builds the program at each level, with a harness (scripts/workloads/against.c) that calls `worker` in T threads N times over,
-each time from the globals' first values. Each build is run with each of libitm's methods. What is allowed is asked of
-`txc source`, order by order; a program that traps in one is left out, since C says nothing of it. A wrong outcome is told with the
-allowed one that differs from it in the fewest words, and the order that gives that.
+GCC builds the program at each level, with a harness (scripts/workloads/against.c) that calls `worker` in T threads N
+times over, each time from the globals' first values. Each build is run with each of libitm's methods. What is allowed
+is asked of `txc source`, order by order; a program that traps in one is left out, since C says nothing of it. A wrong
+outcome is told with the allowed one that differs from it in the fewest words, and the order that gives that.
 
---generate makes programs by chance and shrinks each that has a wrong outcome. --guide runs what docs/GUIDE.md shows of this script:
-where one thread runs, GCC 12.2.0 has to give what stands there; with more threads chance decides, and what comes is only printed.
+--generate makes programs by chance and shrinks each that has a wrong outcome. --guide runs what docs/GUIDE.md shows of
+this script: where one thread runs, GCC 12.2.0 has to give what stands there; with more threads chance decides, and what
+comes is only printed.
 
-Exit status: 1 where something is wrong, 2 where a program is left out or gcc, libitm or txc is not there. txc is $TXC, or the program
-that `rt run` or scripts/quick_build.py makes, or `txc` on the path.
+Exit status: 1 where something is wrong, 2 where a program is left out or gcc, libitm or txc is not there. txc is $TXC,
+or the program that `rt run` or scripts/quick_build.py makes, or `txc` on the path.
 """
 
 import argparse
@@ -73,7 +75,7 @@ def txc():
     raise LeftOut("there is no txc: scripts/quick_build.py makes one")
 
 
-# ---- what GCC makes of a program -------------------------------------------------------------------------------------------
+# ---- what GCC makes of a program -------------------------------------------------------------------------------------
 
 
 def size(text):
@@ -196,7 +198,7 @@ def judged(text, asked, first_only=False):
     return found, orders
 
 
-# ---- what is told ----------------------------------------------------------------------------------------------------------
+# ---- what is told ----------------------------------------------------------------------------------------------------
 
 
 def counted_as(count, word):
@@ -325,13 +327,17 @@ def words(given=None):
     parser.add_argument("--levels", default=LEVELS, help=f"{LEVELS} if not given")
     parser.add_argument("--methods", default=METHODS, help=f"of libitm: {METHODS} if not given")
     parser.add_argument("--flags", default="", help="more words for gcc, in one")
-    parser.add_argument("--pauses", action="store_true", help="waits by chance at /*pause*/, or where transactions begin")
+    parser.add_argument(
+        "--pauses", action="store_true", help="waits by chance at /*pause*/, or where transactions begin"
+    )
     parser.add_argument("--fresh", action="store_true", help="starts threads for each run")
     parser.add_argument("--all", action="store_true", help="tells each allowed outcome")
     parser.add_argument("--no-deaths", action="store_true", help="passes over runs that a signal ends")
     parser.add_argument("--count", type=int, default=1, metavar="N", help="programs by chance, from SEED on")
     parser.add_argument("--weights", default="", help="what is drawn, as cancel=0,wide=8")
-    parser.add_argument("--seconds", type=int, default=60, metavar="N", help="for shrinking one program, 60 if not given")
+    parser.add_argument(
+        "--seconds", type=int, default=60, metavar="N", help="for shrinking one program, 60 if not given"
+    )
     parser.add_argument("--keep", metavar="FOLDER", help="writes each shrunk program there")
     return parser.parse_args(given)
 
@@ -341,7 +347,9 @@ def main():
     try:
         if not shutil.which("gcc"):
             raise LeftOut("gcc is not installed")
-        version = subprocess.run(["gcc", "-dumpfullversion"], capture_output=True, text=True, check=False).stdout.strip()
+        version = subprocess.run(
+            ["gcc", "-dumpfullversion"], capture_output=True, text=True, check=False
+        ).stdout.strip()
         print(f"GCC {version}", file=sys.stderr)
         if asked.guide:
             return hold_guide(version)

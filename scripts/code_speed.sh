@@ -1,13 +1,14 @@
 #!/bin/sh
-# Prints what register code takes in a built program, by the fastest of some rounds: to make it of a source of nearly 1 MiB, in
-# two shapes, everything before it included; to find out that 1,048,576 instructions are valid, in two shapes; and to run a
-# thread that counts. The program is made in a folder of its own and removed.
+# Prints what register code takes in a built program, by the fastest of some rounds: to make it of a source of nearly
+# 1 MiB, in two shapes, everything before it included; to find out that 1,048,576 instructions are valid, in two shapes;
+# and to run a thread that counts. The program is made in a folder of its own and removed.
 set -e
 top=$(cd "$(dirname "$0")/.." && pwd)
 work=$(mktemp -d)
 trap 'rm -rf "$work"' EXIT
 mkdir -p "$work/crates/code_speed/src"
-python3 "$top/scripts/copy_crates.py" "$work" code_speed atomic_code bytecode containers lex lower parse safety separation syntax types
+python3 "$top/scripts/copy_crates.py" "$work" code_speed atomic_code bytecode containers lex lower parse safety \
+    separation syntax types
 cat > "$work/crates/code_speed/src/main.rt" <<'END'
 //! Prints what register code takes.
 #![tactic(auto)]

@@ -3,8 +3,8 @@
 
     scripts/copy_crates.py FOLDER PROGRAM CRATE..
 
-Copies these crates and those below them, with what was proved of them (out/), to FOLDER/crates, and writes FOLDER/crates.txt: their
-rows, and one of PROGRAM over the crates that are named.
+Copies these crates and those below them, with what was proved of them (out/), to FOLDER/crates, and writes
+FOLDER/crates.txt: their rows, and one of PROGRAM over the crates that are named.
 """
 
 import shutil

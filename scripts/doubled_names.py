@@ -1,9 +1,11 @@
 #!/usr/bin/env python3
-"""Lists and counts capitalised names that two files behind public contracts define. usage: doubled_names.py [ROOT] [--inner] [--all]
+"""Lists and counts capitalised names that two files behind public contracts define.
+usage: doubled_names.py [ROOT] [--inner] [--all]
 
-A contract of a public function cites definitions of specs/ that lie outside specs/inner; where two of them had one name, a reader
-would have to look at the imports to know which is meant. So no capitalised name stands twice. `--inner` looks into specs/inner
-too, `--all` counts names with a small letter as well. The last line is the count; the exit status is 1 where it is not 0.
+A contract of a public function cites definitions of specs/ that lie outside specs/inner; where two of them had one
+name, a reader would have to look at the imports to know which is meant. So no capitalised name stands twice. `--inner`
+looks into specs/inner too, `--all` counts names with a small letter as well. The last line is the count; the exit
+status is 1 where it is not 0.
 """
 import collections
 import pathlib
@@ -15,7 +17,8 @@ DEFINED = re.compile(r"^ *(?:(?:private|opaque|unfoldable|abbrev|data|record|cla
 
 
 def definitions(path):
-    """Names that a file of definitions makes public, with their lines: within modules too. Fields of records are among them."""
+    """Names that a file of definitions makes public, with their lines: within modules too.
+    Fields of records are among them."""
     for number, line in enumerate(path.read_text().split("\n"), 1):
         found = DEFINED.match(line)
         if found:

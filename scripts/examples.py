@@ -1,14 +1,16 @@
 #!/usr/bin/env python3
-"""Writes crates/serving_replays_tests/src/examples.rt. It runs each program of examples/, examples/against/ and examples/bench/ and
-compares what it prints with the file of the same name that ends in .out; and it runs each transcript of examples/transcripts/, a
-file whose first line is a command line, `$ txc ..`, and which has under it what a terminal then shows. And it writes
-crates/lower_tests/src/of_meaning/examples.rt, which runs each program of examples/ from its tree and compares with the same file,
-and crates/lower_tests/src/of_lower/examples.rt, which lists the programs of examples/ and demands a code of each.
+"""Writes crates/serving_replays_tests/src/examples.rt. It runs each program of examples/, examples/against/ and
+examples/bench/ and compares what it prints with the file of the same name that ends in .out; and it runs each
+transcript of examples/transcripts/, a file whose first line is a command line, `$ txc ..`, and which has under it what
+a terminal then shows. And it writes crates/lower_tests/src/of_meaning/examples.rt, which runs each program of examples/
+from its tree and compares with the same file, and crates/lower_tests/src/of_lower/examples.rt, which lists the programs
+of examples/ and demands a code of each.
 
-With --check it writes nothing, and fails where one of the three is not what it would write, or where a document shows what the program
-does not print: a block that begins with `$ txc run examples/NAME.c` has NAME.out under it, any other one that begins with
-`$ txc` is a transcript, README.md shows the output of first.c in a block of its own, and the C that it and GUIDE.md show is that
-of files of examples/, and the schedules that GUIDE.md shows are those of examples/schedules/.
+With --check it writes nothing, and fails where one of the three is not what it would write, or where a document shows
+what the program does not print: a block that begins with `$ txc run examples/NAME.c` has NAME.out under it, any other
+one that begins with `$ txc` is a transcript, README.md shows the output of first.c in a block of its own, and the C
+that it and GUIDE.md show is that of files of examples/, and the schedules that GUIDE.md shows are those of
+examples/schedules/.
 """
 
 import glob
@@ -67,7 +69,10 @@ def transcript(path):
 
 def tests():
     examples = [row([literal(name), data(read(name)), data(read(name[:-2] + ".out"))], 8) for name in programs()]
-    transcripts = [row([literal(words), *map(data, shown)], 8) for words, *shown in map(transcript, names("examples/transcripts/*.txt"))]
+    transcripts = [
+        row([literal(words), *map(data, shown)], 8)
+        for words, *shown in map(transcript, names("examples/transcripts/*.txt"))
+    ]
     return f"""//! The programs of examples/ with what each prints, and its transcripts: written by scripts/examples.py.
 
 use serving_in_memory::{{Served, serve_line}};
@@ -156,7 +161,8 @@ fn transcripts_show_what_they_should(rt: HostRuntime) {{
 
 
 def told(source, out):
-    """What a report of one thread of a source says: the number of its trap or 0, what it printed, and the words of memory."""
+    """What a report of one thread of a source says: the number of its trap or 0, what it printed,
+    and the words of memory."""
     end, rest = out.split("\n", 1)
     printed, memory = rest.split("== memory\n")
     trap = re.fullmatch("== thread 0: (?:ended|trap ([1-5]))", end)[1]
@@ -167,7 +173,10 @@ def told(source, out):
 
 
 def meaning_tests():
-    examples = [f"        (\n            {literal(read(name))},\n{told(read(name), read(name[:-2] + '.out'))}        ),\n" for name in names("examples/*.c")]
+    examples = [
+        f"        (\n            {literal(read(name))},\n{told(read(name), read(name[:-2] + '.out'))}        ),\n"
+        for name in names("examples/*.c")
+    ]
     return f"""//! The programs of examples/, each run alone from its tree: written by scripts/examples.py.
 
 use crate::asserted::assert_none;
@@ -278,7 +287,11 @@ def main():
             with open(path, "w", encoding="utf-8") as file:
                 file.write(text)
         return 0
-    wrong = [f"{os.path.relpath(path, TOP)} is not what this script writes" for path, text in written.items() if read(path) != text]
+    wrong = [
+        f"{os.path.relpath(path, TOP)} is not what this script writes"
+        for path, text in written.items()
+        if read(path) != text
+    ]
     transcripts = {read(name) for name in names("examples/transcripts/*.txt")}
     count = 0
     for document in ["README.md", *names("docs/*.md")]:
@@ -289,12 +302,23 @@ def main():
                 wrong.append(f"{document} does not show what this prints: {line.strip()}")
     programs = {read(name) for name in names("examples/**/*.c")}
     for document in ("README.md", "docs/GUIDE.md"):
-        wrong += [f"{document} shows a program that is no example: {text[:60]!r}" for text in PROGRAM.findall(read(document)) if text not in programs]
+        wrong += [
+            f"{document} shows a program that is no example: {text[:60]!r}"
+            for text in PROGRAM.findall(read(document))
+            if text not in programs
+        ]
     schedules = {read(name) for name in names("examples/schedules/*.txt")}
-    wrong += [f"docs/GUIDE.md shows a schedule that is no example: {text[:60]!r}" for text in SCHEDULE.findall(read("docs/GUIDE.md")) if text not in schedules]
+    wrong += [
+        f"docs/GUIDE.md shows a schedule that is no example: {text[:60]!r}"
+        for text in SCHEDULE.findall(read("docs/GUIDE.md"))
+        if text not in schedules
+    ]
     if f"```\n{read('examples/first.out')}```" not in read("README.md"):
         wrong.append("README.md does not show what first.c prints")
-    print("\n".join(wrong) or f"the examples are those of the tests, and {count} transcripts in documents are as they run")
+    print(
+        "\n".join(wrong)
+        or f"the examples are those of the tests, and {count} transcripts in documents are as they run"
+    )
     return 1 if wrong else 0
 
 

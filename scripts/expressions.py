@@ -3,12 +3,13 @@
 
     scripts/expressions.py [COUNT [SEED [TXC]]]
 
-Each of COUNT programs (300) has six locals with values at the edges of their types, prints an expression over them, and stores it in
-two globals. `txc run` and `txc source` have to print the value that the rules of docs/LANGUAGE.md give here, in Python's numbers that
-have no bounds, or to end in the trap that they give. What does not trap is given to GCC too (`-fwrapv`), all in one program.
+Each of COUNT programs (300) has six locals with values at the edges of their types, prints an expression over them, and
+stores it in two globals. `txc run` and `txc source` have to print the value that the rules of docs/LANGUAGE.md give
+here, in Python's numbers that have no bounds, or to end in the trap that they give. What does not trap is given to GCC
+too (`-fwrapv`), all in one program.
 
-TXC is the program, crates/txc/out/txc if it is not given, which `cd crates/txc && rt run -- --version` builds; the one of
-scripts/quick_build.py will do.
+TXC is the program, crates/txc/out/txc if it is not given, which `cd crates/txc && rt run -- --version` builds; the one
+of scripts/quick_build.py will do.
 """
 
 import collections
@@ -157,7 +158,11 @@ def drawn(chance, depth):
     op = chance.choice(BINARY)
     if op not in SHIFTED:
         return binary(op, first, second)
-    return shift(op, first, constant(chance, chance.choice([INT, LONG_LONG]), chance.choice(COUNTS)) if chance.random() < 0.7 else second)
+    return shift(
+        op,
+        first,
+        constant(chance, chance.choice([INT, LONG_LONG]), chance.choice(COUNTS)) if chance.random() < 0.7 else second,
+    )
 
 
 def written(of, number):
@@ -170,7 +175,12 @@ def held_values(chance):
     """What the locals hold."""
     numbers = [sign * edge for edge in EDGES for sign in (1, -1)]
     return {
-        name: converted(of, chance.choice(numbers) if chance.random() < 0.6 else chance.randrange(2**64) >> chance.choice([0, 8, 32, 60]))
+        name: converted(
+            of,
+            chance.choice(numbers)
+            if chance.random() < 0.6
+            else chance.randrange(2**64) >> chance.choice([0, 8, 32, 60]),
+        )
         for name, of in LOCALS.items()
     }
 
@@ -184,7 +194,9 @@ def body(held, e):
 def hold(txc, place, chance):
     """The body and value of a program that does not trap, or None; it ends where txc gives something else."""
     held, e, stored = held_values(chance), drawn(chance, chance.choice([2, 3, 4])), chance.choice(TYPES)
-    text = f"{stored} g, h; void worker(int self) {{ {body(held, e)} __transaction_atomic {{ g = {e.text}; h = g; }} }}\n"
+    text = (
+        f"{stored} g, h; void worker(int self) {{ {body(held, e)} __transaction_atomic {{ g = {e.text}; h = g; }} }}\n"
+    )
     try:
         value = e.value(held)
         left = converted(stored, value)
@@ -227,7 +239,10 @@ def main():
         has_gcc = shutil.which("gcc") is not None
         if has_gcc:
             hold_gcc(place, programs)
-    print(f"{count} programs, of which {count - len(programs)} trap: `run` and `source` give what they should" + (", and GCC the same" if has_gcc else ""))
+    print(
+        f"{count} programs, of which {count - len(programs)} trap: `run` and `source` give what they should"
+        + (", and GCC the same" if has_gcc else "")
+    )
 
 
 if __name__ == "__main__":

@@ -1,13 +1,15 @@
 #!/usr/bin/env python3
-"""Compares docs/FAULTS.md with the tests that run its examples, with the table of words and with what `txc explain` prints.
+"""Compares docs/FAULTS.md with the tests that run its examples, with the table of words and
+with what `txc explain` prints.
 
   scripts/faults.py           fails where they differ
-  scripts/faults.py --write   writes crates/faults/src/explanations.rt, which is what `txc explain` prints, from the page
+  scripts/faults.py --write   writes crates/faults/src/explanations.rt, which is what `txc explain` prints,
+                              from the page
 
-Each example of the page's first table has to stand in crates/serving_tests/src/refusals.rt, with the same number, place and words,
-in TOLD or LONG; each number of the page has the words of crates/faults/src/table.rt, and so has each variant of a type of faults
-(`#[error("..")]`) for its number; one of a type without numbers has the words of some number. Prints what differs, and ends in
-status 1 where something does.
+Each example of the page's first table has to stand in crates/serving_tests/src/refusals.rt, with the same number, place
+and words, in TOLD or LONG; each number of the page has the words of crates/faults/src/table.rt, and so has each variant
+of a type of faults (`#[error("..")]`) for its number; one of a type without numbers has the words of some number.
+Prints what differs, and ends in status 1 where something does.
 """
 
 import glob
@@ -56,7 +58,10 @@ def documented(part):
     """The rows of the tables of a part of the page that have examples with a place."""
     rows = []
     for line in part.split("\n"):
-        cells = [cell.strip() if cell.strip() != "``" else "" for cell in re.split(r"(?<!\\) \| ", line.strip().strip("|"))]
+        cells = [
+            cell.strip() if cell.strip() != "``" else ""
+            for cell in re.split(r"(?<!\\) \| ", line.strip().strip("|"))
+        ]
         if len(cells) == 6 and re.fullmatch(r"\d\d", cells[0]):
             number, words, _, _, shown, at = cells
             rows.append((example(shown), int(number), f"{at}: {words}"))
@@ -137,7 +142,11 @@ def main():
     wrong += [f"the page has no example of {row[1]:02} at {row[2]}: {row[0][:80]!r}" for row in told if row not in here]
     words = {int(number): text for number, text in re.findall(rf"(\d+) => {TEXT}", read("crates/faults/src/table.rt"))}
     shown = {int(number): text for number, text in re.findall(r"^\| (\d\d) \| ([^|]*?) \|", page, re.M)}
-    wrong += [f"{number:02}: the page says {shown.get(number)!r}, the program {words.get(number)!r}" for number in sorted({*words, *shown}) if words.get(number) != shown.get(number)]
+    wrong += [
+        f"{number:02}: the page says {shown.get(number)!r}, the program {words.get(number)!r}"
+        for number in sorted({*words, *shown})
+        if words.get(number) != shown.get(number)
+    ]
     wrong += said_otherwise(words)
     underlined = re.search(rf"const UNDERLINED: .*?= \(\s*{TEXT},\s*{TEXT},\s*\);", code, re.S)
     if not underlined or f"```\n{plain(underlined[2])}```" not in page:

@@ -1,21 +1,26 @@
 #!/usr/bin/env python3
 """Measures what the gate costs, crate by crate, and keeps the table of docs/GATE.md.
 
-  scripts/gate_cost.py --gate [CRATE..]         runs the gate once (.ci/run, or `rt ci` of these crates and those below them where some are named),
-                                                passes on what it prints, and adds a line for each crate that it proved, or all of whose wrong bodies
-                                                it tried, to docs/gate_cost.csv
+  scripts/gate_cost.py --gate [CRATE..]         runs the gate once (.ci/run, or `rt ci` of these crates and those below
+                                                them where some are named), passes on what it prints, and adds a line
+                                                for each crate that it proved, or all of whose wrong bodies it tried, to
+                                                docs/gate_cost.csv
   scripts/gate_cost.py CRATE..                  measures crates one after another in copies, and adds a line for each
   scripts/gate_cost.py --part check CRATE..     one part alone: check, tests or wrong (wrong bodies)
-  scripts/gate_cost.py --table                  prints the table, from the least measurement of each part of each crate, of the files as they are
+  scripts/gate_cost.py --table                  prints the table, from the least measurement of each part of each crate,
+                                                of the files as they are
   scripts/gate_cost.py --write                  puts the table into docs/GATE.md
 
-With --gate each process of the run is looked at five times a second, with all that it started, and counted to the crate and the part
-that it works for; what it takes after the last look is in the sum alone, which the system gives at the end. A run that fails adds no
-line. How fast the processor is meanwhile is told by a fixed loop, made anew each ten seconds: what it took at the median and at best.
-A crate that is measured alone is proved from nothing in a copy; the crates below it are taken as they are in their out/ folders
-(those that have none are proved first, outside of the measurement), with their proofs, where the gate reads their statements alone.
-Its sources end in one line more there, since a check begins with what others on the machine keep of the same files.
-Seconds are of processor, over all processes; memory is the most that any one process held. --jobs N is how many jobs a check gets (2).
+With --gate each process of the run is looked at five times a second, with all that it started, and counted to the crate
+and the part that it works for; what it takes after the last look is in the sum alone, which the system gives at the
+end. A run that fails adds no line. How fast the processor is meanwhile is told by a fixed loop, made anew each ten
+seconds: what it took at the median and at best.
+A crate that is measured alone is proved from nothing in a copy; the crates below it are taken as they are in their out/
+folders (those that have none are proved first, outside of the measurement), with their proofs, where the gate reads
+their statements alone. Its sources end in one line more there, since a check begins with what others on the machine
+keep of the same files.
+Seconds are of processor, over all processes; memory is the most that any one process held. --jobs N is how many jobs a
+check gets (2).
 """
 
 import argparse
@@ -57,7 +62,8 @@ def below(crate, named):
 
 
 def measure(words, folder, log):
-    """Runs a command; gives its status, the seconds of processor of all its processes, and the most megabytes of any one."""
+    """Runs a command; gives its status, the seconds of processor of all its processes,
+    and the most megabytes of any one."""
     log.write(f"$ {' '.join(words)}\n")
     log.flush()
     process = subprocess.Popen(words, cwd=folder, stdin=subprocess.DEVNULL, stdout=log, stderr=subprocess.STDOUT)
@@ -76,7 +82,8 @@ def has_tests(folder):
 
 
 def add_remarks(folder):
-    """Ends each source below a folder in one line more, so that nothing fits it that a check elsewhere on this machine keeps."""
+    """Ends each source below a folder in one line more, so that nothing fits it that a check elsewhere
+    on this machine keeps."""
     remarks = {".rt": "// Measured from nothing.", ".antt": "-- measured from nothing"}
     for at, _, names in os.walk(folder):
         for name in names:
@@ -100,7 +107,9 @@ def measured(crate, parts, jobs):
         here = f"{room}/crates/{crate}"
         shutil.copytree(f"{TOP}/crates/{crate}", here, ignore=shutil.ignore_patterns("out"))
         add_remarks(here)
-        with open(f"{room}/crates.txt", "w", encoding="utf-8") as file, open(f"{TOP}/crates.txt", encoding="utf-8") as whole:
+        with open(f"{room}/crates.txt", "w", encoding="utf-8") as file, open(
+            f"{TOP}/crates.txt", encoding="utf-8"
+        ) as whole:
             file.writelines(it for it in whole if (re.split(r"[\s:]", it) or [""])[0] in [*needed, crate])
         with open(f"/tmp/gate_cost_{crate}.log", "w", encoding="utf-8") as log:
             for it in needed:
@@ -123,13 +132,18 @@ def measured(crate, parts, jobs):
                     row[f"{part}_s"], peak = round(seconds), max(peak, most)
                     if status:
                         sys.exit(f"{crate}: {' '.join(words)} failed: see {log.name}")
-                    print(f"{crate} {part}: {seconds:.0f} s of processor, at most {most:.0f} MB in one process", flush=True)
+                    print(
+                        f"{crate} {part}: {seconds:.0f} s of processor, at most {most:.0f} MB in one process",
+                        flush=True,
+                    )
     row["peak_mb"] = round(peak)
     return row
 
 
 def keep(row):
-    commit = subprocess.run(["git", "rev-parse", "--short", "HEAD"], cwd=TOP, stdout=subprocess.PIPE, text=True).stdout.strip()
+    commit = subprocess.run(
+        ["git", "rev-parse", "--short", "HEAD"], cwd=TOP, stdout=subprocess.PIPE, text=True
+    ).stdout.strip()
     row.update(commit=commit, date=datetime.date.today().isoformat())
     is_new = not os.path.isfile(CSV)
     with open(CSV, "a", encoding="utf-8", newline="") as file:
@@ -161,7 +175,10 @@ def work_of(pid):
     except OSError:
         return None
     if "--crate-name" in words:
-        return words[words.index("--crate-name") + 1], "wrong" if "/rt-edit-" in folder else "tests" if "--test" in words else "check"
+        return (
+            words[words.index("--crate-name") + 1],
+            "wrong" if "/rt-edit-" in folder else "tests" if "--test" in words else "check",
+        )
     tests = [it[1] for it in (re.search(r"/bin/(\w+)_tests$", word) for word in words) if it]
     return (tests[0], "tests") if tests else None
 
@@ -175,8 +192,8 @@ def room_of(pid):
 
 
 def look(root, taken, most, proved):
-    """Notes what each process that `root` started has taken so far, with all below it, in ticks, the most kilobytes of any one, and of
-    which crates and parts something is proved or tried, and in which rooms."""
+    """Notes what each process that `root` started has taken so far, with all below it, in ticks, the most kilobytes of
+    any one, and of which crates and parts something is proved or tried, and in which rooms."""
     stats, below = {}, {}
     for pid in filter(str.isdigit, os.listdir("/proc")):
         stat = text_of(pid, "stat").rpartition(")")[2].split()
@@ -209,7 +226,8 @@ def fixed_loop():
 
 
 def gate(names):
-    """Runs the gate, or its part for some crates, keeps a line for each crate that it worked for, and gives its status."""
+    """Runs the gate, or its part for some crates, keeps a line for each crate that it worked for,
+    and gives its status."""
     taken, most, proved, start, loops = {}, {}, {}, time.monotonic(), [fixed_loop()]
     # (named crates with as many checks at once, and jobs in each, as the whole gate)
     jobs = str(min(4, len(os.sched_getaffinity(0))))
@@ -226,7 +244,8 @@ def gate(names):
         # (tests that an earlier run proved are run all the same)
         parts = [part for part in ("check", "tests", "wrong") if (crate, part) in proved]
         if len(proved.get((crate, "wrong"), ())) < wrong_bodies(crate) + 2 * (wrong_bodies(crate) > 1):
-            # (some were kept; where there are more than one, a proof before them and one behind have rooms of their own)
+            # (some were kept; where there are more than one, a proof before them and one behind
+            # have rooms of their own)
             parts = [part for part in parts if part != "wrong"]
         row = {"crate": crate, "wrong_bodies": wrong_bodies(crate)}
         for part in parts:
@@ -238,16 +257,24 @@ def gate(names):
     minutes, seconds = round((time.monotonic() - start) / 60), used.ru_utime + used.ru_stime
     what = f"the gate's part for {' '.join(names)}" if names else "the gate"
     loop = f"a fixed loop took {sorted(loops)[len(loops) // 2]:.1f} ms of it at the median, {min(loops):.1f} at best"
-    print(f"{what} {'failed' if run.returncode else 'passed'} in {minutes} minutes, with {round(seconds / 60)} of processor; {loop}")
+    print(
+        f"{what} {'failed' if run.returncode else 'passed'} in {minutes} minutes,"
+        f" with {round(seconds / 60)} of processor; {loop}"
+    )
     return run.returncode
 
 
 def same_files(commit, crate, part):
-    """Whether a crate has the files that it had at a commit, and for the part `wrong_s` all its wrong bodies stood there as they are (with
-    more of them it took more)."""
+    """Whether a crate has the files that it had at a commit, and for the part `wrong_s` all its wrong bodies stood
+    there as they are (with more of them it took more)."""
 
     def differ(*words):
-        run = subprocess.run(["git", "diff", "--name-only", "--no-renames", commit, *words], cwd=TOP, stdout=subprocess.PIPE, stderr=subprocess.DEVNULL)
+        run = subprocess.run(
+            ["git", "diff", "--name-only", "--no-renames", commit, *words],
+            cwd=TOP,
+            stdout=subprocess.PIPE,
+            stderr=subprocess.DEVNULL,
+        )
         return run.returncode or run.stdout
 
     here = f"crates/{crate}"
@@ -257,19 +284,24 @@ def same_files(commit, crate, part):
 
 
 def table():
-    """The table: of each part the least that it took of the files that the crate has now (what else a machine does adds up to a third), or
-    where none was of these the last value, of wrong bodies where there are as many still; the memory is the most of the same lines."""
+    """The table: of each part the least that it took of the files that the crate has now (what else a machine does adds
+    up to a third), or where none was of these the last value, of wrong bodies where there are as many still; the memory
+    is the most of the same lines."""
     last, peaks, least = {}, {}, {}
     if os.path.isfile(CSV):
         with open(CSV, encoding="utf-8", newline="") as file:
             for row in csv.DictReader(file):
                 crate = row["crate"]
                 known = last.setdefault(crate, {})
-                taken = {part: int(row[part]) for part in ("check_s", "tests_s", "wrong_s") if row[part] not in ("", "0")}
+                taken = {
+                    part: int(row[part]) for part in ("check_s", "tests_s", "wrong_s") if row[part] not in ("", "0")
+                }
                 same = [part for part in taken if same_files(row["commit"], crate, part)]
                 if row["wrong_s"] != "" and int(row["wrong_bodies"]) != wrong_bodies(crate):
                     row["wrong_s"] = ""
-                known.update({field: row[field] for field in FIELDS if row[field] != ""}, wrong_bodies=wrong_bodies(crate))
+                known.update(
+                    {field: row[field] for field in FIELDS if row[field] != ""}, wrong_bodies=wrong_bodies(crate)
+                )
                 for part in taken:
                     held = int(row["peak_mb"])
                     if part in same:
@@ -282,22 +314,33 @@ def table():
     for (crate, part), (took, _) in least.items():
         last[crate][part] = took
     for crate, known in last.items():
-        known.update({} if known["wrong_bodies"] else {"wrong_s": 0}, **({} if has_tests(f"{TOP}/crates/{crate}") else {"tests_s": 0}))
+        known.update(
+            {} if known["wrong_bodies"] else {"wrong_s": 0},
+            **({} if has_tests(f"{TOP}/crates/{crate}") else {"tests_s": 0}),
+        )
     number = lambda row, field: int(row.get(field) or 0)
     whole = lambda row: sum(number(row, field) for field in ("check_s", "tests_s", "wrong_s"))
-    shown = lambda row, field: "not measured" if field not in row else f"{int(row[field]):,}" if int(row[field]) else "–"
-    lines = ["| Crate | Check, s | Tests, s | Wrong bodies | Their s | Peak of one process, GB | Last measured at |", "|---|---|---|---|---|---|---|"]
+    shown = lambda row, field: (
+        "not measured" if field not in row else f"{int(row[field]):,}" if int(row[field]) else "–"
+    )
+    lines = [
+        "| Crate | Check, s | Tests, s | Wrong bodies | Their s | Peak of one process, GB | Last measured at |",
+        "|---|---|---|---|---|---|---|",
+    ]
     crates = [it for it in libraries()]
     for crate in sorted((it for it in peaks if it in crates), key=lambda it: -whole(last[it])):
         row, peak = last[crate], max(peaks[crate].values()) / 1024
         lines.append(
-            f"| `{crate}` | {shown(row, 'check_s')} | {shown(row, 'tests_s')} | {shown(row, 'wrong_bodies')} | {shown(row, 'wrong_s')} | {f'{peak:.1f}' if peak else 'not measured'} | {row['commit']} |"
+            f"| `{crate}` | {shown(row, 'check_s')} | {shown(row, 'tests_s')} | {shown(row, 'wrong_bodies')}"
+            f" | {shown(row, 'wrong_s')} | {f'{peak:.1f}' if peak else 'not measured'} | {row['commit']} |"
         )
     rows = [last[it] for it in crates if it in last]
     sums = [sum(number(row, field) for row in rows) for field in ("check_s", "tests_s", "wrong_bodies", "wrong_s")]
     minutes = (sums[0] + sums[1] + sums[3]) / 60
     most = max([max(peaks[it].values()) for it in crates if it in peaks] or [0]) / 1024
-    lines.append(f"| all measured: {minutes:.0f} min | {sums[0]:,} | {sums[1]:,} | {sums[2]} | {sums[3]:,} | {most:.1f} | |")
+    lines.append(
+        f"| all measured: {minutes:.0f} min | {sums[0]:,} | {sums[1]:,} | {sums[2]} | {sums[3]:,} | {most:.1f} | |"
+    )
     missing = [it for it in crates if it not in peaks]
     if missing:
         lines += ["", f"Not measured yet: {', '.join(f'`{it}`' for it in missing)}."]

@@ -1,16 +1,17 @@
 #!/usr/bin/env python3
-"""Puts a program where things go wrong, and fails where it then crashes, tells something else than what went wrong, or prints a report
-that says something else than it does elsewhere.
+"""Puts a program where things go wrong, and fails where it then crashes, tells something else than what went wrong, or
+prints a report that says something else than it does elsewhere.
 
   scripts/hostile.py [TXC]
 
-TXC is the program, crates/txc/out/txc if it is not given, which `cd crates/txc && rt run -- --version` builds; the one of
-scripts/quick_build.py will do. It takes less than a minute, and needs Linux, and `gcc` for the first part:
+TXC is the program, crates/txc/out/txc if it is not given, which `cd crates/txc && rt run -- --version` builds; the one
+of scripts/quick_build.py will do. It takes less than a minute, and needs Linux, and `gcc` for the first part:
 
-  - each growth of each command refused in turn, by a library that is loaded before the system's and counts the calls of `malloc` and
-    its kin: `txc: out of memory`, or fault 73 where a thread is not started, or a whole report in which a step was not made (stop 00)
-  - standard output full after each byte of a report, closed, and a pipe that nobody reads: `txc: cannot write`, behind no more than
-    what fits
+  - each growth of each command refused in turn, by a library that is loaded before the system's and counts the calls of
+    `malloc` and its kin: `txc: out of memory`, or fault 73 where a thread is not started, or a whole report in which a
+    step was not made (stop 00)
+  - standard output full after each byte of a report, closed, and a pipe that nobody reads: `txc: cannot write`, behind
+    no more than what fits
   - sources that are a FIFO, a directory, a file that nobody may read, one that shrinks while it is read
   - 64 threads of 64 frames each
   - less address space than the program wants, from 20 MiB up in steps of 4
@@ -34,7 +35,8 @@ OUT_OF_MEMORY = b"txc: out of memory\n"
 PROGRAMS = {
     "cancels": (
         "int f, g = 1, h; void worker(int self) { if (self == 0) { __transaction_atomic { f = 1; h = 1; } } else {"
-        " __transaction_atomic { __transaction_atomic { if (f == 0) { g = 9; __transaction_cancel; } g = 5; } g = g + h; } } }",
+        " __transaction_atomic { __transaction_atomic { if (f == 0) { g = 9; __transaction_cancel; } g = 5; }"
+        " g = g + h; } } }",
         "1 a5\n0 a6\n1 a13\n",
         "0,1",
     ),
@@ -51,7 +53,7 @@ PROGRAMS = {
 }
 
 # Refuses the growth whose number the environment's REFUSED has, from 1 on.
-REFUSES = r"""
+REFUSES = """
 #define _GNU_SOURCE
 #include <dlfcn.h>
 #include <errno.h>
@@ -65,7 +67,8 @@ static void *(*malloc_next)(size_t), *(*realloc_next)(void *, size_t), *(*aligne
 static int (*posix_memalign_next)(void **, size_t, size_t);
 void *malloc(size_t n) { if (refused()) { errno = ENOMEM; return 0; } return NEXT(malloc)(n); }
 void *realloc(void *p, size_t n) { if (refused()) { errno = ENOMEM; return 0; } return NEXT(realloc)(p, n); }
-void *aligned_alloc(size_t a, size_t n) { if (refused()) { errno = ENOMEM; return 0; } return NEXT(aligned_alloc)(a, n); }
+void *aligned_alloc(size_t a, size_t n) { if (refused()) { errno = ENOMEM; return 0; } \
+return NEXT(aligned_alloc)(a, n); }
 int posix_memalign(void **p, size_t a, size_t n) { return refused() ? ENOMEM : NEXT(posix_memalign)(p, a, n); }
 """
 
@@ -79,7 +82,9 @@ def blame(what, done):
 
 def run(words, **how):
     """Runs a command line to its end."""
-    return subprocess.run(words, stdout=how.pop("stdout", subprocess.PIPE), stderr=subprocess.PIPE, timeout=60, check=False, **how)
+    return subprocess.run(
+        words, stdout=how.pop("stdout", subprocess.PIPE), stderr=subprocess.PIPE, timeout=60, check=False, **how
+    )
 
 
 def same(done, other):
@@ -88,12 +93,17 @@ def same(done, other):
 
 def is_stopped(done):
     """Whether a report is whole, says that a step was refused memory, and is told so."""
-    return done.stdout.startswith(b"== ") and b": stop 00\n" in done.stdout and b"== memory" in done.stdout and not done.stderr
+    return (
+        done.stdout.startswith(b"== ")
+        and b": stop 00\n" in done.stdout
+        and b"== memory" in done.stdout
+        and not done.stderr
+    )
 
 
 def has_run(words, done, whole):
-    """Whether a run is reported: its threads come to their ends in some order, or one has used up its budget while it waited for
-    another that had the lock and was not given a processor."""
+    """Whether a run is reported: its threads come to their ends in some order, or one has used up its budget while it
+    waited for another that had the lock and was not given a processor."""
     is_spent = done.returncode == 4 and done.stdout.startswith(b"== thread 0: ") and b": budget\n" in done.stdout
     return words[1] == "run" and not done.stderr and (done.returncode == whole.returncode or is_spent)
 
@@ -205,7 +215,9 @@ def odd_files(txc):
     for name in ("folder.c", "closed.c"):
         done = run([txc, "check", name])
         may_read = name == "closed.c" and os.access(name, os.R_OK)
-        if not may_read and (done.returncode, done.stdout, done.stderr) != (2, b"", f"txc: cannot read {name}\n".encode()):
+        if not may_read and (
+            (done.returncode, done.stdout, done.stderr) != (2, b"", f"txc: cannot read {name}\n".encode())
+        ):
             blame(name, done)
 
 
@@ -226,7 +238,10 @@ def shrinking_file(txc):
     shrinking.start()
     for _ in range(50):
         done = run([txc, "check", "shrinks.c"])
-        if not (done.returncode == 0 and done.stdout == b"accepted\n" or done.returncode in (1, 2) and done.stderr.startswith(b"txc: ")):
+        if not (
+            done.returncode == 0 and done.stdout == b"accepted\n"
+            or done.returncode in (1, 2) and done.stderr.startswith(b"txc: ")
+        ):
             blame("a file that shrinks", done)
             break
     stop.set()
@@ -248,7 +263,8 @@ def in_space(space):
 
 
 def little_space(txc):
-    """A report that is whole and the same, or a fault that is told. Where not even the version is told the system has not loaded it."""
+    """A report that is whole and the same, or a fault that is told. Where not even the version is told the system has
+    not loaded it."""
     lines = [words for name, (_, _, order) in PROGRAMS.items() for words in commands(txc, name, order)]
     whole = [run(words) for words in lines]
     for space in range(20, 204, 4):

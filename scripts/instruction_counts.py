@@ -1,12 +1,12 @@
 #!/usr/bin/env python3
-"""Counts the processor's instructions of `txc run` with one thread, by `valgrind --tool=callgrind`, which gives the same counts
-whatever else the machine does.
+"""Counts the processor's instructions of `txc run` with one thread, by `valgrind --tool=callgrind`, which gives the
+same counts whatever else the machine does.
 
     scripts/instruction_counts.py [TXC]
 
-Each workload of examples/bench is run with two numbers of turns; the difference, divided by how much more was done, is what one
-transaction, word or call takes, everything round it included. TXC is the program, crates/txc/out/txc if it is not given, which
-`cd crates/txc && rt run -- --version` builds.
+Each workload of examples/bench is run with two numbers of turns; the difference, divided by how much more was done, is
+what one transaction, word or call takes, everything round it included. TXC is the program, crates/txc/out/txc if it is
+not given, which `cd crates/txc && rt run -- --version` builds.
 """
 import os, re, shutil, subprocess, sys, tempfile
 
@@ -21,7 +21,8 @@ def calls(n):
 
 NARROW = 'the same of `sum` in `int`'
 
-# What is counted: the workload, a text in it, the number there, the two in its place, and how often the thing is done with each.
+# What is counted: the workload, a text in it, the number there, the two in its place, and how often the thing is done
+# with each.
 COUNTED = [
     ('a transaction of `counter`', 'counter', 'i < {}', 500000, (1000, 3000), lambda n: n),
     ('a word that `longread` reads', 'longread', 'i < {}', 5000, (10, 30), lambda n: 512 * n),
@@ -62,7 +63,10 @@ def main():
             text = text.replace('long long', 'int').replace('%lld', '%d')
         if text.count(place.format(number)) != 1:
             sys.exit(f'examples/bench/{name}.c has {place.format(number)} not once')
-        more = counted(text.replace(place.format(number), place.format(many))) - counted(text.replace(place.format(number), place.format(few)))
+        more = (
+            counted(text.replace(place.format(number), place.format(many)))
+            - counted(text.replace(place.format(number), place.format(few)))
+        )
         print(f'| {what} | {round(more / (times(many) - times(few)))} |')
 
 

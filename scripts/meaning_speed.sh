@@ -1,7 +1,7 @@
 #!/bin/sh
-# Prints how many ticks a second the source's meaning takes, in a built program, by the fastest of some rounds: a loop over a
-# local, a loop in a transaction over a global, and calls. Where `lua5.4` is installed, how long the same loops take there, and
-# how many times that the source's meaning takes.
+# Prints how many ticks a second the source's meaning takes, in a built program, by the fastest of some rounds: a loop
+# over a local, a loop in a transaction over a global, and calls. Where `lua5.4` is installed, how long the same loops
+# take there, and how many times that the source's meaning takes.
 # The program is made in a folder of its own, over the proofs that lie in out/, and removed.
 set -e
 top=$(cd "$(dirname "$0")/.." && pwd)
@@ -27,10 +27,14 @@ use std::io;
 use std::time::Instant;
 use types::check;
 
-const LOCAL: &str = "void worker(int self) { int total = 0; for (int i = 0; i < 5000000; i++) total = (total + i) & 1023; }";
-const BRACES: &str = "void worker(int self) { int total = 0; for (int i = 0; i < 3300000; i++) { total = (total + i) & 1023; } }";
-const GLOBAL: &str = "int total; int f(int a) { return a; } void worker(int self) { __transaction_relaxed { for (int i = 0; i < 5000000; i++) total = (total + i) & 1023; } }";
-const CALLS: &str = "int f(int a) { return a + 1; } void worker(int self) { int total = 0; for (int i = 0; i < 2500000; i++) total = f(total) & 1023; }";
+const LOCAL: &str =
+    "void worker(int self) { int total = 0; for (int i = 0; i < 5000000; i++) total = (total + i) & 1023; }";
+const BRACES: &str =
+    "void worker(int self) { int total = 0; for (int i = 0; i < 3300000; i++) { total = (total + i) & 1023; } }";
+const GLOBAL: &str = "int total; int f(int a) { return a; } void worker(int self) { __transaction_relaxed { \
+    for (int i = 0; i < 5000000; i++) total = (total + i) & 1023; } }";
+const CALLS: &str = "int f(int a) { return a + 1; } void worker(int self) { int total = 0; \
+    for (int i = 0; i < 2500000; i++) total = f(total) & 1023; }";
 
 fn measure(rt: &HostRuntime, name: &str, text: &str) -> io::Result<()> {
     let Ok(tokens) = lex(rt.alloc(), text) else {
@@ -65,7 +69,11 @@ fn measure(rt: &HostRuntime, name: &str, text: &str) -> io::Result<()> {
         }
     }
     let millions = (10000000000 as u128).checked_div(least);
-    println!(rt; "{name}: {ended} of 3 rounds, {} us for 10,000,000 ticks in the fastest, {} million a second", least / 1000, millions.unwrap_or(0))?;
+    println!(rt;
+        "{name}: {ended} of 3 rounds, {} us for 10,000,000 ticks in the fastest, {} million a second",
+        least / 1000,
+        millions.unwrap_or(0)
+    )?;
     Ok(())
 }
 

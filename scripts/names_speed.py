@@ -3,12 +3,12 @@
 
     scripts/names_speed.py [ROUNDS]
 
-First `txc check` of a function with 31,000 locals, a source of 1 MiB: whose names all have one hash, where a hash multiplies eight
-bytes by eight with a constant and no key (behind such a beginning one factor is 0, whatever comes after), and as many others. txc's
-hash has a key that is made of all names of the source, so both are to take as long. Then `txc listing` of a function with 60,000
-locals and 60,000 uses of one, the newest or the oldest. The program is crates/txc/out/txc, which
-`cd crates/txc && rt run -- --version` builds, or what TXC names; the figures are the least processor time of 5 rounds, where
-nothing is said.
+First `txc check` of a function with 31,000 locals, a source of 1 MiB: whose names all have one hash, where a hash
+multiplies eight bytes by eight with a constant and no key (behind such a beginning one factor is 0, whatever comes
+after), and as many others. txc's hash has a key that is made of all names of the source, so both are to take as long.
+Then `txc listing` of a function with 60,000 locals and 60,000 uses of one, the newest or the oldest. The program is
+crates/txc/out/txc, which `cd crates/txc && rt run -- --version` builds, or what TXC names; the figures are the least
+processor time of 5 rounds, where nothing is said.
 """
 
 import os

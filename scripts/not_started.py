@@ -1,11 +1,12 @@
 #!/usr/bin/env python3
-"""Runs a program on 64 threads where there is no room for their stacks, and fails where that is not told as a thread that was not
-started: fault 73, with nothing reported and the exit status 4. No test of the repository can make that happen.
+"""Runs a program on 64 threads where there is no room for their stacks, and fails where that is not told as a thread
+that was not started: fault 73, with nothing reported and the exit status 4. No test of the repository
+can make that happen.
 
   scripts/not_started.py [TXC]
 
-TXC is the program, crates/txc/out/txc if it is not given, which `cd crates/txc && rt run -- --version` builds; the one of
-scripts/quick_build.py will do. One with the checks of `rt try` will not: these take more room than it is given.
+TXC is the program, crates/txc/out/txc if it is not given, which `cd crates/txc && rt run -- --version` builds; the one
+of scripts/quick_build.py will do. One with the checks of `rt try` will not: these take more room than it is given.
 """
 
 import os

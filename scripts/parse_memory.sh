@@ -1,6 +1,7 @@
 #!/bin/sh
-# Prints how much memory lexer and parser take at most for sources of 1 MiB, in a built program: one of empty statements,
-# which has the most nodes for a byte, and some of others. The program is made in a folder of its own and removed.
+# Prints how much memory lexer and parser take at most for sources of 1 MiB, in a built program: one of empty
+# statements, which has the most nodes for a byte, and some of others.
+# The program is made in a folder of its own and removed.
 set -e
 top=$(cd "$(dirname "$0")/.." && pwd)
 work=$(mktemp -d)

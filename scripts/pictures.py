@@ -1,16 +1,20 @@
 #!/usr/bin/env python3
-"""Holds pictures of replays against their timelines and their sources, and the pictures of the documents against what is drawn now.
+"""Holds pictures of replays against their timelines and their sources, and the pictures of the documents against what
+is drawn now.
 
   scripts/pictures.py [SEEDS [TXC]]     each program of examples/ by so many seeds (20), with two to four threads
   scripts/pictures.py --write [TXC]     draws the pictures of docs/pictures/ anew
 
-TXC is the program, crates/txc/out/txc if it is not given, which `cd crates/txc && rt run -- --version` builds; the one of
-scripts/quick_build.py will do. Of each picture it is shown that
+TXC is the program, crates/txc/out/txc if it is not given, which `cd crates/txc && rt run -- --version` builds; the one
+of scripts/quick_build.py will do. Of each picture it is shown that
 
   - it is XML;
-  - its glyphs are titled by the lines of the timeline that have one: accesses, what happens, begins, ends and prints, up to access 400;
-  - it has an arrow for each abort, titled by the accesses of the last store to the word that had changed and of the load that found it;
-  - where all threads are over and nothing is cut off, the order at its foot, given to `txc source --order`, leaves what the replay left.
+  - its glyphs are titled by the lines of the timeline that have one: accesses, what happens, begins, ends and prints,
+    up to access 400;
+  - it has an arrow for each abort, titled by the accesses of the last store to the word that had changed and of the
+    load that found it;
+  - where all threads are over and nothing is cut off, the order at its foot, given to `txc source --order`, leaves what
+    the replay left.
 """
 
 import glob
@@ -52,7 +56,8 @@ def marked(timeline):
 
 
 def arrows_of(timeline):
-    """The titles of the arrows: for each abort, up to the last access that is drawn, the last store to its word and its load."""
+    """The titles of the arrows: for each abort, up to the last access that is drawn, the last store to its word
+    and its load."""
     stored = {}
     for line in timeline.splitlines()[1:]:
         accesses, _, said = LINE.fullmatch(line).groups()

@@ -1,8 +1,9 @@
 """Programs by chance, for txc and for GCC, and programs that are a little smaller.
 
-A program is a tree, so that each one that shrinking gives is well formed. No program traps, loops for ever or reads what was not
-written: numbers are `unsigned` but for a few globals, indices are masked, divisors are odd, shifts are by constants, locals have
-first values, and a loop's counter is not assigned in its body. `/*pause*/` marks where a thread may wait while others run.
+A program is a tree, so that each one that shrinking gives is well formed. No program traps, loops for ever or reads
+what was not written: numbers are `unsigned` but for a few globals, indices are masked, divisors are odd, shifts are by
+constants, locals have first values, and a loop's counter is not assigned in its body. `/*pause*/` marks where a thread
+may wait while others run.
 """
 
 import collections
@@ -12,13 +13,26 @@ import re
 # `form` has `{}` for each of `parts`. A statement with a `body` ends in its `tail`.
 Expr = collections.namedtuple("Expr", "form parts")
 Stmt = collections.namedtuple("Stmt", "form parts body tail")
-# Where a statement stands: how many transactions and blocks are around it; whether an atomic one is around it in the text;
-# whether what is unsafe, shared data, and leaving a loop may stand here; what a `return` gives; and whether an outer one is around it.
+# Where a statement stands: how many transactions and blocks are around it; whether an atomic one is around it in the
+# text; whether what is unsafe, shared data, and leaving a loop may stand here; what a `return` gives; and whether an
+# outer one is around it.
 Place = collections.namedtuple("Place", "transactions depth is_atomic may_unsafe may_share in_loop returns in_outer")
 # How often what is drawn, beside what is always drawn; `room` is how many statements a transaction has.
-WEIGHTS = {"nest": 3, "relaxed": 2, "cancel": 2, "leave": 1, "call": 2, "room": 8, "wide": 2, "return": 1, "value": 2, "outer": 1}
+WEIGHTS = {
+    "nest": 3,
+    "relaxed": 2,
+    "cancel": 2,
+    "leave": 1,
+    "call": 2,
+    "room": 8,
+    "wide": 2,
+    "return": 1,
+    "value": 2,
+    "outer": 1,
+}
 NUMBERS = ["0u", "1u", "2u", "3u", "5u", "7u", "10u", "100u", "4294967295u"]
-# What GCC may make one wide access of, or a call of `memset`: {a}, {b} are arrays, {i} a new counter, {op} an assignment.
+# What GCC may make one wide access of, or a call of `memset`: {a}, {b} are arrays, {i} a new counter,
+# {op} an assignment.
 WIDE = 2 * ["for (int {i} = 0; {i} < 8; {i}++) {{ {a}[{i}] = 0u; }}"] + [
     "{a}[0] {op} {0}; {a}[1] {op} {1};",
     "{a}[0] {op} {0}; {a}[1] {op} {1}; {a}[2] {op} {0}; {a}[3] {op} 4u;",
@@ -57,7 +71,7 @@ class Program:
         self.names += 1
         return f"{letter}{self.names}"
 
-    # ---- expressions ---------------------------------------------------------------------------------------------------
+    # ---- expressions -------------------------------------------------------------------------------------------------
 
     def index(self, names, depth, shared):
         inner = self.expr(names, depth - 1, shared) if self.happens(0.5) else Expr(self.pick("0123") + "u", [])
@@ -103,7 +117,7 @@ class Program:
         two = [self.expr(names, depth, shared), self.expr(names, depth, shared)]
         return Expr("({} " + self.pick(["==", "!=", "<", ">", "<="]) + " {})", two)
 
-    # ---- statements ----------------------------------------------------------------------------------------------------
+    # ---- statements --------------------------------------------------------------------------------------------------
 
     def stmts(self, names, room, place):
         inner, found = list(names), []
@@ -214,7 +228,7 @@ class Program:
         word = "atomic [[outer]]" if kind == "outer" else kind
         return block(f"__transaction_{word} {{{{/*pause*/", [], self.stmts(names, room, inside))
 
-    # ---- the whole -----------------------------------------------------------------------------------------------------
+    # ---- the whole ---------------------------------------------------------------------------------------------------
 
     def globals(self):
         for _ in range(self.chance.randint(2, 3)):
@@ -231,12 +245,21 @@ class Program:
     def leads_to_outer(self, body):
         """Whether an outer transaction, or a call of a function that leads to one, stands in these statements."""
         marks = ["atomic [[outer]]"] + [f"{it['name']}(" for it in self.functions if it["outer"]]
-        return any(mark in it.form for it in body for mark in marks) or any(self.leads_to_outer(it.body or []) for it in body)
+        return (
+            any(mark in it.form for it in body for mark in marks)
+            or any(self.leads_to_outer(it.body or []) for it in body)
+        )
 
     def function(self, place):
         unsafe = self.weights["relaxed"] > 0 and self.happens(0.25)
         names = [self.name("p") for _ in range(self.chance.randint(0, 2))]
-        made = {"name": self.name("f"), "params": len(names), "shares": self.happens(0.7), "unsafe": unsafe, "outer": False}
+        made = {
+            "name": self.name("f"),
+            "params": len(names),
+            "shares": self.happens(0.7),
+            "unsafe": unsafe,
+            "outer": False,
+        }
         place = place._replace(may_share=made["shares"], may_unsafe=unsafe, returns="value")
         body = self.stmts(names, [6], place) + [line("return {};", self.expr(names, 1, made["shares"]))]
         made["outer"] = self.leads_to_outer(body)
@@ -297,7 +320,7 @@ def text_of(items):
     return "\n".join(found) + "\n"
 
 
-# ---- shrinking -------------------------------------------------------------------------------------------------------------
+# ---- shrinking -------------------------------------------------------------------------------------------------------
 
 
 def smaller_exprs(expr):
@@ -330,13 +353,15 @@ def smaller(stmts):
 
 
 def is_whole(text):
-    """Whether each function with a value ends in a return: C says nothing of a value that was not given, and txc gives 0."""
+    """Whether each function with a value ends in a return: C says nothing of a value that was not given,
+    and txc gives 0."""
     functions = re.findall(r"^unsigned \w+\(.*?^\}", text, re.M | re.S)
     return all(re.search(r"\n  return [^\n]*;\n\}$", it) for it in functions)
 
 
 def shrunk(items, is_still):
-    """The program made smaller as long as `is_still` holds of its text; `is_still` says when time is up by raising TimeoutError."""
+    """The program made smaller as long as `is_still` holds of its text; `is_still` says when time
+    is up by raising TimeoutError."""
     try:
         again = True
         while again:

@@ -1,6 +1,7 @@
 #!/usr/bin/env python3
-"""Compares what documents quote with the files that they quote: a line that is a file's path between backticks, and under it a
-block of antt or rust. A line `..` in a block stands for lines that are left out. Fails where a quotation is not in its file.
+"""Compares what documents quote with the files that they quote: a line that is a file's path between backticks, and
+under it a block of antt or rust. A line `..` in a block stands for lines that are left out. Fails where a quotation is
+not in its file.
 """
 
 import glob

@@ -1,16 +1,18 @@
 #!/usr/bin/env python3
-"""Holds replays against the source: each program of examples/ is replayed by 200 seeds, with two to four threads, every other time cut
-off early. Where no thread has the lock at the end, its source is run in the order of the transactions that the replay tells of. Both
-have to leave the same memory; each thread has to have printed no more than there, and to be over in the same way if it is over.
+"""Holds replays against the source: each program of examples/ is replayed by 200 seeds, with two to four threads, every
+other time cut off early. Where no thread has the lock at the end, its source is run in the order of the transactions
+that the replay tells of. Both have to leave the same memory; each thread has to have printed no more than there, and to
+be over in the same way if it is over.
 
   scripts/replays.py [SEEDS [TXC]]
 
-TXC is the program, crates/txc/out/txc if it is not given, which `cd crates/txc && rt run -- --version` builds; the one of
-scripts/quick_build.py will do.
+TXC is the program, crates/txc/out/txc if it is not given, which `cd crates/txc && rt run -- --version` builds; the one
+of scripts/quick_build.py will do.
 
-The order is that of the events: each commit, each trap, and each cancel of an outermost transaction is one turn. A transaction that
-is cancelled may have found an earlier memory than that before its event, if others committed in between. So where the order of
-the events does not give what the replay gave, each cancel takes the last earlier turn at which it leaves memory as it is.
+The order is that of the events: each commit, each trap, and each cancel of an outermost transaction is one turn. A
+transaction that is cancelled may have found an earlier memory than that before its event, if others committed in
+between. So where the order of the events does not give what the replay gave, each cancel takes the last earlier turn at
+which it leaves memory as it is.
 """
 
 import glob
@@ -35,8 +37,8 @@ def report(txc, *words):
 
 
 def cancels_inside(source):
-    """Whether the program's cancels are of transactions that stand in others. They have to be all of one kind. An outer cancel is taken
-    for one of an outermost transaction."""
+    """Whether the program's cancels are of transactions that stand in others. They have to be all of one kind. An outer
+    cancel is taken for one of an outermost transaction."""
     kinds, blocks, opens = set(), [], False
     for word in re.findall(r"//.*|__transaction_cancel \[\[outer\]\]|__transaction_\w+|[{}]", source):
         if word == "{":
@@ -77,7 +79,8 @@ class Source:
         )
 
     def placed(self, found):
-        """The order in which each cancel has the last place, not before its thread's turn before, at which it changes nothing."""
+        """The order in which each cancel has the last place, not before its thread's turn before,
+        at which it changes nothing."""
         order = []
         for thread, cancels in found:
             places = range(len(order), len(order) - order[::-1].index(thread) - 1 if thread in order else -1, -1)
@@ -116,7 +119,10 @@ def main():
             else:
                 wrong += 1
                 print(f"{os.path.basename(file)}: {threads} threads, seed {seed}: not what the source gives")
-        print(f"{os.path.basename(file)}: {same} in the order of events, {moved} with cancels moved, {held} left with the lock held")
+        print(
+            f"{os.path.basename(file)}: {same} in the order of events, {moved} with cancels moved,"
+            f" {held} left with the lock held"
+        )
     sys.exit(wrong > 0)
 
 

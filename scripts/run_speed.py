@@ -1,12 +1,12 @@
 #!/usr/bin/env python3
-"""Measures `txc run` against Lua, on work of one thread, and against GCC's transactional memory, with one and four threads; and
-how long the longest replays, many turns of a source and all outcomes of small programs take.
+"""Measures `txc run` against Lua, on work of one thread, and against GCC's transactional memory, with one and four
+threads; and how long the longest replays, many turns of a source and all outcomes of small programs take.
 
     scripts/run_speed.py [ROUNDS]
 
-All sides run in turn in each of the rounds (9, where nothing is said). With one thread it prints the least processor time of
-each, with four the median time on the clock, and how often the peer's time txc took. The workloads are in examples/bench, what
-the peers have besides in scripts/workloads. GCC compiles them by -O2 -fgnu-tm, without
+All sides run in turn in each of the rounds (9, where nothing is said). With one thread it prints the least processor
+time of each, with four the median time on the clock, and how often the peer's time txc took. The workloads are in
+examples/bench, what the peers have besides in scripts/workloads. GCC compiles them by -O2 -fgnu-tm, without
 -fwrapv. The program is crates/txc/out/txc, which `cd crates/txc && rt run -- --version`
 builds. What is not installed is named and left out. What a run leaves in memory is compared with what it must be.
 """
@@ -63,7 +63,8 @@ def is_right(name, report, threads):
 
 
 def run(words, more):
-    """Runs a command: its processor time, its time on the clock, the most memory that it held, in MiB, and what it wrote."""
+    """Runs a command: its processor time, its time on the clock, the most memory that it held, in MiB,
+    and what it wrote."""
     start = time.perf_counter()
     child = subprocess.Popen(words, stdout=subprocess.PIPE, text=True, env={**os.environ, **more})
     wrote = child.stdout.read()
@@ -73,7 +74,8 @@ def run(words, more):
 
 
 def measured(rounds, sides, threads):
-    """For each side the figure of its rounds: least processor time with one thread, median time on the clock with more."""
+    """For each side the figure of its rounds: least processor time with one thread,
+    median time on the clock with more."""
     times = {side: [] for side in sides}
     for _ in range(rounds):
         for side, (name, words, more) in sides.items():
@@ -104,32 +106,65 @@ def table(title, names, peer, rounds, threads, peer_side):
 
 def replays(rounds):
     """Prints how long the longest replay that a seed names takes, of each workload."""
-    sides = {name: (name, [TXC, 'replay', os.path.join(PROGRAMS, name + '.c'), '--threads', '4', '--seed', '1', '--steps', str(STEPS)], {})
-             for name in SHARED}
+    sides = {
+        name: (
+            name,
+            [
+                TXC, 'replay', os.path.join(PROGRAMS, name + '.c'),
+                '--threads', '4', '--seed', '1', '--steps', str(STEPS),
+            ],
+            {},
+        )
+        for name in SHARED
+    }
     print(f'\nReplays of {STEPS:,} steps of four threads, processor time\n\n| Workload | ms |\n|---|---|')
     for name, least in measured(rounds, sides, 1).items():
         print(f'| {name} | {1000 * least:.0f} |')
 
 
 def turns(rounds):
-    """Prints how long the source takes for so many turns of one thread, each of which goes on from where the thread stood."""
+    """Prints how long the source takes for so many turns of one thread, each of which
+    goes on from where the thread stood."""
     print('\n`txc source`, processor time\n\n| Turns of one thread | ms |\n|---|---|')
     with tempfile.TemporaryDirectory() as place:
         text = os.path.join(place, 'turns.c')
         with open(text, 'w', encoding='utf-8') as file:
-            file.write('int x; void worker(int self) { int i; for (i = 0; i < 2000; i++) { __transaction_atomic { x = x + 1; } } }')
+            file.write(
+                'int x; void worker(int self)'
+                ' { int i; for (i = 0; i < 2000; i++) { __transaction_atomic { x = x + 1; } } }'
+            )
         sides = {n: ('turns', [TXC, 'source', text, '--order', ','.join(['0'] * n)], {}) for n in (1000, 2000)}
         for n, least in measured(rounds, sides, 1).items():
             print(f'| {n:,} | {1000 * least:.0f} |')
 
 
-# A source for all outcomes of it: how it is called, its file or its text, how many threads, and how many outcomes over how many
-# orders there are.
+# A source for all outcomes of it: how it is called, its file or its text, how many threads, and how many outcomes over
+# how many orders there are.
 ALL = [
-    ('`counter.c`, three transactions each', os.path.join(TOP, 'examples', 'counter.c'), 3, 'outcomes: 1, orders: 1680'),
-    ('two transactions each that add to a word', 'int x; void worker(int self) { int i; for (i = 0; i < 2; i++) { __transaction_atomic { x = x + 1; } } }', 4, 'outcomes: 1, orders: 2520'),
-    ('one transaction each that shows how many were before', 'int x; void worker(int self) { int k; __transaction_atomic { k = x; x = x + 1; } printf("%d", k); }', 6, 'outcomes: 720, orders: 720'),
-    ('`counter.c`, stopped at 100,000 states', os.path.join(TOP, 'examples', 'counter.c'), 4, 'outcomes: 0, orders: 0, stopped at the limit'),
+    (
+        '`counter.c`, three transactions each',
+        os.path.join(TOP, 'examples', 'counter.c'),
+        3,
+        'outcomes: 1, orders: 1680',
+    ),
+    (
+        'two transactions each that add to a word',
+        'int x; void worker(int self) { int i; for (i = 0; i < 2; i++) { __transaction_atomic { x = x + 1; } } }',
+        4,
+        'outcomes: 1, orders: 2520',
+    ),
+    (
+        'one transaction each that shows how many were before',
+        'int x; void worker(int self) { int k; __transaction_atomic { k = x; x = x + 1; } printf("%d", k); }',
+        6,
+        'outcomes: 720, orders: 720',
+    ),
+    (
+        '`counter.c`, stopped at 100,000 states',
+        os.path.join(TOP, 'examples', 'counter.c'),
+        4,
+        'outcomes: 0, orders: 0, stopped at the limit',
+    ),
     ('`queue.c`, stopped at 100,000 states', os.path.join(TOP, 'examples', 'queue.c'), 2, 'stopped at the limit'),
 ]
 
@@ -162,7 +197,10 @@ def main():
     if not os.path.exists(TXC):
         sys.exit('crates/txc/out/txc is not there: build it by `cd crates/txc && rt run -- --version`')
     if shutil.which('lua5.4'):
-        table('One thread, processor time', LUA, 'lua5.4', rounds, 1, lambda name: (name, ['lua5.4', os.path.join(PEERS, name + '.lua')], {}))
+        table(
+            'One thread, processor time', LUA, 'lua5.4', rounds, 1,
+            lambda name: (name, ['lua5.4', os.path.join(PEERS, name + '.lua')], {}),
+        )
     else:
         print('lua5.4 is not installed: primes, fib and compute are left out')
     replays(rounds)
@@ -171,13 +209,19 @@ def main():
     with tempfile.TemporaryDirectory() as place:
         for name in SHARED:
             built = shutil.which('gcc') and subprocess.run(
-                ['gcc', '-O2', '-fgnu-tm', '-pthread', os.path.join(PROGRAMS, name + '.c'), os.path.join(PEERS, 'threads.c'), '-litm', '-o', os.path.join(place, name)],
+                [
+                    'gcc', '-O2', '-fgnu-tm', '-pthread', os.path.join(PROGRAMS, name + '.c'),
+                    os.path.join(PEERS, 'threads.c'), '-litm', '-o', os.path.join(place, name),
+                ],
                 capture_output=True).returncode == 0
             if not built:
                 print('gcc with libitm is not installed: ' + ', '.join(SHARED) + ' are left out')
                 return
         peer = lambda threads, more: lambda name: (name, [os.path.join(place, name), str(threads)], more)
-        table('One thread, processor time; libitm by its method ml_wt', SHARED, 'libitm', rounds, 1, peer(1, {'ITM_DEFAULT_METHOD': 'ml_wt'}))
+        table(
+            'One thread, processor time; libitm by its method ml_wt', SHARED, 'libitm', rounds, 1,
+            peer(1, {'ITM_DEFAULT_METHOD': 'ml_wt'}),
+        )
         table('Four threads, time on the clock; libitm by its default method', SHARED, 'libitm', rounds, 4, peer(4, {}))
 
 

@@ -4,11 +4,12 @@
   scripts/trust.py           fails where docs/TRUST.md is out of date
   scripts/trust.py --write   writes its tables anew
 
-A definition must be believed where a public contract speaks by it. So the clauses of each crate's public functions are read (and
-of an `impl Model` the type of its values; how private fields keep a value is the proof's), the names in them are led by their
-`ghost use` lines to the definitions of `specs/`, and from each of these every name is followed in turn: to a definition, or to the
-Rust type or constant that a path through `declared` stands for. Where a name could be two things, both are followed. Counted are
-lines that are neither blank, nor a comment, nor an import. Fails where a definition that is followed stands in `specs/inner/`.
+A definition must be believed where a public contract speaks by it. So the clauses of each crate's public functions are
+read (and of an `impl Model` the type of its values; how private fields keep a value is the proof's), the names in them
+are led by their `ghost use` lines to the definitions of `specs/`, and from each of these every name is followed in
+turn: to a definition, or to the Rust type or constant that a path through `declared` stands for. Where a name could be
+two things, both are followed. Counted are lines that are neither blank, nor a comment, nor an import. Fails where a
+definition that is followed stands in `specs/inner/`.
 """
 
 import functools
@@ -21,7 +22,8 @@ PAGE = f"{TOP}/docs/TRUST.md"
 BEGIN, END = "<!-- counted: begin -->\n", "<!-- counted: end -->\n"
 WORD = re.compile(r"[^\s(){}\[\],;]+")
 
-# What a call of `txc` promises, and the definitions of `crates/serving/specs` that say it: `serve`'s clauses name these.
+# What a call of `txc` promises, and the definitions of `crates/serving/specs` that say it:
+# `serve`'s clauses name these.
 PROMISES = (
     ("`txc run`, by the source alone", "PrintsReport RunsInSomeOrder"),
     ("`txc run`, all", "PrintsReport RunsInSomeOrder RunsConcurrently"),
@@ -75,7 +77,9 @@ def file_of(path):
 def imports(text, keyword):
     """What a file imports: each path with the name that it has here, and whether this is a module's."""
     found = []
-    for path, names, alias in re.findall(rf"(?m)^\s*{keyword} ([\w.«»]+?)(?:\.\{{([^}}]*)\}})?(?: as (\w+))?;?\s*$", text):
+    for path, names, alias in re.findall(
+        rf"(?m)^\s*{keyword} ([\w.«»]+?)(?:\.\{{([^}}]*)\}})?(?: as (\w+))?;?\s*$", text
+    ):
         if names:
             for name in re.split(r",\s*", names.strip().rstrip(",")):
                 plain, _, other = name.partition(" as ")
@@ -100,7 +104,9 @@ def is_start(line, depth):
     """Whether a line begins an item at this depth."""
     if len(line) - len(line.lstrip()) != depth or not line.strip() or line.strip().startswith("--"):
         return False
-    return re.match(r"(abbrev|pub|unfoldable|record|data|module|mutual|use|infix\w?)\b|\S+ : ", line.strip()) is not None
+    return (
+        re.match(r"(abbrev|pub|unfoldable|record|data|module|mutual|use|infix\w?)\b|\S+ : ", line.strip()) is not None
+    )
 
 
 @functools.lru_cache(maxsize=None)
@@ -183,12 +189,20 @@ def led(text, keyword, here):
 def sources(crate):
     """The files of a crate's code."""
     src = f"{TOP}/crates/{crate}/src"
-    return tuple(sorted(f"crates/{crate}/src/{it}" for it in os.listdir(src) if it.endswith(".rt"))) if os.path.isdir(src) else ()
+    return (
+        tuple(sorted(f"crates/{crate}/src/{it}" for it in os.listdir(src) if it.endswith(".rt")))
+        if os.path.isdir(src)
+        else ()
+    )
 
 
 def block(file, name):
     """The lines of a type or constant of this name in a file."""
-    found = re.search(rf"(?ms)^(?:pub(?:\(crate\))? )?(?:enum|struct) {name}\b.*?(?:^\}}|;)$|^(?:pub(?:\(crate\))? )?const {name}\b.*?;$", read(f"{TOP}/{file}"))
+    found = re.search(
+        rf"(?ms)^(?:pub(?:\(crate\))? )?(?:enum|struct) {name}\b.*?(?:^\}}|;)$"
+        rf"|^(?:pub(?:\(crate\))? )?const {name}\b.*?;$",
+        read(f"{TOP}/{file}"),
+    )
     return found[0].split("\n") if found else None
 
 
@@ -237,7 +251,11 @@ def clauses(text, is_public):
             while at < len(lines) and lines[at] != "}":
                 out += [lines[at]] if whole or "ghost Value" in lines[at] else []
                 at += 1
-        of_trait = re.match(r"    (unsafe )?fn ", line) and in_model.startswith(("pub trait", "impl")) and (" for " in in_model or "trait" in in_model)
+        of_trait = (
+            re.match(r"    (unsafe )?fn ", line)
+            and in_model.startswith(("pub trait", "impl"))
+            and (" for " in in_model or "trait" in in_model)
+        )
         if re.match(r"(pub (unsafe )?trait|impl)\b", line):
             in_model = line
         elif line == "}":
@@ -245,7 +263,11 @@ def clauses(text, is_public):
         named = re.match(r"\s*pub (?:const )?(?:unsafe )?fn (\w+)", line)
         if named and (line.startswith(" ") or is_public(named[1])) or of_trait:
             at += 1
-            while at < len(lines) and lines[at].strip() not in ("{", "{}", "") and not (lines[at].endswith("{") and not re.match(r"\s*(requires|ensures)", lines[at])):
+            while (
+                at < len(lines)
+                and lines[at].strip() not in ("{", "{}", "")
+                and not (lines[at].endswith("{") and not re.match(r"\s*(requires|ensures)", lines[at]))
+            ):
                 out.append(lines[at])
                 at += 1
         at += 1
@@ -253,8 +275,8 @@ def clauses(text, is_public):
 
 
 def public_modules(crate):
-    """The files of a crate's public functions, those too that have methods of a type that another one makes public, each with a test of
-    which of its free functions are public."""
+    """The files of a crate's public functions, those too that have methods of a type that another one makes public,
+    each with a test of which of its free functions are public."""
     src = f"{TOP}/crates/{crate}/src"
     files = [it.split("/")[-1] for it in sources(crate)]
     root = "main.rt" if "main.rt" in files else "lib.rt"
@@ -297,9 +319,19 @@ def next_of(it):
     lines, own = items(file)[at]
     text = "\n".join(line.split("--")[0] for line in lines)
     words = words_of(text)
-    here = {(file, n) for n, (_, names) in enumerate(items(file)) if n != at and any(is_named(name, words, text) for name in names)}
-    heads = {(file, n) for n in range(at) if items(file)[n][0][0].lstrip().startswith("module ") and lines[0].startswith(" ")}
-    return frozenset(here | ({max(heads)} if heads else set()) | led(text, r"(?:pub )?(?:unfoldable )?use", read(f"{TOP}/{file}")))
+    here = {
+        (file, n)
+        for n, (_, names) in enumerate(items(file))
+        if n != at and any(is_named(name, words, text) for name in names)
+    }
+    heads = {
+        (file, n)
+        for n in range(at)
+        if items(file)[n][0][0].lstrip().startswith("module ") and lines[0].startswith(" ")
+    }
+    return frozenset(
+        here | ({max(heads)} if heads else set()) | led(text, r"(?:pub )?(?:unfoldable )?use", read(f"{TOP}/{file}"))
+    )
 
 
 def reached(begin):
@@ -340,7 +372,9 @@ def promised(names):
     for name in names.split():
         if name not in said:
             sys.exit(f"serve does not speak of {name}")
-        found = set().union(*(item_at(f"crates/serving/specs/{it}", [name]) for it in sorted(os.listdir(specs)) if it.endswith(".antt")))
+        found = set().union(
+            *(item_at(f"crates/serving/specs/{it}", [name]) for it in sorted(os.listdir(specs)) if it.endswith(".antt"))
+        )
         if not found:
             sys.exit(f"no definition of serving has the name {name}")
         out |= found
@@ -359,14 +393,20 @@ def row(first, begin):
 
 
 def promise_table():
-    out = ["| Promise | Begins at | Lines of definitions | Lines of Rust types and limits | Files |", "|---|---|---|---|---|"]
+    out = [
+        "| Promise | Begins at | Lines of definitions | Lines of Rust types and limits | Files |",
+        "|---|---|---|---|---|",
+    ]
     for title, names in PROMISES:
         out.append(row(f"{title} | {', '.join(f'`{it}`' for it in names.split())}", promised(names)))
     return out + [""]
 
 
 def crate_table(by_crate):
-    out = ["| Crate | Lines of definitions that its public contracts stand on | Lines of Rust types and limits | Files |", "|---|---|---|---|"]
+    out = [
+        "| Crate | Lines of definitions that its public contracts stand on | Lines of Rust types and limits | Files |",
+        "|---|---|---|---|",
+    ]
     return out + [row(f"`{crate}`", begin) for crate, begin in by_crate.items() if begin] + [""]
 
 
@@ -376,7 +416,12 @@ def file_tables(by_crate, believed):
         here = {it for it in believed if home(it) == crate}
         if here:
             definitions, rust = lines_in(here)
-            out += [f"### `{crate}`: {definitions:,} lines, and {rust:,} of Rust types and limits", "", "| File | Lines | Says |", "|---|---|---|"]
+            out += [
+                f"### `{crate}`: {definitions:,} lines, and {rust:,} of Rust types and limits",
+                "",
+                "| File | Lines | Says |",
+                "|---|---|---|",
+            ]
             for file in sorted({file for file, _ in here}):
                 lines = sum(lines_in({it for it in here if it[0] == file}))
                 short = file.split("/", 2)[2]
@@ -387,12 +432,17 @@ def file_tables(by_crate, believed):
 
 
 def rest_of(by_crate, believed):
-    """The definitions of `specs/` that no public contract leads to, by their files; and those of `specs/inner/` that one does."""
+    """The definitions of `specs/` that no public contract leads to, by their files; and those of `specs/inner/` that
+    one does."""
     rest, hidden = [], []
     for crate in by_crate:
         for at, _, names in sorted(os.walk(f"{TOP}/crates/{crate}/specs")):
             for file in (os.path.relpath(f"{at}/{it}", TOP) for it in sorted(names) if it.endswith(".antt")):
-                own = {(file, n) for n, (lines, _) in enumerate(items(file)) if counted(lines) and not all(re.match(r"\s*(--|pub mod |infix)", it) for it in lines)}
+                own = {
+                    (file, n)
+                    for n, (lines, _) in enumerate(items(file))
+                    if counted(lines) and not all(re.match(r"\s*(--|pub mod |infix)", it) for it in lines)
+                }
                 if "/specs/inner" in file:
                     hidden += [f"{file}: {', '.join(items(file)[n][1])}" for _, n in sorted(own & believed)]
                 elif own - believed:
@@ -408,10 +458,19 @@ def tables():
     if hidden:
         sys.exit("behind a public contract, and yet in specs/inner/: " + "; ".join(hidden))
     out = promise_table()
-    out += [f"**{definitions:,} lines of definitions and {rust:,} of Rust types and limits** must be believed for all public contracts together. What each crate's own stand on:", ""]
+    out += [
+        f"**{definitions:,} lines of definitions and {rust:,} of Rust types and limits** must be believed for all"
+        " public contracts together. What each crate's own stand on:",
+        "",
+    ]
     out += crate_table(by_crate) + file_tables(by_crate, believed)
     if rest:
-        out += [f"In `specs/` and behind no public contract, {sum(it for _, it in rest):,} lines: " + ", ".join(f"`{file[len('crates/'):]}` ({lines})" for file, lines in rest) + ".", ""]
+        out += [
+            f"In `specs/` and behind no public contract, {sum(it for _, it in rest):,} lines: "
+            + ", ".join(f"`{file[len('crates/'):]}` ({lines})" for file, lines in rest)
+            + ".",
+            "",
+        ]
     return "\n".join(out)
 
 
@@ -424,7 +483,10 @@ def main():
         with open(PAGE, "w", encoding="utf-8") as file:
             file.write(new)
     elif new != page:
-        print("docs/TRUST.md is out of date: scripts/trust.py --write makes its tables anew, and the change is to be looked at")
+        print(
+            "docs/TRUST.md is out of date: scripts/trust.py --write makes its tables anew,"
+            " and the change is to be looked at"
+        )
         return 1
     else:
         print(re.search(r"\*\*(.*?)\*\*", made)[1])

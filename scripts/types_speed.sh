@@ -1,8 +1,8 @@
 #!/bin/sh
-# Prints how long lexing, parsing and the check of names and types take for four shapes of source, each at half and at full
-# size, by the fastest of some rounds: 4,096 globals with 100,000 uses, 20,000 functions that are each called, one function
-# with 20,000 locals, and blocks 95 deep with a local each. Twice the text should take about twice the time, and each less
-# than a second. The program is made in a folder of its own and removed.
+# Prints how long lexing, parsing and the check of names and types take for four shapes of source, each at half and at
+# full size, by the fastest of some rounds: 4,096 globals with 100,000 uses, 20,000 functions that are each called, one
+# function with 20,000 locals, and blocks 95 deep with a local each. Twice the text should take about twice the time,
+# and each less than a second. The program is made in a folder of its own and removed.
 set -e
 top=$(cd "$(dirname "$0")/.." && pwd)
 work=$(mktemp -d)
@@ -29,7 +29,13 @@ enum Shape {
 }
 
 /// Adds `before`, the number and `behind`.
-fn add<A: Allocator + Copy>(text: &mut String<A>, alloc: A, before: &str, number: usize, behind: &str) -> Result<(), AllocError> {
+fn add<A: Allocator + Copy>(
+    text: &mut String<A>,
+    alloc: A,
+    before: &str,
+    number: usize,
+    behind: &str,
+) -> Result<(), AllocError> {
     text.push_str(before)?;
     text.push_str(format!(in alloc; "{number}")?.as_str())?;
     text.push_str(behind)
@@ -113,7 +119,13 @@ fn measure(rt: &HostRuntime, name: &str, shape: Shape, n: usize) -> io::Result<(
             }
         }
     }
-    println!(rt; "{name} {n}: {} bytes, typed {right} of 5 times: lexed in {lexing} us, parsed in {parsing} us, checked in {checking} us", text.len())?;
+    println!(rt;
+        "{name} {n}: {} bytes, typed {right} of 5 times: lexed in {} us, parsed in {} us, checked in {} us",
+        text.len(),
+        lexing,
+        parsing,
+        checking
+    )?;
     Ok(())
 }
 

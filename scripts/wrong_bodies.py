@@ -3,12 +3,13 @@
 
   scripts/wrong_bodies.py            tries all of them, crate by crate
   scripts/wrong_bodies.py CRATE..    tries those of these crates
-  scripts/wrong_bodies.py --read     tries none, and fails where an edit's `old:` text does not stand once in its file; those of
-                                     must-fail/ are read too, since the gate passes with an edit that cannot be applied
+  scripts/wrong_bodies.py --read     tries none, and fails where an edit's `old:` text does not stand once in its file;
+                                     those of must-fail/ are read too, since the gate passes with an edit that
+                                     cannot be applied
 
-An edit has the form of those of a crate's must-fail/, which the gate tries. Here they are tried by `rt must-fail` too, in a copy of
-the crate and of those below it. What was proved of the crates below, in their out/ folders, is used; the crate itself is proved
-from nothing with its first edit. Ends in status 1 where one is not refused.
+An edit has the form of those of a crate's must-fail/, which the gate tries. Here they are tried by `rt must-fail` too,
+in a copy of the crate and of those below it. What was proved of the crates below, in their out/ folders, is used; the
+crate itself is proved from nothing with its first edit. Ends in status 1 where one is not refused.
 """
 
 import glob
@@ -68,7 +69,11 @@ def tried(crate):
         shutil.copytree(f"{EDITS}/{crate}", f"{here}/must-fail")
         shutil.copy2(f"{TOP}/HANDLES", room)
         with open(f"{room}/crates.txt", "w", encoding="utf-8") as to:
-            to.writelines(it + "\n" for it in read(f"{TOP}/crates.txt").splitlines() if it.partition(":")[0].strip() in [*needed, crate])
+            to.writelines(
+                it + "\n"
+                for it in read(f"{TOP}/crates.txt").splitlines()
+                if it.partition(":")[0].strip() in [*needed, crate]
+            )
         return subprocess.run(["rt", "must-fail", crate], cwd=room, stdin=subprocess.DEVNULL).returncode
 
 

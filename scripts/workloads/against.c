@@ -1,10 +1,13 @@
-// What scripts/against_gcc.py links to a program whose transactions GCC compiled: it calls `worker` in its threads many times over,
-// each time from the globals' first values, and prints txc's report each time, with a line `== over` behind it.
+// What scripts/against_gcc.py links to a program whose transactions GCC compiled: it calls `worker` in its threads many
+// times over, each time from the globals' first values, and prints txc's report each time, with a line `== over`
+// behind it.
 //
 //     PROGRAM THREADS RUNS [fresh]
 //
-// With `fresh` each run has threads of its own. Without, the same threads make all runs, and a round of 12 seconds is the last one.
-// `against_save`, `against_reset` and `against_show` are of a file that the script writes: what they do to the program's globals.
+// With `fresh` each run has threads of its own. Without, the same threads make all runs, and a round of 12 seconds is
+// the last one.
+// `against_save`, `against_reset` and `against_show` are of a file that the script writes: what they do to the
+// program's globals.
 #define _GNU_SOURCE
 #include <pthread.h>
 #include <sched.h>
