@@ -13,7 +13,7 @@ ghost use Rattle.lower_exprs.specs.Views.{program_in, scope_in};
 
 use crate::loops::in_loops;
 use crate::stmt::lower_stmts;
-use bytecode::Instr;
+use bytecode::{Instr, MOST_REGISTERS};
 use lex::token::Scalar;
 use lower_exprs::fault::Failure;
 use lower_exprs::lists::Lists;
@@ -159,7 +159,7 @@ fn lower_preloaded<'p, A: Allocator + Copy>(
         (function_of f.now) (stmts_of body.now) (from + length constants.items) (lists_of lists.old)).lists.registers) }
 {
     let count = constants.len() as u32;
-    if from > 4_294_967_295 - count {
+    if from > u32::MAX - count {
         return Err(Failure::OutOfMemory);
     }
     set_all(code, writable, constants.as_slice())?;
@@ -188,7 +188,7 @@ fn in_loops_behind<A: Allocator>(
 fn is_better(registers: u32, constants: &[u64]) -> bool
     ensures { result ≡ (not (length constants.now == 0) && nat_le (registers + length constants.now) 65535) }
 {
-    !constants.is_empty() && registers as usize + constants.len() <= 65_535
+    !constants.is_empty() && registers as usize + constants.len() <= MOST_REGISTERS as usize
 }
 
 /// A function's instructions; the place behind them. Its body is made as it stands, and where its loops compute with

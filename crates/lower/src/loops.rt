@@ -105,7 +105,7 @@ pub(crate) fn in_loops<A: Allocator>(
     ensures { IfOk result (λ v. v.items ≡ loops.in_loops from code.now) }
 {
     let mut left = code.len();
-    if left > (4_294_967_295 - from) as usize {
+    if left > (u32::MAX - from) as usize {
         return Err(AllocError);
     }
     let mut at = from + left as u32;

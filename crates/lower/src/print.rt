@@ -35,7 +35,7 @@ fn add_text<A: Allocator>(lists: &mut Lists<A>, text: Text<A>) -> Result<u32, Al
     ensures number { IfOk result (λ n. n ≡ length lists.old.texts.items) }
 {
     let number = lists.texts.len();
-    if number > 4_294_967_295 {
+    if number > u32::MAX as usize {
         return Err(AllocError);
     }
     match lists.texts.push(text) {

@@ -80,7 +80,7 @@ fn cancelling(levels: u32) -> Instr
 fn enter_transaction(kind: TransactionKind, exits: Exits) -> Result<Exits, AllocError>
     ensures { IfOk result (λ x. x ≡ statements.in_transaction kind exits) }
 {
-    if exits.in_function >= 4_294_967_295 || exits.in_loop >= 4_294_967_295 {
+    if exits.in_function == u32::MAX || exits.in_loop == u32::MAX {
         return Err(AllocError);
     }
     Ok(Exits {

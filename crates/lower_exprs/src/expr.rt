@@ -36,7 +36,7 @@ use crate::put::{
 };
 use crate::scope::LocalRegisters;
 use crate::value_type::value_type;
-use bytecode::Instr;
+use bytecode::{Instr, MOST_REGISTERS};
 use global_tables::Shared;
 use lex::token::{Scalar, Span};
 use selection::draft::Draft;
@@ -202,7 +202,7 @@ fn with_registers<A: Allocator>(lists: &mut Lists<A>, count: usize) -> Result<u1
     ensures count { IfOk result (λ n. n ≡ count) }
     ensures fails { IfErr result (λ why. NeedsMore why (with_registers count (lists_of lists.old)).registers) }
 {
-    if count > 65_535 {
+    if count > MOST_REGISTERS as usize {
         return Err(Failure::Registers);
     }
     if lists.registers < count as u32 {
@@ -227,7 +227,7 @@ fn hand_over<A: Allocator>(
         IfErr result (λ why. NeedsMore why (with_registers n (lists_of lists.old)).registers) }
 {
     let first = lists.arguments.len();
-    if first > 4_294_967_295 {
+    if first > u32::MAX as usize {
         return Err(Failure::OutOfMemory);
     }
     let count = push_arranged(&mut lists.arguments, parameters, registers)?;
@@ -248,7 +248,7 @@ fn put_call<A: Allocator + Copy>(
         (call_code (Some (callee_in f.entry)) (all_in_place registers.now from (lists_of lists.old)) from
         into (lists_of lists.old)) code.old code.new lists.new result }
 {
-    if f.number > 4_294_967_295 {
+    if f.number > u32::MAX as usize {
         return Err(Failure::OutOfMemory);
     }
     let (first, count) = hand_over(lists, f.parameters, registers)?;

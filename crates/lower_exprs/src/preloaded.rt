@@ -10,7 +10,7 @@ ghost use Rattle.lower_exprs.specs.Lists.{lists_of};
 use crate::convert::constant_in;
 use crate::lists::Lists;
 use crate::put::put;
-use bytecode::Instr;
+use bytecode::{Instr, MOST_REGISTERS};
 use lex::token::Scalar;
 use selection::locations::ValueRegister;
 use std::alloc::{AllocError, Allocator};
@@ -35,7 +35,7 @@ pub(crate) fn preloaded<A: Allocator>(
                 to: from,
             });
         }
-        if register == 65_535 {
+        if u32::from(register) == MOST_REGISTERS {
             return None;
         }
         register += 1;

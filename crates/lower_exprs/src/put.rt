@@ -11,16 +11,13 @@ ghost use Rattle.lower_exprs.specs.inner.Stretches.{in_place, standing, test_in_
 use crate::draft::put_test;
 use crate::fault::Failure;
 use crate::lists::Lists;
-use bytecode::Instr;
+use bytecode::{Instr, MOST_REGISTERS};
 use lex::token::Scalar;
 use selection::draft::Draft;
 use selection::locations::{ConditionRegister, ValueRegister};
 use std::alloc::{AllocError, Allocator};
 use syntax::tree::BinaryOp;
 use syntax::types::result_type;
-
-/// The registers of a function have numbers below this one.
-const MOST_REGISTERS: usize = 65_535;
 
 /// One more instruction.
 pub fn put<A: Allocator>(code: &mut Vec<Instr, A>, instr: Instr) -> Result<(), AllocError>
@@ -50,7 +47,7 @@ pub fn after(place: u32, count: u32) -> Result<u32, AllocError>
     requires { count ≤ 4 }
     ensures { IfOk result (λ n. n ≡ place + count) }
 {
-    if place > 4_294_967_295 - count {
+    if place > u32::MAX - count {
         return Err(AllocError);
     }
     Ok(place + count)
@@ -62,7 +59,7 @@ pub(crate) fn take<A: Allocator>(lists: &mut Lists<A>, r: usize) -> Result<u16, 
     ensures register { IfOk result (λ n. n ≡ r) }
     ensures fails { IfErr result (λ why. NeedsMore why (with_register r (lists_of lists.old)).registers) }
 {
-    if r >= MOST_REGISTERS {
+    if r >= MOST_REGISTERS as usize {
         return Err(Failure::Registers);
     }
     if lists.registers <= r as u32 {

@@ -12,8 +12,8 @@ use Rattle.meaning.specs.declared.left.Task.{Task}
 use Rattle.meaning.specs.declared.left.Task.TheVariants as task
 use Rattle.meaning.specs.declared.left.Left.{Left}
 use Rattle.meaning.specs.declared.left.Left.TheVariants as left
-use Rattle.meaning.specs.declared.left.Parts.{Parts}
-use Rattle.meaning.specs.declared.left.Parts.TheVariants as parts
+use Rattle.meaning.specs.declared.left.StmtParts.{StmtParts}
+use Rattle.meaning.specs.declared.left.StmtParts.TheVariants as parts
 use Rattle.meaning.specs.declared.loops.Loop.{Loop}
 use Rattle.meaning.specs.declared.loops.Loop.TheVariants as kind
 use Rattle.meaning.specs.declared.program.ProgramTables.{ProgramTables}
@@ -84,7 +84,7 @@ module _ {A : Type 0} (source : ProgramTables A) where
     looped_framed st (kind.DoWhile a c) = loop_framed _
     looped_framed st (kind.For head a) = for_framed (program_in source) frames (start_of head.now.start) _
 
-    parted_framed : (st : Stmt) (q : Parts A) → IsFramed (step_by_parts source frames st q)
+    parted_framed : (st : Stmt) (q : StmtParts A) → IsFramed (step_by_parts source frames st q)
     parted_framed st (parts.Block ss) = scope_framed _
     parted_framed st (parts.Either c a b) = either_framed (program_in source) frames (expr_of c.now) (stmt_of a.now) (option_map stmt_of b.now)
     parted_framed st (parts.Repeats w) = looped_framed st w
@@ -96,12 +96,12 @@ module _ {A : Type 0} (source : ProgramTables A) where
         let turn = turn_of (program_in source) (caller_in source frames) (loop_in (kind.DoWhile a c)) in on_both (tick s) (λ _. loop turn) (λ _. loop_begun turn) follows (λ u now. refl)
     looped_is (kind.For head a) s = for_is (program_in source) (caller_in source frames) (start_of head.now.start) (turn_of (program_in source) (caller_in source frames) (loop_in (kind.For head a))) s
 
-    parted_is : (q : Parts A) (s : State) → stmt (program_in source) (caller_in source frames) (stmt_in q) s ≡ go_on (first_step source frames (stmt_in q) q s) follows
+    parted_is : (q : StmtParts A) (s : State) → stmt (program_in source) (caller_in source frames) (stmt_in q) s ≡ go_on (first_step source frames (stmt_in q) q s) follows
     parted_is (parts.Block ss) s = on_both (tick s) (λ _. in_scope (does_stmts source frames ss.now)) (λ _. scope_begun (does_stmts source frames ss.now)) follows (λ u now. refl)
     parted_is (parts.Either c a b) s = either_is (program_in source) (caller_in source frames) (expr_of c.now) (stmt_of a.now) (option_map stmt_of b.now) s
     parted_is (parts.Repeats w) s = looped_is w s
 
-    pub open_step : (l : Left A) (t : Task A) (st : Stmt) (q : Parts A) (e : Completion) → l ≡ left.Next t → e ≡ Next → does_task source t ≡ stmt (program_in source) (caller_in source frames) st → st ≡ stmt_in q → IsStep (continue_with source l) e (first_step source frames st q)
+    pub open_step : (l : Left A) (t : Task A) (st : Stmt) (q : StmtParts A) (e : Completion) → l ≡ left.Next t → e ≡ Next → does_task source t ≡ stmt (program_in source) (caller_in source frames) st → st ≡ stmt_in q → IsStep (continue_with source l) e (first_step source frames st q)
     open_step l t st q e is next does parts = record {
       does = λ s.
           ap (λ k. continue_with source k e s) is ∙ ap (λ d. continue_with source (left.Next t) d s) next ∙ ap (λ run. run s) does

@@ -72,22 +72,22 @@ pub(crate) enum Stepped<'p, A: Allocator> {
 
 /// A statement that is made of others, by its parts.
 #[derive(Drop)]
-pub(crate) enum Parts<'p, A: Allocator> {
+pub(crate) enum StmtParts<'p, A: Allocator> {
     Block(&'p [Stmt<A>]),
     Either(&'p Expr<A>, &'p Stmt<A>, &'p Option<Boxed<Stmt<A>, A>>),
     Repeats(Loop<'p, A>),
 }
 
 /// The parts of a statement that is made of others.
-pub(crate) fn parts_of<'p, A: Allocator + Copy>(s: &'p Stmt<A>) -> Option<Parts<'p, A>>
+pub(crate) fn parts_of<'p, A: Allocator + Copy>(s: &'p Stmt<A>) -> Option<StmtParts<'p, A>>
     ensures { IfSome result (λ parts. stmt_of s.now ≡ lefts.stmt_in parts) }
 {
     match s {
-        Stmt::Block(ss) => Some(Parts::Block(ss.as_slice())),
-        Stmt::If(c, a, b) => Some(Parts::Either(c, a.get(), b)),
-        Stmt::While(c, a) => Some(Parts::Repeats(Loop::While(c, a.get()))),
-        Stmt::DoWhile(a, c) => Some(Parts::Repeats(Loop::DoWhile(a.get(), c))),
-        Stmt::For(head, a) => Some(Parts::Repeats(Loop::For(head.get(), a.get()))),
+        Stmt::Block(ss) => Some(StmtParts::Block(ss.as_slice())),
+        Stmt::If(c, a, b) => Some(StmtParts::Either(c, a.get(), b)),
+        Stmt::While(c, a) => Some(StmtParts::Repeats(Loop::While(c, a.get()))),
+        Stmt::DoWhile(a, c) => Some(StmtParts::Repeats(Loop::DoWhile(a.get(), c))),
+        Stmt::For(head, a) => Some(StmtParts::Repeats(Loop::For(head.get(), a.get()))),
         _ => None,
     }
 }
@@ -97,7 +97,7 @@ fn loop_of<'p, A: Allocator + Copy>(s: &'p Stmt<A>) -> Option<Loop<'p, A>>
     ensures { IfSome result (λ w. stmt_of s.now ≡ lefts.loop_in w) }
 {
     match parts_of(s) {
-        Some(Parts::Repeats(which)) => Some(which),
+        Some(StmtParts::Repeats(which)) => Some(which),
         _ => None,
     }
 }
@@ -186,7 +186,7 @@ pub(crate) fn open<'p, A: Allocator + Copy>(
     source: &ProgramTables<'p, A>,
     frames: u64,
     s: &'p Stmt<A>,
-    parts: &Parts<'p, A>,
+    parts: &StmtParts<'p, A>,
     m: &mut Machine<'p, '_, A>,
 ) -> Result<Stepped<'p, A>, Halted>
     ensures { MeansStepped source.now result
@@ -195,12 +195,12 @@ pub(crate) fn open<'p, A: Allocator + Copy>(
 {
     tick(m)?;
     match parts {
-        Parts::Block(ss) => Ok(Stepped::Nests(
+        StmtParts::Block(ss) => Ok(Stepped::Nests(
             Left::Scope(m.locals.len()),
             Task::Apart(frames, ss),
         )),
-        Parts::Either(c, a, b) => begin_either(source, frames, c, a, b, m),
-        Parts::Repeats(which) => begin_loop(source, frames, which, s, m),
+        StmtParts::Either(c, a, b) => begin_either(source, frames, c, a, b, m),
+        StmtParts::Repeats(which) => begin_loop(source, frames, which, s, m),
     }
 }
 

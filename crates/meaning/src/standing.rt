@@ -17,7 +17,7 @@ ghost use Rattle.meaning.specs.inner.Standing.{IsGone, IsStop, bare, rest};
 
 use crate::calls::{Begun, begin};
 use crate::left::{
-    Direction, Left, Parts, Stepped, Task, call_alone, open, open_call, parts_of, step,
+    Direction, Left, Stepped, StmtParts, Task, call_alone, open, open_call, parts_of, step,
 };
 use crate::machine::{Context, Local, Machine, StmtCompletion};
 use crate::program::ProgramTables;
@@ -169,7 +169,7 @@ fn go_open<'p, A: Allocator + Copy>(
     source: &ProgramTables<'p, A>,
     frames: u64,
     s: &'p Stmt<A>,
-    parts: &Parts<'p, A>,
+    parts: &StmtParts<'p, A>,
     at: &Point<'p, A>,
 ) -> Result<Gone<'p, A>, AllocError>
     ensures { IfOk result

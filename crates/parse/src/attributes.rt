@@ -20,7 +20,7 @@ use std::alloc::{AllocError, Allocator};
 use syntax::tree::Attribute;
 
 /// Attributes, and the tokens after them.
-type Found<'t, 'a, A> = (Items<Attribute, A>, &'t [Token<'a>]);
+type ReadAttributes<'t, 'a, A> = (Items<Attribute, A>, &'t [Token<'a>]);
 
 /// The attribute that a word names, if it names one.
 fn attribute_of(text: &str) -> Option<Attribute>
@@ -75,7 +75,7 @@ impl Element<Attribute> for EachWord {
 fn words<'t, 'a, A: Allocator + Copy>(
     alloc: A,
     tokens: &'t [Token<'a>],
-) -> Result<Found<'t, 'a, A>, Failure<'t, 'a>>
+) -> Result<ReadAttributes<'t, 'a, A>, Failure<'t, 'a>>
     ensures { Gives (λ x. (x.0, toks x.1.now)) result (words (toks tokens.now)) }
 {
     comma_list(alloc, &EachWord {}, tokens)
@@ -87,7 +87,7 @@ fn doubly_enclosed_words<'t, 'a, A: Allocator + Copy>(
     tokens: &'t [Token<'a>],
     opening: Fixed,
     closing: Fixed,
-) -> Result<Found<'t, 'a, A>, Failure<'t, 'a>>
+) -> Result<ReadAttributes<'t, 'a, A>, Failure<'t, 'a>>
     ensures { Gives (λ x. (x.0, toks x.1.now)) result
         (behind opening (behind opening (before closing (before closing words))) (toks tokens.now)) }
 {
@@ -100,7 +100,7 @@ fn doubly_enclosed_words<'t, 'a, A: Allocator + Copy>(
 fn bracket_attributes<'t, 'a, A: Allocator + Copy>(
     alloc: A,
     tokens: &'t [Token<'a>],
-) -> Result<Found<'t, 'a, A>, Failure<'t, 'a>>
+) -> Result<ReadAttributes<'t, 'a, A>, Failure<'t, 'a>>
     ensures { Gives (λ x. (x.0, toks x.1.now)) result (bracket_attributes (toks tokens.now)) }
 {
     doubly_enclosed_words(
@@ -115,7 +115,7 @@ fn bracket_attributes<'t, 'a, A: Allocator + Copy>(
 fn gnu_attributes<'t, 'a, A: Allocator + Copy>(
     alloc: A,
     tokens: &'t [Token<'a>],
-) -> Result<Found<'t, 'a, A>, Failure<'t, 'a>>
+) -> Result<ReadAttributes<'t, 'a, A>, Failure<'t, 'a>>
     ensures { Gives (λ x. (x.0, toks x.1.now)) result (gnu_attributes (toks tokens.now)) }
 {
     let rest = expect(tokens, Fixed::Keyword(Keyword::Attribute))?;
@@ -131,7 +131,7 @@ fn gnu_attributes<'t, 'a, A: Allocator + Copy>(
 fn attribute_list<'t, 'a, A: Allocator + Copy>(
     alloc: A,
     tokens: &'t [Token<'a>],
-) -> Result<Found<'t, 'a, A>, Failure<'t, 'a>>
+) -> Result<ReadAttributes<'t, 'a, A>, Failure<'t, 'a>>
     ensures { Gives (λ x. (x.0, toks x.1.now)) result (attribute_list (toks tokens.now)) }
 {
     if is_next(tokens, Fixed::Punctuator(Punctuator::OpenBracket)) {
@@ -165,7 +165,7 @@ pub fn append_attributes<A: Allocator>(
 pub fn attributes<'t, 'a, A: Allocator + Copy>(
     alloc: A,
     tokens: &'t [Token<'a>],
-) -> Result<Found<'t, 'a, A>, Failure<'t, 'a>>
+) -> Result<ReadAttributes<'t, 'a, A>, Failure<'t, 'a>>
     ensures { Gives (λ x. (x.0, toks x.1.now)) result (attributes (toks tokens.now)) }
 {
     let (mut rest, count) = count_tokens(tokens);

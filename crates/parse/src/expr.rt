@@ -28,7 +28,7 @@ use std::alloc::Allocator;
 use syntax::tree::{Expr, Mode, UnaryOp};
 
 /// An expression, its depth, and the tokens after it.
-type Found<'t, 'a, A> = (Expr<A>, usize, &'t [Token<'a>]);
+type ReadExpr<'t, 'a, A> = (Expr<A>, usize, &'t [Token<'a>]);
 
 /// Expressions, the greatest of their depths, and the tokens after them.
 type Listed<'t, 'a, A> = (Items<Expr<A>, A>, usize, &'t [Token<'a>]);
@@ -74,7 +74,7 @@ fn next_op<'t, 'a>(tokens: &'t [Token<'a>], min: usize) -> Option<(Infix, &'t [T
 /// A constant.
 fn constant<'t, 'a, A: Allocator>(
     tokens: &'t [Token<'a>],
-) -> Result<Found<'t, 'a, A>, Failure<'t, 'a>>
+) -> Result<ReadExpr<'t, 'a, A>, Failure<'t, 'a>>
     ensures value { Gives (λ x. (expr_of x.0, toks x.2.now)) result (take the_constant (toks tokens.now)) }
     ensures deep { IfOk result (λ x. x.1 ≡ expr_depth (expr_of x.0)) }
     ensures flat { IfOk result (λ x. x.1 ≡ 1) }
@@ -115,7 +115,7 @@ fn prefix_operation<'t, 'a, A: Allocator + Copy>(
     alloc: A,
     tokens: &'t [Token<'a>],
     depth: usize,
-) -> Result<Found<'t, 'a, A>, Failure<'t, 'a>>
+) -> Result<ReadExpr<'t, 'a, A>, Failure<'t, 'a>>
     requires { depth < 2 ^ 32 }
     ensures value { Gives (λ x. (expr_of x.0, toks x.2.now)) result
         (prefix_expr (whole_at depth) (expr_at depth 11) (toks tokens.now)) }
@@ -133,7 +133,7 @@ fn cast_or_group<'t, 'a, A: Allocator + Copy>(
     alloc: A,
     tokens: &'t [Token<'a>],
     depth: usize,
-) -> Result<Found<'t, 'a, A>, Failure<'t, 'a>>
+) -> Result<ReadExpr<'t, 'a, A>, Failure<'t, 'a>>
     requires { depth < 2 ^ 32 }
     ensures value { Gives (λ x. (expr_of x.0, toks x.2.now)) result
         (cast_or_group_expr (whole_at depth) (expr_at depth 11) (toks tokens.now)) }
@@ -159,7 +159,7 @@ fn transaction<'t, 'a, A: Allocator + Copy>(
     tokens: &'t [Token<'a>],
     mode: Mode,
     depth: usize,
-) -> Result<Found<'t, 'a, A>, Failure<'t, 'a>>
+) -> Result<ReadExpr<'t, 'a, A>, Failure<'t, 'a>>
     requires { depth < 2 ^ 32 }
     ensures value { Gives (λ x. (expr_of x.0, toks x.2.now)) result
         (transaction (whole_at depth) (expr_at depth 11) mode (toks tokens.now)) }
@@ -183,7 +183,7 @@ fn behind<'t, 'a, A: Allocator + Copy>(
     tokens: &'t [Token<'a>],
     fixed: Fixed,
     depth: usize,
-) -> Result<Found<'t, 'a, A>, Failure<'t, 'a>>
+) -> Result<ReadExpr<'t, 'a, A>, Failure<'t, 'a>>
     requires { depth < 2 ^ 32 }
     ensures value { Gives (λ x. (expr_of x.0, toks x.2.now)) result (behind fixed (whole_at depth) (toks tokens.now)) }
     ensures deep { IfOk result (λ x. x.1 ≡ expr_depth (expr_of x.0)) }
@@ -259,7 +259,7 @@ fn name_expr<'t, 'a, A: Allocator + Copy>(
     alloc: A,
     tokens: &'t [Token<'a>],
     depth: usize,
-) -> Result<Found<'t, 'a, A>, Failure<'t, 'a>>
+) -> Result<ReadExpr<'t, 'a, A>, Failure<'t, 'a>>
     requires { depth < 2 ^ 32 }
     ensures value { Gives (λ x. (expr_of x.0, toks x.2.now)) result
         (name_or_call (whole_at depth) (expr_at depth 11) (toks tokens.now)) }
@@ -294,7 +294,7 @@ fn operand<'t, 'a, A: Allocator + Copy>(
     alloc: A,
     tokens: &'t [Token<'a>],
     depth: usize,
-) -> Result<Found<'t, 'a, A>, Failure<'t, 'a>>
+) -> Result<ReadExpr<'t, 'a, A>, Failure<'t, 'a>>
     requires { depth < 2 ^ 32 }
     ensures value { Gives (λ x. (expr_of x.0, toks x.2.now)) result
         (operand (whole_at depth) (expr_at depth 11) (toks tokens.now)) }
@@ -319,7 +319,7 @@ fn climb<'t, 'a, A: Allocator + Copy>(
     tokens: &'t [Token<'a>],
     depth: usize,
     min: usize,
-) -> Result<Found<'t, 'a, A>, Failure<'t, 'a>>
+) -> Result<ReadExpr<'t, 'a, A>, Failure<'t, 'a>>
     requires fits { depth < 2 ^ 32 }
     requires operators { 1 ≤ min }
     ensures value { Gives (λ x. (expr_of x.0, toks x.2.now)) result (expr_at depth min (toks tokens.now)) }
@@ -392,7 +392,7 @@ fn conditional<'t, 'a, A: Allocator + Copy>(
     deep: usize,
     tokens: &'t [Token<'a>],
     depth: usize,
-) -> Result<Found<'t, 'a, A>, Failure<'t, 'a>>
+) -> Result<ReadExpr<'t, 'a, A>, Failure<'t, 'a>>
     requires fits { depth < 2 ^ 32 }
     requires measured { deep ≡ expr_depth (expr_of condition) }
     requires shallow { deep ≤ depth + 1 }
@@ -426,7 +426,7 @@ fn whole<'t, 'a, A: Allocator + Copy>(
     alloc: A,
     tokens: &'t [Token<'a>],
     depth: usize,
-) -> Result<Found<'t, 'a, A>, Failure<'t, 'a>>
+) -> Result<ReadExpr<'t, 'a, A>, Failure<'t, 'a>>
     requires { depth < 2 ^ 32 }
     ensures value { Gives (λ x. (expr_of x.0, toks x.2.now)) result (whole_at depth (toks tokens.now)) }
     ensures deep { IfOk result (λ x. x.1 ≡ expr_depth (expr_of x.0)) }

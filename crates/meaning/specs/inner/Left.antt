@@ -13,8 +13,8 @@ use Rattle.meaning.specs.declared.left.Left.{Left}
 use Rattle.meaning.specs.declared.left.Left.TheVariants as left
 use Rattle.meaning.specs.declared.left.Stepped.{Stepped}
 use Rattle.meaning.specs.declared.left.Stepped.TheVariants as to
-use Rattle.meaning.specs.declared.left.Parts.{Parts}
-use Rattle.meaning.specs.declared.left.Parts.TheVariants as parts
+use Rattle.meaning.specs.declared.left.StmtParts.{StmtParts}
+use Rattle.meaning.specs.declared.left.StmtParts.TheVariants as parts
 use Rattle.meaning.specs.declared.loops.Loop.{Loop}
 use Rattle.meaning.specs.declared.loops.Loop.TheVariants as kind
 use Rattle.meaning.specs.declared.machine.Halted.{Halted}
@@ -42,7 +42,7 @@ module _ {A : Type 0} where
       (stmt_of a.now)
 
   -- the statement that has these parts
-  abbrev pub stmt_in : Parts A → Stmt
+  abbrev pub stmt_in : StmtParts A → Stmt
   stmt_in (parts.Block ss) = Block (stmts_of ss.now)
   stmt_in (parts.Either c a b) = if_of (expr_of c.now) (stmt_of a.now) (option_map stmt_of b.now)
   stmt_in (parts.Repeats w) = loop_in w
@@ -76,7 +76,7 @@ module _ {A : Type 0} (source : ProgramTables A) where
   loop_opened frames turn (kind.For head a) =
       for_begun (program_in source) (caller_in source frames) (start_of head.now.start) turn
 
-  abbrev pub step_by_parts : ℕ → Stmt → Parts A → Action Follow
+  abbrev pub step_by_parts : ℕ → Stmt → StmtParts A → Action Follow
   step_by_parts frames s (parts.Block ss) = scope_begun (does_stmts source frames ss.now)
   step_by_parts frames s (parts.Either c a b) =
       either_begun (program_in source) (caller_in source frames) (expr_of c.now) (stmt_of a.now)
@@ -84,7 +84,7 @@ module _ {A : Type 0} (source : ProgramTables A) where
   step_by_parts frames s (parts.Repeats w) =
       loop_opened frames (turn_of (program_in source) (caller_in source frames) s) w
 
-  abbrev pub first_step : ℕ → Stmt → Parts A → Action Follow
+  abbrev pub first_step : ℕ → Stmt → StmtParts A → Action Follow
   first_step frames s q = tick >> step_by_parts frames s q
 
   -- so many turns of a loop, and what is left behind the body of one
