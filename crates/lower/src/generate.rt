@@ -18,7 +18,7 @@ ghost use Rattle.lower_exprs.specs.Views.{program_in};
 use crate::deep::first_too_deep;
 use crate::fault::LowerFault;
 use crate::function::lower_function;
-use bytecode::{Code, FunctionCode, Instr, MOST_INSTRUCTIONS, MOST_REGISTERS, Parts};
+use bytecode::{Code, FunctionCode, Instr, Parts};
 use containers::{Copied, Items};
 use lower_exprs::fault::Failure;
 use lower_exprs::lists::Lists;
@@ -64,7 +64,7 @@ fn lower_definition<'p, A: Allocator + Copy>(
         IfErr result (IsOfDefinition (function_of f.now) w.lists.registers
         (length (making.old.code.items ++ w.code))) }
 {
-    if f.parameters.len() > MOST_REGISTERS as usize {
+    if f.parameters.len() > 65_535 {
         return Err(LowerFault::TooManyRegisters(f.name.span));
     }
     let from = making.to;
@@ -73,10 +73,10 @@ fn lower_definition<'p, A: Allocator + Copy>(
         Err(Failure::OutOfMemory) => return Err(LowerFault::OutOfMemory),
         Err(Failure::Registers) => return Err(LowerFault::TooManyRegisters(f.name.span)),
     };
-    if making.lists.registers > MOST_REGISTERS {
+    if making.lists.registers > 65_535 {
         return Err(LowerFault::TooManyRegisters(f.name.span));
     }
-    if making.code.len() > MOST_INSTRUCTIONS {
+    if making.code.len() > 1_048_576 {
         return Err(LowerFault::TooMuchCode(f.name.span));
     }
     let name = match f.name.text.copy(names.alloc) {
