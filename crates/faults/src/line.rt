@@ -5,10 +5,10 @@ ghost use Rattle.std.specs.Prelude.{◌≤◌, length};
 use lex::token::Span;
 use std::alloc::{AllocError, Allocator};
 
-/// The most bytes of a line that are shown before a place.
+/// The most bytes of a line that are shown before an offset.
 const MOST_BEFORE: usize = 100;
 
-/// The most bytes of a line that are shown from a place on.
+/// The most bytes of a line that are shown from an offset on.
 const MOST_BEHIND: usize = 200;
 
 /// Whether a byte goes on with a character.
@@ -16,13 +16,13 @@ fn is_continuation(byte: u8) -> bool {
     (0x80..0xc0).contains(&byte)
 }
 
-/// Where what is shown before a place begins: with its line, or with a character at most so many bytes before it.
-fn shown_from(text: &[u8], place: usize) -> usize
-    requires { place ≤ length text.now }
-    ensures { result ≤ place }
+/// Where what is shown before an offset begins: with its line, or with a character at most so many bytes before it.
+fn shown_from(text: &[u8], offset: usize) -> usize
+    requires { offset ≤ length text.now }
+    ensures { result ≤ offset }
 {
-    let mut from = place;
-    'before: for at in (place.saturating_sub(MOST_BEFORE)..place).rev() {
+    let mut from = offset;
+    'before: for at in (offset.saturating_sub(MOST_BEFORE)..offset).rev() {
         if text[at] == b'\n' {
             return from;
         }
@@ -33,15 +33,15 @@ fn shown_from(text: &[u8], place: usize) -> usize
     from
 }
 
-/// Where what is shown from a place on ends: with its line, or with a character at most so many bytes behind it.
-fn shown_to(text: &[u8], place: usize) -> usize
-    requires { place ≤ length text.now }
-    ensures from { place ≤ result }
+/// Where what is shown from an offset on ends: with its line, or with a character at most so many bytes behind it.
+fn shown_to(text: &[u8], offset: usize) -> usize
+    requires { offset ≤ length text.now }
+    ensures from { offset ≤ result }
     ensures to { result ≤ length text.now }
 {
-    let most = text.len().min(place.saturating_add(MOST_BEHIND));
-    let mut to = place;
-    'behind: for at in place..most {
+    let most = text.len().min(offset.saturating_add(MOST_BEHIND));
+    let mut to = offset;
+    'behind: for at in offset..most {
         if text[at] == b'\n' || text[at] == b'\r' {
             return at;
         }
@@ -80,21 +80,21 @@ fn push_under<A: Allocator>(
 /// The line of a text that a span begins in, and a line with a caret under each character of the span in it, or one
 /// caret where there is none.
 ///
-/// Of a long line at most 100 bytes before the place and 200 from it on are shown. Both lines end with LF.
+/// Of a long line at most 100 bytes before the offset and 200 from it on are shown. Both lines end with LF.
 pub fn underline<A: Allocator>(alloc: A, text: &str, span: Span) -> Result<Vec<u8, A>, AllocError> {
     let bytes = text.as_bytes();
-    let place = span.start.min(bytes.len());
-    let from = shown_from(bytes, place);
-    let to = shown_to(bytes, place);
-    let end = span.end.clamp(place, to);
+    let offset = span.start.min(bytes.len());
+    let from = shown_from(bytes, offset);
+    let to = shown_to(bytes, offset);
+    let end = span.end.clamp(offset, to);
     let mut shown = Vec::new(alloc);
     push_shown(&mut shown, &bytes[from..to])?;
     shown.push(b'\n')?;
-    push_under(&mut shown, &bytes[from..place], b' ')?;
-    if end == place {
+    push_under(&mut shown, &bytes[from..offset], b' ')?;
+    if end == offset {
         shown.push(b'^')?;
     }
-    push_under(&mut shown, &bytes[place..end], b'^')?;
+    push_under(&mut shown, &bytes[offset..end], b'^')?;
     shown.push(b'\n')?;
     Ok(shown)
 }

@@ -20,9 +20,9 @@ fn declare_three<A: Allocator + Copy>(
 /// Whether a table has what these were first declared as, and nothing else.
 fn has_count_and_total<A: Allocator + Copy>(table: &Table<'static, u32, A>) -> bool {
     let values = table.get("count") == Some(&7) && table.get("total") == Some(&8);
-    let places = table.index_of("count") == Some(0) && table.index_of("total") == Some(1);
+    let indices = table.index_of("count") == Some(0) && table.index_of("total") == Some(1);
     let other = table.get("turn").is_none() && table.index_of("turn").is_none();
-    table.len() == 2 && values && places && other
+    table.len() == 2 && values && indices && other
 }
 
 /// Whether a new table tells names that are new, and keeps what they were first declared as.
@@ -54,7 +54,7 @@ fn declare_in_a_block<A: Allocator + Copy>(
     Ok(outer)
 }
 
-/// Whether a name's newest declaration has this place and this value, or is not there.
+/// Whether a name's newest declaration has this index and this value, or is not there.
 fn is_newest<A: Allocator + Copy>(
     scope: &Scope<'static, u32, A>,
     name: &str,
@@ -164,9 +164,9 @@ fn colliding(alloc: Global) -> Result<String, AllocError> {
     Ok(text)
 }
 
-/// The name at a place among a program's globals.
-fn name_at(text: &str, place: usize) -> Option<&str> {
-    let start = place.checked_mul(33)?.checked_add(4)?;
+/// The name at an index among a program's globals.
+fn name_at(text: &str, index: usize) -> Option<&str> {
+    let start = index.checked_mul(33)?.checked_add(4)?;
     text.get(start..start.checked_add(32)?)
 }
 
@@ -177,23 +177,23 @@ fn declare_each<'a>(
     table: &mut Table<'a, usize, Global>,
     scope: &mut Scope<'a, usize, Global>,
 ) -> Option<()> {
-    for place in 0..10000usize {
-        let name = name_at(text, place)?;
-        table.declare(name, place).ok()?;
-        scope.declare(name, place).ok()?;
+    for index in 0..10000usize {
+        let name = name_at(text, index)?;
+        table.declare(name, index).ok()?;
+        scope.declare(name, index).ok()?;
     }
     scope.declare(name_at(text, 0)?, 7).ok()
 }
 
-/// Whether each name is found at its place.
-fn are_at_their_places<'a>(
+/// Whether each name is found at its index.
+fn are_at_their_indices<'a>(
     text: &str,
     table: &Table<'a, usize, Global>,
     scope: &Scope<'a, usize, Global>,
 ) -> Option<bool> {
-    for place in 0..10000usize {
-        let name = name_at(text, place)?;
-        if table.index_of(name) != Some(place) || scope.newest(name) != Some((place, place)) {
+    for index in 0..10000usize {
+        let name = name_at(text, index)?;
+        if table.index_of(name) != Some(index) || scope.newest(name) != Some((index, index)) {
             return Some(false);
         }
     }
@@ -208,11 +208,11 @@ fn finds_each(alloc: Global, text: &str) -> Option<bool> {
     declare_each(text, &mut table, &mut scope)?;
     let hidden = scope.newest(name_at(text, 0)?) == Some((10000, 7));
     scope.leave(scope.len().min(10000));
-    let found = are_at_their_places(text, &table, &scope)?;
+    let found = are_at_their_indices(text, &table, &scope)?;
     Some(hidden && found)
 }
 
-/// Whether colliding names are each found at their places.
+/// Whether colliding names are each found at their indices.
 fn many_are_found(alloc: Global) -> bool {
     match colliding(alloc) {
         Ok(text) => finds_each(alloc, text.as_str()) == Some(true),
@@ -230,14 +230,14 @@ fn colliding_names_are_found(rt: HostRuntime) {
 fn declare_again(
     table: &mut Table<'static, u32, &Refusing<Global>>,
     name: &'static str,
-    place: usize,
+    count: usize,
 ) -> Option<bool> {
     let first = table.declare(name, 1);
     if first.is_ok() {
         return (first == Ok(true)).then_some(false);
     }
-    let kept = table.len() == place && table.get(name).is_none();
-    (kept && table.declare(name, 1) == Ok(true)).then_some(true)
+    let unchanged = table.len() == count && table.get(name).is_none();
+    (unchanged && table.declare(name, 1) == Ok(true)).then_some(true)
 }
 
 /// Declares a name in a scope, a second time where it is refused, and says whether it was; none where the scope did not
@@ -245,13 +245,13 @@ fn declare_again(
 fn hide_again(
     scope: &mut Scope<'static, u32, &Refusing<Global>>,
     name: &'static str,
-    place: usize,
+    count: usize,
 ) -> Option<bool> {
     if scope.declare(name, 1) != Err(AllocError) {
         return Some(false);
     }
-    let kept = scope.len() == place && scope.newest(name).is_none();
-    (kept && scope.declare(name, 1).is_ok()).then_some(true)
+    let unchanged = scope.len() == count && scope.newest(name).is_none();
+    (unchanged && scope.declare(name, 1).is_ok()).then_some(true)
 }
 
 /// The names that are declared while growths are refused.
@@ -265,9 +265,9 @@ fn names() -> &'static [&'static str] {
 fn refused_in_a_table(alloc: &Refusing<Global>) -> Option<u32> {
     let mut table = Table::new(alloc, 3);
     let mut refused = 0u32;
-    for (place, name) in names().iter().enumerate() {
+    for (index, name) in names().iter().enumerate() {
         alloc.refuse(1);
-        if declare_again(&mut table, name, place)? {
+        if declare_again(&mut table, name, index)? {
             refused = refused.saturating_add(1);
         }
     }
@@ -279,9 +279,9 @@ fn refused_in_a_table(alloc: &Refusing<Global>) -> Option<u32> {
 fn refused_in_a_scope(alloc: &Refusing<Global>, nth: u64) -> Option<u32> {
     let mut scope = Scope::new(alloc, 3);
     let mut refused = 0u32;
-    for (place, name) in names().iter().enumerate() {
+    for (index, name) in names().iter().enumerate() {
         alloc.refuse(nth);
-        if hide_again(&mut scope, name, place)? {
+        if hide_again(&mut scope, name, index)? {
             refused = refused.saturating_add(1);
         }
     }

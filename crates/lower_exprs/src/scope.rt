@@ -1,7 +1,7 @@
-//! The locals that are known at a place.
+//! The locals that are known at a point of a body.
 
 ghost use Rattle.std.specs.Prelude.{◌≡◌, ◌≤◌, [], length, take, OnOk};
-ghost use Rattle.syntax.specs.Names as Source;
+ghost use Rattle.syntax.specs.Names as Names;
 ghost use Rattle.lower_spec.specs.Statements.{with_local};
 ghost use Rattle.lower_exprs.specs.Views.{scope_in};
 
@@ -9,7 +9,7 @@ use crate::program::ProgramNames;
 use lex::token::Scalar;
 use std::alloc::{AllocError, Allocator};
 
-/// The locals that are known at a place, in order of declaration: a local's number is its register.
+/// The locals that are known at a point, in order of declaration: a local's number is its register.
 #[derive(Drop)]
 pub struct LocalRegisters<'p, A: Allocator> {
     pub(crate) known: name_tables::Scope<'p, Scalar, A>,
@@ -34,7 +34,7 @@ impl<'p, A: Allocator + Copy> LocalRegisters<'p, A> {
 
     /// The newest local of a name: its register and its type.
     pub(crate) fn newest(&self, name: &str) -> Option<(usize, Scalar)>
-        ensures { result ≡ Source.newest (scope_in self.now) name.now }
+        ensures { result ≡ Names.newest (scope_in self.now) name.now }
     {
         self.known.newest(name)
     }

@@ -19,7 +19,7 @@ use Rattle.syntax.specs.Types.{type_of, running_scope}
 use Rattle.syntax.specs.Laws.{shape}
 use Rattle.bytecode.specs.Code.{Instr, Code, FunctionCode}
 
--- the locals known at a place, by name and type; their words say nothing
+-- the locals known at a point, by name and type; their words say nothing
 abbrev pub LocalScope : Type 0
 LocalScope = List Local
 
@@ -34,7 +34,7 @@ InstructionAt code q i = slice_get code.instructions q ≡ Some i
 abbrev pub LeadsTo : Code → (q to : ℕ) → Type 0
 LeadsTo code q to = (q ≡ to) ⊎ InstructionAt code q (Instr.Jump to)
 
--- code from one place to another that gives a value of a type in a register, where those below `free` are kept
+-- code from one place to another that gives a value of a type in a register, where those below `free` stay as they are
 abbrev pub Coded : Type 1
 Coded = (from to free r : ℕ) → Scalar → Type 0
 

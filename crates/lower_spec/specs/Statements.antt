@@ -47,7 +47,7 @@ due (LocalAt l) s = converting s l.1
 due (CellAt g) s = widening s g.global.ty
 due (ElementOf g ri) s = widening s g.global.ty
 
--- the index of an element is kept below the free registers
+-- the index of an element lies below the free registers
 abbrev pub Spares : Target → ℕ → Type 0
 Spares (ElementOf g ri) later = ri < later
 Spares target later = Unit {0}

@@ -47,14 +47,14 @@ no_number n (Defines f ∷ items) x h = none_defined f x f.body n (number_from (
 -- the definition is that of the item with the number
 module _ {A : Type 0} where
   pub record IsNumbered (n i : ℕ) (items : List (OwnItem A)) (x : List ℕ) : Type 0 where
-    pub place : ℕ
-    pub is : i ≡ n + place
-    pub less : place < length items
-    pub same : (d : OwnItem A) → definition_of (map item_of items) x ≡ definition_of (item_of (get_or items place d) ∷ []) x
+    pub index : ℕ
+    pub is : i ≡ n + index
+    pub less : index < length items
+    pub same : (d : OwnItem A) → definition_of (map item_of items) x ≡ definition_of (item_of (get_or items index d) ∷ []) x
 
   later : (n i : ℕ) (item : OwnItem A) (items : List (OwnItem A)) (x : List ℕ) → definition_of (item_of item ∷ map item_of items) x ≡ definition_of (map item_of items) x → IsNumbered (n + 1) i items x → IsNumbered n i (item ∷ items) x
   later n i item items x e h = record {
-    place = suc h.place;
+    index = suc h.index;
     is = (let k = h.is in omega (arith, k));
     less = (let k = h.less in omega (arith, k));
     same = λ d. e ∙ h.same d;
@@ -65,7 +65,7 @@ module _ {A : Type 0} where
   here_step true f s items x n i b o h e =
       let first = (λ (rest : Option (Function × Stmts)). ap (λ p. definition_or (function_of f) x p rest) o ∙ ap (λ (q : Bool). if q then Some (function_of f, s) else rest) b) in
       let is : Some n ≡ Some i = h in
-      record { place = 0; is = (let k : n ≡ i = cc in omega (arith, k)); less = omega arith; same = λ d. first (definition_of (map item_of items) x) ∙ sym (first None) }
+      record { index = 0; is = (let k : n ≡ i = cc in omega (arith, k)); less = omega arith; same = λ d. first (definition_of (map item_of items) x) ∙ sym (first None) }
   here_step false f s items x n i b o h e =
       later n i (own.Function f) items x (ap (λ p. definition_or (function_of f) x p (definition_of (map item_of items) x)) o ∙ ap (λ (q : Bool). if q then Some (function_of f, s) else definition_of (map item_of items) x) b) (e h)
 
@@ -83,4 +83,4 @@ module _ {A : Type 0} where
   number_less i items x h = let k = numbered 0 i items x h in let e = k.is in let l = k.less in omega (arith, e, l)
 
   pub number_same : (i : ℕ) (items : List (OwnItem A)) (x : List ℕ) (d : OwnItem A) → number_from 0 (map item_of items) x ≡ Some i → definition_of (map item_of items) x ≡ definition_of (item_of (get_or items i d) ∷ []) x
-  number_same i items x d h = let k = numbered 0 i items x h in let e : k.place ≡ i = (let f = k.is in omega (arith, f)) in k.same d ∙ ap (λ j. definition_of (item_of (get_or items j d) ∷ []) x) e
+  number_same i items x d h = let k = numbered 0 i items x h in let e : k.index ≡ i = (let f = k.is in omega (arith, f)) in k.same d ∙ ap (λ j. definition_of (item_of (get_or items j d) ∷ []) x) e

@@ -89,7 +89,7 @@ pub(crate) fn trap<A: Allocator>(m: &mut Machine<A>, why: Trap) -> Result<Word, 
     Err(Halted {})
 }
 
-/// A trap where a place is due.
+/// A trap where an lvalue is due.
 #[cold]
 #[inline(never)]
 pub(crate) fn lvalue_trap<A: Allocator>(m: &mut Machine<A>, why: Trap) -> Result<Lvalue, Halted>
@@ -129,7 +129,7 @@ pub(crate) fn operate_unary<A: Allocator>(
     }
 }
 
-/// The place of the newest local of a name, and its type.
+/// The index of the newest local of a name, and its type.
 pub(crate) fn newest(locals: &[Local], name: &str) -> Option<(usize, Scalar)>
     ensures { result ≡ newest_local (map local_in locals.now) name.now }
 {

@@ -157,7 +157,7 @@ fn declare_one<'p, A: Allocator + Copy>(
     ensures { Means result (declared_one (program_in source.now) (caller_in source.now frames) ty (declarator_of d.now)
         (state_in m.old)) m.new }
 {
-    let place = m.locals.len();
+    let index = m.locals.len();
     let local = Local {
         name: d.name.text.as_str(),
         ty,
@@ -171,7 +171,7 @@ fn declare_one<'p, A: Allocator + Copy>(
         None => Ok(()),
         Some(e) => {
             let v = eval(source, frames, e, m)?;
-            assign(m, Lvalue::InLocal(place, ty), v)
+            assign(m, Lvalue::InLocal(index, ty), v)
         }
     }
 }

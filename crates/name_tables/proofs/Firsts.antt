@@ -19,9 +19,9 @@ module _ {V : Type 0} where
       by true h = refl
       by false h = h
 
-  -- and the place too
-  pub places : (es : List (Bor (List ℕ) × V)) (x : List ℕ) → position (λ k. bytes_eq x k.now) (keys_of es) ≡ first_index (map entry_of es) x
-  places es x = ap (λ n. cond (nat_lt n (length (keys_of es))) (Some n) None) (lens es) ∙ ap (λ n. cond (nat_lt (position_or_len (bytes_eq x) (map (λ e. e.0) (map entry_of es))) n) (Some (position_or_len (bytes_eq x) (map (λ e. e.0) (map entry_of es)))) None) (sizes es)
+  -- and the index too
+  pub indices : (es : List (Bor (List ℕ) × V)) (x : List ℕ) → position (λ k. bytes_eq x k.now) (keys_of es) ≡ first_index (map entry_of es) x
+  indices es x = ap (λ n. cond (nat_lt n (length (keys_of es))) (Some n) None) (lens es) ∙ ap (λ n. cond (nat_lt (position_or_len (bytes_eq x) (map (λ e. e.0) (map entry_of es))) n) (Some (position_or_len (bytes_eq x) (map (λ e. e.0) (map entry_of es)))) None) (sizes es)
     where
       lens : (es : List (Bor (List ℕ) × V)) → position_or_len (λ k. bytes_eq x k.now) (keys_of es) ≡ position_or_len (bytes_eq x) (map (λ e. e.0) (map entry_of es))
       lens [] = refl
@@ -32,8 +32,8 @@ module _ {V : Type 0} where
       sizes (e ∷ es) = ap suc (sizes es)
 
   -- a name that is there, and one that is new
-  pub kept : (es : List (List ℕ × V)) (x : List ℕ) (v : V) → is_some (first es x) ≡ true → es ≡ with_declaration es x v
-  kept es x v h = sym (ap (λ b. if b then es else es ++ (x, v) ∷ []) h)
+  pub unchanged : (es : List (List ℕ × V)) (x : List ℕ) (v : V) → is_some (first es x) ≡ true → es ≡ with_declaration es x v
+  unchanged es x v h = sym (ap (λ b. if b then es else es ++ (x, v) ∷ []) h)
 
   pub added : (es : List (List ℕ × V)) (x : List ℕ) (v : V) → is_some (first es x) ≡ false → es ++ (x, v) ∷ [] ≡ with_declaration es x v
   added es x v h = sym (ap (λ b. if b then es else es ++ (x, v) ∷ []) h)

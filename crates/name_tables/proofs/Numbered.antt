@@ -11,7 +11,7 @@ use Rattle.name_tables.specs.Maps.{NameMap, value_at}
 use Rattle.name_tables.proofs.Newest.{newest_last}
 use Rattle.name_tables.specs.declared.entries.LocalEntry.{LocalEntry}
 use Rattle.name_tables.specs.Known.{local_of}
-use Rattle.name_tables.specs.inner.Places.{number_at, number_in, hidden_by, AreHidden, AreNumbered}
+use Rattle.name_tables.specs.inner.Numbers.{number_at, number_in, hidden_by, AreHidden, AreNumbered}
 
 module _ {V : Type 0} where
   reverse-last : (ls : List (LocalEntry V)) (l : LocalEntry V) → reverse (ls ++ l ∷ []) ≡ l ∷ reverse ls
@@ -29,7 +29,7 @@ module _ {V : Type 0} where
       by true h = omega arith
       by false h = omega (arith, h)
 
-  -- the local of a number, by its place and value
+  -- the local of a number, by its index and value
   abbrev pub local_at : List (LocalEntry V) → ℕ → Option (ℕ × V)
   local_at ls zero = None
   local_at ls (suc k) = option_map (λ l. (k, l.value)) (slice_get ls k)

@@ -1,5 +1,5 @@
--- Lists of names with what they stand for, in order of declaration. Of c = 5, d = 7, c = 9 the first c is 5, at place
--- 0, and the newest is 9, at place 2.
+-- Lists of names with what they stand for, in order of declaration. Of c = 5, d = 7, c = 9 the first c is 5, at index
+-- 0, and the newest is 9, at index 2.
 use Rattle.std.specs.Prelude.{ℕ, ◌+◌, List, [], ◌∷◌, ◌++◌, map, position, Option, Some, None, is_some, bytes_eq}
 use Rattle.std.specs.Prelude.{if◌then◌else◌}
 use Rattle.std.specs.Option.{option_or}
@@ -18,7 +18,7 @@ module _ {V : Type 0} where
   abbrev pub with_declaration : List (List ℕ × V) → List ℕ → V → List (List ℕ × V)
   with_declaration es x v = if is_some (first es x) then es else es ++ (x, v) ∷ []
 
-  -- the newest declaration of a name, by its place and its value: a later one hides an earlier one (C11 6.2.1)
+  -- the newest declaration of a name, by its index and its value: a later one hides an earlier one (C11 6.2.1)
   abbrev pub newest_from : ℕ → List (List ℕ × V) → List ℕ → Option (ℕ × V)
   newest_from i [] x = None
   newest_from i (l ∷ ls) x = option_or (newest_from (i + 1) ls x) (if bytes_eq l.0 x then Some (i, l.1) else None)

@@ -1,8 +1,8 @@
-//! What is kept of names. The types stand apart from their calls: a ghost field's file may cite no definition that
+//! What is stored of names. The types stand apart from their calls: a ghost field's file may cite no definition that
 //! reads the type, as those of the calls' contracts do.
 
 ghost use Rattle.std.specs.Prelude.{◌≡◌};
-ghost use Rattle.name_tables.specs.inner.Places.{AreHidden, AreNumbered};
+ghost use Rattle.name_tables.specs.inner.Numbers.{AreHidden, AreNumbered};
 
 use crate::hasher::Keyed;
 use indexmap::IndexMap;
@@ -24,7 +24,7 @@ pub(crate) struct LocalEntry<'a, V> {
     pub(crate) hidden: usize,
 }
 
-/// The declarations that are known at a place of a body, in order: a later one hides an earlier one of its name.
+/// The declarations that are known at a point of a body, in order: a later one hides an earlier one of its name.
 /// Contracts see the list of names with their values (`locals_in`), those that are hidden too.
 ///
 /// To enter a block is to note `len`, and to end it is to `leave` at that.

@@ -1,4 +1,4 @@
-//! The names that are known at a place of a body (C11 6.2.1).
+//! The names that are known at a point of a body (C11 6.2.1).
 //!
 //! The map has for each name the number of declarations up to its newest one, and 0 for a name that is no longer known;
 //! each declaration has that number as it was before. So neither a look-up nor the end of a block goes over other
@@ -7,7 +7,7 @@
 ghost use Rattle.std.specs.Prelude.{◌≡◌, ◌++◌, ◌∷◌, [], ◌-◌, ◌≤◌, length, take, OnOk, OnErr};
 ghost use Rattle.name_tables.specs.Named.{newest};
 ghost use Rattle.name_tables.specs.Known.{locals_in};
-ghost use Rattle.name_tables.specs.inner.Places.{number_at};
+ghost use Rattle.name_tables.specs.inner.Numbers.{number_at};
 
 use crate::entries::{LocalEntry, Scope};
 use crate::hasher::Keyed;
@@ -42,7 +42,7 @@ impl<'a, V: Copy + Drop, A: Allocator + Copy> Scope<'a, V, A> {
         self.locals.len()
     }
 
-    /// The newest declaration of a name: its place, from 0 and among all declarations, and its value; none for a name
+    /// The newest declaration of a name: its index, from 0 and among all declarations, and its value; none for a name
     /// that is not known.
     pub fn newest(&self, name: &str) -> Option<(usize, V)>
         ensures { result ≡ newest (locals_in self.now) name.now }

@@ -34,7 +34,7 @@ impl<'a, V: Drop, A: Allocator + Copy> Table<'a, V, A> {
         self.map.get(name)
     }
 
-    /// The place of a name, from 0, in the order in which names were first declared; none for a name that was not
+    /// The index of a name, from 0, in the order in which names were first declared; none for a name that was not
     /// declared.
     pub fn index_of(&self, name: &str) -> Option<usize>
         ensures { result ≡ first_index (entries_in self.now) name.now }

@@ -5,19 +5,19 @@ use crate::sheet::Cell;
 use std::alloc::{AllocError, Allocator};
 use syntax::tree::{Global, Item, Unit};
 
-/// Adds a cell of a global: of an array, that at this place.
+/// Adds a cell of a global: of an array, the one of this index.
 fn add_cell<A: Allocator + Copy>(
     alloc: A,
     cells: &mut Vec<Cell<A>, A>,
     global: &Global<A>,
-    place: Option<u64>,
+    index: Option<u64>,
 ) -> Result<(), AllocError> {
     let mut name = Vec::new(alloc);
     name.extend_from_slice(global.name.text.as_str().as_bytes())?;
-    if let Some(place) = place {
+    if let Some(index) = index {
         push_pieces(
             &mut name,
-            &[Piece::Plain(b"["), Piece::Number(place), Piece::Plain(b"]")],
+            &[Piece::Plain(b"["), Piece::Number(index), Piece::Plain(b"]")],
         )?;
     }
     cells.push(Cell {
@@ -36,8 +36,8 @@ fn add_global<A: Allocator + Copy>(
     let Some((length, _)) = global.length else {
         return add_cell(alloc, cells, global, None);
     };
-    'places: for place in 0..length {
-        add_cell(alloc, cells, global, Some(place))?;
+    'cells: for index in 0..length {
+        add_cell(alloc, cells, global, Some(index))?;
     }
     Ok(())
 }

@@ -7,7 +7,7 @@ use std::alloc::{AllocError, Allocator, Global};
 /// A cell of shared memory, as it is named.
 #[derive(Drop)]
 pub struct Cell<A: Allocator = Global> {
-    /// The name of the cell's global, with the cell's place where that is an array.
+    /// The name of the cell's global, with the cell's index where that is an array.
     pub name: Vec<u8, A>,
     /// The type of the cell's numbers.
     pub ty: Scalar,

@@ -43,7 +43,7 @@ module _ {A : Type 0} where
   typed_of (fault.Unsafe t b) = t
 
   -- the check of a typed program: it is safe, or this is its first fault; without memory nothing is said.
-  -- The program is kept, or handed back.
+  -- The program is given on, or handed back.
   abbrev pub ChecksSafety : Typed A → Result (Safe A) (SafetyFault A) → Type 0
   ChecksSafety t (Ok s) = (s.typed ≡ t) × IsSafeProgram (program_of t.unit)
   ChecksSafety t (Err (fault.OutOfMemory u)) = u ≡ t

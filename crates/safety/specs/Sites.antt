@@ -27,7 +27,7 @@ pub record Site : Type 0 where
   pub outer : Bool
   pub in_any : Bool
 
--- what surrounds a place in a body: the names of locals, and the transactions
+-- what surrounds a point of a body: the names of locals, and the transactions
 pub record Around : Type 0 where
   pub locals : List (List ℕ)
   pub atomic : Bool

@@ -5,7 +5,7 @@ pub mod Unmet
 pub mod UnsafeLinks
 -- the links of functions that lead to an outer transaction
 pub mod OuterLinks
--- the locals at a place
+-- the locals at a point
 pub mod Known
 -- what a walk adds
 pub mod Walks

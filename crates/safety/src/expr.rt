@@ -64,7 +64,7 @@ pub(crate) fn add_kind<'a, A: Allocator + Copy>(
     }
 }
 
-/// What is round the places inside a transaction that has these surroundings.
+/// What is round the points inside a transaction that has these surroundings.
 pub(crate) fn inside(kind: TransactionKind, surroundings: TransactionsAround) -> TransactionsAround
     ensures { (names : List (List ℕ)) → around names result ≡ in_transaction kind (around names surroundings) }
 {

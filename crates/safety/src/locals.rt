@@ -1,4 +1,4 @@
-//! The locals that are known at a place of a body.
+//! The locals that are known at a point of a body.
 
 ghost use Rattle.std.specs.Prelude.{◌≡◌, ◌≤◌, ◌++◌, ◌∷◌, [], length, take, OnOk};
 ghost use Rattle.syntax.specs.Typing.{has_name};
@@ -7,7 +7,7 @@ ghost use Rattle.safety.specs.inner.Known.{names_in};
 use name_tables::Scope;
 use std::alloc::{AllocError, Allocator};
 
-/// The locals that are known at a place, by their names.
+/// The locals that are known at a point, by their names.
 #[derive(Drop)]
 pub(crate) struct Locals<'a, A: Allocator> {
     pub(crate) scope: Scope<'a, (), A>,

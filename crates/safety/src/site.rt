@@ -37,7 +37,7 @@ pub struct Site<'a> {
     pub in_any: bool,
 }
 
-/// The transactions that are round a place of a body.
+/// The transactions that are round a point of a body.
 #[derive(Clone, Copy)]
 pub(crate) struct TransactionsAround {
     pub(crate) atomic: bool,

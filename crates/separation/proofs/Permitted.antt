@@ -28,7 +28,7 @@ Permits p None m = PermitsOutside p m
 Permits p (Some Relaxed) m = Unit {0}
 Permits p (Some Atomic) m = IsSafeConstruct (IsSafe p) m
 
--- how the innermost transaction runs at a place of a function's body, where it was called so
+-- how the innermost transaction runs at a point of a function's body, where it was called so
 abbrev pub inside_of : Option Mode → Option Mode
 inside_of None = Some Relaxed
 inside_of (Some mode) = Some mode

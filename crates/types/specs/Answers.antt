@@ -51,7 +51,7 @@ module _ {A : Type 0} where
   unit_of (fault.IllTyped u b) = u
 
   -- the check of a unit: the fault is the first demand that is not met, and there is none where all are;
-  -- without memory nothing is said. The unit is kept, or handed back.
+  -- without memory nothing is said. The unit is given on, or handed back.
   abbrev pub ChecksTypes : Own.Unit A → Result (Typed A) (TypeFault A) → Type 0
   ChecksTypes u (Ok t) = (t.unit ≡ u) × (None ≡ first_unmet (Meets u.end (program_of u)))
   ChecksTypes u (Err (fault.OutOfMemory v)) = v ≡ u

@@ -10,8 +10,8 @@ use lex::token::Scalar;
 use std::alloc::{AllocError, Allocator};
 use syntax::tree::Function;
 
-/// What a name is known as. The type of functions is a parameter, here and where a symbol is kept: that a symbol can be
-/// copied is dear to prove where it lends a tree, and is proved without one.
+/// What a name is known as. The type of functions is a parameter, here and where a symbol is stored: that a symbol can
+/// be copied is dear to prove where it lends a tree, and is proved without one.
 pub(crate) enum ScopeSymbol<'a, F> {
     Unknown,
     Number(Scalar),

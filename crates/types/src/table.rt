@@ -1,4 +1,4 @@
-//! The tables of the names that are known at a place.
+//! The tables of the names that are known at a point of a text.
 
 ghost use Rattle.name_tables.specs.Known.{entries_in};
 ghost use Rattle.types.specs.inner.Symbols.{AreSymbols};
@@ -9,7 +9,7 @@ use name_tables::{Scope, Table};
 use std::alloc::Allocator;
 use syntax::tree::Function;
 
-/// The names that are known at a place: those of the file, as each was first declared, and the locals.
+/// The names that are known at a point: those of the file, as each was first declared, and the locals.
 #[derive(Drop)]
 pub(crate) struct ScopeTable<'a, A: Allocator + Copy> {
     pub(crate) file: Table<'a, ScopeSymbol<'a, Function<A>>, A>,

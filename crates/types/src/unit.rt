@@ -124,7 +124,7 @@ fn check_program<A: Allocator + Copy>(
 }
 
 /// Checks names and types. The fault is the first rule that the program breaks, in the order of the text; then come
-/// functions that are declared and not defined, and last a missing `worker`. The program is kept in what is given, or
+/// functions that are declared and not defined, and last a missing `worker`. The program lies in what is given, or
 /// comes back in the fault. Takes memory for the names.
 pub fn check<A: Allocator + Copy>(alloc: A, unit: Unit<A>) -> Result<Typed<A>, TypeFault<A>>
     ensures { ChecksTypes unit result }

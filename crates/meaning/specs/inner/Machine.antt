@@ -39,7 +39,7 @@ lvalue_of (lvalue.InCell c t) = Meaning.InCell c t
 abbrev pub local_in : Local → Names.Local
 local_in l = record { name = l.name.now; ty = l.ty; word = l.word }
 
--- a place with one memory more among those left
+-- where one memory more is among those left
 abbrev pub with_left : Memory → Actions.Context → Actions.Context
 with_left memory (Actions.Outside founds lefts) = Actions.Outside founds (lefts ++ memory ∷ [])
 with_left memory (Actions.Inside mode now) = Actions.Inside mode now

@@ -1,11 +1,11 @@
--- The locals that are known at a place.
+-- The locals that are known at a point of a body.
 use Rattle.std.specs.Prelude.{ℕ, List, map}
 use Rattle.name_tables.specs.Known.{locals_in}
 use Rattle.safety.specs.declared.locals.Locals.{Locals}
 use Rattle.safety.specs.declared.site.TransactionsAround.{TransactionsAround}
 use Rattle.safety.specs.Sites.{Around}
 
--- these locals and transactions are round a place
+-- these locals and transactions are round a point
 abbrev pub around : List (List ℕ) → TransactionsAround → Around
 around names surroundings = record {
   locals = names;

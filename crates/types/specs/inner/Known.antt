@@ -1,4 +1,4 @@
--- What is known at a place.
+-- What is known at a point of a text.
 use Rattle.std.specs.Prelude.{◌≡◌, ℕ, List, [], ◌∷◌, Option, Some, None, Bool, false, nat_le, length, take}
 use Rattle.syntax.specs.declared.tree.Function.{Function}
 use Rattle.syntax.specs.Tree.{Scalar, Declarator}

@@ -1,6 +1,6 @@
 use Rattle.std.proofs.Common.{◌≤◌}
 use Rattle.faults.proofs.line.shown_from.Given as goal
 
--- never behind the place
+-- never behind the offset
 abbrev pub invariant-before-2 : goal.invariant-before-2
-invariant-before-2 l = l.from ≤ l.place
+invariant-before-2 l = l.from ≤ l.offset

@@ -1,6 +1,6 @@
 use Rattle.std.proofs.Common.{◌≤◌, length}
 use Rattle.faults.proofs.line.shown_to.Given as goal
 
--- from the place on, and in the text
+-- from the offset on, and in the text
 abbrev pub invariant-behind : goal.invariant-behind
-invariant-behind l = record { from : l.place ≤ l.to; to : l.to ≤ length l.text }
+invariant-behind l = record { from : l.offset ≤ l.to; to : l.to ≤ length l.text }

@@ -1,6 +1,6 @@
 use Rattle.std.proofs.Common.{◌∙◌, ◌≤◌, length, reverse, subst, sym, ap, arith}
 use Rattle.std.proofs.lemmas.List.{length-reverse}
-use Rattle.name_tables.specs.inner.Places.{number_in}
+use Rattle.name_tables.specs.inner.Numbers.{number_in}
 use Rattle.name_tables.proofs.Numbered.{found, below, local_at, seen}
 use Rattle.name_tables.proofs.entries.Scope.newest.Goals as goal
 

@@ -2,12 +2,12 @@ use Rattle.std.proofs.Common.{◌∙◌, sym, ap, is_some, not, map, bytes_eq, [
 use Rattle.indexmap.proofs.CallerLemmas.{insert_entry-new}
 use Rattle.std.proofs.lemmas.List.{map-append}
 use Rattle.name_tables.specs.Known.{entries_in, entry_of}
-use Rattle.name_tables.proofs.Firsts.{firsts, kept, added, absent}
+use Rattle.name_tables.proofs.Firsts.{firsts, unchanged, added, absent}
 use Rattle.name_tables.proofs.entries.Table.declare.Goals as goal
 
 pub returns-then-contains_key-clause-ok : goal.returns-then-contains_key-clause-ok
 returns-then-contains_key-clause-ok g c =
-    kept (entries_in c.args.self.now) c.args.name.now c.args.value (ap is_some (sym (firsts c.args.self.now.map.entries c.args.name.now)) ∙ sym c.contains_key.ensures ∙ c.if-contains_key.true)
+    unchanged (entries_in c.args.self.now) c.args.name.now c.args.value (ap is_some (sym (firsts c.args.self.now.map.entries c.args.name.now)) ∙ sym c.contains_key.ensures ∙ c.if-contains_key.true)
 
 pub returns-in-Ok-clause-ok : goal.returns-in-Ok-clause-ok
 returns-in-Ok-clause-ok g c =
