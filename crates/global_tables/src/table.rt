@@ -4,7 +4,7 @@ ghost use Rattle.std.specs.Prelude.{◌≡◌, ◌+◌, ◌≤◌, ◌++◌, Lis
 ghost use Rattle.std.specs.Prelude.{option_map, IfOk, IfSome, OnOk};
 ghost use Rattle.std.specs.Option.{option_or};
 ghost use Rattle.syntax.specs.Tree as tree;
-ghost use Rattle.syntax.specs.Names as Source;
+ghost use Rattle.syntax.specs.Names as Names;
 ghost use Rattle.syntax.specs.Names.{GlobalCells, globals};
 ghost use Rattle.syntax.specs.Views.{global_of, item_of};
 ghost use Rattle.global_tables.specs.Tables.{total_cells, shared_at, shared_in, AreGlobals};
@@ -29,8 +29,8 @@ pub fn look_up<'p, A: Allocator + Copy>(
     name: &str,
 ) -> Option<Shared<'p, A>>
     ensures value { option_map shared_in result ≡ shared_at globals.now name.now }
-    ensures low { (p : tree.Program) → AreGlobals p globals.now → total_cells (Source.globals p) ≤ 4096
-        → IfSome result (λ g. g.cell + Source.cells (shared_in g).global ≤ 4096) }
+    ensures low { (p : tree.Program) → AreGlobals p globals.now → total_cells (Names.globals p) ≤ 4096
+        → IfSome result (λ g. g.cell + Names.cells (shared_in g).global ≤ 4096) }
 {
     globals.get(name).copied()
 }
@@ -57,8 +57,8 @@ fn add_globals<'p, A: Allocator + Copy>(
 ) -> Result<usize, AllocError>
     requires { first + total_cells (map global_of gs.now) ≤ 4096 }
     ensures value { IfOk result (λ next. (x : List ℕ) (rest : List tree.Global) →
-        option_or (shared_at table.new x) (Source.global_from next rest x)
-        ≡ option_or (shared_at table.old x) (Source.global_from first (map global_of gs.now ++ rest) x)) }
+        option_or (shared_at table.new x) (Names.global_from next rest x)
+        ≡ option_or (shared_at table.old x) (Names.global_from first (map global_of gs.now ++ rest) x)) }
     ensures next { IfOk result (λ next. next ≡ first + total_cells (map global_of gs.now)) }
 {
     let mut cell = first;

@@ -2,7 +2,7 @@
 
 ghost use Rattle.std.specs.Prelude.{◌≡◌, ◌++◌, ◌∷◌, [], ◌≤◌, map, length, IfOk, IfErr, OnOk};
 ghost use Rattle.std.specs.List.{AllByRecursion};
-ghost use Rattle.syntax.specs.Names as Source;
+ghost use Rattle.syntax.specs.Names as Names;
 ghost use Rattle.syntax.specs.Views.{program_of, item_of, function_of, global_of, stmts_of};
 ghost use Rattle.bytecode.specs.Valid.{HasWorker};
 ghost use Rattle.bytecode.specs.Views.{code_of, function_of as code_function};
@@ -18,7 +18,7 @@ ghost use Rattle.lower_exprs.specs.Views.{program_in};
 use crate::deep::first_too_deep;
 use crate::fault::LowerFault;
 use crate::function::lower_function;
-use bytecode::{Code, FunctionCode, Instr, Parts};
+use bytecode::{Code, FunctionCode, Instr, MOST_INSTRUCTIONS, MOST_REGISTERS, Parts};
 use containers::{Copied, Items};
 use lower_exprs::fault::Failure;
 use lower_exprs::lists::Lists;
@@ -64,7 +64,7 @@ fn lower_definition<'p, A: Allocator + Copy>(
         IfErr result (IsOfDefinition (function_of f.now) w.lists.registers
         (length (making.old.code.items ++ w.code))) }
 {
-    if f.parameters.len() > 65_535 {
+    if f.parameters.len() > MOST_REGISTERS as usize {
         return Err(LowerFault::TooManyRegisters(f.name.span));
     }
     let from = making.to;
@@ -73,10 +73,10 @@ fn lower_definition<'p, A: Allocator + Copy>(
         Err(Failure::OutOfMemory) => return Err(LowerFault::OutOfMemory),
         Err(Failure::Registers) => return Err(LowerFault::TooManyRegisters(f.name.span)),
     };
-    if making.lists.registers > 65_535 {
+    if making.lists.registers > MOST_REGISTERS {
         return Err(LowerFault::TooManyRegisters(f.name.span));
     }
-    if making.code.len() > 1_048_576 {
+    if making.code.len() > MOST_INSTRUCTIONS {
         return Err(LowerFault::TooMuchCode(f.name.span));
     }
     let name = match f.name.text.copy(names.alloc) {
@@ -125,7 +125,7 @@ fn lower_item<'p, A: Allocator + Copy>(
     ensures made { OnOk result (made_in making.new ≡ made_behind (made_in making.old)
         (all_made (program_in names.now) (item_of item.now ∷ []) making.old.to (lists_of making.old.lists))) }
     ensures globals { OnOk result (map global_of making.new.globals.items
-        ≡ map global_of making.old.globals.items ++ Source.shared_by (item_of item.now)) }
+        ≡ map global_of making.old.globals.items ++ Names.shared_by (item_of item.now)) }
     ensures few { OnOk result (AllByRecursion (λ f. f.registers ≤ 65535)
         (map code_function making.new.functions.items)) }
     ensures short { OnOk result (length making.new.code.items ≤ 1048576) }
@@ -189,7 +189,7 @@ fn lower_parts<'p, A: Allocator + Copy>(names: &ProgramNames<'p, A>) -> Result<P
 /// it.
 pub fn lower<A: Allocator + Copy>(alloc: A, accepted: &Accepted<A>) -> Result<Code<A>, LowerFault>
     ensures means { IfOk result (MeansItsProgram (program_of accepted.now.safe.typed.unit)) }
-    ensures globals { IfOk result (λ code. code.globals ≡ Source.globals (program_of accepted.now.safe.typed.unit)) }
+    ensures globals { IfOk result (λ code. code.globals ≡ Names.globals (program_of accepted.now.safe.typed.unit)) }
     ensures worker { IfOk result HasWorker }
     ensures shallow { IfOk result (λ code. nested_too_deep (program_of accepted.now.safe.typed.unit) ≡ None) }
     ensures fault { IfErr result (IsLowerFaultOf (program_of accepted.now.safe.typed.unit)) }

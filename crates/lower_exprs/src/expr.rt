@@ -2,7 +2,7 @@
 
 ghost use Rattle.std.specs.Prelude.{◌≡◌, [], ◌∷◌, ◌++◌, ◌+◌, ◌≤◌, length, map, drop, pos, OnOk, IfOk, IfErr};
 ghost use Rattle.syntax.specs.declared.tree.Expr as tree;
-ghost use Rattle.syntax.specs.Names as Source;
+ghost use Rattle.syntax.specs.Names as Names;
 ghost use Rattle.syntax.specs.Numbers.{word_of};
 ghost use Rattle.syntax.specs.Views.{expr_of, exprs_of, global_of, parameter_of};
 ghost use Rattle.bytecode.specs.declared.instr.Instr.TheVariants as instr;
@@ -93,8 +93,8 @@ fn lower_variable<A: Allocator + Copy>(
     from: u32,
     into: usize,
 ) -> Result<ValueRegister, Failure>
-    ensures { AddsValue (variable (Source.newest (scope_in scope.now) x.now)
-        (Source.global_of (program_in names.now) x.now) from into (lists_of lists.old))
+    ensures { AddsValue (variable (Names.newest (scope_in scope.now) x.now)
+        (Names.global_of (program_in names.now) x.now) from into (lists_of lists.old))
         code.old code.new lists.new result }
 {
     match scope.newest(x) {
@@ -121,7 +121,7 @@ fn put_read_at<A: Allocator + Copy>(
     index: ValueRegister,
     into: usize,
 ) -> Result<ValueRegister, Failure>
-    requires { g.cell + Source.cells (global_of g.global.now) ≤ 4096 }
+    requires { g.cell + Names.cells (global_of g.global.now) ≤ 4096 }
     ensures { AddsValue (element (Some (shared_in g.entry)) (in_place index (lists_of lists.old)) index.to into
         (lists_of lists.old)) code.old code.new lists.new result }
 {
@@ -211,7 +211,7 @@ fn with_registers<A: Allocator>(lists: &mut Lists<A>, count: usize) -> Result<u1
     Ok(count as u16)
 }
 
-/// Hands over the registers of a call's arguments: their place in the list of arguments, and their number.
+/// Hands over the registers of a call's arguments: their index in the list of arguments, and their number.
 fn hand_over<A: Allocator>(
     lists: &mut Lists<A>,
     parameters: &[Parameter<A>],

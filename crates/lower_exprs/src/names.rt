@@ -1,7 +1,7 @@
 //! What the names of a file stand for in code.
 
 ghost use Rattle.std.specs.Prelude.{◌≡◌, ◌+◌, ◌≤◌, option_map, IfSome};
-ghost use Rattle.syntax.specs.Names as Source;
+ghost use Rattle.syntax.specs.Names as Names;
 ghost use Rattle.selection.specs.Names as Named;
 ghost use Rattle.global_tables.specs.Tables.{shared_in};
 ghost use Rattle.lower_exprs.specs.inner.Tables.{callee_in};
@@ -26,8 +26,8 @@ pub(crate) fn global<'p, A: Allocator + Copy>(
     names: &ProgramNames<'p, A>,
     name: &str,
 ) -> Option<Shared<'p, A>>
-    ensures value { option_map shared_in result ≡ Source.global_of (program_in names.now) name.now }
-    ensures low { IfSome result (λ g. g.cell + Source.cells (shared_in g).global ≤ 4096) }
+    ensures value { option_map shared_in result ≡ Names.global_of (program_in names.now) name.now }
+    ensures low { IfSome result (λ g. g.cell + Names.cells (shared_in g).global ≤ 4096) }
 {
     look_up(&names.globals, name)
 }

@@ -3,7 +3,7 @@
 ghost use Rattle.std.specs.Prelude.{◌≤◌};
 ghost use Rattle.std.proofs.Props.{props};
 ghost use mathlib.Core.Sum.{⊎_set};
-ghost use Rattle.syntax.specs.Names as Source;
+ghost use Rattle.syntax.specs.Names as Names;
 ghost use Rattle.syntax.specs.Views.{program_of};
 ghost use Rattle.global_tables.specs.Tables.{total_cells, AreGlobals};
 ghost use Rattle.lower_exprs.specs.inner.Tables.{AreCallees};
@@ -32,7 +32,7 @@ pub struct ProgramNames<'p, A: Allocator> {
 
     pub(crate) globals: Globals<'p, A>,
     pub(crate) callees: Callees<'p, A>,
-    ghost small: { total_cells (Source.globals (program_of unit.now)) ≤ 4096 },
+    ghost small: { total_cells (Names.globals (program_of unit.now)) ≤ 4096 },
     ghost shared: { AreGlobals (program_of unit.now) globals } by { Prim.hlevel (props, ⊎_set) },
     ghost called: { AreCallees (program_of unit.now) callees } by { Prim.hlevel (props, ⊎_set) },
 }

@@ -2,7 +2,7 @@
 
 ghost use Rattle.std.specs.Prelude.{◌≡◌, ◌+◌, ◌≤◌, List, map, option_map, OnOk};
 ghost use Rattle.std.specs.Option.{option_copied};
-ghost use Rattle.syntax.specs.Names as Source;
+ghost use Rattle.syntax.specs.Names as Names;
 ghost use Rattle.syntax.specs.Views.{expr_of, simple_of, declarator_of, global_of, start_of};
 ghost use Rattle.bytecode.specs.declared.instr.Instr.{Instr};
 ghost use Rattle.lower_spec.specs.Statements.{with_local, with_declared, locals_of_start};
@@ -52,8 +52,8 @@ fn aim_variable<A: Allocator + Copy>(
     x: &str,
     from: u32,
 ) -> Result<Aim, Failure>
-    ensures { (code : List Instr) → Adds (of_aim (variable_target (Source.newest (scope_in scope.now) x.now)
-        (Source.global_of (program_in names.now) x.now) from (lists_of lists.old)))
+    ensures { (code : List Instr) → Adds (of_aim (variable_target (Names.newest (scope_in scope.now) x.now)
+        (Names.global_of (program_in names.now) x.now) from (lists_of lists.old)))
         code code (lists_of lists.new) result }
 {
     match scope.newest(x) {
@@ -75,7 +75,7 @@ fn put_check<A: Allocator + Copy>(
     g: Shared<'_, A>,
     index: ValueRegister,
 ) -> Result<Aim, Failure>
-    requires { g.cell + Source.cells (global_of g.global.now) ≤ 4096 }
+    requires { g.cell + Names.cells (global_of g.global.now) ≤ 4096 }
     ensures { (l : Plain) → Adds (of_aim (element_target check (Some (shared_in g.entry)) (in_place index l) index.to
         l)) code.old.items code.new.items l result }
 {

@@ -2,7 +2,7 @@
 
 ghost use Rattle.std.specs.Prelude.{◌≡◌, List, map};
 ghost use Rattle.lex.specs.declared.token.Scalar.{Scalar};
-ghost use Rattle.syntax.specs.Names as Source;
+ghost use Rattle.syntax.specs.Names as Names;
 ghost use Rattle.syntax.specs.Views.{expr_of};
 ghost use Rattle.selection.specs.Expressions.{variable_type, emitted_type};
 ghost use Rattle.lower_exprs.specs.Views.{program_in, scope_in};
@@ -21,8 +21,8 @@ fn type_of_variable<A: Allocator + Copy>(
     scope: &LocalRegisters<'_, A>,
     x: &str,
 ) -> Scalar
-    ensures { result ≡ variable_type (Source.newest (scope_in scope.now) x.now)
-        (Source.global_of (program_in names.now) x.now) }
+    ensures { result ≡ variable_type (Names.newest (scope_in scope.now) x.now)
+        (Names.global_of (program_in names.now) x.now) }
 {
     match scope.newest(x) {
         Some((_, ty)) => ty,

@@ -7,11 +7,11 @@ use Rattle.lower_exprs.specs.Views.{program_in}
 use Rattle.lower.proofs.Faulty.{parameters_fit}
 use Rattle.lower.proofs.generate.lower_definition.Goals as goal
 
-pub returns-then-len-gt65535-clause-fault : goal.returns-then-len-gt65535-clause-fault
-returns-then-len-gt65535-clause-fault g c =
+pub returns-then-len-clause-fault : goal.returns-then-len-clause-fault
+returns-then-len-clause-fault g c =
     let fit = parameters_fit (program_in c.args.names.now) (function_of c.args.f.now) (stmts_of c.args.body.now) c.args.making.now.to (lists_of c.args.making.now.lists) in
     let n : length (map parameter_of c.args.f.now.parameters) ≡ length c.args.f.now.parameters = length-map c.args.f.now.parameters parameter_of in
-    (refl, omega (arith, fit, n, c.len.ensures, c.if-len-gt65535.true))
+    (refl, omega (arith, fit, n, c.len.ensures, c.if-len.true))
 
 pub returns-clause-made : goal.returns-clause-made
 returns-clause-made g c =
