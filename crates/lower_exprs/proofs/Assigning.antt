@@ -22,30 +22,30 @@ use Rattle.lower_exprs.proofs.Adding.{behind, same, in_turn}
 module _ (p : Program) (scope : LocalScope) (lhs : Tree.Expr) (from free : ℕ) (l : Lists) where
   -- `lhs = e`
   module _ (e : Tree.Expr) where
-    abbrev Place : Aimed
-    Place = target_code p scope true lhs from free l
+    abbrev TargetCode : Aimed
+    TargetCode = target_code p scope true lhs from free l
 
     abbrev Value : Emitted
-    Value = stored_value p scope Place.target e Place.to (home_or Place.target (above_target Place.target free)) (above_target Place.target free) Place.lists
+    Value = stored_value p scope TargetCode.target e TargetCode.to (home_or TargetCode.target (above_target TargetCode.target free)) (above_target TargetCode.target free) TargetCode.lists
 
     pub value_within : Value.lists.registers ≤ (assignment_code p scope lhs e from free l).lists.registers
-    value_within = let x = stored_same Place.target Value.location.register Value.location.to Value.lists in omega (arith, x)
+    value_within = let x = stored_same TargetCode.target Value.location.register Value.location.to Value.lists in omega (arith, x)
 
-    pub place_within : Place.lists.registers ≤ (assignment_code p scope lhs e from free l).lists.registers
-    place_within =
-        let later = above_target Place.target free in
-        let home = home_or Place.target later in
-        let x = expr_fitting_more Place.target (emitted_type p scope e) e (emit p scope e Place.to home later Place.lists) Place.to home Place.lists (emitted_more p scope e Place.to home later Place.lists) in
+    pub lvalue_within : TargetCode.lists.registers ≤ (assignment_code p scope lhs e from free l).lists.registers
+    lvalue_within =
+        let later = above_target TargetCode.target free in
+        let home = home_or TargetCode.target later in
+        let x = expr_fitting_more TargetCode.target (emitted_type p scope e) e (emit p scope e TargetCode.to home later TargetCode.lists) TargetCode.to home TargetCode.lists (emitted_more p scope e TargetCode.to home later TargetCode.lists) in
         let y = value_within in
         omega (arith, x, y)
 
-    module _ {old c1 : List Instr} {l1 : Lists} {a : Aim} {later home : ℕ} (k : Adds (of_aim Place) old c1 l1 (Ok a)) (el : later ≡ above_target a.target free) (eh : home ≡ home_or a.target later) where
+    module _ {old c1 : List Instr} {l1 : Lists} {a : Aim} {later home : ℕ} (k : Adds (of_aim TargetCode) old c1 l1 (Ok a)) (el : later ≡ above_target a.target free) (eh : home ≡ home_or a.target later) where
       value_is : stored_value p scope a.target e a.to home later l1 ≡ Value
       value_is =
-          let above : later ≡ above_target Place.target free = el ∙ ap (λ (a : Aim). above_target a.target free) k.end in
+          let above : later ≡ above_target TargetCode.target free = el ∙ ap (λ (a : Aim). above_target a.target free) k.end in
           λ j. stored_value p scope (k.end j).target e (k.end j).to ((eh ∙ (λ i. home_or (k.end i).target (above i))) j) (above j) (k.lists j)
 
-      pub value_behind : {c2 : List Instr} {l2 : Lists} {r : Result ValueRegister Failure} → Adds (of_value (stored_value p scope a.target e a.to home later l1)) c1 c2 l2 r → Adds (behind (of_aim Place) (of_value Value)) old c2 l2 r
+      pub value_behind : {c2 : List Instr} {l2 : Lists} {r : Result ValueRegister Failure} → Adds (of_value (stored_value p scope a.target e a.to home later l1)) c1 c2 l2 r → Adds (behind (of_aim TargetCode) (of_value Value)) old c2 l2 r
       value_behind v = in_turn k (ap of_value value_is) v
 
       pub assigned_there : {c2 c3 : List Instr} {l2 : Lists} {h : ValueRegister} {r : Result ℕ Failure} → Adds (of_value (stored_value p scope a.target e a.to home later l1)) c1 c2 l2 (Ok h) → Adds (of_written (target_store a.target h.register h.to l2)) c2 c3 l2 r →

@@ -56,7 +56,7 @@ holds_taken scope more ls layout free rs h =
       size_is = h.size_is;
       each = λ i l. h.each i (omega (arith, l, len, whole, parts)) ∙ sym (word_taken ls (length scope) i (omega (arith, l, len)));
       words = words_taken ls (length scope) h.words;
-      ready = h.ready;
+      preloaded = h.preloaded;
     }
 
 pub declared_grows : (t : Scalar) (ds : List Declarator) (scope : LocalScope) → (more : LocalScope) × (with_declared t ds scope ≡ scope ++ more)
@@ -127,7 +127,7 @@ module _ (p : Program) (call : Caller) (code : Code) (layout : Layout) (frames :
       (end : Completion) (sh : Shared) (text : List ℕ) (ls : List Local) (rs : List ℕ) (q : ℕ) → IsGood code a sh → Arrived x later others to end q ls rs →
       Goes p call code layout frames cf are N K a sh text ls q rs (λ s. after (Gives end s))
 
-  pub record GoesEnd (N K : ℕ) (a : Around) (after : Answer Completion → Outcome) (x : Exits) (later others : Holding) (to : ℕ) : Type 0 where
+  pub record GoesByCompletion (N K : ℕ) (a : Around) (after : Answer Completion → Outcome) (x : Exits) (later others : Holding) (to : ℕ) : Type 0 where
     pub ends : EndsGo N K a after x later others to
     pub outer : OuterGoes code N K a after x.in_outer
 
@@ -135,13 +135,13 @@ module _ (p : Program) (call : Caller) (code : Code) (layout : Layout) (frames :
   StmtFollows st =
       (N K : ℕ) (x : Exits) (scope : LocalScope) (from to : ℕ) (a : Around) (sh : Shared) (text : List ℕ) (ls : List Local) (old : List ℕ) (after : Answer Completion → Outcome) →
       StmtCode code layout p x scope st from to → Here scope ls old → IsGood code a sh → IsSeen a after →
-      GoesEnd N K a after x (Here (locals_after st scope)) (Here scope) to → Goes p call code layout frames cf are N K a sh text ls from old (λ s. after (stmt p call st s))
+      GoesByCompletion N K a after x (Here (locals_after st scope)) (Here scope) to → Goes p call code layout frames cf are N K a sh text ls from old (λ s. after (stmt p call st s))
 
   abbrev pub StmtsFollow : Stmts → Type 0
   StmtsFollow ss =
       (N K : ℕ) (x : Exits) (scope : LocalScope) (from to : ℕ) (a : Around) (sh : Shared) (text : List ℕ) (ls : List Local) (old : List ℕ) (after : Answer Completion → Outcome) →
       StmtsCode code layout p x scope ss from to → Here scope ls old → IsGood code a sh → IsSeen a after →
-      GoesEnd N K a after x (Here (locals_at_end ss scope)) (More scope) to → Goes p call code layout frames cf are N K a sh text ls from old (λ s. after (stmts p call ss s))
+      GoesByCompletion N K a after x (Here (locals_at_end ss scope)) (More scope) to → Goes p call code layout frames cf are N K a sh text ls from old (λ s. after (stmts p call ss s))
 
   -- a scope ends
   closing : List Local → Completion → Action Completion
@@ -155,7 +155,7 @@ module _ (p : Program) (call : Caller) (code : Code) (layout : Layout) (frames :
   ends_scope x scope later Cancels to q ls rs g a = a
   ends_scope x scope later CancelsOuter to q ls rs g a = a
 
-  scope_goes : {N K : ℕ} (ss : Stmts) (x : Exits) (scope : LocalScope) (to : ℕ) (a : Around) (ls : List Local) (after : Answer Completion → Outcome) → length ls ≡ length scope → GoesEnd N K a after x (Here scope) (Here scope) to → GoesEnd N K a (λ q. after (go_on q (closing ls))) x (Here (locals_at_end ss scope)) (More scope) to
+  scope_goes : {N K : ℕ} (ss : Stmts) (x : Exits) (scope : LocalScope) (to : ℕ) (a : Around) (ls : List Local) (after : Answer Completion → Outcome) → length ls ≡ length scope → GoesByCompletion N K a after x (Here scope) (Here scope) to → GoesByCompletion N K a (λ q. after (go_on q (closing ls))) x (Here (locals_at_end ss scope)) (More scope) to
   unfolding closing
   scope_goes ss x scope to a ls after len go = record {
     ends = λ end sh1 text1 ls1 rs1 q good1 arrived.
@@ -164,7 +164,7 @@ module _ (p : Program) (call : Caller) (code : Code) (layout : Layout) (frames :
     outer = outer_as code _ _ a after (λ q. after (go_on q (closing ls))) (take (length ls)) (λ k ms m mode text. refl) x.in_outer go.outer;
   }
 
-  scoped_follows : (ss : Stmts) → StmtsFollow ss → (N K : ℕ) (x : Exits) (scope : LocalScope) (from to : ℕ) (a : Around) (sh : Shared) (text : List ℕ) (ls : List Local) (old : List ℕ) (after : Answer Completion → Outcome) → StmtsCode code layout p x scope ss from to → Here scope ls old → IsGood code a sh → IsSeen a after → GoesEnd N K a after x (Here scope) (Here scope) to → Goes p call code layout frames cf are N K a sh text ls from old (λ s. after (in_scope (stmts p call ss) s))
+  scoped_follows : (ss : Stmts) → StmtsFollow ss → (N K : ℕ) (x : Exits) (scope : LocalScope) (from to : ℕ) (a : Around) (sh : Shared) (text : List ℕ) (ls : List Local) (old : List ℕ) (after : Answer Completion → Outcome) → StmtsCode code layout p x scope ss from to → Here scope ls old → IsGood code a sh → IsSeen a after → GoesByCompletion N K a after x (Here scope) (Here scope) to → Goes p call code layout frames cf are N K a sh text ls from old (λ s. after (in_scope (stmts p call ss) s))
   unfolding closing
   scoped_follows ss ih N K x scope from to a sh text ls old after c h good s go =
       ih N K x scope from to a sh text ls old (λ q. after (go_on q (closing ls))) c h good (on_seen a after (closing ls) s)
@@ -179,7 +179,7 @@ module _ (p : Program) (call : Caller) (code : Code) (layout : Layout) (frames :
   part_ends x scope st Cancels to q ls rs a = a
   part_ends x scope st CancelsOuter to q ls rs a = a
 
-  part_goes : {N K : ℕ} (x : Exits) (scope : LocalScope) (st : Stmt) (to : ℕ) (a : Around) (ls : List Local) (after : Answer Completion → Outcome) → length ls ≡ length scope → GoesEnd N K a after x (Here scope) (Here scope) to → GoesEnd N K a (λ q. after (go_on q (closing ls))) x (Here (locals_after st scope)) (Here scope) to
+  part_goes : {N K : ℕ} (x : Exits) (scope : LocalScope) (st : Stmt) (to : ℕ) (a : Around) (ls : List Local) (after : Answer Completion → Outcome) → length ls ≡ length scope → GoesByCompletion N K a after x (Here scope) (Here scope) to → GoesByCompletion N K a (λ q. after (go_on q (closing ls))) x (Here (locals_after st scope)) (Here scope) to
   unfolding closing
   part_goes x scope st to a ls after len go = record {
     ends = λ end sh1 text1 ls1 rs1 q good1 arrived.
@@ -188,7 +188,7 @@ module _ (p : Program) (call : Caller) (code : Code) (layout : Layout) (frames :
     outer = outer_as code _ _ a after (λ q. after (go_on q (closing ls))) (take (length ls)) (λ k ms m mode text. refl) x.in_outer go.outer;
   }
 
-  part_follows : (st : Stmt) → StmtFollows st → (N K : ℕ) (x : Exits) (scope : LocalScope) (from to : ℕ) (a : Around) (sh : Shared) (text : List ℕ) (ls : List Local) (old : List ℕ) (after : Answer Completion → Outcome) → StmtCode code layout p x scope st from to → Here scope ls old → IsGood code a sh → IsSeen a after → GoesEnd N K a after x (Here scope) (Here scope) to → Goes p call code layout frames cf are N K a sh text ls from old (λ s. after (in_scope (stmt p call st) s))
+  part_follows : (st : Stmt) → StmtFollows st → (N K : ℕ) (x : Exits) (scope : LocalScope) (from to : ℕ) (a : Around) (sh : Shared) (text : List ℕ) (ls : List Local) (old : List ℕ) (after : Answer Completion → Outcome) → StmtCode code layout p x scope st from to → Here scope ls old → IsGood code a sh → IsSeen a after → GoesByCompletion N K a after x (Here scope) (Here scope) to → Goes p call code layout frames cf are N K a sh text ls from old (λ s. after (in_scope (stmt p call st) s))
   unfolding closing
   part_follows st ih N K x scope from to a sh text ls old after c h good s go =
       ih N K x scope from to a sh text ls old (λ q. after (go_on q (closing ls))) c h good (on_seen a after (closing ls) s)
@@ -212,13 +212,13 @@ module _ (p : Program) (call : Caller) (code : Code) (layout : Layout) (frames :
   no_more : (scope : LocalScope) (ls : List Local) (rs : List ℕ) → Here scope ls rs → More scope ls rs
   no_more scope ls rs h = record { more = []; holds = subst (λ y. Holds y ls layout (length y) rs) (sym (append-nil scope)) h }
 
-  later_goes : {N K : ℕ} (x : Exits) (scope mid later : LocalScope) (to : ℕ) (a : Around) (after : Answer Completion → Outcome) → (more : LocalScope) × (mid ≡ scope ++ more) → GoesEnd N K a after x (Here later) (More scope) to → GoesEnd N K a after x (Here later) (More mid) to
+  later_goes : {N K : ℕ} (x : Exits) (scope mid later : LocalScope) (to : ℕ) (a : Around) (after : Answer Completion → Outcome) → (more : LocalScope) × (mid ≡ scope ++ more) → GoesByCompletion N K a after x (Here later) (More scope) to → GoesByCompletion N K a after x (Here later) (More mid) to
   later_goes x scope mid later to a after grown go = record {
     ends = λ end sh1 text1 ls1 rs1 q1 good1 arrived1. go.ends end sh1 text1 ls1 rs1 q1 good1 (later_ends x scope mid later end to q1 ls1 rs1 grown arrived1);
     outer = go.outer;
   }
 
-  sequence_ends : (N K : ℕ) (x : Exits) (st : Stmt) (ss : Stmts) → StmtsFollow ss → (scope : LocalScope) (mid to : ℕ) (a : Around) (after : Answer Completion → Outcome) → StmtsCode code layout p x (locals_after st scope) ss mid to → IsSeen a after → GoesEnd N K a after x (Here (locals_at_end ss (locals_after st scope))) (More scope) to → EndsGo N K a (λ q. after (go_on q (on_next (stmts p call ss)))) x (Here (locals_after st scope)) (Here scope) mid
+  sequence_ends : (N K : ℕ) (x : Exits) (st : Stmt) (ss : Stmts) → StmtsFollow ss → (scope : LocalScope) (mid to : ℕ) (a : Around) (after : Answer Completion → Outcome) → StmtsCode code layout p x (locals_after st scope) ss mid to → IsSeen a after → GoesByCompletion N K a after x (Here (locals_at_end ss (locals_after st scope))) (More scope) to → EndsGo N K a (λ q. after (go_on q (on_next (stmts p call ss)))) x (Here (locals_after st scope)) (Here scope) mid
   sequence_ends N K x st ss ih scope mid to a after c s go Next sh text ls rs q good arrived =
       ih N K x (locals_after st scope) q to a sh text ls rs after (subst (λ y. StmtsCode code layout p x (locals_after st scope) ss y to) (sym arrived.0) c) arrived.1 good s
       (later_goes x scope (locals_after st scope) (locals_at_end ss (locals_after st scope)) to a after (after_grows st scope) go)
@@ -228,7 +228,7 @@ module _ (p : Program) (call : Caller) (code : Code) (layout : Layout) (frames :
   sequence_ends N K x st ss ih scope mid to a after c s go Cancels sh text ls rs q good arrived = go.ends Cancels sh text ls rs q good arrived
   sequence_ends N K x st ss ih scope mid to a after c s go CancelsOuter sh text ls rs q good arrived = absurd arrived
 
-  sequence : (N K : ℕ) (x : Exits) (st : Stmt) (ss : Stmts) → StmtsFollow ss → (scope : LocalScope) (mid to : ℕ) (a : Around) (after : Answer Completion → Outcome) → StmtsCode code layout p x (locals_after st scope) ss mid to → IsSeen a after → GoesEnd N K a after x (Here (locals_at_end ss (locals_after st scope))) (More scope) to → GoesEnd N K a (λ q. after (go_on q (on_next (stmts p call ss)))) x (Here (locals_after st scope)) (Here scope) mid
+  sequence : (N K : ℕ) (x : Exits) (st : Stmt) (ss : Stmts) → StmtsFollow ss → (scope : LocalScope) (mid to : ℕ) (a : Around) (after : Answer Completion → Outcome) → StmtsCode code layout p x (locals_after st scope) ss mid to → IsSeen a after → GoesByCompletion N K a after x (Here (locals_at_end ss (locals_after st scope))) (More scope) to → GoesByCompletion N K a (λ q. after (go_on q (on_next (stmts p call ss)))) x (Here (locals_after st scope)) (Here scope) mid
   sequence N K x st ss ih scope mid to a after c s go = record {
     ends = sequence_ends N K x st ss ih scope mid to a after c s go;
     outer = outer_as code _ _ a after (λ q. after (go_on q (on_next (stmts p call ss)))) (λ ms. ms) (λ k ms m mode text. refl) x.in_outer go.outer;
@@ -250,7 +250,7 @@ module _ (p : Program) (call : Caller) (code : Code) (layout : Layout) (frames :
         size_is = length-set rs (length scope) 0 ∙ h.size_is;
         each = λ i l. each_zeroed scope ls rs new i refl (cases_eq i (length scope)) len (omega (arith, below, size_is)) (λ d. omega (arith, l, len, len2, d)) h.each;
         words = words_new ls new h.words (some_below t);
-        ready = λ k w e. get_or-set_other rs (length scope) (layout.writable + k) 0 0 (λ d. omega (arith, below, d)) ∙ h.ready k w e;
+        preloaded = λ k w e. get_or-set_other rs (length scope) (layout.writable + k) 0 0 (λ d. omega (arith, below, d)) ∙ h.preloaded k w e;
       }
     where
       each_zeroed : (scope : LocalScope) (ls : List Local) (rs : List ℕ) (new : Local) (i : ℕ) → new.word ≡ 0 → (i ≡ length scope) ⊎ (i ≢ length scope) → length ls ≡ length scope → length scope < length rs → (i ≢ length scope → i < length ls) → ((j : ℕ) → j < length ls → slice_index rs j ≡ word_at ls j) → slice_index (slice_set rs (length scope) 0) i ≡ word_at (ls ++ new ∷ []) i
@@ -289,12 +289,12 @@ module _ (p : Program) (call : Caller) (code : Code) (layout : Layout) (frames :
       (sh : Shared) (text : List ℕ) (ls : List Local) (rs : List ℕ) → IsGood code a sh → Here scope ls rs →
       Goes p call code layout frames cf are N K a sh text ls head rs (λ s. after (loop turn s))
 
-  fewer_end : {N K N' K' : ℕ} (a : Around) (after : Answer Completion → Outcome) (x : Exits) (later others : Holding) (to : ℕ) → N' ≤ N → K' ≤ K → GoesEnd N K a after x later others to → GoesEnd N' K' a after x later others to
+  fewer_end : {N K N' K' : ℕ} (a : Around) (after : Answer Completion → Outcome) (x : Exits) (later others : Holding) (to : ℕ) → N' ≤ N → K' ≤ K → GoesByCompletion N K a after x later others to → GoesByCompletion N' K' a after x later others to
   fewer_end a after x later others to b d go =
       record { ends = λ end sh text ls rs q good arrived. fewer (effect code) b d (go.ends end sh text ls rs q good arrived); outer = outer_fewer code a after b d x.in_outer go.outer }
 
   -- where a stretch leads to its end
-  leads_ends : {N K : ℕ} (a : Around) (after : Answer Completion → Outcome) (x : Exits) (scope : LocalScope) (last to : ℕ) → LeadsTo code last to → GoesEnd N K a after x (Here scope) (Here scope) to → EndsGo N K a after x (Here scope) (Here scope) last
+  leads_ends : {N K : ℕ} (a : Around) (after : Answer Completion → Outcome) (x : Exits) (scope : LocalScope) (last to : ℕ) → LeadsTo code last to → GoesByCompletion N K a after x (Here scope) (Here scope) to → EndsGo N K a after x (Here scope) (Here scope) last
   leads_ends {N = N} {K = K} a after x scope last to j go Next sh text ls rs q good arrived =
       subst (λ y. Goes p call code layout frames cf are N K a sh text ls y rs (λ s. after (Gives Next s))) (sym arrived.0)
       (leads p call code layout frames a sh text last to rs j (go.ends Next sh text ls rs to good (refl, arrived.1)))
@@ -304,17 +304,17 @@ module _ (p : Program) (call : Caller) (code : Code) (layout : Layout) (frames :
   leads_ends a after x scope last to j go Cancels sh text ls rs q good arrived = go.ends Cancels sh text ls rs q good arrived
   leads_ends a after x scope last to j go CancelsOuter sh text ls rs q good arrived = absurd arrived
 
-  leads_end : {N K : ℕ} (a : Around) (after : Answer Completion → Outcome) (x : Exits) (scope : LocalScope) (last to : ℕ) → LeadsTo code last to → GoesEnd N K a after x (Here scope) (Here scope) to → GoesEnd N K a after x (Here scope) (Here scope) last
+  leads_end : {N K : ℕ} (a : Around) (after : Answer Completion → Outcome) (x : Exits) (scope : LocalScope) (last to : ℕ) → LeadsTo code last to → GoesByCompletion N K a after x (Here scope) (Here scope) to → GoesByCompletion N K a after x (Here scope) (Here scope) last
   leads_end a after x scope last to j go = record { ends = leads_ends a after x scope last to j go; outer = go.outer }
 
   -- what one turn does, from the head of the loop on: there is an instruction in it
   abbrev TurnFollows : (a : Around) → (Answer Completion → Outcome) → Exits → LocalScope → (head to : ℕ) → Action (Option Completion) → Type 0
   TurnFollows a after x scope head to turn =
-      (N K M : ℕ) → M ≤ K → K ≤ suc M → (sh : Shared) (text : List ℕ) (ls : List Local) (rs : List ℕ) → Again N M a after scope head turn → Here scope ls rs → IsGood code a sh → GoesEnd N K a after x (Here scope) (Here scope) to →
+      (N K M : ℕ) → M ≤ K → K ≤ suc M → (sh : Shared) (text : List ℕ) (ls : List Local) (rs : List ℕ) → Again N M a after scope head turn → Here scope ls rs → IsGood code a sh → GoesByCompletion N K a after x (Here scope) (Here scope) to →
       Goes p call code layout frames cf are N K a sh text ls head rs (λ s. after (go_on (turn s) (after_turn (loop turn))))
 
   -- a loop: each turn takes a tick and at least one instruction
-  loop_follows : (m N K : ℕ) → N + K ≤ m → (x : Exits) (scope : LocalScope) (turn : Action (Option Completion)) (head to : ℕ) (a : Around) (sh : Shared) (text : List ℕ) (ls : List Local) (rs : List ℕ) (after : Answer Completion → Outcome) → Falls turn → TurnFollows a after x scope head to turn → Here scope ls rs → IsGood code a sh → IsSeen a after → GoesEnd N K a after x (Here scope) (Here scope) to → Goes p call code layout frames cf are N K a sh text ls head rs (λ s. after (loop turn s))
+  loop_follows : (m N K : ℕ) → N + K ≤ m → (x : Exits) (scope : LocalScope) (turn : Action (Option Completion)) (head to : ℕ) (a : Around) (sh : Shared) (text : List ℕ) (ls : List Local) (rs : List ℕ) (after : Answer Completion → Outcome) → Falls turn → TurnFollows a after x scope head to turn → Here scope ls rs → IsGood code a sh → IsSeen a after → GoesByCompletion N K a after x (Here scope) (Here scope) to → Goes p call code layout frames cf are N K a sh text ls head rs (λ s. after (loop turn s))
   loop_follows m zero zero b x scope turn head to a sh text ls rs after f each h good s go =
       none_left (effect code) (seen_spent code a after sh 0 ls text (configuration code head rs frames) s)
   loop_follows zero zero (suc K) b x scope turn head to a sh text ls rs after f each h good s go = absurd (omega (arith, b))
@@ -337,7 +337,7 @@ module _ (p : Program) (call : Caller) (code : Code) (layout : Layout) (frames :
   -- the end of a body whose turn goes on with `rest`
   turn_ends : {N K : ℕ} (x : Exits) (scope : LocalScope) (turn : Action (Option Completion)) (rest : Action (Option Completion)) (break_to continue_to next_at to last : ℕ) (a : Around) (after : Answer Completion → Outcome) → LeadsTo code break_to to → LeadsTo code continue_to next_at → LeadsTo code last next_at
       → ((sh : Shared) (text : List ℕ) (ls : List Local) (rs : List ℕ) → IsGood code a sh → Here scope ls rs → Goes p call code layout frames cf are N K a sh text ls next_at rs (λ s. after (go_on (rest s) (after_turn (loop turn)))))
-      → GoesEnd N K a after x (Here scope) (Here scope) to → EndsGo N K a (λ q. after (go_on (go_on q (after_body rest)) (after_turn (loop turn)))) (looping x break_to continue_to) (Here scope) (Here scope) last
+      → GoesByCompletion N K a after x (Here scope) (Here scope) to → EndsGo N K a (λ q. after (go_on (go_on q (after_body rest)) (after_turn (loop turn)))) (looping x break_to continue_to) (Here scope) (Here scope) last
   turn_ends {N = N} {K = K} x scope turn rest break_to continue_to next_at to last a after breaks continues goes_on on go Next sh text ls rs q good arrived =
       subst (λ y. Goes p call code layout frames cf are N K a sh text ls y rs (λ s. after (go_on (rest s) (after_turn (loop turn))))) (sym arrived.0)
       (leads p call code layout frames a sh text last next_at rs goes_on (on sh text ls rs good arrived.1))
@@ -351,7 +351,7 @@ module _ (p : Program) (call : Caller) (code : Code) (layout : Layout) (frames :
 
   body_ends : {N K : ℕ} (x : Exits) (scope : LocalScope) (turn : Action (Option Completion)) (rest : Action (Option Completion)) (break_to continue_to next_at to last : ℕ) (a : Around) (after : Answer Completion → Outcome) → LeadsTo code break_to to → LeadsTo code continue_to next_at → LeadsTo code last next_at
       → ((sh : Shared) (text : List ℕ) (ls : List Local) (rs : List ℕ) → IsGood code a sh → Here scope ls rs → Goes p call code layout frames cf are N K a sh text ls next_at rs (λ s. after (go_on (rest s) (after_turn (loop turn)))))
-      → GoesEnd N K a after x (Here scope) (Here scope) to → GoesEnd N K a (λ q. after (go_on (go_on q (after_body rest)) (after_turn (loop turn)))) (looping x break_to continue_to) (Here scope) (Here scope) last
+      → GoesByCompletion N K a after x (Here scope) (Here scope) to → GoesByCompletion N K a (λ q. after (go_on (go_on q (after_body rest)) (after_turn (loop turn)))) (looping x break_to continue_to) (Here scope) (Here scope) last
   body_ends x scope turn rest break_to continue_to next_at to last a after breaks continues goes_on on go = record {
     ends = turn_ends x scope turn rest break_to continue_to next_at to last a after breaks continues goes_on on go;
     outer = outer_as code _ _ a after (λ q. after (go_on (go_on q (after_body rest)) (after_turn (loop turn)))) (λ ms. ms) (λ k ms m mode text. refl) x.in_outer go.outer;
@@ -480,7 +480,7 @@ module _ (p : Program) (call : Caller) (code : Code) (layout : Layout) (frames :
   shrinks x scope later Cancels to q ls rs g a = a
   shrinks x scope later CancelsOuter to q ls rs g a = a
 
-  for_goes : {N K : ℕ} (x : Exits) (scope later : LocalScope) (to : ℕ) (a : Around) (ls : List Local) (after : Answer Completion → Outcome) → length ls ≡ length scope → (more : LocalScope) × (later ≡ scope ++ more) → GoesEnd N K a after x (Here scope) (Here scope) to → GoesEnd N K a (λ q. after (go_on q (closing ls))) x (Here later) (Here later) to
+  for_goes : {N K : ℕ} (x : Exits) (scope later : LocalScope) (to : ℕ) (a : Around) (ls : List Local) (after : Answer Completion → Outcome) → length ls ≡ length scope → (more : LocalScope) × (later ≡ scope ++ more) → GoesByCompletion N K a after x (Here scope) (Here scope) to → GoesByCompletion N K a (λ q. after (go_on q (closing ls))) x (Here later) (Here later) to
   unfolding closing
   for_goes x scope later to a ls after len grown go = record {
     ends = λ end sh2 text2 ls2 rs2 q good2 arrived.
@@ -489,7 +489,7 @@ module _ (p : Program) (call : Caller) (code : Code) (layout : Layout) (frames :
     outer = outer_as code _ _ a after (λ q. after (go_on q (closing ls))) (take (length ls)) (λ k ms m mode text. refl) x.in_outer go.outer;
   }
 
-  whole_for : (x : Exits) (scope : LocalScope) (start : Start) (o : Option Expr) (step : Option Simple) (st : Stmt) → StmtFollows st → Falls (for_turn p call o step st) → (N K from to : ℕ) (c : ForCode code layout p x (locals_of_start start scope) (StartCode code layout p scope start) o step (λ y. StmtCode code layout p y (locals_of_start start scope) st) from to) (a : Around) (sh : Shared) (text : List ℕ) (ls : List Local) (old : List ℕ) (after : Answer Completion → Outcome) → Here scope ls old → IsGood code a sh → IsSeen a after → GoesEnd N K a after x (Here scope) (Here scope) to → Goes p call code layout frames cf are N K a sh text ls from old (λ s. after (in_scope (start_with p call start >> loop (for_turn p call o step st)) s))
+  whole_for : (x : Exits) (scope : LocalScope) (start : Start) (o : Option Expr) (step : Option Simple) (st : Stmt) → StmtFollows st → Falls (for_turn p call o step st) → (N K from to : ℕ) (c : ForCode code layout p x (locals_of_start start scope) (StartCode code layout p scope start) o step (λ y. StmtCode code layout p y (locals_of_start start scope) st) from to) (a : Around) (sh : Shared) (text : List ℕ) (ls : List Local) (old : List ℕ) (after : Answer Completion → Outcome) → Here scope ls old → IsGood code a sh → IsSeen a after → GoesByCompletion N K a after x (Here scope) (Here scope) to → Goes p call code layout frames cf are N K a sh text ls from old (λ s. after (in_scope (start_with p call start >> loop (for_turn p call o step st)) s))
   unfolding closing
   whole_for x scope start o step st ih f N K from to c a sh text ls old after h good s go =
       let inner : LocalScope = locals_of_start start scope in
@@ -520,7 +520,7 @@ module _ (p : Program) (call : Caller) (code : Code) (layout : Layout) (frames :
       leaves_outermost code after (Gives end) (mode_of kind) found sh.memory founds lefts sh text ls ls (configuration code q rs frames) (configuration code (suc q) rs frames) (configuration code to old frames)
       (next_commit code (mode_of kind) found founds lefts sh text (configuration code q rs frames) (configuration code (suc q) rs frames) (configuration code to old frames) (effect_at code q Instr.Commit rs frames i)) s go
 
-  bare_each : {N K : ℕ} (kind : TransactionKind) (x : Exits) (scope : LocalScope) (ss : Stmts) (from to : ℕ) (c : TransactionCode code layout p kind x (BodyCode scope ss) from to) (found : Memory) (founds lefts : List Memory) (ls : List Local) (old : List ℕ) (after : Answer Completion → Outcome) → Here scope ls old → IsSeen Bare after → AreMemories code founds → GoesEnd N K Bare after x (Here scope) (Here scope) to → EndsGo N K (Within (outermost_alone code (mode_of kind) (configuration code to old frames) found founds lefts)) (λ q. after (close kind founds lefts ls found q)) (in_transaction kind x) (Here scope) (Here scope) c.last
+  bare_each : {N K : ℕ} (kind : TransactionKind) (x : Exits) (scope : LocalScope) (ss : Stmts) (from to : ℕ) (c : TransactionCode code layout p kind x (BodyCode scope ss) from to) (found : Memory) (founds lefts : List Memory) (ls : List Local) (old : List ℕ) (after : Answer Completion → Outcome) → Here scope ls old → IsSeen Bare after → AreMemories code founds → GoesByCompletion N K Bare after x (Here scope) (Here scope) to → EndsGo N K (Within (outermost_alone code (mode_of kind) (configuration code to old frames) found founds lefts)) (λ q. after (close kind founds lefts ls found q)) (in_transaction kind x) (Here scope) (Here scope) c.last
   bare_each kind x scope ss from to c found founds lefts ls old after h s g go Next sh text ls1 rs q good arrived =
       bare_commits Next kind found founds lefts to sh text ls1 old rs q after (subst (λ y. InstructionAt code y Instr.Commit) (sym arrived.0) c.commits) s g
       (go.ends Next (record { founds = founds; lefts = lefts ++ sh.memory ∷ []; memory = sh.memory; kept = sh.kept }) text ls1 rs (suc q) g (ap suc arrived.0 ∙ sym c.to_is, arrived.1))
@@ -536,7 +536,7 @@ module _ (p : Program) (call : Caller) (code : Code) (layout : Layout) (frames :
       (go.ends Next (record { founds = founds; lefts = lefts ++ found ∷ []; memory = sh.memory; kept = sh.kept }) text ls old to g (refl, h))
   bare_each kind x scope ss from to c found founds lefts ls old after h s g go CancelsOuter sh text ls1 rs q good arrived = absurd arrived
 
-  bare_outer : {N K : ℕ} (kind : TransactionKind) (x : Exits) (scope : LocalScope) (ss : Stmts) (from to : ℕ) (c : TransactionCode code layout p kind x (BodyCode scope ss) from to) (found : Memory) (founds lefts : List Memory) (ls : List Local) (old : List ℕ) (after : Answer Completion → Outcome) → Here scope ls old → IsSeen Bare after → AreMemories code founds → GoesEnd N K Bare after x (Here scope) (Here scope) to → OuterGoes code N K (Within (outermost_alone code (mode_of kind) (configuration code to old frames) found founds lefts)) (λ q. after (close kind founds lefts ls found q)) (with_level kind x.in_outer)
+  bare_outer : {N K : ℕ} (kind : TransactionKind) (x : Exits) (scope : LocalScope) (ss : Stmts) (from to : ℕ) (c : TransactionCode code layout p kind x (BodyCode scope ss) from to) (found : Memory) (founds lefts : List Memory) (ls : List Local) (old : List ℕ) (after : Answer Completion → Outcome) → Here scope ls old → IsSeen Bare after → AreMemories code founds → GoesByCompletion N K Bare after x (Here scope) (Here scope) to → OuterGoes code N K (Within (outermost_alone code (mode_of kind) (configuration code to old frames) found founds lefts)) (λ q. after (close kind founds lefts ls found q)) (with_level kind x.in_outer)
   bare_outer Outer x scope ss from to c found founds lefts ls old after h s g go = (
     (λ e. refl),
     λ sh text ls1 s0 good cancels.
@@ -548,13 +548,13 @@ module _ (p : Program) (call : Caller) (code : Code) (layout : Layout) (frames :
   bare_outer (Plain mode) x scope ss from to c found founds lefts ls old after h s g go =
       through_bare code _ _ (outermost_alone code mode (configuration code to old frames) found founds lefts) after (λ q. after (close (Plain mode) founds lefts ls found q)) x.in_outer go.outer
 
-  bare_ends : {N K : ℕ} (kind : TransactionKind) (x : Exits) (scope : LocalScope) (ss : Stmts) (from to : ℕ) (c : TransactionCode code layout p kind x (BodyCode scope ss) from to) (found : Memory) (founds lefts : List Memory) (ls : List Local) (old : List ℕ) (after : Answer Completion → Outcome) → Here scope ls old → IsSeen Bare after → AreMemories code founds → GoesEnd N K Bare after x (Here scope) (Here scope) to → GoesEnd N K (Within (outermost_alone code (mode_of kind) (configuration code to old frames) found founds lefts)) (λ q. after (close kind founds lefts ls found q)) (in_transaction kind x) (Here scope) (Here scope) c.last
+  bare_ends : {N K : ℕ} (kind : TransactionKind) (x : Exits) (scope : LocalScope) (ss : Stmts) (from to : ℕ) (c : TransactionCode code layout p kind x (BodyCode scope ss) from to) (found : Memory) (founds lefts : List Memory) (ls : List Local) (old : List ℕ) (after : Answer Completion → Outcome) → Here scope ls old → IsSeen Bare after → AreMemories code founds → GoesByCompletion N K Bare after x (Here scope) (Here scope) to → GoesByCompletion N K (Within (outermost_alone code (mode_of kind) (configuration code to old frames) found founds lefts)) (λ q. after (close kind founds lefts ls found q)) (in_transaction kind x) (Here scope) (Here scope) c.last
   bare_ends kind x scope ss from to c found founds lefts ls old after h s g go = record {
     ends = bare_each kind x scope ss from to c found founds lefts ls old after h s g go;
     outer = bare_outer kind x scope ss from to c found founds lefts ls old after h s g go;
   }
 
-  bare_transaction : (kind : TransactionKind) (ss : Stmts) → StmtsFollow ss → (N K : ℕ) (x : Exits) (scope : LocalScope) (from to : ℕ) (founds lefts : List Memory) (memory : Memory) (kept : Bool) (text : List ℕ) (ls : List Local) (old : List ℕ) (after : Answer Completion → Outcome) → TransactionCode code layout p kind x (BodyCode scope ss) from to → Here scope ls old → AreMemories code founds → IsSeen Bare after → GoesEnd N K Bare after x (Here scope) (Here scope) to → Goes p call code layout frames cf are N K Bare (record { founds = founds; lefts = lefts; memory = memory; kept = kept }) text ls from old (λ s. after (go_on (tick s) (λ u. transaction kind (in_scope (stmts p call ss)))))
+  bare_transaction : (kind : TransactionKind) (ss : Stmts) → StmtsFollow ss → (N K : ℕ) (x : Exits) (scope : LocalScope) (from to : ℕ) (founds lefts : List Memory) (memory : Memory) (kept : Bool) (text : List ℕ) (ls : List Local) (old : List ℕ) (after : Answer Completion → Outcome) → TransactionCode code layout p kind x (BodyCode scope ss) from to → Here scope ls old → AreMemories code founds → IsSeen Bare after → GoesByCompletion N K Bare after x (Here scope) (Here scope) to → Goes p call code layout frames cf are N K Bare (record { founds = founds; lefts = lefts; memory = memory; kept = kept }) text ls from old (λ s. after (go_on (tick s) (λ u. transaction kind (in_scope (stmts p call ss)))))
   bare_transaction kind ss ih N K x scope from to [] lefts memory kept text ls old after c h g s go =
       same (effect code) (λ n. after (go_on (tick (state n ls (Outside [] lefts) text)) (λ u. stop Wants))) (wanted kind (in_scope (stmts p call ss)) lefts text ls after)
       (wants_one code after lefts memory kept text ls (configuration code from old frames) (configuration code (suc from) old frames) (configuration code to old frames) s (effect_at code from (Instr.Begin to) old frames c.begins))
@@ -575,7 +575,7 @@ module _ (p : Program) (call : Caller) (code : Code) (layout : Layout) (frames :
   good_out : (h : Transactions) (kind : TransactionKind) (sh sh1 : Shared) (m : Memory) (d : Configuration) → IsGood code (Within h) sh → IsGood code (Within (with_inner code h (mode_of kind) m d)) sh1 → IsGood code (Within h) sh1
   good_out h kind sh sh1 m d g g1 = (g1.0, (λ e. ((g1.1 e).0, (g.1 e).1)), g1.2)
 
-  inner_each : {N K : ℕ} (k : Transactions) (kind : TransactionKind) (x : Exits) (scope : LocalScope) (ss : Stmts) (from to : ℕ) (c : TransactionCode code layout p kind x (BodyCode scope ss) from to) (sh : Shared) (ls : List Local) (old : List ℕ) (after : Answer Completion → Outcome) → Here scope ls old → IsGood code (Within k) sh → GoesEnd N K (Within k) after x (Here scope) (Here scope) to → EndsGo N K (Within (with_inner code k (mode_of kind) sh.memory (configuration code to old frames))) (λ q. after (close_inner k.mode kind ls sh.memory q)) (in_transaction kind x) (Here scope) (Here scope) c.last
+  inner_each : {N K : ℕ} (k : Transactions) (kind : TransactionKind) (x : Exits) (scope : LocalScope) (ss : Stmts) (from to : ℕ) (c : TransactionCode code layout p kind x (BodyCode scope ss) from to) (sh : Shared) (ls : List Local) (old : List ℕ) (after : Answer Completion → Outcome) → Here scope ls old → IsGood code (Within k) sh → GoesByCompletion N K (Within k) after x (Here scope) (Here scope) to → EndsGo N K (Within (with_inner code k (mode_of kind) sh.memory (configuration code to old frames))) (λ q. after (close_inner k.mode kind ls sh.memory q)) (in_transaction kind x) (Here scope) (Here scope) c.last
   inner_each k kind x scope ss from to c sh ls old after h g go Next sh1 text ls1 rs q good arrived =
       commits_inner code k sh1 text (mode_of kind) sh.memory (configuration code q rs frames) (configuration code (suc q) rs frames) (configuration code to old frames) (effect_at code q Instr.Commit rs frames (subst (λ y. InstructionAt code y Instr.Commit) (sym arrived.0) c.commits))
       (go.ends Next sh1 text ls1 rs (suc q) (good_out k kind sh sh1 sh.memory (configuration code to old frames) g good) (ap suc arrived.0 ∙ sym c.to_is, arrived.1))
@@ -593,7 +593,7 @@ module _ (p : Program) (call : Caller) (code : Code) (layout : Layout) (frames :
       (go.ends Next (record sh1 { memory = sh.memory }) text ls old to (g.0, (λ e. ((good.1 e).0, (g.1 e).1)), good.2) (refl, h))
   inner_each k kind x scope ss from to c sh ls old after h g go CancelsOuter sh1 text ls1 rs q good arrived = absurd arrived
 
-  inner_outer : {N K : ℕ} (k : Transactions) (kind : TransactionKind) (x : Exits) (scope : LocalScope) (ss : Stmts) (from to : ℕ) (c : TransactionCode code layout p kind x (BodyCode scope ss) from to) (sh : Shared) (ls : List Local) (old : List ℕ) (after : Answer Completion → Outcome) → Here scope ls old → IsGood code (Within k) sh → GoesEnd N K (Within k) after x (Here scope) (Here scope) to → OuterGoes code N K (Within (with_inner code k (mode_of kind) sh.memory (configuration code to old frames))) (λ q. after (close_inner k.mode kind ls sh.memory q)) (with_level kind x.in_outer)
+  inner_outer : {N K : ℕ} (k : Transactions) (kind : TransactionKind) (x : Exits) (scope : LocalScope) (ss : Stmts) (from to : ℕ) (c : TransactionCode code layout p kind x (BodyCode scope ss) from to) (sh : Shared) (ls : List Local) (old : List ℕ) (after : Answer Completion → Outcome) → Here scope ls old → IsGood code (Within k) sh → GoesByCompletion N K (Within k) after x (Here scope) (Here scope) to → OuterGoes code N K (Within (with_inner code k (mode_of kind) sh.memory (configuration code to old frames))) (λ q. after (close_inner k.mode kind ls sh.memory q)) (with_level kind x.in_outer)
   inner_outer k Outer x scope ss from to c sh ls old after h g go = (
     (λ e. absurd (cc e)),
     λ sh1 text ls1 s0 good cancels.
@@ -604,11 +604,11 @@ module _ (p : Program) (call : Caller) (code : Code) (layout : Layout) (frames :
   inner_outer k (Plain mode) x scope ss from to c sh ls old after h g go =
       through_plain code _ _ k mode sh.memory (configuration code to old frames) sh ls after g x.in_outer go.outer
 
-  inner_ends : {N K : ℕ} (k : Transactions) (kind : TransactionKind) (x : Exits) (scope : LocalScope) (ss : Stmts) (from to : ℕ) (c : TransactionCode code layout p kind x (BodyCode scope ss) from to) (sh : Shared) (ls : List Local) (old : List ℕ) (after : Answer Completion → Outcome) → Here scope ls old → IsGood code (Within k) sh → GoesEnd N K (Within k) after x (Here scope) (Here scope) to → GoesEnd N K (Within (with_inner code k (mode_of kind) sh.memory (configuration code to old frames))) (λ q. after (close_inner k.mode kind ls sh.memory q)) (in_transaction kind x) (Here scope) (Here scope) c.last
+  inner_ends : {N K : ℕ} (k : Transactions) (kind : TransactionKind) (x : Exits) (scope : LocalScope) (ss : Stmts) (from to : ℕ) (c : TransactionCode code layout p kind x (BodyCode scope ss) from to) (sh : Shared) (ls : List Local) (old : List ℕ) (after : Answer Completion → Outcome) → Here scope ls old → IsGood code (Within k) sh → GoesByCompletion N K (Within k) after x (Here scope) (Here scope) to → GoesByCompletion N K (Within (with_inner code k (mode_of kind) sh.memory (configuration code to old frames))) (λ q. after (close_inner k.mode kind ls sh.memory q)) (in_transaction kind x) (Here scope) (Here scope) c.last
   inner_ends k kind x scope ss from to c sh ls old after h g go =
       record { ends = inner_each k kind x scope ss from to c sh ls old after h g go; outer = inner_outer k kind x scope ss from to c sh ls old after h g go }
 
-  inner_transaction : (kind : TransactionKind) (ss : Stmts) → StmtsFollow ss → (N K : ℕ) (x : Exits) (scope : LocalScope) (from to : ℕ) (k : Transactions) (sh : Shared) (text : List ℕ) (ls : List Local) (old : List ℕ) (after : Answer Completion → Outcome) → Enters k.mode kind → TransactionCode code layout p kind x (BodyCode scope ss) from to → Here scope ls old → IsGood code (Within k) sh → IsSeen (Within k) after → GoesEnd N K (Within k) after x (Here scope) (Here scope) to → Goes p call code layout frames cf are N K (Within k) sh text ls from old (λ s. after (transaction kind (in_scope (stmts p call ss)) s))
+  inner_transaction : (kind : TransactionKind) (ss : Stmts) → StmtsFollow ss → (N K : ℕ) (x : Exits) (scope : LocalScope) (from to : ℕ) (k : Transactions) (sh : Shared) (text : List ℕ) (ls : List Local) (old : List ℕ) (after : Answer Completion → Outcome) → Enters k.mode kind → TransactionCode code layout p kind x (BodyCode scope ss) from to → Here scope ls old → IsGood code (Within k) sh → IsSeen (Within k) after → GoesByCompletion N K (Within k) after x (Here scope) (Here scope) to → Goes p call code layout frames cf are N K (Within k) sh text ls from old (λ s. after (transaction kind (in_scope (stmts p call ss)) s))
   inner_transaction kind ss ih N K x scope from to k sh text ls old after (inl e) c h g s go =
       let run : Action Completion = in_scope (stmts p call ss) in
       let round : Transactions = with_inner code k (mode_of kind) sh.memory (configuration code to old frames) in
@@ -623,7 +623,7 @@ module _ (p : Program) (call : Caller) (code : Code) (layout : Layout) (frames :
       same (effect code) (λ n. after (Stops Astray (state n ls (Inside k.mode sh.memory) text))) (λ n. ap after (e sh.memory run (state n ls (Inside k.mode sh.memory) text)))
       (astray (effect code) 0 (s.astray _))
 
-  transaction_follows : (kind : TransactionKind) (ss : Stmts) → StmtsFollow ss → (N K : ℕ) (x : Exits) (scope : LocalScope) (from to : ℕ) (a : Around) (sh : Shared) (text : List ℕ) (ls : List Local) (old : List ℕ) (after : Answer Completion → Outcome) → TransactionCode code layout p kind x (BodyCode scope ss) from to → Here scope ls old → IsGood code a sh → IsSeen a after → GoesEnd N K a after x (Here scope) (Here scope) to → Goes p call code layout frames cf are N K a sh text ls from old (λ s. after (go_on (tick s) (λ u. transaction kind (in_scope (stmts p call ss)))))
+  transaction_follows : (kind : TransactionKind) (ss : Stmts) → StmtsFollow ss → (N K : ℕ) (x : Exits) (scope : LocalScope) (from to : ℕ) (a : Around) (sh : Shared) (text : List ℕ) (ls : List Local) (old : List ℕ) (after : Answer Completion → Outcome) → TransactionCode code layout p kind x (BodyCode scope ss) from to → Here scope ls old → IsGood code a sh → IsSeen a after → GoesByCompletion N K a after x (Here scope) (Here scope) to → Goes p call code layout frames cf are N K a sh text ls from old (λ s. after (go_on (tick s) (λ u. transaction kind (in_scope (stmts p call ss)))))
   transaction_follows kind ss ih N K x scope from to Bare sh text ls old after c h g s go =
       bare_transaction kind ss ih N K x scope from to sh.founds sh.lefts sh.memory sh.kept text ls old after c h g s go
   transaction_follows kind ss ih N K x scope from to (Within k) sh text ls old after c h g s go =
@@ -631,7 +631,7 @@ module _ (p : Program) (call : Caller) (code : Code) (layout : Layout) (frames :
       (inner_transaction kind ss ih N K x scope from to k sh text ls old after (enters k.mode kind) c h g s go)
 
   -- `if` and `else`
-  if_follows : {N K : ℕ} (x : Exits) (scope : LocalScope) (e : Expr) (st : Stmt) → StmtFollows st → (from to : ℕ) (c : IfCode code layout p scope (Testing code layout p scope e) (StmtCode code layout p x scope st) from to) (a : Around) (sh : Shared) (text : List ℕ) (ls : List Local) (old : List ℕ) (after : Answer Completion → Outcome) → Here scope ls old → IsGood code a sh → IsSeen a after → GoesEnd N K a after x (Here scope) (Here scope) to → Goes p call code layout frames cf are N K a sh text ls from old (λ s. after ((expr p call e >>= λ v. if is_zero v then pure Next else in_scope (stmt p call st)) s))
+  if_follows : {N K : ℕ} (x : Exits) (scope : LocalScope) (e : Expr) (st : Stmt) → StmtFollows st → (from to : ℕ) (c : IfCode code layout p scope (Testing code layout p scope e) (StmtCode code layout p x scope st) from to) (a : Around) (sh : Shared) (text : List ℕ) (ls : List Local) (old : List ℕ) (after : Answer Completion → Outcome) → Here scope ls old → IsGood code a sh → IsSeen a after → GoesByCompletion N K a after x (Here scope) (Here scope) to → Goes p call code layout frames cf are N K a sh text ls from old (λ s. after ((expr p call e >>= λ v. if is_zero v then pure Next else in_scope (stmt p call st)) s))
   if_follows {N = N} {K = K} x scope e st ih from to c a sh text ls old after h good s go =
       fewer (effect code) (omega arith) (omega arith)
       (test_follows p call code layout frames cf are scope e from c.true_exit c.false_exit c.tests a sh text ls old (λ q. after (go_on q rest)) h good (on_seen a after rest s) places)
@@ -649,7 +649,7 @@ module _ (p : Program) (call : Caller) (code : Code) (layout : Layout) (frames :
           (λ n. ap (λ b. after ((if b then pure Next else in_scope (stmt p call st)) (state n ls (context_of a sh1) text1))) z)
           (part_follows st ih N K x scope c.true_exit c.last a sh1 text1 ls rs1 after c.then_code h1 good1 s (leads_end a after x scope c.last to c.then_leads go))
 
-  else_follows : {N K : ℕ} (x : Exits) (scope : LocalScope) (e : Expr) (st su : Stmt) → StmtFollows st → StmtFollows su → (from to : ℕ) (c : IfElseCode code layout p scope (Testing code layout p scope e) (StmtCode code layout p x scope st) (StmtCode code layout p x scope su) from to) (a : Around) (sh : Shared) (text : List ℕ) (ls : List Local) (old : List ℕ) (after : Answer Completion → Outcome) → Here scope ls old → IsGood code a sh → IsSeen a after → GoesEnd N K a after x (Here scope) (Here scope) to → Goes p call code layout frames cf are N K a sh text ls from old (λ s. after ((expr p call e >>= λ v. if is_zero v then in_scope (stmt p call su) else in_scope (stmt p call st)) s))
+  else_follows : {N K : ℕ} (x : Exits) (scope : LocalScope) (e : Expr) (st su : Stmt) → StmtFollows st → StmtFollows su → (from to : ℕ) (c : IfElseCode code layout p scope (Testing code layout p scope e) (StmtCode code layout p x scope st) (StmtCode code layout p x scope su) from to) (a : Around) (sh : Shared) (text : List ℕ) (ls : List Local) (old : List ℕ) (after : Answer Completion → Outcome) → Here scope ls old → IsGood code a sh → IsSeen a after → GoesByCompletion N K a after x (Here scope) (Here scope) to → Goes p call code layout frames cf are N K a sh text ls from old (λ s. after ((expr p call e >>= λ v. if is_zero v then in_scope (stmt p call su) else in_scope (stmt p call st)) s))
   else_follows {N = N} {K = K} x scope e st su iht ihu from to c a sh text ls old after h good s go =
       fewer (effect code) (omega arith) (omega arith)
       (test_follows p call code layout frames cf are scope e from c.true_exit c.false_exit c.tests a sh text ls old (λ q. after (go_on q rest)) h good (on_seen a after rest s) places)

@@ -33,8 +33,8 @@ are_titled title drawn ms = record {
 }
 
 -- a picture's text by what is added to it in turn
-pub is_picture : {M : Type 0} (title drawn : M → List ℕ) (arrows glyphs : List M) (front pointed mixed marked between back svg : List ℕ) → pointed ≡ front ++ flat_map (λ m. glyph_text (title m) (drawn m)) arrows → mixed ≡ pointed ++ between → marked ≡ mixed ++ flat_map (λ m. glyph_text (title m) (drawn m)) glyphs → svg ≡ marked ++ back → IsPicture (map title arrows) (map title glyphs) svg
-is_picture title drawn arrows glyphs front pointed mixed marked between back svg to_pointed to_mixed to_marked to_svg =
+pub is_picture : {M : Type 0} (title drawn : M → List ℕ) (arrows glyphs : List M) (front pointed mixed whole between back svg : List ℕ) → pointed ≡ front ++ flat_map (λ m. glyph_text (title m) (drawn m)) arrows → mixed ≡ pointed ++ between → whole ≡ mixed ++ flat_map (λ m. glyph_text (title m) (drawn m)) glyphs → svg ≡ whole ++ back → IsPicture (map title arrows) (map title glyphs) svg
+is_picture title drawn arrows glyphs front pointed mixed whole between back svg to_pointed to_mixed to_whole to_svg =
     let texts = flat_map (λ m. glyph_text (title m) (drawn m)) in record {
       front = front;
       drawn_arrows = texts arrows;
@@ -43,7 +43,7 @@ is_picture title drawn arrows glyphs front pointed mixed marked between back svg
       back = back;
       arrows_titled = are_titled title drawn arrows;
       glyphs_titled = are_titled title drawn glyphs;
-      text = to_svg ∙ ap (λ t. t ++ back) (to_marked ∙ ap (λ t. t ++ texts glyphs) (to_mixed ∙ ap (λ t. t ++ between) to_pointed));
+      text = to_svg ∙ ap (λ t. t ++ back) (to_whole ∙ ap (λ t. t ++ texts glyphs) (to_mixed ∙ ap (λ t. t ++ between) to_pointed));
     }
 
 -- what one more step leads to

@@ -82,23 +82,23 @@ module _ {A : Type 0} (z : TableId) (key : Setup) where
   count_front x is xs n = parts_of-append n (parts_back xs) x.seat.me.0 ∙ ap (λ (k : ℕ). parts_of n (parts_back xs) + k) (ap (λ m. parts_of n m.0) is.1.sits)
 
   -- what is there stays, where the part of another thread changes
-  there_kept : (w : World Configuration) (heard : List (List Heard)) (n : ℕ) (now : Part Configuration) (xs : List (Worker A)) (all : AreWorkersOf z key xs) → parts_of n (parts_back xs) ≡ 0 → AreThere z key w heard xs all → AreThere z key (record w { parts = set w.parts n now }) heard xs all
-  there_kept w heard n now [] all none t = tt
-  there_kept w heard n now (x ∷ xs) all none t =
+  there_stays : (w : World Configuration) (heard : List (List Heard)) (n : ℕ) (now : Part Configuration) (xs : List (Worker A)) (all : AreWorkersOf z key xs) → parts_of n (parts_back xs) ≡ 0 → AreThere z key w heard xs all → AreThere z key (record w { parts = set w.parts n now }) heard xs all
+  there_stays w heard n now [] all none t = tt
+  there_stays w heard n now (x ∷ xs) all none t =
       let works = all.0.1 in
       let c = count_front x all.0 xs n in
       let apart : x.number ≢ n = (λ e. let o = one_if works.part.number n (works.number_is ∙ e) in omega arith) in
-      (get-set_other w.parts n x.number now apart ∙ t.0, t.1, there_kept w heard n now xs all.1 (omega arith) t.2)
+      (get-set_other w.parts n x.number now apart ∙ t.0, t.1, there_stays w heard n now xs all.1 (omega arith) t.2)
 
   module _ (w : World Configuration) (heard : List (List Heard)) (answered : IsWorldOf key w heard) where
     -- the world once each worker's last local steps are made
-    pub record Settled (ws : List (Worker A)) (all : AreWorkersOf z key ws) : Type 0 where
+    pub record LastStepsMade (ws : List (Worker A)) (all : AreWorkersOf z key ws) : Type 0 where
       pub parts : List (Part Configuration)
       pub reached : IsWorldOf key (record w { parts = parts }) heard
       pub there : AreThere z key (record w { parts = parts }) heard ws all
       pub others : (n : ℕ) → parts_of n (parts_back ws) ≡ 0 → slice_get parts n ≡ slice_get w.parts n
 
-    all_close : (ws : List (Worker A)) (all : AreWorkersOf z key ws) → ((n : ℕ) → parts_of n (parts_back ws) ≤ 1) → ((p : ViewPart) → Among p (parts_back ws) → Fits key w heard p) → Settled ws all
+    all_close : (ws : List (Worker A)) (all : AreWorkersOf z key ws) → ((n : ℕ) → parts_of n (parts_back ws) ≤ 1) → ((p : ViewPart) → Among p (parts_back ws) → Fits key w heard p) → LastStepsMade ws all
     all_close [] all once fits = record { parts = w.parts; reached = answered; there = tt; others = λ n none. refl }
     all_close (x ∷ xs) all once fits =
         let works = all.0.1 in
@@ -118,7 +118,7 @@ module _ {A : Type 0} (z : TableId) (key : Setup) where
           there = (
             ap (slice_get (set rest.parts p.number works.now)) (sym works.number_is) ∙ get-set_same rest.parts p.number works.now p.part at,
             ap (slice_get heard) (sym works.number_is) ∙ mine.answers,
-            there_kept (record w { parts = rest.parts }) heard p.number works.now xs all.1 alone rest.there,
+            there_stays (record w { parts = rest.parts }) heard p.number works.now xs all.1 alone rest.there,
           );
           others = λ n none.
               let a = count_front x all.0 xs n in

@@ -5,7 +5,7 @@ use Rattle.std.proofs.lemmas.List.{append-nil}
 use Rattle.lex.specs.Tokens.{Tok}
 use Rattle.syntax.specs.Phrases.{Phrase, Begins}
 use Rattle.parse.specs.inner.Reading.{Fault, wrong, deep, ◌>>=◌, Parser, head, Operators, at_least, after_op, next_op, op_at, climb_loop}
-use Rattle.parse.proofs.combinators.Exact.{head_append, Nonempty, Reads, Refuses, Sinks, Exact, bind_ok, bind_err, ok_pair, err_is}
+use Rattle.parse.proofs.combinators.Exact.{head_append, Nonempty, Reads, Refuses, FailsTooDeep, Exact, bind_ok, bind_err, ok_pair, err_is}
 use Rattle.parse.proofs.code.Climbing.{loop_none, loop_deep, loop_full, loop_turn}
 
 -- an expression of a chain: its operator, and what stands on both sides
@@ -118,7 +118,7 @@ module _ {E Op : Type 0} (ops : Operators E Op) (L : E → Phrase) (level : E �
       pub begins : Begins (Level m) (pl ++ front)
       pub stable : (D N : ℕ) (s : List Tok) → d ≤ D → suc D ≤ N + ops.depth left → head r ≡ head s → climb_loop ops (climb_at D) m (suc D) N left (front ++ s) ≡ Err (wrong s)
 
-    pub record Sunk (left : E) (pl ts r : List Tok) : Type 0 where
+    pub record LoopTooDeep (left : E) (pl ts r : List Tok) : Type 0 where
       pub front : List Tok
       pub whole : ts ≡ front ++ r
       pub at : Tok
@@ -287,7 +287,7 @@ module _ {E Op : Type 0} (ops : Operators E Op) (L : E → Phrase) (level : E �
             ]
 
     -- the loop stops at an operator
-    deep_here : (n : ℕ) (left : E) (pl ts r : List Tok) (y : Op × List Tok) → Left n left pl ts → suc d ≤ ops.depth left → next_op ops m ts ≡ Some y → ts ≡ r → Sunk d m left pl ts r
+    deep_here : (n : ℕ) (left : E) (pl ts r : List Tok) (y : Op × List Tok) → Left n left pl ts → suc d ≤ ops.depth left → next_op ops m ts ≡ Some y → ts ≡ r → LoopTooDeep d m left pl ts r
     deep_here n left pl ts r y K le is same =
         let O = next_some m ts y is in
         let K' : Left (suc n) left pl ts = record { spelled = K.spelled; high = K.high; within = K.within; tight = K.tight; calm = K.calm; fuel = let f = K.fuel in omega arith } in
@@ -307,21 +307,21 @@ module _ {E Op : Type 0} (ops : Operators E Op) (L : E → Phrase) (level : E �
             let same : O.token ≡ t = cc in
             loop_deep ops (climb_at d) m (suc d) N left (t ∷ s) (y.0, s) (some_here m t s y.0 (ap ops.the (sym same) ∙ O.has) O.tight) le
 
-    loop_sinks : (n : ℕ) (left : E) (pl ts r : List Tok) → Left n left pl ts → climb_loop ops (climb_at d) m (suc d) n left ts ≡ Err (deep r) → Sunk d m left pl ts r
-    loop_sinks zero left pl ts r K e = go (next_op ops m ts) refl
+    loop_too_deep : (n : ℕ) (left : E) (pl ts r : List Tok) → Left n left pl ts → climb_loop ops (climb_at d) m (suc d) n left ts ≡ Err (deep r) → LoopTooDeep d m left pl ts r
+    loop_too_deep zero left pl ts r K e = go (next_op ops m ts) refl
       where
         same_deep : (a : Result (E × List Tok) Fault) → a ≡ Err (deep ts) → a ≡ Err (deep r) → ts ≡ r
         same_deep a p q = let h : deep ts ≡ deep r = err_is (deep ts) (deep r) a p q in cc
 
-        go : (o : Option (Op × List Tok)) → next_op ops m ts ≡ o → Sunk d m left pl ts r
+        go : (o : Option (Op × List Tok)) → next_op ops m ts ≡ o → LoopTooDeep d m left pl ts r
         go None is = absurd (no_both (climb_loop ops (climb_at d) m (suc d) zero left ts) (left, ts) (deep r) (loop_none ops (climb_at d) m (suc d) zero left ts is) e)
         go (Some y) is = deep_here zero left pl ts r y K (let f = K.fuel in omega arith) is (same_deep (climb_loop ops (climb_at d) m (suc d) zero left ts) (loop_full ops (climb_at d) m (suc d) zero left ts y refl is) e)
-    loop_sinks (suc n) left pl ts r K e = go (loop_sinks n) (next_op ops m ts) refl
+    loop_too_deep (suc n) left pl ts r K e = go (loop_too_deep n) (next_op ops m ts) refl
       where
         same_deep : (a : Result (E × List Tok) Fault) → a ≡ Err (deep ts) → a ≡ Err (deep r) → ts ≡ r
         same_deep a p q = let h : deep ts ≡ deep r = err_is (deep ts) (deep r) a p q in cc
 
-        go : ((left : E) (pl ts r : List Tok) → Left n left pl ts → climb_loop ops (climb_at d) m (suc d) n left ts ≡ Err (deep r) → Sunk d m left pl ts r) → (o : Option (Op × List Tok)) → next_op ops m ts ≡ o → Sunk d m left pl ts r
+        go : ((left : E) (pl ts r : List Tok) → Left n left pl ts → climb_loop ops (climb_at d) m (suc d) n left ts ≡ Err (deep r) → LoopTooDeep d m left pl ts r) → (o : Option (Op × List Tok)) → next_op ops m ts ≡ o → LoopTooDeep d m left pl ts r
         go rec None is = absurd (no_both (climb_loop ops (climb_at d) m (suc d) (suc n) left ts) (left, ts) (deep r) (loop_none ops (climb_at d) m (suc d) (suc n) left ts is) e)
         go rec (Some y) is =
             elim (cases_lt (ops.depth left) (suc d)) [
@@ -494,8 +494,8 @@ module _ {E Op : Type 0} (ops : Operators E Op) (L : E → Phrase) (level : E �
         lower : (p : List Tok) → Begins (Level top) p → Begins (Level m) p
         lower p b = let le : top ≤ level b.value = b.spelled.1 in record { value = b.value; more = b.more; spelled = (b.spelled.0, omega arith) }
 
-    climb_sinks : (ts r : List Tok) → climb_at (suc d) m ts ≡ Err (deep r) → Sinks (λ D. climb_at D m) (Level m) Fits (Stops m) (suc d) ts r
-    climb_sinks ts r e =
+    climb_too_deep : (ts r : List Tok) → climb_at (suc d) m ts ≡ Err (deep r) → FailsTooDeep (λ D. climb_at D m) (Level m) Fits (Stops m) (suc d) ts r
+    climb_too_deep ts r e =
         elim (bind_err (first d ts) (λ (x : E × List Tok). climb_loop ops (climb_at d) m (suc d) (suc d) x.0 x.1) (deep r) (sym (start (suc d) d m ts floored (omega arith)) ∙ e)) [
           | inl p ↦
               let RF = EF.deep ts r p in
@@ -510,7 +510,7 @@ module _ {E Op : Type 0} (ops : Operators E Op) (L : E → Phrase) (level : E �
               }
           | inr b ↦
               let RF = EF.ok ts (b.0).0 (b.0).1 b.1 in
-              let I = loop_sinks d m EB (suc d) (b.0).0 RF.front (b.0).1 r (begun ts (b.0).0 (b.0).1 RF) b.2 in
+              let I = loop_too_deep d m EB (suc d) (b.0).0 RF.front (b.0).1 r (begun ts (b.0).0 (b.0).1 RF) b.2 in
               record {
                 front = RF.front ++ I.front;
                 whole = RF.whole ∙ ap (λ (z : List Tok). RF.front ++ z) I.whole ∙ sym (append_assoc RF.front I.front r);
@@ -528,4 +528,4 @@ module _ {E Op : Type 0} (ops : Operators E Op) (L : E → Phrase) (level : E �
         lower p b = let le : top ≤ level b.value = b.spelled.1 in record { value = b.value; more = b.more; spelled = (b.spelled.0, omega arith) }
 
     pub climb_step : Exact (λ D. climb_at D m) (Level m) Fits (Stops m) (Stops m) (suc d)
-    climb_step = record { again = climb_again; ok = climb_ok; wrong = climb_wrong; deep = climb_sinks }
+    climb_step = record { again = climb_again; ok = climb_ok; wrong = climb_wrong; deep = climb_too_deep }

@@ -6,7 +6,7 @@ use Rattle.lex.specs.Tokens.{Tok}
 use Rattle.syntax.specs.Phrases.{Phrase, Begins}
 use Rattle.syntax.specs.Grammar.{optional}
 use Rattle.parse.specs.inner.Reading.{Fault, wrong, deep, Parser, head, none, map_parser, choice, either, is_next, unless}
-use Rattle.parse.proofs.combinators.Exact.{head_append, Reads, Refuses, Sinks, Exact, Comes, Empty, err_is, give_exact, choice_exact, value_of, restated}
+use Rattle.parse.proofs.combinators.Exact.{head_append, Reads, Refuses, FailsTooDeep, Exact, Comes, Empty, err_is, give_exact, choice_exact, value_of, restated}
 use Rattle.parse.proofs.combinators.Parts.{MaybeW, BranchC}
 
 -- ---- by the kind of the first token
@@ -123,7 +123,7 @@ limited test n d P = either test (λ ts. if nat_le n d then P ts else Err (deep 
 
 data Way (test : Option Tok → Bool) (n d : ℕ) (h : Option Tok) : Type 0 where
   fits : test h ≡ true → n ≤ d → Way test n d h
-  sinks : test h ≡ true → d < n → Way test n d h
+  goes_deep : test h ≡ true → d < n → Way test n d h
   stops : test h ≡ false → Way test n d h
 
 way : (test : Option Tok → Bool) (n d : ℕ) (h : Option Tok) → Way test n d h
@@ -131,7 +131,7 @@ way test n d h = go (test h) refl
   where
     go : (b : Bool) → test h ≡ b → Way test n d h
     go true e = elim (cases_lt d n) [
-      | inl lt ↦ sinks e lt
+      | inl lt ↦ goes_deep e lt
       | inr le ↦ fits e le
     ]
     go false e = stops e
@@ -182,7 +182,7 @@ module _ {A : Type 0} (P : ℕ → Parser A) (L : A → Phrase) (W : ℕ → A �
         closed = R.closed;
         stable = λ D s more same. goes D (R.front ++ s) (still ts R.front r s true R.whole same h) (omega arith) ∙ R.stable D s more same;
       }
-  ok_way ts x r e (sinks h lt) = absurd (no_both (here d ts) (x, r) (deep ts) e (too_deep d ts h lt))
+  ok_way ts x r e (goes_deep h lt) = absurd (no_both (here d ts) (x, r) (deep ts) e (too_deep d ts h lt))
   ok_way ts x r e (stops h) = absurd (no_both (here d ts) (x, r) (wrong ts) e (not_here d ts h))
 
   wrong_way : (ts r : List Tok) → here d ts ≡ Err (wrong r) → Way test n d (head ts) → Refuses here L Fits C d ts r
@@ -194,12 +194,12 @@ module _ {A : Type 0} (P : ℕ → Parser A) (L : A → Phrase) (W : ℕ → A �
         begins = R.begins;
         stable = λ D s more same. goes D (R.front ++ s) (still ts R.front r s true R.whole same h) (omega arith) ∙ R.stable D s more same;
       }
-  wrong_way ts r e (sinks h lt) = absurd (apart (here d ts) r ts e (too_deep d ts h lt))
+  wrong_way ts r e (goes_deep h lt) = absurd (apart (here d ts) r ts e (too_deep d ts h lt))
   wrong_way ts r e (stops h) =
       let is = wrongs (here d ts) ts r (not_here d ts h) e in
       record { front = []; whole = is; begins = λ n. absurd n; stable = λ D s le same. not_here D s (still ts [] r s false is same h) }
 
-  deep_way : (ts r : List Tok) → here d ts ≡ Err (deep r) → Way test n d (head ts) → Sinks here L Fits C d ts r
+  deep_way : (ts r : List Tok) → here d ts ≡ Err (deep r) → Way test n d (head ts) → FailsTooDeep here L Fits C d ts r
   deep_way ts r e (fits h le) =
       let R = E.deep ts r (sym (goes d ts h le) ∙ e) in
       record {
@@ -211,11 +211,11 @@ module _ {A : Type 0} (P : ℕ → Parser A) (L : A → Phrase) (W : ℕ → A �
         begins = R.begins;
         stable = λ s same. goes d (R.front ++ s) (still ts R.front r s true R.whole same h) le ∙ R.stable s same;
       }
-  deep_way [] r e (sinks h lt) = absurd (true_false (sym h ∙ at_end))
+  deep_way [] r e (goes_deep h lt) = absurd (true_false (sym h ∙ at_end))
     where
       true_false : true ≡ false → ⊥
       true_false h = cc
-  deep_way (t ∷ ts) r e (sinks h lt) =
+  deep_way (t ∷ ts) r e (goes_deep h lt) =
       let is = deeps (here d (t ∷ ts)) (t ∷ ts) r (too_deep d (t ∷ ts) h lt) e in
       record { front = []; whole = is; at = t; after = ts; here = sym is; begins = begins t h; stable = λ s same. too_deep d s (still (t ∷ ts) [] r s true is same h) lt }
   deep_way ts r e (stops h) = absurd (apart (here d ts) ts r (not_here d ts h) e)

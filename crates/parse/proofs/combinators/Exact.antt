@@ -30,7 +30,7 @@ module _ {A : Type 0} (P : ℕ → Parser A) (L : A → Phrase) (W : ℕ → A �
     pub stable : (D : ℕ) (s : List Tok) → d ≤ D → head r ≡ head s → P D (front ++ s) ≡ Err (wrong s)
 
   -- Some phrase begins with what stands before the token and the token, and at this depth the fault stays.
-  pub record Sinks (ts r : List Tok) : Type 0 where
+  pub record FailsTooDeep (ts r : List Tok) : Type 0 where
     pub front : List Tok
     pub whole : ts ≡ front ++ r
     pub at : Tok
@@ -44,7 +44,7 @@ pub record Exact {A : Type 0} (P : ℕ → Parser A) (L : A → Phrase) (W : ℕ
   pub again : (x : A) (p q : List Tok) → L x p → W d x → S x (head q) → P d (p ++ q) ≡ Ok (x, q)
   pub ok : (ts : List Tok) (x : A) (r : List Tok) → P d ts ≡ Ok (x, r) → Reads P L W C d ts x r
   pub wrong : (ts r : List Tok) → P d ts ≡ Err (wrong r) → Refuses P L W C d ts r
-  pub deep : (ts r : List Tok) → P d ts ≡ Err (deep r) → Sinks P L W C d ts r
+  pub deep : (ts r : List Tok) → P d ts ≡ Err (deep r) → FailsTooDeep P L W C d ts r
 
 -- ---- one after the other
 
@@ -178,7 +178,7 @@ module _ {A B : Type 0} (P : ℕ → Parser A) (Q : A → ℕ → Parser B) (L :
       ok_no_err : {X : Type 0} {x : X} → Ok x ≡ Err (wrong r) → ⊥
       ok_no_err h = cc
 
-  chained_deep_second : (ts r1 r : List Tok) (a : A) → P d ts ≡ Ok (a, r1) → Q a d r1 ≡ Err (deep r) → Sinks (λ D. bind (P D) (λ a. Q a D)) (ChainL L M J) (λ D x. WP D x.0 × WQ x.0 D x.1) (λ x h. C2 x.0 x.1 h) d ts r
+  chained_deep_second : (ts r1 r : List Tok) (a : A) → P d ts ≡ Ok (a, r1) → Q a d r1 ≡ Err (deep r) → FailsTooDeep (λ D. bind (P D) (λ a. Q a D)) (ChainL L M J) (λ D x. WP D x.0 × WQ x.0 D x.1) (λ x h. C2 x.0 x.1 h) d ts r
   chained_deep_second ts r1 r a p q =
       let RP = EP.ok ts a r1 p in
       let RQ = (EQ a).deep r1 r q in
@@ -196,7 +196,7 @@ module _ {A B : Type 0} (P : ℕ → Parser A) (Q : A → ℕ → Parser B) (L :
       begun RP [] t after e b = chained_second ts r1 a RP t [] after e b
       begun RP (u ∷ fq) t after e b = chained_second ts r1 a RP u (fq ++ t ∷ []) after (e ∙ ap (λ (x : List Tok). u ∷ x) (sym (append_assoc fq (t ∷ []) after))) b
 
-  chained_deep : (ts r : List Tok) → bind (P d) (λ a. Q a d) ts ≡ Err (deep r) → Sinks (λ D. bind (P D) (λ a. Q a D)) (ChainL L M J) (λ D x. WP D x.0 × WQ x.0 D x.1) (λ x h. C2 x.0 x.1 h) d ts r
+  chained_deep : (ts r : List Tok) → bind (P d) (λ a. Q a d) ts ≡ Err (deep r) → FailsTooDeep (λ D. bind (P D) (λ a. Q a D)) (ChainL L M J) (λ D x. WP D x.0 × WQ x.0 D x.1) (λ x h. C2 x.0 x.1 h) d ts r
   chained_deep ts r e =
       elim (bind_err (P d ts) (λ (x : A × List Tok). Q x.0 d x.1 >>= λ (y : B × List Tok). Ok ((x.0, y.0), y.1)) (deep r) e) [
         | inl p ↦
@@ -335,7 +335,7 @@ module _ {A B : Type 0} (f : A → B) (P : ℕ → Parser A) (L : A → Phrase) 
       ok_no_err : {X : Type 0} {x : X} → Ok x ≡ Err (wrong r) → ⊥
       ok_no_err h = cc
 
-  map_deep : (ts r : List Tok) → map_parser f (P d) ts ≡ Err (deep r) → Sinks (λ D. map_parser f (P D)) M W' C' d ts r
+  map_deep : (ts r : List Tok) → map_parser f (P d) ts ≡ Err (deep r) → FailsTooDeep (λ D. map_parser f (P D)) M W' C' d ts r
   map_deep ts r e =
       elim (bind_err (P d ts) (λ (x : A × List Tok). Ok (f x.0, x.1)) (deep r) e) [
         | inl p ↦
@@ -402,7 +402,7 @@ module _ {A : Type 0} (f : Tok → Option A) (d : ℕ) where
       stays [] same n = absurd cc
       stays (u ∷ z) same n = let e : t ≡ u = cc in rw (← e, n) refl
 
-  take_deep : (ts r : List Tok) → take f ts ≡ Err (deep r) → Sinks (λ D. take f) (One f) (λ D. Shallow D) Always d ts r
+  take_deep : (ts r : List Tok) → take f ts ≡ Err (deep r) → FailsTooDeep (λ D. take f) (One f) (λ D. Shallow D) Always d ts r
   take_deep [] r e = absurd cc
   take_deep (t ∷ ts) r e = absurd (taken_deep (f t) t ts r e)
 
@@ -480,7 +480,7 @@ module _ {A : Type 0} (c : ℕ → Option Tok → Parser A) (Lc : Option Tok →
         stable = λ D s le h. subst (λ (o : Option Tok). c D o (R.front ++ s) ≡ Err (wrong s)) (same_head ts R.front r s R.whole h) (R.stable D s le h);
       }
 
-  choice_deep : (ts r : List Tok) → choice (c d) ts ≡ Err (deep r) → Sinks (λ D. choice (c D)) L W C d ts r
+  choice_deep : (ts r : List Tok) → choice (c d) ts ≡ Err (deep r) → FailsTooDeep (λ D. choice (c D)) L W C d ts r
   choice_deep ts r e =
       let R = (E (head ts)).deep ts r e in
       record {

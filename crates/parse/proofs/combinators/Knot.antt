@@ -3,7 +3,7 @@ use Rattle.std.proofs.Common.{◌≡◌, ℕ, suc, ◌+◌, ◌-◌, Bool, true,
 use Rattle.lex.specs.Tokens.{Tok}
 use Rattle.syntax.specs.Phrases.{Phrase, Begins}
 use Rattle.parse.specs.inner.Reading.{Fault, wrong, deep, Parser, head}
-use Rattle.parse.proofs.combinators.Exact.{Reads, Refuses, Sinks, Exact, err_is}
+use Rattle.parse.proofs.combinators.Exact.{Reads, Refuses, FailsTooDeep, Exact, err_is}
 
 module _ {A : Type 0} (P F : ℕ → Parser A) (L : A → Phrase) (W : ℕ → A → Type 0) (S C : A → Option Tok → Type 0) (start : (D b : ℕ) (ts : List Tok) → b + 1 ≡ D → P D ts ≡ F b ts) where
   -- one depth more
@@ -23,7 +23,7 @@ module _ {A : Type 0} (P F : ℕ → Parser A) (L : A → Phrase) (W : ℕ → A
 
   module _ (starts : Option Tok → Bool)
       (stops : (D : ℕ) (ts : List Tok) → starts (head ts) ≡ false → P D ts ≡ Err (wrong ts))
-      (sinks : (ts : List Tok) → starts (head ts) ≡ true → P 0 ts ≡ Err (deep ts))
+      (too_deep : (ts : List Tok) → starts (head ts) ≡ true → P 0 ts ≡ Err (deep ts))
       (begins : (t : Tok) → starts (Some t) ≡ true → Begins L (t ∷ []))
       (none : starts None ≡ false)
       (positive : (x : A) → W 0 x → ⊥) where
@@ -45,24 +45,24 @@ module _ {A : Type 0} (P F : ℕ → Parser A) (L : A → Phrase) (W : ℕ → A
 
     base_ok : (ts : List Tok) (x : A) (r : List Tok) → P 0 ts ≡ Ok (x, r) → Reads P L W C 0 ts x r
     base_ok ts x r e = elim (test (starts (head ts))) [
-      | inl h ↦ absurd (no_both (P 0 ts) (x, r) (deep ts) e (sinks ts h))
+      | inl h ↦ absurd (no_both (P 0 ts) (x, r) (deep ts) e (too_deep ts h))
       | inr h ↦ absurd (no_both (P 0 ts) (x, r) (wrong ts) e (stops 0 ts h))
     ]
 
     base_wrong : (ts r : List Tok) → P 0 ts ≡ Err (wrong r) → (starts (head ts) ≡ true) ⊎ (starts (head ts) ≡ false) → Refuses P L W C 0 ts r
-    base_wrong ts r e (inl h) = absurd (apart (P 0 ts) r ts e (sinks ts h))
+    base_wrong ts r e (inl h) = absurd (apart (P 0 ts) r ts e (too_deep ts h))
     base_wrong ts r e (inr h) =
         let same = wrongs (P 0 ts) ts r (stops 0 ts h) e in
         record { front = []; whole = same; begins = λ n. absurd n; stable = λ D s le heads. stops D s (ap starts (sym (ap head same ∙ heads)) ∙ h) }
 
-    base_deep : (ts r : List Tok) → P 0 ts ≡ Err (deep r) → (starts (head ts) ≡ true) ⊎ (starts (head ts) ≡ false) → Sinks P L W C 0 ts r
+    base_deep : (ts r : List Tok) → P 0 ts ≡ Err (deep r) → (starts (head ts) ≡ true) ⊎ (starts (head ts) ≡ false) → FailsTooDeep P L W C 0 ts r
     base_deep [] r e (inl h) = absurd (let bad = sym h ∙ none in true_false bad)
       where
         true_false : true ≡ false → ⊥
         true_false h = cc
     base_deep (t ∷ ts) r e (inl h) =
-        let same = deeps (P 0 (t ∷ ts)) (t ∷ ts) r (sinks (t ∷ ts) h) e in
-        record { front = []; whole = same; at = t; after = ts; here = sym same; begins = begins t h; stable = λ s heads. sinks s (ap starts (sym (ap head same ∙ heads)) ∙ h) }
+        let same = deeps (P 0 (t ∷ ts)) (t ∷ ts) r (too_deep (t ∷ ts) h) e in
+        record { front = []; whole = same; at = t; after = ts; here = sym same; begins = begins t h; stable = λ s heads. too_deep s (ap starts (sym (ap head same ∙ heads)) ∙ h) }
     base_deep ts r e (inr h) = absurd (apart (P 0 ts) ts r (stops 0 ts h) e)
 
     -- depth 0

@@ -3,7 +3,7 @@ use Rattle.std.proofs.Common.{◌≡◌, ℕ, ◌≤◌, Bool, false, List, [], 
 use Rattle.lex.specs.Tokens.{Tok}
 use Rattle.syntax.specs.Phrases.{Phrase, Begins}
 use Rattle.parse.specs.inner.Reading.{wrong, deep, Parser, head}
-use Rattle.parse.proofs.combinators.Exact.{Nonempty, Reads, Refuses, Sinks, Exact}
+use Rattle.parse.proofs.combinators.Exact.{Nonempty, Reads, Refuses, FailsTooDeep, Exact}
 
 -- test: what may stand behind the token t
 module _ {A : Type 0} (P : ℕ → Parser A) (L : A → Phrase) (W : ℕ → A → Type 0) (S C : A → Option Tok → Type 0) (d : ℕ) (E : Exact P L W S C d) (t : Tok) (test : Option Tok → Bool)
@@ -55,13 +55,13 @@ module _ {A : Type 0} (P : ℕ → Parser A) (L : A → Phrase) (W : ℕ → A �
             stable = λ D s le h. subst (λ (z : Tok). P D (z ∷ (f ++ s)) ≡ Err (wrong s)) (sym same.0) (stable D s le h);
           }
 
-  rest_deep : (ts r : List Tok) → rest d ts ≡ Err (deep r) → Sinks rest RestL W C d ts r
+  rest_deep : (ts r : List Tok) → rest d ts ≡ Err (deep r) → FailsTooDeep rest RestL W C d ts r
   rest_deep ts r e = let R = E.deep (t ∷ ts) r e in go R.front R.whole R.at R.after R.here R.begins R.stable
     where
       apart : P d (t ∷ []) ≡ Err (deep (t ∷ [])) → P d (t ∷ []) ≡ Err (wrong []) → ⊥
       apart p q = cc
 
-      go : (f : List Tok) → t ∷ ts ≡ f ++ r → (at : Tok) (after : List Tok) → r ≡ at ∷ after → Begins L (f ++ at ∷ []) → ((s : List Tok) → head r ≡ head s → P d (f ++ s) ≡ Err (deep s)) → Sinks rest RestL W C d ts r
+      go : (f : List Tok) → t ∷ ts ≡ f ++ r → (at : Tok) (after : List Tok) → r ≡ at ∷ after → Begins L (f ++ at ∷ []) → ((s : List Tok) → head r ≡ head s → P d (f ++ s) ≡ Err (deep s)) → FailsTooDeep rest RestL W C d ts r
       go [] whole at after here b stable = absurd (apart (stable (t ∷ []) (ap head (sym whole))) (stops d [] at_end))
       go (u ∷ f) whole at after here b stable =
           let same = first_same whole in

@@ -194,9 +194,9 @@ chain_is : (D : ℕ) (ts : List Tok) → chain (expr_at D) D 1 ts ≡ expr_at (s
 unfolding expr_at
 chain_is D ts = refl
 
-sinks : (k : ℕ) (ts : List Tok) → starts_expr (head ts) ≡ true → expr_at 0 k ts ≡ Err (deep ts)
+too_deep : (k : ℕ) (ts : List Tok) → starts_expr (head ts) ≡ true → expr_at 0 k ts ≡ Err (deep ts)
 unfolding expr_at
-sinks k ts h = rw h refl
+too_deep k ts h = rw h refl
 
 stops : (k D : ℕ) (ts : List Tok) → starts_expr (head ts) ≡ false → expr_at D k ts ≡ Err (wrong ts)
 unfolding expr_at
@@ -492,7 +492,7 @@ pub levels_exact : (d k : ℕ) → k ≤ 11 → Exact (λ D. expr_at D k) (Level
 levels_exact zero k le =
     base_exact (λ D. expr_at D k) (λ b. expr_at (suc b) k) (LevelL k) Fits (StopsAt k) (StopsAt k)
     (λ D b ts e. let n : D ≡ suc b = omega arith in ap (λ (n : ℕ). expr_at n k ts) n)
-    starts_expr (stops k) (sinks k) (level_begins k le) refl (λ x w. let one = positive x in omega arith)
+    starts_expr (stops k) (too_deep k) (level_begins k le) refl (λ x w. let one = positive x in omega arith)
 levels_exact (suc d) zero le =
     knot_exact (λ D. expr_at D 0) upper (LevelL 0) Fits WholeS WholeS upper_start d
     (upper_exact d (whole_from d (levels_exact d 0 (omega arith))) (shift_exact (chain_step d 1 (lit≤ tt) (lit≤ tt) (levels_exact d))))

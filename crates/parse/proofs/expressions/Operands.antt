@@ -34,7 +34,7 @@ use Rattle.parse.proofs.code.Ends.{covers_across, covers_one}
 use Rattle.parse.proofs.combinators.Parts.{seq_left, seq_right, is_here, seq_here, seq_not_here, fixed_has_span, span_is_fixed, head_begins, behind_exact, before_exact}
 use Rattle.parse.proofs.combinators.Choices.{kinds_exact, either_exact}
 use Rattle.parse.proofs.combinators.Lists.{Behind, listed_exact}
-use Rattle.parse.proofs.expressions.Scalars.{mark_not_fixed, mark_ends, scalar_exact, scalar_first}
+use Rattle.parse.proofs.expressions.Scalars.{fixed_differs, fixed_ends, scalar_exact, scalar_first}
 use Rattle.parse.proofs.expressions.Wholes.{Calm, WholeS, closing_follows, lead_kind, seq_heads, first_kind, whole_first, not_fixed, start_not_type, name_covers, expr_covers, TightL, name_tight, whole_begins}
 
 -- ---- values that a parser's are changed to
@@ -365,7 +365,7 @@ module _ (whole tight : ℕ → Parser Expr) (d : ℕ) (EW : Exact whole expr Fi
   cast_exact : (at : Span) → Exact (λ D. cast_from (whole D) (tight D) at) (CastL at) Deeper Calm Calm d
   cast_exact at =
       imaged (CastP at) Deeper Calm Calm
-      (two (before_exact (Punctuator punct.CloseParen) (scalar_exact d) (λ t k is. mark_ends (Punctuator punct.CloseParen) t k refl refl is)) ET (λ a b p q l h. tt) name_tight)
+      (two (before_exact (Punctuator punct.CloseParen) (scalar_exact d) (λ t k is. fixed_ends (Punctuator punct.CloseParen) t k refl refl is)) ET (λ a b p q l h. tt) name_tight)
       (λ x w. (tt, deeper x.1 w)) (λ x w. fitting x.1 w.1) (λ x h s. (none_tight h, s)) (λ x h c. c.1)
     where
       deeper : (e : Expr) → expr_depth e + 1 ≤ suc d → expr_depth e ≤ d
@@ -499,7 +499,7 @@ module _ (whole tight : ℕ → Parser Expr) (d : ℕ) (EW : Exact whole expr Fi
   paren_follows None e = absurd cc
   paren_follows (Some t) e =
       let is = that_fixed (Punctuator punct.CloseParen) t e in
-      (ap not (mark_not_fixed (Punctuator punct.CloseParen) (Punctuator punct.Comma) t refl is), λ x. closing_follows x t (Punctuator punct.CloseParen) is refl)
+      (ap not (fixed_differs (Punctuator punct.CloseParen) (Punctuator punct.Comma) t refl is), λ x. closing_follows x t (Punctuator punct.CloseParen) is refl)
 
   none_first : (es : List Expr) (p q : List Tok) → Empty [] es p → is_next (Punctuator punct.CloseParen) (head q) ≡ true → is_next (Punctuator punct.CloseParen) (head (p ++ q)) ≡ true
   none_first es p q l s = rw l.1 s

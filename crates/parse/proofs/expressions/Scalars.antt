@@ -41,8 +41,8 @@ pub name_not_fixed : (k : Fixed) (x : Name) (p q : List Tok) → One the_name x 
 name_not_fixed k x p q o = ap (is_next k) (one_head o q) ∙ name_in_no k o.token.terminal o.token.span x o.has
 
 -- a fixed token is no other fixed token
-pub mark_not_fixed : (k j : Fixed) (t : Tok) → is_fixed j (fixed k) ≡ false → t.terminal ≡ fixed k → is_next j (Some t) ≡ false
-mark_not_fixed k j t apart e = ap (is_fixed j) e ∙ apart
+pub fixed_differs : (k j : Fixed) (t : Tok) → is_fixed j (fixed k) ≡ false → t.terminal ≡ fixed k → is_next j (Some t) ≡ false
+fixed_differs k j t apart e = ap (is_fixed j) e ∙ apart
 
 -- ---- types
 
@@ -55,8 +55,8 @@ pub name_ends : (x : Name) (p q : List Tok) → One the_name x p → (is_next (K
 name_ends x p q o = (name_not_fixed (Keyword key.Int) x p q o, name_not_fixed (Keyword key.Long) x p q o)
 
 -- nor is another fixed token
-pub mark_ends : {A : Type 0} (k : Fixed) (x : A) (t : Tok) → is_fixed (Keyword key.Int) (fixed k) ≡ false → is_fixed (Keyword key.Long) (fixed k) ≡ false → t.terminal ≡ fixed k → TypeEnds x (Some t)
-mark_ends k x t int long e = (mark_not_fixed k (Keyword key.Int) t int e, mark_not_fixed k (Keyword key.Long) t long e)
+pub fixed_ends : {A : Type 0} (k : Fixed) (x : A) (t : Tok) → is_fixed (Keyword key.Int) (fixed k) ≡ false → is_fixed (Keyword key.Long) (fixed k) ≡ false → t.terminal ≡ fixed k → TypeEnds x (Some t)
+fixed_ends k x t int long e = (fixed_differs k (Keyword key.Int) t int e, fixed_differs k (Keyword key.Long) t long e)
 
 -- `int` may stand behind a type
 abbrev LongerL : Scalar → Scalar → Phrase

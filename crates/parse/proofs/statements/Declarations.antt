@@ -20,7 +20,7 @@ use Rattle.parse.proofs.combinators.FixedTokens.{that_fixed, one_begins}
 use Rattle.parse.proofs.combinators.Parts.{MaybeW, MaybeS, is_here, seq_here, behind_exact, before_exact, tail_begins, perhaps_exact}
 use Rattle.parse.proofs.combinators.Knot.{knot_exact, base_exact}
 use Rattle.parse.proofs.combinators.Starts.{first_of, stops_exact}
-use Rattle.parse.proofs.expressions.Scalars.{TypeEnds, name_begins, name_ends, mark_not_fixed, type_not_fixed, scalar_exact, scalar_first, type_begins}
+use Rattle.parse.proofs.expressions.Scalars.{TypeEnds, name_begins, name_ends, fixed_differs, type_not_fixed, scalar_exact, scalar_first, type_begins}
 use Rattle.parse.proofs.expressions.Wholes.{WholeS, whole_begins, closing_follows}
 use Rattle.parse.proofs.expressions.Levels.{whole_exact}
 use Rattle.parse.proofs.statements.Simples.{semicolon_ends, simple_exact, simple_first, simple_not_fixed, simple_not_type}
@@ -79,11 +79,11 @@ declared_exact d =
     comes (λ x p l. l) deepens (λ x h c. tt)
   where
     follows_value : (o : Option Expr) (t : Tok) → t.terminal ≡ fixed (Punctuator punct.Semicolon) → MaybeS (Punctuator punct.Assign) WholeS o (Some t)
-    follows_value None t is = mark_not_fixed (Punctuator punct.Semicolon) (Punctuator punct.Assign) t refl is
+    follows_value None t is = fixed_differs (Punctuator punct.Semicolon) (Punctuator punct.Assign) t refl is
     follows_value (Some e) t is = closing_follows e t (Punctuator punct.Semicolon) is refl
 
     comma_value : (o : Option Expr) (t : Tok) → t.terminal ≡ fixed (Punctuator punct.Comma) → MaybeS (Punctuator punct.Assign) WholeS o (Some t)
-    comma_value None t is = mark_not_fixed (Punctuator punct.Comma) (Punctuator punct.Assign) t refl is
+    comma_value None t is = fixed_differs (Punctuator punct.Comma) (Punctuator punct.Assign) t refl is
     comma_value (Some e) t is = closing_follows e t (Punctuator punct.Comma) is refl
 
     follows : (x : Declarator) (h : Option Tok) → is_other (Punctuator punct.Comma) h ≡ true → is_next (Punctuator punct.Semicolon) h ≡ true → DeclaratorS x h

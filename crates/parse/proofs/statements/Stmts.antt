@@ -244,13 +244,13 @@ block_positive : (ss : List Stmt) → block_depth (stmts_from ss) ≤ 0 → ⊥
 block_positive [] w = omega arith
 block_positive (s ∷ ss) w = omega arith
 
-stmt_sinks : (ts : List Tok) → starts_stmt (head ts) ≡ true → stmt_at 0 ts ≡ Err (deep ts)
+stmt_too_deep : (ts : List Tok) → starts_stmt (head ts) ≡ true → stmt_at 0 ts ≡ Err (deep ts)
 unfolding stmt_at
-stmt_sinks ts h = rw h refl
+stmt_too_deep ts h = rw h refl
 
-block_sinks : (ts : List Tok) → is_next (Punctuator punct.OpenBrace) (head ts) ≡ true → block_at 0 ts ≡ Err (deep ts)
+block_too_deep : (ts : List Tok) → is_next (Punctuator punct.OpenBrace) (head ts) ≡ true → block_at 0 ts ≡ Err (deep ts)
 unfolding block_at
-block_sinks ts h = rw h refl
+block_too_deep ts h = rw h refl
 
 block_stops : (D : ℕ) (ts : List Tok) → is_next (Punctuator punct.OpenBrace) (head ts) ≡ false → block_at D ts ≡ Err (wrong ts)
 unfolding block_at
@@ -292,10 +292,10 @@ both_exact : (d : ℕ) → Exact stmt_at stmt Within OpenS OpenS d × Exact bloc
 both_exact zero = (
   base_exact stmt_at (λ b. stmt_at (suc b)) stmt Within OpenS OpenS
       (λ D b ts e. let n : D ≡ suc b = omega arith in ap (λ (n : ℕ). stmt_at n ts) n)
-      starts_stmt stmt_stops stmt_sinks stmt_begun refl stmt_positive,
+      starts_stmt stmt_stops stmt_too_deep stmt_begun refl stmt_positive,
   base_exact block_at (λ b. block_at (suc b)) BlockL BlockW Always Always
       (λ D b ts e. let n : D ≡ suc b = omega arith in ap (λ (n : ℕ). block_at n ts) n)
-      (is_next (Punctuator punct.OpenBrace)) block_stops block_sinks block_starts refl block_positive,
+      (is_next (Punctuator punct.OpenBrace)) block_stops block_too_deep block_starts refl block_positive,
 )
 both_exact (suc d) = let I = both_exact d in (stmt_step d I.0 I.1, block_step d I.0)
 

@@ -185,22 +185,22 @@ module _ (mode : Mode) (at : Span) where
   block_tree x = Transaction x.0 (stmts_from x.1) at
 
   -- an attribute, if any, and a block
-  abbrev MarkedBlockL : TransactionKind × List Stmt → Phrase
-  MarkedBlockL = Two (KindL mode) BlockL
+  abbrev AttributeBlockL : TransactionKind × List Stmt → Phrase
+  AttributeBlockL = Two (KindL mode) BlockL
 
   abbrev FromL : Stmt → Phrase
-  FromL s p = ValueRestL s p ⊎ Image block_tree MarkedBlockL s p
+  FromL s p = ValueRestL s p ⊎ Image block_tree AttributeBlockL s p
 
-  no_mark : KindL mode (Plain mode) []
-  no_mark = (refl, refl)
+  plain_kind : KindL mode (Plain mode) []
+  plain_kind = (refl, refl)
 
   from_begins : Begins FromL []
   from_begins =
       let b = block_begins in
-      record { value = block_tree (Plain mode, b.value); more = b.more; spelled = inr ((Plain mode, b.value), refl, record { front = []; back = b.more; first = no_mark; second = b.spelled; whole = refl }) }
+      record { value = block_tree (Plain mode, b.value); more = b.more; spelled = inr ((Plain mode, b.value), refl, record { front = []; back = b.more; first = plain_kind; second = b.spelled; whole = refl }) }
 
   module _ (P : ℕ → Parser Stmt) (B : ℕ → Parser (List Stmt)) (d : ℕ) (E : Exact B BlockL BlockW Always Always d) where
-    block_exact : Exact (λ D. map_parser block_tree (seq (kind mode) (B D))) (Image block_tree MarkedBlockL) Below Always Always d
+    block_exact : Exact (λ D. map_parser block_tree (seq (kind mode) (B D))) (Image block_tree AttributeBlockL) Below Always Always d
     block_exact = imaged block_tree Below Always Always (two (kind_exact mode d) E no_attribute_follows block_begins) shallower deepens (λ x h s. tt) (λ x h c. tt)
       where
         no_attribute_follows : (k : TransactionKind) (ss : List Stmt) (p q : List Tok) → BlockL ss p → Unit {0} → KindS k (head (p ++ q))
@@ -217,7 +217,7 @@ module _ (mode : Mode) (at : Span) where
         guarded_either (λ D. value_stmt D mode at) (is_next (Punctuator punct.OpenParen)) Always (value_exact d) block_exact
         (λ s p q l h. value_opens s p q l) braces (λ s p r l e c. tt) (λ s p r l e c. tt)
       where
-        braces : (s : Stmt) (p q : List Tok) → Image block_tree MarkedBlockL s p → Unit {0} → is_next (Punctuator punct.OpenParen) (head (p ++ q)) ≡ false
+        braces : (s : Stmt) (p q : List Tok) → Image block_tree AttributeBlockL s p → Unit {0} → is_next (Punctuator punct.OpenParen) (head (p ++ q)) ≡ false
         braces s p q (x, same, l) h = not_paren mode x.0 (stmts_from x.1) p q l
 
 -- ---- with the keyword
