@@ -1,4 +1,4 @@
--- Going on from a place keeps what is known, and fails only where the ways are not kept.
+-- Going on from a place keeps what is known, and fails only where a way may not go where it goes.
 use Rattle.std.proofs.Common.{◌≡◌, ℕ, zero, suc, ◌-◌, List, [], ◌∷◌, drop, Option, Some, None, refl, sym, ap, ◌∙◌, subst, arith, inl, inr}
 use Rattle.std.specs.Prelude.{slice_get, Contains}
 use Rattle.std.proofs.lemmas.List.Elements.{Contains-push, Contains-append_left}

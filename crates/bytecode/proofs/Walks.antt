@@ -1,4 +1,4 @@
--- Following ways: what is kept while places are gone on from, and what is known at the end.
+-- Following ways: what stays so while places are gone on from, and what is known at the end.
 use Rattle.std.proofs.Common.{◌≡◌, ◌⊎◌, ℕ, suc, ◌+◌, List, [], ◌∷◌, ◌++◌, length, Option, Some, None, sym, ap, ◌∙◌, subst, arith, inl, inr}
 use Rattle.std.specs.Prelude.{slice_get, Contains}
 use Rattle.std.proofs.lemmas.List.{length-append}
@@ -29,7 +29,7 @@ module _ (code : Code) (f : FunctionCode) where
     leads = λ q' bs c. let h = s.leads q' bs c in (h.0, g q' h.0 h.1, chain_grows (T ms) (T ms') g h.0 bs h.2);
   }
 
-  -- what is kept: made places are gone on from, and those in work are not
+  -- what stays so: made places are gone on from, and those in work are not
   pub record Walked (ms : Arrivals) (work : List ℕ) (made : ℕ) : Type 0 where
     pub found : IsFound code f (T ms)
     pub begun : T ms f.first ≡ Some None
@@ -43,7 +43,7 @@ module _ (code : Code) (f : FunctionCode) where
     | inr o ↦ (begins, subst (λ x. IsReached code f x begins) (sym o.1) r, subst (λ i. IsChain (T ms') i begins) (sym o.2) (chain_grows (T ms) (T ms') v.grows (id_of m) begins c))
   ]
 
-  -- a place is taken from the work: all that is kept but that it is expanded
+  -- a place is taken from the work: all that stays so but that it is expanded
   pub record Taken (ms : Arrivals) (work : List ℕ) (q : ℕ) (made : ℕ) : Type 0 where
     pub found : IsFound code f (T ms)
     pub begun : T ms f.first ≡ Some None
@@ -73,7 +73,7 @@ module _ (code : Code) (f : FunctionCode) where
     begun = v.grows f.first None k.begun;
     expanded = λ x id t. elim (v.new x id t) [
       | inl o ↦ elim (k.expanded x id o) [
-        | inl d ↦ inl (v.kept x d)
+        | inl d ↦ inl (v.waiting x d)
         | inr e ↦ elim e [
           | inl s ↦ inr (inl s)
           | inr s ↦ inr (inr (expanded_grows ms ms' v.grows x id s))

@@ -6,9 +6,9 @@
 #[cfg(test)]
 mod asserted;
 #[cfg(test)]
-mod cores;
+mod boxes_and_lists;
 #[cfg(test)]
-mod held;
+mod cores;
 #[cfg(test)]
 mod large;
 #[cfg(test)]

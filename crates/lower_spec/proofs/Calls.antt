@@ -34,7 +34,7 @@ use Rattle.lower_spec.proofs.Runs.{Around, Bare, Shared, context_of, holding, st
 use Rattle.lower_spec.proofs.Conversions.{conversions, truth_converted}
 use Rattle.lower_spec.proofs.Expressions.{CallsFollow, handed}
 use Rattle.lower_spec.proofs.Locals.{AreWords, length_like}
-use Rattle.lower_spec.proofs.Flow.{GoesEnd, word_in, ArrivedAt, HereAt, MoreAt, TurnsFall, stmts_follow}
+use Rattle.lower_spec.proofs.Flow.{GoesByCompletion, word_in, ArrivedAt, HereAt, MoreAt, TurnsFall, stmts_follow}
 use Rattle.lower_spec.proofs.Turns.{while_falls, do_falls, for_falls}
 
 -- the words of arguments in the types of parameters
@@ -193,7 +193,7 @@ entered_holds g layout qs vs ls h n fits all =
       size_is = length_set_from layout.writable layout.constants old ∙ size_is;
       each = λ i l. below_set layout.writable layout.constants old i (omega (arith, l, len3, parts, fits)) ∙ front_index (argument_order qs ws) zeros i (omega (arith, l, len3, parts, whole)) ∙ front_index (named_ones qs ws) (nameless_ones qs ws) i (omega (arith, l, len3)) ∙ ap (λ us. slice_index us i) (sym h.words) ∙ sym (word_listed ls i);
       words = h.own;
-      ready = λ k w e. is_set layout.writable layout.constants old k w (layout.writable + k) refl e (omega (arith, size_is));
+      preloaded = λ k w e. is_set layout.writable layout.constants old k w (layout.writable + k) refl e (omega (arith, size_is));
     }
 
 -- the function of worker's name
@@ -244,7 +244,7 @@ module _ (p : Program) (code : Code) (are : HasCellsOf code p) where
       goes_by code a sh text (configuration code from rs frames) (configuration code (suc from) (slice_set rs r w) frames) (effect_at code from (Instr.Constant r w) rs frames c.0)
       (constants_run ws (suc r) (suc from) to a sh text (slice_set rs r w) frames c.1 go)
 
-  body_goes : (k : ℕ) (frames : List Frame) (layout : Layout) (cf : CallsFollow p (calls p k) code layout frames) (N K : ℕ) (a : Around) (ls : List Local) (u : Option Scalar) (after : Answer Value → Outcome) (scope later : LocalScope) (last : ℕ) → InstructionAt code last (Instr.Return None) → IsSeen a after → GoesReturn N K a after ls frames u → GoesEnd p (calls p k) code layout frames cf are N K a (λ q. after (go_on q (leaving ls u))) (no_exits u) (HereAt p code layout later) (MoreAt p code layout scope) last
+  body_goes : (k : ℕ) (frames : List Frame) (layout : Layout) (cf : CallsFollow p (calls p k) code layout frames) (N K : ℕ) (a : Around) (ls : List Local) (u : Option Scalar) (after : Answer Value → Outcome) (scope later : LocalScope) (last : ℕ) → InstructionAt code last (Instr.Return None) → IsSeen a after → GoesReturn N K a after ls frames u → GoesByCompletion p (calls p k) code layout frames cf are N K a (λ q. after (go_on q (leaving ls u))) (no_exits u) (HereAt p code layout later) (MoreAt p code layout scope) last
   body_goes k frames layout cf N K a ls u after scope later last i s go = record { ends = body_ends N K layout a ls frames u after scope later last i s go; outer = tt }
 
   body_follows : (k : ℕ) (frames : List Frame) (g : FunctionCode) (f : Function) (body : Stmts) → (c : FunctionIsLowered p code g f body) → CallsFollow p (calls p k) code c.layout frames → (N K : ℕ) (vs : List Value) (rs : List ℕ) (o : Option (List Local)) → EnteredSo f.parameters vs o → (length vs ≡ length f.parameters → rs ≡ first_registers g (argument_order f.parameters (words_for f.parameters vs))) → (a : Around) (sh : Shared) (text : List ℕ) (ls : List Local) (after : Answer Value → Outcome) → IsGood code a sh → IsSeen a after → GoesReturn N K a after ls frames f.result → Agrees (effect code) N K (holding a sh text (configuration code g.first rs frames)) (λ n. after (go_on (or_astray o (state n ls (context_of a sh) text)) (λ mine. locals >>= λ outer. put_locals mine >> (stmts p (calls p k) body >>= leaving outer f.result))))

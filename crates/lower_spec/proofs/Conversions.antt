@@ -133,17 +133,17 @@ same_zero : (w z : ℕ) → w ≡ z → (w == 0) ≡ (z == 0)
 same_zero w z e = ap (λ x. x == 0) e
 
 -- so that a comparison with 0 may ask the value itself
-pub zero_kept : (s t : Scalar) (w : ℕ) → w < modulus s → (word_of (common s t) (number s w) == 0) ≡ (w == 0)
-zero_kept Int Int w h = same_zero _ w (conversions Int Int w h)
-zero_kept Int Unsigned w h = same_zero _ w (conversions Int Unsigned w h)
-zero_kept Int LongLong w h =
+pub zero_preserved : (s t : Scalar) (w : ℕ) → w < modulus s → (word_of (common s t) (number s w) == 0) ≡ (w == 0)
+zero_preserved Int Int w h = same_zero _ w (conversions Int Int w h)
+zero_preserved Int Unsigned w h = same_zero _ w (conversions Int Unsigned w h)
+zero_preserved Int LongLong w h =
     extended_zero (nat_lt (w % 2 ^ 32) (2 ^ 31)) (w % 2 ^ 32) (omega arith) refl ∙ same_zero _ w (residue_same Int w h)
-zero_kept Unsigned Int w h = same_zero _ w (conversions Unsigned Unsigned w h)
-zero_kept Unsigned Unsigned w h = same_zero _ w (conversions Unsigned Unsigned w h)
-zero_kept Unsigned LongLong w h = same_zero _ w (conversions Unsigned LongLong w h)
-zero_kept LongLong Int w h = same_zero _ w (conversions LongLong LongLong w h)
-zero_kept LongLong Unsigned w h = same_zero _ w (conversions LongLong LongLong w h)
-zero_kept LongLong LongLong w h = same_zero _ w (conversions LongLong LongLong w h)
+zero_preserved Unsigned Int w h = same_zero _ w (conversions Unsigned Unsigned w h)
+zero_preserved Unsigned Unsigned w h = same_zero _ w (conversions Unsigned Unsigned w h)
+zero_preserved Unsigned LongLong w h = same_zero _ w (conversions Unsigned LongLong w h)
+zero_preserved LongLong Int w h = same_zero _ w (conversions LongLong LongLong w h)
+zero_preserved LongLong Unsigned w h = same_zero _ w (conversions LongLong LongLong w h)
+zero_preserved LongLong LongLong w h = same_zero _ w (conversions LongLong LongLong w h)
 
 -- an operator on words of the types in which its operands are due
 common_turned : (s t : Scalar) → common s t ≡ common t s

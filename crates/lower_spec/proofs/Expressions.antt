@@ -34,9 +34,9 @@ use Rattle.bytecode.specs.Effects.{Effect}
 use Rattle.bytecode.specs.Code.{Code, Configuration, Frame, Instr, effect, effect_of, or_traps, setting}
 use Rattle.lower_spec.specs.Expressions.{ValueTransactionCode, LocalScope, IsLike, InstructionAt, LeadsTo, Branching, MayTake, constant_in, computing, complementing, argument_order, Layout, GivenBy, Converts, DueCode, TypedCode, HandedCode, WordCode, OperandCode, VariableCode, ElementAt, Branches, BothHold, EitherHolds, ComparedWithZero, TruthCode, BranchCode, ConditionalCode, types_left, ExprCode, OwnTests, ArgsCode, CondCode}
 use Rattle.lower_spec.proofs.Locals.{word_typed, type_like, KnownLocal, newest_known}
-use Rattle.lower_spec.proofs.Conversions.{unconverted, truth_under, truth_converted, zero_in, zero_kept, operated_below}
+use Rattle.lower_spec.proofs.Conversions.{unconverted, truth_under, truth_converted, zero_in, zero_preserved, operated_below}
 use Rattle.lower_spec.proofs.Agreement.{Agrees, astray, same, fewer}
-use Rattle.lower_spec.proofs.Runs.{Enters, enters, Transactions, with_inner, outermost_alone, begins_inner, begins_outermost, wants_one, commits_inner, leaves_outermost, next_commit, IsBounded, AreBounded, KnownCells, HasCellsOf, AreMemories, Around, Bare, Within, Shared, context_of, holding, state, IsSeen, on_seen, IsGood, registers_in, Holds, Keeps, keeps_all, keeps_more, keeps_set, keeps_on, kept_at, holds_on, configuration, effect_at, goes, goes_by, reads_by, word_read, tick_goes, traps}
+use Rattle.lower_spec.proofs.Runs.{Enters, enters, Transactions, with_inner, outermost_alone, begins_inner, begins_outermost, wants_one, commits_inner, leaves_outermost, next_commit, IsBounded, AreBounded, KnownCells, HasCellsOf, AreMemories, Around, Bare, Within, Shared, context_of, holding, state, IsSeen, on_seen, IsGood, registers_in, Holds, Keeps, keeps_all, keeps_more, keeps_set, keeps_on, unchanged_at, holds_on, configuration, effect_at, goes, goes_by, reads_by, word_read, tick_goes, traps}
 
 complement_below : (t : Scalar) (w : ℕ) → bitwise_complement t w < modulus t
 complement_below Int w = omega arith
@@ -135,9 +135,9 @@ module _ (p : Program) (call : Caller) (code : Code) (layout : Layout) (frames :
 
   -- a value that lies in a register in the other type too
   remains : {N K : ℕ} (s u : Scalar) (v : Value) (a : Around) (sh : Shared) (text : List ℕ) (does : ℕ → Outcome) (q to : ℕ) (home : Option ℕ) (free ra r : ℕ) (old rs : List ℕ) → to ≡ q → r ≡ ra → word_of u (number s v.word) ≡ v.word → Computed a s ra home free old v sh rs → ((new : List ℕ) → slice_index new r ≡ (value_in_type u v).word → Keeps layout home free old new → Agrees (effect code) N K (holding a sh text (configuration code to new frames)) does) → Agrees (effect code) N K (holding a sh text (configuration code q rs frames)) does
-  remains {N = N} {K = K} s u v a sh text does q to home free ra r old rs at there kept d go =
+  remains {N = N} {K = K} s u v a sh text does q to home free ra r old rs at there same d go =
       subst (λ x. Agrees (effect code) N K (holding a sh text (configuration code x rs frames)) does) at
-      (go rs (ap (slice_index rs) there ∙ d.here ∙ sym kept ∙ ap (λ o. word_of u (number o v.word)) (sym d.typed_so)) d.keeps)
+      (go rs (ap (slice_index rs) there ∙ d.here ∙ sym same ∙ ap (λ o. word_of u (number o v.word)) (sym d.typed_so)) d.keeps)
 
   -- a conversion of a value that lies in a register
   pub comes : {N K : ℕ} (s u : Scalar) (v : Value) (a : Around) (sh : Shared) (text : List ℕ) (does : ℕ → Outcome) (q to : ℕ) (home : Option ℕ) (free ra r : ℕ) (old rs : List ℕ) → Converts code layout home s u ra q to free r → Computed a s ra home free old v sh rs → length rs ≡ registers_in layout → ((new : List ℕ) → slice_index new r ≡ (value_in_type u v).word → Keeps layout home free old new → Agrees (effect code) N K (holding a sh text (configuration code to new frames)) does) → Agrees (effect code) N K (holding a sh text (configuration code q rs frames)) does
@@ -366,7 +366,7 @@ module _ (p : Program) (call : Caller) (code : Code) (layout : Layout) (frames :
 
   -- the word of the constant, and whether the other side is 0
   zero_asked : (t : Scalar) (v : Value) → v.word < modulus v.ty → (word_of (common v.ty t) (number v.ty v.word) == word_of (common t v.ty) (number t (word_of t (pos 0)))) ≡ is_zero v
-  zero_asked t v below = ap (λ w. word_of (common v.ty t) (number v.ty v.word) == w) (zero_in (common t v.ty) t) ∙ zero_kept v.ty t v.word below
+  zero_asked t v below = ap (λ w. word_of (common v.ty t) (number v.ty v.word) == w) (zero_in (common t v.ty) t) ∙ zero_preserved v.ty t v.word below
 
   zero_differs : (t : Scalar) (at : Span) (v : Value) (s : State) → v.word < modulus v.ty → comparing NotEqual (Constant 0 t at) v s ≡ Gives (flag (not (is_zero v))) s
   zero_differs t at v s below = ap (λ b. Gives (flag (not b)) s) (zero_asked t v below)
@@ -413,7 +413,7 @@ module _ (p : Program) (call : Caller) (code : Code) (layout : Layout) (frames :
       set_on (Instr.Constant r w) w u a sh text does from to None free r old old c refl h.size_is (keeps_all layout None free old) go
   word_comes {N = N} {K = K} w u a sh text scope ls does from to free r old (inr c) h go =
       subst (λ x. Agrees (effect code) N K (holding a sh text (configuration code x old frames)) does) c.to_is
-      (go old (ap (slice_index old) c.register ∙ h.ready c.number w c.known) (keeps_all layout None free old))
+      (go old (ap (slice_index old) c.register ∙ h.preloaded c.number w c.known) (keeps_all layout None free old))
 
   -- a value of type t that is due in u: the register has its word in that type
   pub record Taken (a : Around) (u t : Scalar) (r : ℕ) (home : Option ℕ) (free : ℕ) (old : List ℕ) (v : Value) (sh : Shared) (new : List ℕ) : Type 0 where
@@ -635,7 +635,7 @@ module _ (p : Program) (call : Caller) (code : Code) (layout : Layout) (frames :
           operand_follows scope y (expr_follows None scope y) (operand_type op c.tb c.ta) N K c.mid c.last c.later c.rb c.tb a sh1 text1 ls rs1 (λ q. after (go_on q rest1)) c.right (holds_on scope ls layout free c.later old rs1 c.is_above h d.keeps) d.good (on_seen a after rest1 s)
           (λ w sh2 text2 rs2 e.
           let keeps : Keeps layout None free old rs2 = keeps_on layout None free c.later old rs1 rs2 c.is_above d.keeps e.keeps in
-          operates op v w c.ta c.tb c.ra c.rb a sh2 text2 ls after c.last to home free r t old rs2 d.typed_so e.typed_so (kept_at layout c.later c.ra rs1 rs2 c.apart e.keeps ∙ d.here) e.here c.operates (keeps.size ∙ h.size_is) (keeps_more layout home free old rs2 keeps) e.good s go))
+          operates op v w c.ta c.tb c.ra c.rb a sh2 text2 ls after c.last to home free r t old rs2 d.typed_so e.typed_so (unchanged_at layout c.later c.ra rs1 rs2 c.apart e.keeps ∙ d.here) e.here c.operates (keeps.size ∙ h.size_is) (keeps_more layout home free old rs2 keeps) e.good s go))
       expr_follows home scope (Logical AndThen x y at) N K from to free r t a sh text ls old after c h good s go =
           truth_follows home scope (expr p call x >>= λ v. (if is_zero v then pure v else expr p call y) >>= tested)
           (BothHold code layout (Branches code layout (ExprCode code layout p None scope x) (OwnTests code layout p scope x)) (Branches code layout (ExprCode code layout p None scope y) (OwnTests code layout p scope y)))

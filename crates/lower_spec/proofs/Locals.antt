@@ -15,7 +15,7 @@ use Rattle.lower_spec.specs.Expressions.{LocalScope, IsLike}
 abbrev pub AreWords : List Local → Type 0
 AreWords ls = AllByRecursion (λ (l : Local). l.word < modulus l.ty) ls
 
--- the local at a place has this type, if there is one
+-- the local of an index has this type, if there is one
 abbrev pub TypeIs : List Local → ℕ → Scalar → Type 0
 TypeIs [] i t = Unit {0}
 TypeIs (l ∷ ls) zero t = l.ty ≡ t

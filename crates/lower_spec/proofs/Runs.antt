@@ -97,8 +97,8 @@ abbrev pub registers_in : Layout → ℕ
 registers_in layout = layout.writable + length layout.constants
 
 -- the constants lie in the registers behind those that are written
-abbrev pub LieReady : Layout → List ℕ → Type 0
-LieReady layout registers = (k w : ℕ) → slice_get layout.constants k ≡ Some w → slice_index registers (layout.writable + k) ≡ w
+abbrev pub ArePreloaded : Layout → List ℕ → Type 0
+ArePreloaded layout registers = (k w : ℕ) → slice_get layout.constants k ≡ Some w → slice_index registers (layout.writable + k) ≡ w
 
 -- the registers hold the locals and the constants
 pub record Holds (scope : LocalScope) (ls : List Local) (layout : Layout) (free : ℕ) (registers : List ℕ) : Type 0 where
@@ -108,7 +108,7 @@ pub record Holds (scope : LocalScope) (ls : List Local) (layout : Layout) (free 
   pub size_is : length registers ≡ registers_in layout
   pub each : (i : ℕ) → i < length ls → slice_index registers i ≡ word_at ls i
   pub words : AreWords ls
-  pub ready : LieReady layout registers
+  pub preloaded : ArePreloaded layout registers
 
 -- what a value's home leaves as it was
 abbrev pub IsSpared : Option ℕ → ℕ → Type 0
@@ -148,13 +148,13 @@ keeps_on layout home free later old mid new h k l = record {
 }
 
 -- a register that is not free, or lies behind all that are written
-pub kept_at : (layout : Layout) (free i : ℕ) (old new : List ℕ) → (i < free) ⊎ (layout.writable ≤ i) → Keeps layout None free old new → slice_index new i ≡ slice_index old i
-kept_at layout free i old new (inl h) k = k.below i h tt
-kept_at layout free i old new (inr h) k = k.behind i h
+pub unchanged_at : (layout : Layout) (free i : ℕ) (old new : List ℕ) → (i < free) ⊎ (layout.writable ≤ i) → Keeps layout None free old new → slice_index new i ≡ slice_index old i
+unchanged_at layout free i old new (inl h) k = k.below i h tt
+unchanged_at layout free i old new (inr h) k = k.behind i h
 
 -- the constants lie there still
-pub ready_kept : (layout : Layout) (home : Option ℕ) (free : ℕ) (old new : List ℕ) → LieReady layout old → Keeps layout home free old new → LieReady layout new
-ready_kept layout home free old new h k i w e = k.behind (layout.writable + i) (omega arith) ∙ h i w e
+pub preloaded_stay : (layout : Layout) (home : Option ℕ) (free : ℕ) (old new : List ℕ) → ArePreloaded layout old → Keeps layout home free old new → ArePreloaded layout new
+preloaded_stay layout home free old new h k i w e = k.behind (layout.writable + i) (omega arith) ∙ h i w e
 
 pub holds_on : (scope : LocalScope) (ls : List Local) (layout : Layout) (free later : ℕ) (old new : List ℕ) → free ≤ later → Holds scope ls layout free old → Keeps layout None free old new → Holds scope ls layout later new
 holds_on scope ls layout free later old new b h k = record {
@@ -164,7 +164,7 @@ holds_on scope ls layout free later old new b h k = record {
   size_is = k.size ∙ h.size_is;
   each = λ i l. let r = h.room in k.below i (omega (arith, l, r)) tt ∙ h.each i l;
   words = h.words;
-  ready = ready_kept layout None free old new h.ready k;
+  preloaded = preloaded_stay layout None free old new h.preloaded k;
 }
 
 -- a memory's word is below the bound of its cell

@@ -23,7 +23,7 @@ use Rattle.lower_spec.specs.Expressions.{LocalScope, IsLike, InstructionAt, Layo
 use Rattle.lower_spec.specs.Statements.{Target, LocalAt, CellAt, ElementOf, assigning, home_of, target_type, Spares, Coding, Testing, ValueCode, ResultCode, TestCode, VariableTarget, CheckedAt, UncheckedAt, TargetCode, ReadTarget, FetchCode, StoreCode, StoredCode, ExprStored, AssignCode, ChangeCode, Operating, OneCode, SimpleCode}
 use Rattle.lower_spec.proofs.Conversions.{residue_same, cell_residue, truth_converted}
 use Rattle.lower_spec.proofs.Agreement.{Agrees, astray, same}
-use Rattle.lower_spec.proofs.Runs.{Around, Bare, Within, Shared, context_of, holding, state, IsSeen, on_seen, IsBounded, AreBounded, KnownCells, HasCellsOf, IsGood, registers_in, Holds, Keeps, ready_kept, keeps_all, keeps_more, keeps_set, keeps_on, kept_at, holds_on, configuration, effect_at, goes_by, writes_by, traps}
+use Rattle.lower_spec.proofs.Runs.{Around, Bare, Within, Shared, context_of, holding, state, IsSeen, on_seen, IsBounded, AreBounded, KnownCells, HasCellsOf, IsGood, registers_in, Holds, Keeps, preloaded_stay, keeps_all, keeps_more, keeps_set, keeps_on, unchanged_at, holds_on, configuration, effect_at, goes_by, writes_by, traps}
 use Rattle.lower_spec.proofs.Expressions.{CallsFollow, element_in, newest_like, GoesOn, GoesTaken, Does, Computed, set_on, comes, taken, reads, operates, lvalue_in, lvalue_from_is, word_comes, operand_follows, due_follows, expr_follows, cond_follows}
 use Rattle.lower_spec.proofs.Locals.{TypeIs, word_typed, type_like, KnownLocal, newest_known, word_written, word_other, words_written, shape_written, length_like}
 
@@ -45,7 +45,7 @@ written_local scope ls old new layout later i w t b type_is room h k here below 
       size_is = k.size ∙ h.size_is;
       each = λ j l. each_written ls new i w j (cases_eq j i) (omega (arith, b, len)) here (λ e. k.below j (omega (arith, l, len2, room)) e ∙ h.each j (omega (arith, l, len2, len)));
       words = words_written ls i w t (type_like scope ls i t h.like type_is) below h.words;
-      ready = ready_kept layout (Some i) later old new h.ready k;
+      preloaded = preloaded_stay layout (Some i) later old new h.preloaded k;
     }
 
 -- the locals hold at the start of what the registers may be used for
@@ -72,10 +72,10 @@ module _ (p : Program) (call : Caller) (code : Code) (layout : Layout) (frames :
   IsAt scope (CellAt g) rs at = (at ≡ InCell g.cell g.global.ty) × AreBounded code g
   IsAt scope (ElementOf g ri) rs at = (at ≡ InCell (g.cell + slice_index rs ri) g.global.ty) × (nat_lt (slice_index rs ri) (cells g.global) ≡ true) × AreBounded code g
 
-  at_kept : (scope : LocalScope) (tg : Target) (later : ℕ) (old new : List ℕ) (at : Lvalue) → Spares tg later → Keeps layout None later old new → IsAt scope tg old at → IsAt scope tg new at
-  at_kept scope (LocalAt l) later old new at s k i = i
-  at_kept scope (CellAt g) later old new at s k i = i
-  at_kept scope (ElementOf g ri) later old new at s k i = (i.0 ∙ ap (λ w. InCell (g.cell + w) g.global.ty) (sym (k.below ri s tt)), ap (λ w. nat_lt w (cells g.global)) (k.below ri s tt) ∙ i.1, i.2)
+  at_unchanged : (scope : LocalScope) (tg : Target) (later : ℕ) (old new : List ℕ) (at : Lvalue) → Spares tg later → Keeps layout None later old new → IsAt scope tg old at → IsAt scope tg new at
+  at_unchanged scope (LocalAt l) later old new at s k i = i
+  at_unchanged scope (CellAt g) later old new at s k i = i
+  at_unchanged scope (ElementOf g ri) later old new at s k i = (i.0 ∙ ap (λ w. InCell (g.cell + w) g.global.ty) (sym (k.below ri s tt)), ap (λ w. nat_lt w (cells g.global)) (k.below ri s tt) ∙ i.1, i.2)
 
   abbrev pub Goes : ℕ → ℕ → Around → Shared → List ℕ → List Local → ℕ → List ℕ → (State → Outcome) → Type 0
   Goes N K a sh text ls from registers does = Does p call code layout frames N K a sh text ls from registers does
@@ -133,7 +133,7 @@ module _ (p : Program) (call : Caller) (code : Code) (layout : Layout) (frames :
       (λ n. ap (λ x. after (go_on (assign x v (state n ls (context_of a sh) text)) (λ u. pure Next))) is_at.0)
       (cell_written scope a sh text ls after (Instr.Write c.cell ra) q ra c.cell c.global.ty rs v i refl is_at.1.0 here (lowered scope ls layout later old rs room h k) g s go)
   assigns (ElementOf c ri) at scope later a sh text ls after q ra old rs v room is_at0 sp i k here h g s go =
-      let is_at : IsAt scope (ElementOf c ri) rs at = at_kept scope (ElementOf c ri) later old rs at sp k is_at0 in
+      let is_at : IsAt scope (ElementOf c ri) rs at = at_unchanged scope (ElementOf c ri) later old rs at sp k is_at0 in
       same (effect code) (λ n. after (go_on (assign (InCell (c.cell + slice_index rs ri) c.global.ty) v (state n ls (context_of a sh) text)) (λ u. pure Next)))
       (λ n. ap (λ x. after (go_on (assign x v (state n ls (context_of a sh) text)) (λ u. pure Next))) is_at.0)
       (cell_written scope a sh text ls after (Instr.WriteAt c.cell (cells c.global) ri ra) q ra (c.cell + slice_index rs ri) c.global.ty rs v i
@@ -303,7 +303,7 @@ module _ (p : Program) (call : Caller) (code : Code) (layout : Layout) (frames :
       follow (operand_type op b.tb b.ta) N K b.mid b.last b.later b.rb b.tb a sh3 text3 ls rs3 (λ q. after1 (go_on q rest2)) b.right (holds_on scope ls layout c.later b.later rs1 rs3 b.is_above (raised scope ls layout c.later rs1 c.room h1) e.keeps) e.good (on_seen a after1 rest2 seen1)
       (λ v sh4 text4 rs4 f.
       let keeps : Keeps layout None c.later rs1 rs4 = keeps_on layout None c.later b.later rs1 rs3 rs4 b.is_above e.keeps f.keeps in
-      operates p call code layout frames op o1 v b.ta b.tb b.ra b.rb a sh4 text4 ls (λ q. after1 (go_on q (assign at))) b.last c.done (home_of c.target) c.later c.r c.t rs1 rs4 e.typed_so f.typed_so (kept_at layout b.later b.ra rs3 rs4 b.apart f.keeps ∙ e.here) f.here b.operates (keeps.size ∙ h1.size_is) (keeps_more layout (home_of c.target) c.later rs1 rs4 keeps) f.good (on_seen a after1 (assign at) seen1)
+      operates p call code layout frames op o1 v b.ta b.tb b.ra b.rb a sh4 text4 ls (λ q. after1 (go_on q (assign at))) b.last c.done (home_of c.target) c.later c.r c.t rs1 rs4 e.typed_so f.typed_so (unchanged_at layout b.later b.ra rs3 rs4 b.apart f.keeps ∙ e.here) f.here b.operates (keeps.size ∙ h1.size_is) (keeps_more layout (home_of c.target) c.later rs1 rs4 keeps) f.good (on_seen a after1 (assign at) seen1)
       (λ new sh5 text5 rs5 g. stores c.target at scope c.later a sh5 text5 ls after c.done to c.r c.t rs1 rs5 new c.room is_at c.spares c.stores g (g.keeps.size ∙ h1.size_is) h1 s go))))
 
   changed_follows : {N K : ℕ} (scope : LocalScope) (lhs : Expr) (op : BinaryOp) (by : Action Value) (C : Due) → FollowTaken scope by C → (from to : ℕ) → ChangeCode code layout p scope lhs op C from to → (a : Around) (sh : Shared) (text : List ℕ) (ls : List Local) (old : List ℕ) (after : Answer Completion → Outcome) → Holds scope ls layout (length scope) old → IsGood code a sh → IsSeen a after → GoesNext N K a after scope to → Goes N K a sh text ls from old (λ s. after ((lvalue p call lhs >>= λ at. ended (assign_by_operator p call at by op)) s))

@@ -44,9 +44,9 @@ module _ (p : Program) where
   -- a function that is entered
   pub enters : (n k : ℕ) (x : List ℕ) (vs : List Value) (s0 s1 : State) (b : Begins) (mine outer : List Local) → n ≡ suc k → begin_call p x vs s0 ≡ Gives b s1 → mine ≡ b.mine → outer ≡ s1.locals →
       frame_begun p n x vs s0 ≡ Gives (Nests (call_left b.ty outer) (stmts p (calls p k) b.body)) (record s1 { locals = mine })
-  enters n k x vs s0 s1 b mine outer more h bound kept =
+  enters n k x vs s0 s1 b mine outer more h bound outer_is =
       ap (λ i. frame_begun p i x vs s0) more ∙ after (begin_call p x vs s0) (frame_at p k) b s1 h
-      ∙ (λ i. Gives (Nests (call_left b.ty (sym kept i)) (stmts p (calls p k) b.body)) (record s1 { locals = sym bound i }))
+      ∙ (λ i. Gives (Nests (call_left b.ty (sym outer_is i)) (stmts p (calls p k) b.body)) (record s1 { locals = sym bound i }))
 
 -- the first step of a call, up to its function
 module _ (p : Program) (k : ℕ) (x : List ℕ) (es : Exprs) (s0 s1 : State) where

@@ -122,8 +122,8 @@ begin_alike : (f : StateExtension) (p : Context) (s : State) → Alike f (begin_
 begin_alike f (Outside founds lefts) s = tick_framed.alike f s
 begin_alike f (Inside mode m) s = refl
 
-pub framed_kept : IsAlwaysPreserved (λ A run. IsFramed run)
-framed_kept = record {
+pub framed_preserved : IsAlwaysPreserved (λ A run. IsFramed run)
+framed_preserved = record {
   pure_holds = λ a. record { alike = λ f s. refl };
   on_holds = on_framed;
   astray_holds = record { alike = λ f s. refl };

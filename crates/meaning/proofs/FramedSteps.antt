@@ -12,7 +12,7 @@ use Rattle.syntax.proofs.Preserved.{each_expr_holds, each_simple_holds, each_stm
 use Rattle.meaning.specs.inner.Going.{Follow, Ends, ticks_left, drop_names, call_left, when_next, scope_begun, loop_begun, test_of, turn_end_of, turns_begun, either_begun, for_begun, frame_begun, call_begun}
 use Rattle.meaning.specs.inner.Calls.{begin_call}
 use Rattle.meaning.specs.Frames.{IsFramed}
-use Rattle.meaning.proofs.Framed.{on_framed, framed_kept}
+use Rattle.meaning.proofs.Framed.{on_framed, framed_preserved}
 
 pub pure_framed : {A : Type 0} (a : A) → IsFramed (pure a)
 pure_framed a = record { alike = λ f s. refl }
@@ -27,7 +27,7 @@ put_framed : (ls : List Local) → IsFramed (put_locals ls)
 put_framed ls = record { alike = λ f s. refl }
 
 pub tick_framed : IsFramed tick
-tick_framed = framed_kept.tick_holds
+tick_framed = framed_preserved.tick_holds
 
 pub then_framed : {A B : Type 0} {run : Action A} {rest : Action B} → IsFramed run → IsFramed rest → IsFramed (run >> rest)
 then_framed g h = on_framed g (λ _. h)
@@ -51,10 +51,10 @@ when_next_framed h CancelsOuter = pure_framed (Ends CancelsOuter)
 result_framed : (ty : Option Scalar) (end : Completion) → IsFramed (result_of ty end)
 result_framed ty Next = pure_framed _
 result_framed ty (Returns v) = pure_framed _
-result_framed ty Breaks = framed_kept.astray_holds
-result_framed ty Continues = framed_kept.astray_holds
-result_framed ty Cancels = framed_kept.astray_holds
-result_framed ty CancelsOuter = framed_kept.astray_holds
+result_framed ty Breaks = framed_preserved.astray_holds
+result_framed ty Continues = framed_preserved.astray_holds
+result_framed ty Cancels = framed_preserved.astray_holds
+result_framed ty CancelsOuter = framed_preserved.astray_holds
 
 pub cut_framed : (n : ℕ) (end : Completion) → IsFramed (drop_names n end)
 cut_framed n end = on_framed locals_framed (λ all. then_framed (put_framed _) (pure_framed end))
@@ -67,24 +67,24 @@ scope_framed run = on_framed locals_framed (λ outer. pure_framed _)
 
 or_astray_framed : {A : Type 0} (o : Option A) → IsFramed (or_astray o)
 or_astray_framed (Some a) = pure_framed a
-or_astray_framed None = framed_kept.astray_holds
+or_astray_framed None = framed_preserved.astray_holds
 
 pub loop_framed : (turn : Action (Option Completion)) → IsFramed (loop_begun turn)
 loop_framed turn = on_framed ticks_framed (λ n. pure_framed _)
 
 module _ (p : Program) (k : ℕ) where
   pub expr_framed : (e : Expr) → IsFramed (expr p (calls p k) e)
-  expr_framed = each_expr_holds p (λ A run. IsFramed run) framed_kept k
+  expr_framed = each_expr_holds p (λ A run. IsFramed run) framed_preserved k
 
   exprs_framed : (es : Exprs) → IsFramed (exprs p (calls p k) es)
   exprs_framed Exprs.[] = pure_framed []
   exprs_framed (Exprs.◌∷◌ e es) = on_framed (expr_framed e) (λ v. on_framed (exprs_framed es) (λ vs. pure_framed _))
 
   simple_framed : (i : Simple) → IsFramed (simple p (calls p k) i)
-  simple_framed = each_simple_holds p (λ A run. IsFramed run) framed_kept k
+  simple_framed = each_simple_holds p (λ A run. IsFramed run) framed_preserved k
 
   pub stmt_framed : (st : Stmt) → IsFramed (stmt p (calls p k) st)
-  stmt_framed = each_stmt_holds p (λ A run. IsFramed run) framed_kept k
+  stmt_framed = each_stmt_holds p (λ A run. IsFramed run) framed_preserved k
 
   first_value_framed : (i : ℕ) (t : Scalar) (e : Option Expr) → IsFramed (first_value p (calls p k) (InLocal i t) e)
   first_value_framed i t None = pure_framed tt
@@ -134,7 +134,7 @@ module _ (p : Program) where
   enters_framed x vs = on_framed (or_astray_framed (definition_of p x)) (λ f. on_framed (or_astray_framed (call_locals f.0.parameters vs)) (λ mine. pure_framed _))
 
   frame_framed : (k : ℕ) (x : List ℕ) (vs : List Value) → IsFramed (frame_begun p k x vs)
-  frame_framed zero x vs = framed_kept.trap_holds Frames
+  frame_framed zero x vs = framed_preserved.trap_holds Frames
   frame_framed (suc k) x vs = on_framed (enters_framed x vs) (λ b. on_framed locals_framed (λ outer. then_framed (put_framed b.mine) (pure_framed _)))
 
   pub call_framed : (k : ℕ) (x : List ℕ) (es : Exprs) → IsFramed (call_begun p k x es)

@@ -120,12 +120,12 @@ defined_then p call None vs s = refl
 pub invoke_begun : (p : Program) (call : Caller) (x : List ℕ) (vs : List Value) (s : State) → invoke p call x vs s ≡ go_on (begin_call p x vs s) (call_rest p call)
 invoke_begun p call x vs s = defined_then p call (definition_of p x) vs s
 
-module _ (p : Program) (n k : ℕ) (x : List ℕ) (vs : List Value) (s0 s1 : State) (b : Begins) (mine outer : List Local) (more : n ≡ suc k) (d : begin_call p x vs s0 ≡ Gives b s1) (bound : mine ≡ b.mine) (kept : outer ≡ s1.locals) where
+module _ (p : Program) (n k : ℕ) (x : List ℕ) (vs : List Value) (s0 s1 : State) (b : Begins) (mine outer : List Local) (more : n ≡ suc k) (d : begin_call p x vs s0 ≡ Gives b s1) (bound : mine ≡ b.mine) (outer_is : outer ≡ s1.locals) where
   call_begun : calls p n x vs s0 ≡ go_on (stmts p (calls p k) b.body (record s1 { locals = mine })) (λ end. put_locals outer >> result_of b.ty end)
   call_begun =
       ap (λ i. calls p i x vs s0) more ∙ invoke_begun p (calls p k) x vs s0 ∙ after (begin_call p x vs s0) (call_rest p (calls p k)) b s1 d
       ∙ ap (λ ls. go_on (stmts p (calls p k) b.body (record s1 { locals = ls })) (λ end. put_locals s1.locals >> result_of b.ty end)) (sym bound)
-      ∙ ap (λ ls. go_on (stmts p (calls p k) b.body (record s1 { locals = mine })) (λ end. put_locals ls >> result_of b.ty end)) (sym kept)
+      ∙ ap (λ ls. go_on (stmts p (calls p k) b.body (record s1 { locals = mine })) (λ end. put_locals ls >> result_of b.ty end)) (sym outer_is)
 
   pub call_gives : (s2 : State) (e : Completion) (r : Answer Value) → stmts p (calls p k) b.body (record s1 { locals = mine }) ≡ Gives e s2 → result_of b.ty e (record s2 { locals = outer }) ≡ r → calls p n x vs s0 ≡ r
   call_gives s2 e r h g = call_begun ∙ after _ (λ end. put_locals outer >> result_of b.ty end) e s2 h ∙ g

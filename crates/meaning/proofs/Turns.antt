@@ -78,9 +78,9 @@ enters_by : (does : Behaviour) (ticks t : ℕ) (m n : Memory) (all : List (List 
     ((((does t founds ticks).end ≢ Stopped Wants) × (n ≡ m) × (further ≡ founds))
     ⊎ (((does t founds ticks).end ≡ Stopped Wants) × (n ≡ last_left m (drop (length (does t founds ticks).lefts) (does t further ticks).lefts)) × (further ≡ founds ++ m ∷ []))) →
     record { memory = n; founds = set all t further } ≡ entry does ticks t (record { memory = m; founds = all })
-enters_by does ticks t m n all further (inl (none, same, kept)) =
+enters_by does ticks t m n all further (inl (none, same, unchanged)) =
     let now : Progress = record { memory = m; founds = all } in
-    (λ i. record { memory = same i; founds = set all t (kept i) })
+    (λ i. record { memory = same i; founds = set all t (unchanged i) })
     ∙ ap (λ (fs : List (List Memory)). record { memory = m; founds = fs }) (set-get_or all t [])
     ∙ sym (rests does ticks (does t (get_or all t []) ticks).end (finds does ticks t (get_or all t []) now) now none)
 enters_by does ticks t m n all further (inr (some, left, more)) =

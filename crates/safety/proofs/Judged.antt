@@ -37,26 +37,26 @@ abbrev Keeps : Program → Site → Type 0
 Keeps p s = KeepsAs p s s.construct
 
 module _ (p : Program) (safe outer : FunctionSet) (tells : TellsSafe p safe) (leads : TellsOuter p outer) where
-  kept_by : (s : Site) (c : Construct) → AreMet (demands_at safe outer s c) → KeepsAs p s c
-  kept_by s Prints h = ((no_and s.atomic (is_met 40 s.span (not s.atomic) h), λ e. absurd cc), (λ e o. o, λ e. absurd cc))
-  kept_by s Relaxes h = ((no_and s.atomic (is_met 41 s.span (not s.atomic) h), λ e. absurd cc), (λ e o. o, λ e. absurd cc))
-  kept_by s OpensOuter h = ((λ e. tt, λ e. absurd cc), (λ e o. no_and s.atomic (is_met 44 s.span (not s.atomic) h) e, λ e. absurd cc))
-  kept_by s Cancels h = ((λ e. tt, λ e. is_met 42 s.span s.atomic h), (λ e o. o, λ e. absurd cc))
-  kept_by s CancelsOuter h = ((λ e. tt, λ e. absurd cc), (λ e o. o, λ e. is_met 45 s.span s.outer h))
-  kept_by s (Calls f) h =
+  keeps_as : (s : Site) (c : Construct) → AreMet (demands_at safe outer s c) → KeepsAs p s c
+  keeps_as s Prints h = ((no_and s.atomic (is_met 40 s.span (not s.atomic) h), λ e. absurd cc), (λ e o. o, λ e. absurd cc))
+  keeps_as s Relaxes h = ((no_and s.atomic (is_met 41 s.span (not s.atomic) h), λ e. absurd cc), (λ e o. o, λ e. absurd cc))
+  keeps_as s OpensOuter h = ((λ e. tt, λ e. absurd cc), (λ e o. no_and s.atomic (is_met 44 s.span (not s.atomic) h) e, λ e. absurd cc))
+  keeps_as s Cancels h = ((λ e. tt, λ e. is_met 42 s.span s.atomic h), (λ e o. o, λ e. absurd cc))
+  keeps_as s CancelsOuter h = ((λ e. tt, λ e. absurd cc), (λ e o. o, λ e. is_met 45 s.span s.outer h))
+  keeps_as s (Calls f) h =
       let first = demand 40 s.span (not s.atomic || safe f) in
       let second = demand 44 s.span (not s.atomic || not (outer f)) in (
         (λ e. (tells f).0 (or_right s.atomic (safe f) (is_met 40 s.span (not s.atomic || safe f) (met_before first second h)) e), λ e. absurd cc),
         (λ e o. no_and (outer f) (or_right s.atomic (not (outer f)) (is_met 44 s.span (not s.atomic || not (outer f)) (met_behind first second h)) e) ((leads f).1 o), λ e. absurd cc),
       )
-  kept_by s (Uses x) h = ((λ e. tt, λ e. absurd cc), (λ e o. o, λ e. absurd cc))
+  keeps_as s (Uses x) h = ((λ e. tt, λ e. absurd cc), (λ e o. o, λ e. absurd cc))
 
   sites_keep : (ss : List Site) → AreMet (flat_map (λ s. demands_at safe outer s s.construct) ss) → All (Keeps p) ss
   sites_keep [] h = All-nil (Keeps p)
   sites_keep (s ∷ ss) h =
       let own = demands_at safe outer s s.construct in
       let rest = flat_map (λ s. demands_at safe outer s s.construct) ss in
-      All-cons (Keeps p) s ss (kept_by s s.construct (met_before own rest h)) (sites_keep ss (met_behind own rest h))
+      All-cons (Keeps p) s ss (keeps_as s s.construct (met_before own rest h)) (sites_keep ss (met_behind own rest h))
 
   if_own : (b : Bool) (own : List Site) → All (Keeps p) own → All (Keeps p) (if b then own else [])
   if_own true own h = h

@@ -30,7 +30,7 @@ module _ (links : List Link) (numbers : List ℕ → Option ℕ) (callers : List
   keeps : KeepsTo links set
   keeps l there m = (let s = k.complete l there in is_in l.caller s.1 s.2.1 (c.closed s.0 s.1 (callee_is_member l.callee s.0 s.2.0 m) s.3))
 
-  module _ (other : FunctionSet) (kept : KeepsTo links other) where
+  module _ (other : FunctionSet) (obeys : KeepsTo links other) where
     abbrev Known : ℕ → Type 0
     Known i = (i ≡ 0) ⊎ ((x : List ℕ) → numbers x ≡ Some i → IsTrue (other x))
 
@@ -43,7 +43,7 @@ module _ (links : List Link) (numbers : List ℕ → Option ℕ) (callers : List
     known [] i e = inl e
     known (j ∷ js) i way = (
         let s = k.sound j i way.0 in
-        let caller : IsTrue (other s.0.caller) = kept s.0 s.1 (callee_known s.0.callee j s.2.0 (known js j way.1)) in
+        let caller : IsTrue (other s.0.caller) = obeys s.0 s.1 (callee_known s.0.callee j s.2.0 (known js j way.1)) in
         inr (λ x e. subst (λ y. IsTrue (other y)) (h.distinct s.0.caller x i s.2.1 e) caller)
         )
 

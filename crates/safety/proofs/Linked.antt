@@ -30,6 +30,6 @@ module _ (set : FunctionSet) where
   keeps_if true f h = keeps_one (record { caller = f; callee = None }) (λ i. h refl)
   keeps_if false f h = keeps_none
 
-  pub kept_if : (b : Bool) (f : List ℕ) → KeepsTo (link_if b f) set → b ≡ true → IsTrue (set f)
-  kept_if true f h e = h (record { caller = f; callee = None }) (0, omega arith, refl) tt
-  kept_if false f h e = absurd cc
+  pub in_set_if : (b : Bool) (f : List ℕ) → KeepsTo (link_if b f) set → b ≡ true → IsTrue (set f)
+  in_set_if true f h e = h (record { caller = f; callee = None }) (0, omega arith, refl) tt
+  in_set_if false f h e = absurd cc

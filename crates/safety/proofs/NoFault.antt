@@ -76,17 +76,17 @@ promised true says is h = refl
 promised false true is h = h refl
 promised false false is h = refl
 
-module _ (p : Program) (safe outer : FunctionSet) (tells : TellsSafe p safe) (leads : TellsOuter p outer) (kept : IsSafeProgram p) where
+module _ (p : Program) (safe outer : FunctionSet) (tells : TellsSafe p safe) (leads : TellsOuter p outer) (is_safe : IsSafeProgram p) where
   function_met : (earlier items : List Item) (f : Function) → p ≡ earlier ++ Defines f ∷ items → AreMet (function_demands p safe outer f)
   function_met earlier items f whole =
       let name = f.name.text in
       let own = body_sites f.parameters f.body in
       let is : bytes_eq name name ≡ true = (bytes_eq-Decides name name).1 refl in
-      let all : All (Keeps p) (sites_of (earlier ++ Defines f ∷ items) name) = subst (λ q. All (Keeps p) (sites_of q name)) whole (λ k d below. (kept.atomic name k d below, kept.outer name k d below)) in
+      let all : All (Keeps p) (sites_of (earlier ++ Defines f ∷ items) name) = subst (λ q. All (Keeps p) (sites_of q name)) whole (λ k d below. (is_safe.atomic name k d below, is_safe.outer name k d below)) in
       let split : All (Keeps p) (sites_of earlier name ++ sites_of (Defines f ∷ items) name) = subst (All (Keeps p)) (sites_append earlier (Defines f ∷ items) name) all in
       let behind = All-behind (Keeps p) (sites_of earlier name) (sites_of (Defines f ∷ items) name) split in
       let sites = own_sites (bytes_eq name name) own (Keeps p) is (All-before (Keeps p) (if bytes_eq name name then own else []) (sites_of items name) behind) in
-      let promise = promised (is_none f.body) (says_safe (attributes_of p name)) (safe name) (λ e. (tells name).1 (kept.declared name (contains_safe (attributes_of p name) e))) in
+      let promise = promised (is_none f.body) (says_safe (attributes_of p name)) (safe name) (λ e. (tells name).1 (is_safe.declared name (contains_safe (attributes_of p name) e))) in
       All-append (λ d. IsTrue d.met) (demand 43 f.name.span (is_none f.body || not (says_safe (attributes_of p name)) || safe name)) (flat_map (λ s. demands_at safe outer s s.construct) own)
       (one_met 43 f.name.span (is_none f.body || not (says_safe (attributes_of p name)) || safe name) promise) (sites_met p safe outer tells leads own sites)
 
@@ -101,4 +101,4 @@ nothing_is : {A : Type 0} (x : A) → None ≡ Some x → ⊥
 nothing_is x e = cc
 
 pub no_fault : SafeHasNoFault
-no_fault p kept n at (safe, outer, tells, leads, first) = nothing_is (n, at) (none_unmet (safety_demands p safe outer) (items_met p safe outer tells leads kept [] p refl) ∙ first)
+no_fault p is_safe n at (safe, outer, tells, leads, first) = nothing_is (n, at) (none_unmet (safety_demands p safe outer) (items_met p safe outer tells leads is_safe [] p refl) ∙ first)

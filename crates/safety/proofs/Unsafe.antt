@@ -13,7 +13,7 @@ use Rattle.safety.specs.Faults.{says_safe}
 use Rattle.safety.specs.Links.{KeepsTo, IsLeast}
 use Rattle.safety.specs.inner.UnsafeLinks.{says_unsafe, construct_links, unsafe_at, unsafe_links, safe_links}
 use Rattle.safety.specs.SiteLinks.{link_if}
-use Rattle.safety.proofs.Linked.{only, keeps_none, keeps_one, keeps_both, keeps_left, keeps_right, keeps_if, kept_if}
+use Rattle.safety.proofs.Linked.{only, keeps_none, keeps_one, keeps_both, keeps_left, keeps_right, keeps_if, in_set_if}
 
 pub contains_unsafe : (all : List Attribute) → says_unsafe all ≡ true → Contains all Unsafe
 contains_unsafe [] h = absurd cc
@@ -66,20 +66,20 @@ IsUnsafeIn set (Calls f) = IsTrue (set f)
 IsUnsafeIn set c = ⊥
 
 module _ (set : FunctionSet) where
-  construct_kept : (f : List ℕ) (c : Construct) → KeepsTo (construct_links f c) set → IsUnsafeIn set c → IsTrue (set f)
-  construct_kept f Prints h u = kept_if set true f h refl
-  construct_kept f Relaxes h u = kept_if set true f h refl
-  construct_kept f (Calls g) h u = h (record { caller = f; callee = Some g }) (0, omega arith, refl) u
-  construct_kept f OpensOuter h u = absurd u
-  construct_kept f Cancels h u = absurd u
-  construct_kept f CancelsOuter h u = absurd u
-  construct_kept f (Uses x) h u = absurd u
+  construct_in_set : (f : List ℕ) (c : Construct) → KeepsTo (construct_links f c) set → IsUnsafeIn set c → IsTrue (set f)
+  construct_in_set f Prints h u = in_set_if set true f h refl
+  construct_in_set f Relaxes h u = in_set_if set true f h refl
+  construct_in_set f (Calls g) h u = h (record { caller = f; callee = Some g }) (0, omega arith, refl) u
+  construct_in_set f OpensOuter h u = absurd u
+  construct_in_set f Cancels h u = absurd u
+  construct_in_set f CancelsOuter h u = absurd u
+  construct_in_set f (Uses x) h u = absurd u
 
-  sites_kept : (f : List ℕ) (ss : List Site) (s : Site) → KeepsTo (flat_map (unsafe_at f) ss) set → Contains ss s → IsUnsafeIn set s.construct → IsTrue (set f)
-  sites_kept f [] s h c u = absurd (omega (arith, c.1))
-  sites_kept f (t ∷ ss) s h c u = elim (Contains-append_cases (t ∷ []) ss s c) [
-    | inl d ↦ construct_kept f t.construct (keeps_left set (construct_links f t.construct) (flat_map (unsafe_at f) ss) h) (subst (λ r. IsUnsafeIn set r.construct) (only t s d) u)
-    | inr d ↦ sites_kept f ss s (keeps_right set (construct_links f t.construct) (flat_map (unsafe_at f) ss) h) d u
+  sites_in_set : (f : List ℕ) (ss : List Site) (s : Site) → KeepsTo (flat_map (unsafe_at f) ss) set → Contains ss s → IsUnsafeIn set s.construct → IsTrue (set f)
+  sites_in_set f [] s h c u = absurd (omega (arith, c.1))
+  sites_in_set f (t ∷ ss) s h c u = elim (Contains-append_cases (t ∷ []) ss s c) [
+    | inl d ↦ construct_in_set f t.construct (keeps_left set (construct_links f t.construct) (flat_map (unsafe_at f) ss) h) (subst (λ r. IsUnsafeIn set r.construct) (only t s d) u)
+    | inr d ↦ sites_in_set f ss s (keeps_right set (construct_links f t.construct) (flat_map (unsafe_at f) ss) h) d u
   ]
 
   -- a set that keeps to the links has each function with anything unsafe
@@ -90,7 +90,7 @@ module _ (set : FunctionSet) where
       let first = link_if (says_unsafe g.attributes) g.name.text in
       let own = flat_map (unsafe_at g.name.text) (body_sites g.parameters g.body) in
       elim (by_name g.name.text f g.attributes (attributes_of items f) Unsafe c) [
-        | inl d ↦ subst (λ x. IsTrue (set x)) d.0 (kept_if set (says_unsafe g.attributes) g.name.text (keeps_left set first own (keeps_left set (first ++ own) (unsafe_links items) h)) (unsafe_contained g.attributes d.1))
+        | inl d ↦ subst (λ x. IsTrue (set x)) d.0 (in_set_if set (says_unsafe g.attributes) g.name.text (keeps_left set first own (keeps_left set (first ++ own) (unsafe_links items) h)) (unsafe_contained g.attributes d.1))
         | inr d ↦ attributes_closed items f (keeps_right set (first ++ own) (unsafe_links items) h) d
       ]
 
@@ -101,7 +101,7 @@ module _ (set : FunctionSet) where
       let first = link_if (says_unsafe g.attributes) g.name.text in
       let own = flat_map (unsafe_at g.name.text) (body_sites g.parameters g.body) in
       elim (by_name g.name.text f (body_sites g.parameters g.body) (sites_of items f) s c) [
-        | inl d ↦ subst (λ x. IsTrue (set x)) d.0 (sites_kept g.name.text (body_sites g.parameters g.body) s (keeps_right set first own (keeps_left set (first ++ own) (unsafe_links items) h)) d.1 u)
+        | inl d ↦ subst (λ x. IsTrue (set x)) d.0 (sites_in_set g.name.text (body_sites g.parameters g.body) s (keeps_right set first own (keeps_left set (first ++ own) (unsafe_links items) h)) d.1 u)
         | inr d ↦ sites_closed items f s (keeps_right set (first ++ own) (unsafe_links items) h) d u
       ]
 
@@ -180,8 +180,8 @@ tells_safe p set h f = (
 )
 
 -- the functions that are declared safe
-claims_kept : (set : FunctionSet) (items : List Item) (f : List ℕ) → KeepsTo (safe_links items) set → says_safe (attributes_of items f) ≡ true → IsTrue (set f)
-claims_kept set items f h e = by items h (contains_safe (attributes_of items f) e)
+claims_in_set : (set : FunctionSet) (items : List Item) (f : List ℕ) → KeepsTo (safe_links items) set → says_safe (attributes_of items f) ≡ true → IsTrue (set f)
+claims_in_set set items f h e = by items h (contains_safe (attributes_of items f) e)
   where
     by : (items : List Item) → KeepsTo (safe_links items) set → Contains (attributes_of items f) Safe → IsTrue (set f)
     by [] h c = absurd (omega (arith, c.1))
@@ -189,7 +189,7 @@ claims_kept set items f h e = by items h (contains_safe (attributes_of items f) 
     by (Defines g ∷ items) h c =
         let first = link_if (says_safe g.attributes) g.name.text in
         elim (by_name g.name.text f g.attributes (attributes_of items f) Safe c) [
-          | inl d ↦ subst (λ x. IsTrue (set x)) d.0 (kept_if set (says_safe g.attributes) g.name.text (keeps_left set first (safe_links items) h) (safe_contained g.attributes d.1))
+          | inl d ↦ subst (λ x. IsTrue (set x)) d.0 (in_set_if set (says_safe g.attributes) g.name.text (keeps_left set first (safe_links items) h) (safe_contained g.attributes d.1))
           | inr d ↦ by items (keeps_right set first (safe_links items) h) d
         ]
 
@@ -210,4 +210,4 @@ same_truth false false h k = refl
 pub tells_claims : (p : Program) (set : FunctionSet) → IsLeast (safe_links p) set → (f : List ℕ) → set f ≡ says_safe (attributes_of p f)
 tells_claims p set h f = same_truth (set f) (says_safe (attributes_of p f))
     (h.least (λ g. says_safe (attributes_of p g)) (claims_keep (λ g. says_safe (attributes_of p g)) p (λ g c. safe_contained (attributes_of p g) c)) f)
-    (claims_kept set p f h.keeps)
+    (claims_in_set set p f h.keeps)

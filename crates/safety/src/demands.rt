@@ -102,8 +102,8 @@ fn fault_of_function<'a, A: Allocator + Copy>(
     let name = f.name.text.as_str();
     let claimed = claims.contains(name);
     let not_safe_itself = not_safe.contains(name);
-    let kept = f.body.is_none() || !claimed || !not_safe_itself;
-    if !kept {
+    let is_obeyed = f.body.is_none() || !claimed || !not_safe_itself;
+    if !is_obeyed {
         return Ok(Some(Violation::NotSafe(f.name.span)));
     }
     let sites = body_sites(alloc, key, f)?;

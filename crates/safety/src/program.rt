@@ -8,7 +8,7 @@ use crate::fault::SafetyFault;
 use std::alloc::Allocator;
 use types::Typed;
 
-/// Checks safety. The fault is the first rule that the program breaks, in the order of the text. The program is kept in
+/// Checks safety. The fault is the first rule that the program breaks, in the order of the text. The program lies in
 /// what is given, or comes back in the fault. Takes memory for the sites of one body at a time, for the calls of the
 /// program and for a number of each function; the time is that of the text, and of finding each called name by a map.
 pub fn safe<A: Allocator + Copy>(alloc: A, typed: Typed<A>) -> Result<Safe<A>, SafetyFault<A>>

@@ -114,8 +114,8 @@ module _ (key : Setup) where
         })
         (at_set views id seat (u ∷ []) view e)
 
-    pub kept_after : IsRuled key (lock_after rule.world.lock x ∷ words_after rule.world.words x) (set views id (u ∷ []))
-    kept_after = record {
+    pub ruled_after : IsRuled key (lock_after rule.world.lock x ∷ words_after rule.world.words x) (set views id (u ∷ []))
+    ruled_after = record {
       world = after;
       heard = heard_after;
       words_are = refl;
@@ -191,7 +191,7 @@ module _ (key : Setup) where
           u s.words s.views rule id p here k now x pause is' far on ∷ [],
           keeps,
           tt,
-          subst (λ (ws : List ℕ). IsRuled key ws (set s.views id (u s.words s.views rule id p here k now x pause is' far on ∷ []))) (sym words) (kept_after s.words s.views rule id p here k now x pause is' far on),
+          subst (λ (ws : List ℕ). IsRuled key ws (set s.views id (u s.words s.views rule id p here k now x pause is' far on ∷ []))) (sym words) (ruled_after s.words s.views rule id p here k now x pause is' far on),
           took s.words s.views rule id p here k now sits.1.3 pause is' (g (get_or s.words i 0)) refl me mine,
         )
 

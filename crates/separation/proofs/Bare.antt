@@ -10,7 +10,7 @@ use Rattle.syntax.proofs.Demands.{AreMet, all_met, met_before, met_behind, is_me
 use Rattle.safety.specs.Sites.{Construct, Prints, Relaxes, OpensOuter, Cancels, CancelsOuter, Calls, Uses, Site, sites_of}
 use Rattle.safety.specs.Safe.{FunctionSet, IsSafeProgram}
 use Rattle.safety.specs.Links.{KeepsTo, IsLeast}
-use Rattle.safety.proofs.Linked.{only, keeps_none, keeps_one, keeps_if, kept_if}
+use Rattle.safety.proofs.Linked.{only, keeps_none, keeps_one, keeps_if, in_set_if}
 use Rattle.safety.proofs.Spread.{tells_least}
 use Rattle.separation.specs.inner.TouchingLinks.{bare_links, links_at, touching_links}
 use Rattle.separation.specs.Touching.{IsAccess, Touches, IsTouchingSet, IsTouching, TellsTouching, IsAccepted, demands_at, separation_demands}
@@ -22,15 +22,15 @@ module _ (set : FunctionSet) where
   abbrev In : List ℕ → Type 0
   In f = IsTrue (set f)
 
-  bare_kept : (f : List ℕ) (b : Bool) (c : Construct) → KeepsTo (bare_links f b c) set → b ≡ false → IsAccess In c → In f
-  bare_kept f true c h e u = no (sym e)
-  bare_kept f false (Uses x) h e u = kept_if set true f h refl
-  bare_kept f false (Calls g) h e u = h (record { caller = f; callee = Some g }) (0, omega arith, refl) u
-  bare_kept f false Prints h e u = absurd u
-  bare_kept f false Relaxes h e u = absurd u
-  bare_kept f false OpensOuter h e u = absurd u
-  bare_kept f false Cancels h e u = absurd u
-  bare_kept f false CancelsOuter h e u = absurd u
+  bare_in_set : (f : List ℕ) (b : Bool) (c : Construct) → KeepsTo (bare_links f b c) set → b ≡ false → IsAccess In c → In f
+  bare_in_set f true c h e u = no (sym e)
+  bare_in_set f false (Uses x) h e u = in_set_if set true f h refl
+  bare_in_set f false (Calls g) h e u = h (record { caller = f; callee = Some g }) (0, omega arith, refl) u
+  bare_in_set f false Prints h e u = absurd u
+  bare_in_set f false Relaxes h e u = absurd u
+  bare_in_set f false OpensOuter h e u = absurd u
+  bare_in_set f false Cancels h e u = absurd u
+  bare_in_set f false CancelsOuter h e u = absurd u
 
   bare_keeps : (f : List ℕ) (b : Bool) (c : Construct) → (b ≡ false → IsAccess In c → In f) → KeepsTo (bare_links f b c) set
   bare_keeps f true c h = keeps_none set
@@ -45,7 +45,7 @@ module _ (set : FunctionSet) where
 pub tells_touching : (p : Program) (set : FunctionSet) → IsLeast (touching_links p) set → TellsTouching p set
 tells_touching p set h =
     tells_least links_at (λ s t. Touches (λ g. IsTrue (s g)) t)
-    (λ s f t kept u. bare_kept s f t.in_any t.construct kept u.0 u.1)
+    (λ s f t tied u. bare_in_set s f t.in_any t.construct tied u.0 u.1)
     (λ s f t led. bare_keeps s f t.in_any t.construct (λ e u. led (e, u))) p set h
 
 -- where no demand is unmet, worker doesn't touch

@@ -194,24 +194,24 @@ on_opens {w = w} {ls = ls} {os = os} {P = P} {Q = Q} {run = run} {rest = rest} g
 
 -- how a statement ends: a break or a continue only in a loop, a cancel only in an atomic transaction, an outer cancel
 -- only in an outer one
-abbrev pub EndFits : (looping in_atomic in_outer : Bool) → Completion → Type 0
-EndFits looping in_atomic in_outer Next = Unit {0}
-EndFits looping in_atomic in_outer Breaks = IsTrue looping
-EndFits looping in_atomic in_outer Continues = IsTrue looping
-EndFits looping in_atomic in_outer (Returns v) = Unit {0}
-EndFits looping in_atomic in_outer Cancels = IsTrue in_atomic
-EndFits looping in_atomic in_outer CancelsOuter = IsTrue in_outer
+abbrev pub CompletionFits : (looping in_atomic in_outer : Bool) → Completion → Type 0
+CompletionFits looping in_atomic in_outer Next = Unit {0}
+CompletionFits looping in_atomic in_outer Breaks = IsTrue looping
+CompletionFits looping in_atomic in_outer Continues = IsTrue looping
+CompletionFits looping in_atomic in_outer (Returns v) = Unit {0}
+CompletionFits looping in_atomic in_outer Cancels = IsTrue in_atomic
+CompletionFits looping in_atomic in_outer CancelsOuter = IsTrue in_outer
 
 abbrev pub TurnFits : (looping in_atomic in_outer : Bool) → Option Completion → Type 0
 TurnFits looping in_atomic in_outer None = Unit {0}
-TurnFits looping in_atomic in_outer (Some end) = EndFits looping in_atomic in_outer end
+TurnFits looping in_atomic in_outer (Some end) = CompletionFits looping in_atomic in_outer end
 
 -- one statement, and others behind it
-open_further : (w : Option Mode) (l b u : Bool) (ls more : Shapes) (r : Answer Completion) → FineOpen w (ls ++ more) (EndFits l b u) r → FineOpen w ls (EndFits l b u) r
+open_further : (w : Option Mode) (l b u : Bool) (ls more : Shapes) (r : Answer Completion) → FineOpen w (ls ++ more) (CompletionFits l b u) r → FineOpen w ls (CompletionFits l b u) r
 open_further w l b u ls more (Gives end now) f = (f.0, (more ++ f.1.0, f.1.1 ∙ append_assoc ls more f.1.0), f.2)
 open_further w l b u ls more (Stops why now) f = f
 
-next_fine : (w : Option Mode) (l b u : Bool) (ls more : Shapes) (rest : Action Completion) → Opens w (ls ++ more) (EndFits l b u) rest → (r : Answer Completion) → Fine w (ls ++ more) (EndFits l b u) r → FineOpen w ls (EndFits l b u) (go_on r (on_next rest))
+next_fine : (w : Option Mode) (l b u : Bool) (ls more : Shapes) (rest : Action Completion) → Opens w (ls ++ more) (CompletionFits l b u) rest → (r : Answer Completion) → Fine w (ls ++ more) (CompletionFits l b u) r → FineOpen w ls (CompletionFits l b u) (go_on r (on_next rest))
 next_fine w l b u ls more rest h (Gives Next now) f = open_further w l b u ls more (rest now) (h.opens now f.0 f.1)
 next_fine w l b u ls more rest h (Gives Breaks now) f = (f.0, (more, f.1), f.2)
 next_fine w l b u ls more rest h (Gives Continues now) f = (f.0, (more, f.1), f.2)
@@ -220,11 +220,11 @@ next_fine w l b u ls more rest h (Gives Cancels now) f = (f.0, (more, f.1), f.2)
 next_fine w l b u ls more rest h (Gives CancelsOuter now) f = (f.0, (more, f.1), f.2)
 next_fine w l b u ls more rest h (Stops why now) f = f
 
-pub next_opens : {w : Option Mode} {ls : Shapes} {run rest : Action Completion} (l b u : Bool) (more : Shapes) → Goes w ls (ls ++ more) (EndFits l b u) run → Opens w (ls ++ more) (EndFits l b u) rest → Opens w ls (EndFits l b u) (run >>= on_next rest)
+pub next_opens : {w : Option Mode} {ls : Shapes} {run rest : Action Completion} (l b u : Bool) (more : Shapes) → Goes w ls (ls ++ more) (CompletionFits l b u) run → Opens w (ls ++ more) (CompletionFits l b u) rest → Opens w ls (CompletionFits l b u) (run >>= on_next rest)
 next_opens {w = w} {ls = ls} {run = run} {rest = rest} l b u more g h = record { opens = λ s e f. next_fine w l b u ls more rest h (run s) (g.goes s e f) }
 
 -- loops
-pub after_body_goes : {w : Option Mode} {ls : Shapes} (l b u : Bool) {go : Action (Option Completion)} → Goes w ls ls (TurnFits l b u) go → (end : Completion) → EndFits true b u end → Goes w ls ls (TurnFits l b u) (after_body go end)
+pub after_body_goes : {w : Option Mode} {ls : Shapes} (l b u : Bool) {go : Action (Option Completion)} → Goes w ls ls (TurnFits l b u) go → (end : Completion) → CompletionFits true b u end → Goes w ls ls (TurnFits l b u) (after_body go end)
 after_body_goes l b u h Next f = h
 after_body_goes l b u h Breaks f = pure_goes (Some Next) tt
 after_body_goes l b u h Continues f = h
@@ -232,15 +232,15 @@ after_body_goes l b u h (Returns v) f = pure_goes (Some (Returns v)) tt
 after_body_goes l b u h Cancels f = pure_goes (Some Cancels) f
 after_body_goes l b u h CancelsOuter f = pure_goes (Some CancelsOuter) f
 
-after_turn_goes : {w : Option Mode} {ls : Shapes} (l b u : Bool) {rest : Action Completion} → Goes w ls ls (EndFits l b u) rest → (o : Option Completion) → TurnFits l b u o → Goes w ls ls (EndFits l b u) (after_turn rest o)
+after_turn_goes : {w : Option Mode} {ls : Shapes} (l b u : Bool) {rest : Action Completion} → Goes w ls ls (CompletionFits l b u) rest → (o : Option Completion) → TurnFits l b u o → Goes w ls ls (CompletionFits l b u) (after_turn rest o)
 after_turn_goes l b u h None f = h
 after_turn_goes l b u h (Some end) f = pure_goes end f
 
-turns_go : {w : Option Mode} {ls : Shapes} (l b u : Bool) {turn : Action (Option Completion)} → Goes w ls ls (TurnFits l b u) turn → (n : ℕ) → Goes w ls ls (EndFits l b u) (turns n turn)
+turns_go : {w : Option Mode} {ls : Shapes} (l b u : Bool) {turn : Action (Option Completion)} → Goes w ls ls (TurnFits l b u) turn → (n : ℕ) → Goes w ls ls (CompletionFits l b u) (turns n turn)
 turns_go l b u h zero = record { goes = λ s e f. tt }
 turns_go l b u h (suc n) = then_goes tick_goes (on_goes h (after_turn_goes l b u (turns_go l b u h n)))
 
-pub loop_goes : {w : Option Mode} {ls : Shapes} (l b u : Bool) {turn : Action (Option Completion)} → Goes w ls ls (TurnFits l b u) turn → Goes w ls ls (EndFits l b u) (loop turn)
+pub loop_goes : {w : Option Mode} {ls : Shapes} (l b u : Bool) {turn : Action (Option Completion)} → Goes w ls ls (TurnFits l b u) turn → Goes w ls ls (CompletionFits l b u) (loop turn)
 loop_goes l b u h = record { goes = λ s e f. (turns_go l b u h s.ticks).goes s e f }
 
 -- transactions: a cancel goes no further, and an outer cancel not out of an outer one
@@ -248,7 +248,7 @@ abbrev pub in_outer : TransactionKind → Bool → Bool
 in_outer Outer u = true
 in_outer (Plain mode) u = u
 
-left_fits : (l b b' u : Bool) (kind : TransactionKind) (mine : List Local) (found : Memory) (end : Completion) (now : State) → EndFits l b (in_outer kind u) end → EndFits l b' u (left_by kind mine found end now).end
+left_fits : (l b b' u : Bool) (kind : TransactionKind) (mine : List Local) (found : Memory) (end : Completion) (now : State) → CompletionFits l b (in_outer kind u) end → CompletionFits l b' u (left_by kind mine found end now).end
 left_fits l b b' u kind mine found Cancels now h = tt
 left_fits l b b' u Outer mine found CancelsOuter now h = tt
 left_fits l b b' u (Plain mode) mine found CancelsOuter now h = h
@@ -307,8 +307,8 @@ module _ (P Q : Completion → Type 0) where
   enters : {w : Option Mode} {ls : Shapes} (kind : TransactionKind) → Handed kind P Q → {run : Action Completion} → MayBegin w (mode_of kind) → Goes (Some (mode_of kind)) ls ls P run → Goes w ls ls Q (transaction kind run)
   enters {w = w} {ls = ls} kind handed {run = run} g h = record { goes = λ s e f. enter_fine w ls kind handed run h g s.context s e f }
 
-pub transaction_goes : {w : Option Mode} {ls : Shapes} (l b b' u : Bool) (kind : TransactionKind) {run : Action Completion} → MayBegin w (mode_of kind) → Goes (Some (mode_of kind)) ls ls (EndFits l b (in_outer kind u)) run → Goes w ls ls (EndFits l b' u) (transaction kind run)
-transaction_goes l b b' u kind g h = enters (EndFits l b (in_outer kind u)) (EndFits l b' u) kind (left_fits l b b' u kind) g h
+pub transaction_goes : {w : Option Mode} {ls : Shapes} (l b b' u : Bool) (kind : TransactionKind) {run : Action Completion} → MayBegin w (mode_of kind) → Goes (Some (mode_of kind)) ls ls (CompletionFits l b (in_outer kind u)) run → Goes w ls ls (CompletionFits l b' u) (transaction kind run)
+transaction_goes l b b' u kind g h = enters (CompletionFits l b (in_outer kind u)) (CompletionFits l b' u) kind (left_fits l b b' u kind) g h
 
 -- a transaction that is an expression: its body returns the value, and ends in no other way
 abbrev IsReturn : Completion → Type 0

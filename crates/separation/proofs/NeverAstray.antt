@@ -36,7 +36,7 @@ use Rattle.safety.specs.Sites.{Prints, Relaxes, OpensOuter, Cancels as CancelCon
 use Rattle.safety.proofs.CancelsStay.{definition_sites}
 use Rattle.separation.specs.Touching.{IsAccepted}
 use Rattle.separation.specs.Laws.{NeverAstray}
-use Rattle.separation.proofs.Goes.{Shapes, Goes, Opens, Any, Fine, IsInside, LvalueFits, EndFits, TurnFits, on_goes, then_goes, pure_goes, if_goes, tick_goes, trap_goes, or_trap_goes, there_goes, locals_goes, put_goes, may_print_goes, fetch_goes, assign_goes, pieces_go, opened, no_further, scoped_goes, on_opens, next_opens, after_body_goes, loop_goes, transaction_goes, value_transaction_goes}
+use Rattle.separation.proofs.Goes.{Shapes, Goes, Opens, Any, Fine, IsInside, LvalueFits, CompletionFits, TurnFits, on_goes, then_goes, pure_goes, if_goes, tick_goes, trap_goes, or_trap_goes, there_goes, locals_goes, put_goes, may_print_goes, fetch_goes, assign_goes, pieces_go, opened, no_further, scoped_goes, on_opens, next_opens, after_body_goes, loop_goes, transaction_goes, value_transaction_goes}
 use Rattle.separation.proofs.Permitted.{Permits, mode_in, AllPermitted, front_permitted, back_permitted, one_permitted, may_print, is_inside, may_begin_atomic, may_begin_relaxed, relaxed_inside, all_permitted, worker_permitted}
 
 -- what a name that is typed is known as
@@ -277,7 +277,7 @@ module _ (p : Program) (call : Caller) (called : CallsGo p call) (outer : Option
       assigned_goes at f g None = on_goes g (λ v _. assign_goes at v f)
       assigned_goes at f g (Some op) = changed_goes at f g op
 
-      simple_goes : (l b u : Bool) (s : Simple) → TypedSimple known s → AllPermitted p outer (simple_sites s a) → Goes (mode_of a) ls ls (EndFits l b u) (simple p call s)
+      simple_goes : (l b u : Bool) (s : Simple) → TypedSimple known s → AllPermitted p outer (simple_sites s a) → Goes (mode_of a) ls ls (CompletionFits l b u) (simple p call s)
       simple_goes l b u (Evaluate e) h m = then_goes (expr_goes a here e h m) (pure_goes Next tt)
       simple_goes l b u (Assign to op e) h m =
           on_goes (target_goes to h.0 h.2 (front_permitted (expr_sites to a) (expr_sites e a) m))
@@ -308,7 +308,7 @@ module _ (p : Program) (call : Caller) (called : CallsGo p call) (outer : Option
   tested_goes l b u true = pure_goes (Some Next) tt
   tested_goes l b u false = pure_goes None tt
 
-  declare_goes : (l b u : Bool) (t : Scalar) (ds : List Declarator) (known : Scope) (ls : Shapes) (a : Around) → Here p known ls a → TypedDeclarators known t ds → AllPermitted p outer (declarator_sites ds a) → Goes (mode_of a) ls (ls ++ map (λ d. (d.name.text, t)) ds) (EndFits l b u) (declare p call t ds)
+  declare_goes : (l b u : Bool) (t : Scalar) (ds : List Declarator) (known : Scope) (ls : Shapes) (a : Around) → Here p known ls a → TypedDeclarators known t ds → AllPermitted p outer (declarator_sites ds a) → Goes (mode_of a) ls (ls ++ map (λ d. (d.name.text, t)) ds) (CompletionFits l b u) (declare p call t ds)
   declare_goes l b u t [] known ls a here h m = no_further (pure_goes Next tt)
   declare_goes l b u t (d ∷ ds) known ls a here h m =
       let x = d.name.text in
@@ -319,16 +319,16 @@ module _ (p : Program) (call : Caller) (called : CallsGo p call) (outer : Option
       let own = sites_if_any expr_sites d.first a' in
       on_goes locals_goes (λ mine e. then_goes (put_goes (mine ++ record { name = x; ty = t; word = 0 } ∷ []) (map-append shape mine (record { name = x; ty = t; word = 0 } ∷ []) ∙ ap (λ ms. ms ++ (x, t) ∷ []) e))
       (then_goes (first_goes known' (ls ++ (x, t) ∷ []) a' here' (length mine) t d.first h.0 (front_permitted own (declarator_sites ds a') m))
-      (subst (λ ms. Goes (mode_of a) (ls ++ (x, t) ∷ []) ms (EndFits l b u) (declare p call t ds)) (append_assoc ls ((x, t) ∷ []) more)
+      (subst (λ ms. Goes (mode_of a) (ls ++ (x, t) ∷ []) ms (CompletionFits l b u) (declare p call t ds)) (append_assoc ls ((x, t) ∷ []) more)
       (declare_goes l b u t ds known' (ls ++ (x, t) ∷ []) a' here' h.1 (back_permitted own (declarator_sites ds a') m)))))
 
-  start_goes : (l b u : Bool) (s : Start) (known : Scope) (ls : Shapes) (a : Around) → Here p known ls a → TypedStart known s → AllPermitted p outer (start_sites s a) → Goes (mode_of a) ls (ls ++ started_by s) (EndFits l b u) (start_with p call s)
+  start_goes : (l b u : Bool) (s : Start) (known : Scope) (ls : Shapes) (a : Around) → Here p known ls a → TypedStart known s → AllPermitted p outer (start_sites s a) → Goes (mode_of a) ls (ls ++ started_by s) (CompletionFits l b u) (start_with p call s)
   start_goes l b u Nothing known ls a here h m = no_further (pure_goes Next tt)
   start_goes l b u (Declares d) known ls a here h m = declare_goes l b u d.ty d.declarators known ls a here h m
   start_goes l b u (Does s) known ls a here h m = no_further (simple_goes known ls a here l b u s h m)
 
   mutual
-    stmt_goes : (s : Stmt) (known : Scope) (ls : Shapes) (a : Around) (l : Bool) → Here p known ls a → TypedStmt s known l → AllPermitted p outer (stmt_sites s a) → Goes (mode_of a) ls (ls ++ declared_by s) (EndFits l a.atomic a.outer) (stmt p call s)
+    stmt_goes : (s : Stmt) (known : Scope) (ls : Shapes) (a : Around) (l : Bool) → Here p known ls a → TypedStmt s known l → AllPermitted p outer (stmt_sites s a) → Goes (mode_of a) ls (ls ++ declared_by s) (CompletionFits l a.atomic a.outer) (stmt p call s)
     stmt_goes Empty known ls a l here h m = no_further (then_goes tick_goes (pure_goes Next tt))
     stmt_goes (Declare d) known ls a l here h m = then_goes tick_goes (declare_goes l a.atomic a.outer d.ty d.declarators known ls a here h m)
     stmt_goes (Do s) known ls a l here h m = no_further (then_goes tick_goes (simple_goes known ls a here l a.atomic a.outer s h m))
@@ -376,7 +376,7 @@ module _ (p : Program) (call : Caller) (called : CallsGo p call) (outer : Option
         let a' = in_transaction (Plain Relaxed) a in
         let permit = (one_permitted (record { construct = Relaxes; span = at; atomic = a.atomic; outer = a.outer; in_any = a.in_any }) (front_permitted (site a Relaxes at) (stmts_sites ss a') m)).0 in
         no_further (then_goes tick_goes (transaction_goes l a.atomic a.atomic a.outer (Plain Relaxed) (may_begin_relaxed p (mode_of a) permit)
-        (subst (λ w. Goes w ls ls (EndFits l a.atomic a.outer) (in_scope (stmts p call ss))) (relaxed_inside p outer a.atomic a.in_any permit)
+        (subst (λ w. Goes w ls ls (CompletionFits l a.atomic a.outer) (in_scope (stmts p call ss))) (relaxed_inside p outer a.atomic a.in_any permit)
         (scoped_goes (stmts_open ss known ls a' l (record { fits = here.fits; named = here.named }) h (back_permitted (site a Relaxes at) (stmts_sites ss a') m))))))
     stmt_goes (Transaction Outer ss at) known ls a l here h m =
         let a' = in_transaction Outer a in
@@ -387,7 +387,7 @@ module _ (p : Program) (call : Caller) (called : CallsGo p call) (outer : Option
     stmt_goes (CancelOuter at) known ls a l here h m =
         no_further (then_goes tick_goes (pure_goes CancelsOuter ((one_permitted (record { construct = OuterCancelConstruct; span = at; atomic = a.atomic; outer = a.outer; in_any = a.in_any }) m).2 refl)))
 
-    stmts_open : (ss : Stmts) (known : Scope) (ls : Shapes) (a : Around) (l : Bool) → Here p known ls a → TypedStmts ss known l → AllPermitted p outer (stmts_sites ss a) → Opens (mode_of a) ls (EndFits l a.atomic a.outer) (stmts p call ss)
+    stmts_open : (ss : Stmts) (known : Scope) (ls : Shapes) (a : Around) (l : Bool) → Here p known ls a → TypedStmts ss known l → AllPermitted p outer (stmts_sites ss a) → Opens (mode_of a) ls (CompletionFits l a.atomic a.outer) (stmts p call ss)
     stmts_open Tree.[] known ls a l here h m = opened [] (no_further (pure_goes Next tt))
     stmts_open (Tree.◌∷◌ s ss) known ls a l here h m =
         let a' = with_names (names_of s) a in
@@ -395,7 +395,7 @@ module _ (p : Program) (call : Caller) (called : CallsGo p call) (outer : Option
         (stmts_open ss (scope_after s known) (ls ++ declared_by s) a' l (here_after p known ls a s here) h.1 (back_permitted (stmt_sites s a) (stmts_sites ss a') m))
 
 -- a function that is called goes well: its body is typed, and all its sites are permitted
-result_goes : {w : Option Mode} {ls : Shapes} (t : Option Scalar) (end : Completion) → EndFits false false false end → Goes w ls ls Any (result_of t end)
+result_goes : {w : Option Mode} {ls : Shapes} (t : Option Scalar) (end : Completion) → CompletionFits false false false end → Goes w ls ls Any (result_of t end)
 result_goes t Next h = pure_goes (value_in_type (unwrap_or t Int) (flag false)) tt
 result_goes t Breaks h = absurd (cc)
 result_goes t Continues h = absurd (cc)
@@ -411,7 +411,7 @@ takes_as_many : (d : Function) (result : Option Scalar) (takes : List Scalar) (n
 takes_as_many d result takes n e h = h ∙ ap (λ k. length (takes_of k)) (sym e) ∙ length-map d.parameters (λ q. q.ty)
 
 module _ (p : Program) (accepted : IsAccepted p) where
-  body_goes : (call : Caller) → CallsGo p call → (w : Option Mode) (x : List ℕ) (d : Function × Stmts) (vs : List Value) (mine : List Local) → definition_of p x ≡ Some d → call_locals d.0.parameters vs ≡ Some mine → Permits p w (Calls x) → (ms : Shapes) → map shape mine ≡ ms → Opens w ms (EndFits false false false) (stmts p call d.1)
+  body_goes : (call : Caller) → CallsGo p call → (w : Option Mode) (x : List ℕ) (d : Function × Stmts) (vs : List Value) (mine : List Local) → definition_of p x ≡ Some d → call_locals d.0.parameters vs ≡ Some mine → Permits p w (Calls x) → (ms : Shapes) → map shape mine ≡ ms → Opens w ms (CompletionFits false false false) (stmts p call d.1)
   body_goes call called w x d vs mine e g h ms same =
       let typed = bodies_are_typed p accepted.typed x d e in
       let known = body_scope typed.earlier d.0 in

@@ -33,7 +33,7 @@ module _ {A : Type 0} where
   safe_of (fault.NotSeparate s b) = s
 
   -- the check of a safe program: it is accepted, or this is its first fault; without memory nothing is said.
-  -- The program is kept, or handed back.
+  -- The program is given on, or handed back.
   abbrev pub ChecksSeparation : Safe A → Result (Accepted A) (SeparationFault A) → Type 0
   ChecksSeparation s (Ok a) = (a.safe ≡ s) × ∥ IsAccepted (program_of s.typed.unit) ∥₁
   ChecksSeparation s (Err (fault.OutOfMemory t)) = t ≡ s

@@ -8,7 +8,7 @@ use crate::fault::SeparationFault;
 use safety::checked::Safe;
 use std::alloc::Allocator;
 
-/// Checks separation. The fault is the first rule that `worker` breaks, in the order of the text. The program is kept
+/// Checks separation. The fault is the first rule that `worker` breaks, in the order of the text. The program lies
 /// in what is given, or comes back in the fault. Takes memory for the sites of one body at a time, for the bare calls
 /// of the program and for a number of each function; the time is that of the text, and of finding each called name by a
 /// map.

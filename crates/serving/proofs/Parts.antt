@@ -18,11 +18,11 @@ part_within n m text h k =
     omega (arith, h, k, left)
 
 -- and nothing more
-pub part_kept : (a b c : Option (List ℕ)) (bs : List ℕ) → Appends a b bs → Keeps b c → Appends a c bs
-part_kept None b c bs p q = tt
-part_kept (Some x) None c bs p q = absurd p
-part_kept (Some x) (Some y) None bs p q = absurd q
-part_kept (Some x) (Some y) (Some z) bs p q = q ∙ p
+pub part_unchanged : (a b c : Option (List ℕ)) (bs : List ℕ) → Appends a b bs → Keeps b c → Appends a c bs
+part_unchanged None b c bs p q = tt
+part_unchanged (Some x) None c bs p q = absurd p
+part_unchanged (Some x) (Some y) None bs p q = absurd q
+part_unchanged (Some x) (Some y) (Some z) bs p q = q ∙ p
 
 -- a text of one kind is one of another
 pub part_so : (IsSo Is : List ℕ → Type 0) (old new : Option (List ℕ)) → ((text : List ℕ) → IsSo text → Is text) → WritesPart IsSo old new → WritesPart Is old new

@@ -93,8 +93,8 @@ enter_given (Plain Atomic) run (Inside Atomic m) n ls t = close_inner_given Atom
 enter_given Outer run (Inside Atomic m) n ls t = close_inner_given Atomic Outer m ls (run (record { ticks = n; locals = ls; context = Inside Atomic m; text = t }))
 enter_given (Plain Relaxed) run (Inside Atomic m) n ls t = tt
 
-pub stays_kept : IsAlwaysPreserved (λ A run. Stays run)
-stays_kept = record {
+pub stays_preserved : IsAlwaysPreserved (λ A run. Stays run)
+stays_preserved = record {
   pure_holds = λ a. record { stays = λ s. stays_refl s.context };
   on_holds = λ g h. record { stays = λ s. on_given s.context _ _ (g.stays s) (λ a t. (h a).stays t) };
   astray_holds = record { stays = λ s. tt };
@@ -113,4 +113,4 @@ stays_kept = record {
 
 pub stays_in_context : StaysInContext
 stays_in_context p frames =
-    (λ e s. (each_expr_holds p (λ A run. Stays run) stays_kept frames e).stays s, λ st s. (each_stmt_holds p (λ A run. Stays run) stays_kept frames st).stays s)
+    (λ e s. (each_expr_holds p (λ A run. Stays run) stays_preserved frames e).stays s, λ st s. (each_stmt_holds p (λ A run. Stays run) stays_preserved frames st).stays s)

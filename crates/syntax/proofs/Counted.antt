@@ -141,8 +141,8 @@ begin_counted : (p : Context) (s : State) → Counted s.context (begin_at p s)
 begin_counted (Outside f l) s = spend_counted s.ticks s
 begin_counted (Inside mode m) s = keeps_refl s.context
 
-counted_kept : (IsPiece : List ℕ → Type 0) → IsPreserved IsPiece (λ c t. Unit {0}) (λ A run. IsCounted run)
-counted_kept IsPiece = record {
+counted_preserved : (IsPiece : List ℕ → Type 0) → IsPreserved IsPiece (λ c t. Unit {0}) (λ A run. IsCounted run)
+counted_preserved IsPiece = record {
   pure_holds = λ a. record { counts = λ s. keeps_refl s.context };
   on_holds = λ g h. record { counts = λ s. on_counted s.context _ _ (g.counts s) (λ a t. (h a).counts t) };
   astray_holds = record { counts = λ s. bounded_refl s.context };
@@ -171,23 +171,23 @@ lefts_bounded : (founds : List Memory) (p : Context) → Bounded (Outside founds
 lefts_bounded founds (Outside f l) b = omega (arith, b)
 lefts_bounded founds (Inside mode m) b = absurd b
 
-lefts_kept : (founds : List Memory) (p : Context) → Keeps (Outside founds []) p → length (lefts_in p) ≤ length founds
-lefts_kept founds (Outside f l) b = omega (arith, b)
-lefts_kept founds (Inside mode m) b = absurd b
+lefts_within : (founds : List Memory) (p : Context) → Keeps (Outside founds []) p → length (lefts_in p) ≤ length founds
+lefts_within founds (Outside f l) b = omega (arith, b)
+lefts_within founds (Inside mode m) b = absurd b
 
 lefts_wanting : (founds : List Memory) (p : Context) → Wanting (Outside founds []) p → length (lefts_in p) ≤ length founds
 lefts_wanting founds (Outside f l) b = omega (arith, b)
 lefts_wanting founds (Inside mode m) b = absurd b
 
 answer_bounded : (founds : List Memory) (r : Answer (Unit {0})) → Counted (Outside founds []) r → length (outcome_of r).lefts ≤ length founds
-answer_bounded founds (Gives u s) c = lefts_kept founds s.context c
+answer_bounded founds (Gives u s) c = lefts_within founds s.context c
 answer_bounded founds (Stops (Trapped k) s) c = lefts_bounded founds s.context c
 answer_bounded founds (Stops Spent s) c = lefts_bounded founds s.context c
 answer_bounded founds (Stops Astray s) c = lefts_bounded founds s.context c
 answer_bounded founds (Stops Wants s) c = lefts_wanting founds s.context c
 
 worker_counted : (p : Program) (t : ℕ) (founds : List Memory) (n : ℕ) → Counted (Outside founds []) (worker_run p t (first_state founds n))
-worker_counted p t founds n = (worker_holds p (λ c t. Unit {0}) (any_cells p) (λ A run. IsCounted run) (counted_kept (IsPieceOf p)) t).counts (first_state founds n)
+worker_counted p t founds n = (worker_holds p (λ c t. Unit {0}) (any_cells p) (λ A run. IsCounted run) (counted_preserved (IsPieceOf p)) t).counts (first_state founds n)
 
 pub left_as_many_as_found : LeftAsManyAsFound
 left_as_many_as_found p t founds n e = wants_counted founds (worker_run p t (first_state founds n)) (worker_counted p t founds n) e

@@ -183,8 +183,8 @@ begin_extends k extra (Inside mode m) s = refl
 begin_value_steady : IsSteady begin_value
 begin_value_steady = record { grows = λ s. begin_grows s.context s; extends = λ k extra s. begin_extends k extra s.context s }
 
-steady_kept : (p : Program) → IsPreserved (IsPieceOf p) (λ c t. Unit {0}) (λ A run. IsSteady run)
-steady_kept p = record {
+steady_preserved : (p : Program) → IsPreserved (IsPieceOf p) (λ c t. Unit {0}) (λ A run. IsSteady run)
+steady_preserved p = record {
   pure_holds = pure_steady;
   on_holds = on_steady;
   astray_holds = astray_steady;
@@ -202,4 +202,4 @@ steady_kept p = record {
 }
 
 pub worker_steady : (p : Program) (t : ℕ) → IsSteady (worker_run p t)
-worker_steady p t = worker_holds p (λ c t. Unit {0}) (any_cells p) (λ A run. IsSteady run) (steady_kept p) t
+worker_steady p t = worker_holds p (λ c t. Unit {0}) (any_cells p) (λ A run. IsSteady run) (steady_preserved p) t

@@ -118,27 +118,27 @@ module _ (M : Memory → Type 0) (IsCell : ℕ → Scalar → Type 0) (written :
       on_keeps s.context (tick s) (λ _. turn >>= after_turn (turns n turn)) (spend_keeps s.ticks s)
       (λ _ t. on_keeps t.context (turn t) (after_turn (turns n turn)) (h.keeps t) (after_turn_keeps (turns n turn) (turns_keep turn h n)))
 
-  memory_kept : (mode : Mode) (m : Memory) (q : Context) → Keeps (Inside mode m) q → M m → M (memory_in q)
-  memory_kept mode m (Outside f l) c h = absurd c
-  memory_kept mode m (Inside mode' m') c h = c h
+  memory_satisfies : (mode : Mode) (m : Memory) (q : Context) → Keeps (Inside mode m) q → M m → M (memory_in q)
+  memory_satisfies mode m (Outside f l) c h = absurd c
+  memory_satisfies mode m (Inside mode' m') c h = c h
 
-  left_kept : (undone : Bool) (mode : Mode) (m : Memory) (mine : List Local) (end : Completion) (now : State) → Keeps (Inside mode m) now.context → M m → M (left_or undone mine m end now).memory
-  left_kept true mode m mine end now c h = h
-  left_kept false mode m mine end now c h = memory_kept mode m now.context c h
+  left_satisfies : (undone : Bool) (mode : Mode) (m : Memory) (mine : List Local) (end : Completion) (now : State) → Keeps (Inside mode m) now.context → M m → M (left_or undone mine m end now).memory
+  left_satisfies true mode m mine end now c h = h
+  left_satisfies false mode m mine end now c h = memory_satisfies mode m now.context c h
 
   leave_keeps : (n : ℕ) (now : State) (m : Memory) (founds lefts : List Memory) (left : Left) → (M m → M left.memory) → Keeps (Outside (m ∷ founds) lefts) (state_of (go_on (spend n (record now { context = Outside founds lefts })) (λ u then_. Gives left.end (record then_ { locals = left.locals; context = Outside founds (lefts ++ left.memory ∷ []) })))).context
   leave_keeps zero now m founds lefts left h = λ f l. (All-tail M m founds f, l)
   leave_keeps (suc n) now m founds lefts left h = λ f l. (All-tail M m founds f, All-push M lefts left.memory l (h (All-head M m founds f)))
 
   close_keeps : (kind : TransactionKind) (m : Memory) (founds lefts : List Memory) (mine : List Local) (r : Answer Completion) → Keeps (Inside (mode_of kind) m) (state_of r).context → Keeps (Outside (m ∷ founds) lefts) (state_of (close kind founds lefts mine m r)).context
-  close_keeps kind m founds lefts mine (Gives end now) c = leave_keeps now.ticks now m founds lefts (left_by kind mine m end now) (left_kept (undoes end kind) (mode_of kind) m mine end now c)
+  close_keeps kind m founds lefts mine (Gives end now) c = leave_keeps now.ticks now m founds lefts (left_by kind mine m end now) (left_satisfies (undoes end kind) (mode_of kind) m mine end now c)
   close_keeps kind m founds lefts mine (Stops (Trapped k) now) c = λ f l. (All-tail M m founds f, All-push M lefts m l (All-head M m founds f))
   close_keeps kind m founds lefts mine (Stops Wants now) c = λ f l. (All-tail M m founds f, l)
   close_keeps kind m founds lefts mine (Stops Spent now) c = λ f l. (All-tail M m founds f, l)
   close_keeps kind m founds lefts mine (Stops Astray now) c = λ f l. (All-tail M m founds f, l)
 
   close_inner_keeps : (outer : Mode) (kind : TransactionKind) (m : Memory) (mine : List Local) (r : Answer Completion) → Keeps (Inside (mode_of kind) m) (state_of r).context → Keeps (Inside outer m) (state_of (close_inner outer kind mine m r)).context
-  close_inner_keeps outer kind m mine (Gives end now) c = λ h. left_kept (undoes end kind) (mode_of kind) m mine end now c h
+  close_inner_keeps outer kind m mine (Gives end now) c = λ h. left_satisfies (undoes end kind) (mode_of kind) m mine end now c h
   close_inner_keeps outer kind m mine (Stops why now) c = c
 
   enter_keeps : (kind : TransactionKind) (run : Action Completion) → IsKeeping run → (p : Context) (n : ℕ) (ls : List Local) (t : List ℕ) → Keeps p (state_of (enter p kind run (record { ticks = n; locals = ls; context = p; text = t }))).context
@@ -153,8 +153,8 @@ module _ (M : Memory → Type 0) (IsCell : ℕ → Scalar → Type 0) (written :
   begin_keeps (Outside f l) s = spend_keeps s.ticks s
   begin_keeps (Inside mode m) s = keeps_refl s.context
 
-  keeping_kept : (IsPiece : List ℕ → Type 0) → IsPreserved IsPiece IsCell (λ A run. IsKeeping run)
-  keeping_kept IsPiece = record {
+  keeping_preserved : (IsPiece : List ℕ → Type 0) → IsPreserved IsPiece IsCell (λ A run. IsKeeping run)
+  keeping_preserved IsPiece = record {
     pure_holds = λ a. record { keeps = λ s. keeps_refl s.context };
     on_holds = on_keeping;
     astray_holds = record { keeps = λ s. keeps_refl s.context };
@@ -171,16 +171,16 @@ module _ (M : Memory → Type 0) (IsCell : ℕ → Scalar → Type 0) (written :
     begin_value_holds = record { keeps = λ s. begin_keeps s.context s };
   }
 
-  lefts_kept : (founds : List Memory) (q : Context) → Keeps (Outside founds []) q → All M founds → All M (lefts_in q)
-  lefts_kept founds (Outside f l) c h = (c h (All-nil M)).1
-  lefts_kept founds (Inside mode m) c h = absurd c
+  lefts_satisfy : (founds : List Memory) (q : Context) → Keeps (Outside founds []) q → All M founds → All M (lefts_in q)
+  lefts_satisfy founds (Outside f l) c h = (c h (All-nil M)).1
+  lefts_satisfy founds (Inside mode m) c h = absurd c
 
-  answer_kept : (founds : List Memory) (r : Answer (Unit {0})) → Keeps (Outside founds []) (state_of r).context → All M founds → All M (outcome_of r).lefts
-  answer_kept founds (Gives u s) c h = lefts_kept founds s.context c h
-  answer_kept founds (Stops why s) c h = lefts_kept founds s.context c h
+  answer_satisfies : (founds : List Memory) (r : Answer (Unit {0})) → Keeps (Outside founds []) (state_of r).context → All M founds → All M (outcome_of r).lefts
+  answer_satisfies founds (Gives u s) c h = lefts_satisfy founds s.context c h
+  answer_satisfies founds (Stops why s) c h = lefts_satisfy founds s.context c h
 
   threads_keep : (p : Program) → AreCells p IsCell → (t : ℕ) (founds : List Memory) (n : ℕ) → All M founds → All M (thread p t founds n).lefts
-  threads_keep p are t founds n h = answer_kept founds (worker_run p t (first_state founds n)) ((worker_holds p IsCell are (λ A run. IsKeeping run) (keeping_kept (IsPieceOf p)) t).keeps (first_state founds n)) h
+  threads_keep p are t founds n h = answer_satisfies founds (worker_run p t (first_state founds n)) ((worker_holds p IsCell are (λ A run. IsKeeping run) (keeping_preserved (IsPieceOf p)) t).keeps (first_state founds n)) h
 
 -- a write keeps a memory
 pub written_memory : (bs : List ℕ) (m : Memory) (c w : ℕ) → w < slice_index bs c → IsMemory bs m → IsMemory bs (slice_set m c w)

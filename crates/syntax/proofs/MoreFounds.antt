@@ -133,8 +133,8 @@ begin_alike : (extra : List Memory) (p : Context) (s : State) → Alike extra (b
 begin_alike extra (Outside founds lefts) s = tick_alike.alike extra s
 begin_alike extra (Inside mode m) s = refl
 
-alike_kept : (p : Program) → IsPreserved (IsPieceOf p) (λ c t. Unit {0}) (λ A run. IsAlike run)
-alike_kept p = record {
+alike_preserved : (p : Program) → IsPreserved (IsPieceOf p) (λ c t. Unit {0}) (λ A run. IsAlike run)
+alike_preserved p = record {
   pure_holds = λ a. record { alike = λ extra s. refl };
   on_holds = on_all;
   astray_holds = record { alike = λ extra s. refl };
@@ -165,4 +165,4 @@ same extra (Stops Wants s) more e wants = absurd (wants refl)
 pub more_founds : MoreFounds
 more_founds p t founds extra n wants =
     same extra (worker_run p t (first_state founds n)) (worker_run p t (first_state (founds ++ extra) n))
-    ((worker_holds p (λ c t. Unit {0}) (any_cells p) (λ A run. IsAlike run) (alike_kept p) t).alike extra (first_state founds n)) wants
+    ((worker_holds p (λ c t. Unit {0}) (any_cells p) (λ A run. IsAlike run) (alike_preserved p) t).alike extra (first_state founds n)) wants

@@ -519,8 +519,8 @@ module _ (program : Program) where
   begin_one (Outside f l) s = tick_slow.one s
   begin_one (Inside mode m) s = refl
 
-  slow_kept : IsPreserved (IsPieceOf program) (λ c t. Unit {0}) (λ A run. IsSlow run)
-  slow_kept = record {
+  slow_preserved : IsPreserved (IsPieceOf program) (λ c t. Unit {0}) (λ A run. IsSlow run)
+  slow_preserved = record {
     pure_holds = pure_slow;
     on_holds = on_slow;
     astray_holds = astray_slow;
@@ -558,7 +558,7 @@ module _ (program : Program) where
   shows (Stops Spent t) more e = spent_shown t more e.1
 
   worker_one : (t : ℕ) (founds : List Memory) (n : ℕ) → ShowsOneMore program (thread program t founds n) (thread program t founds (suc n))
-  worker_one t founds n = shows (worker_run program t (first_state founds n)) (worker_run program t (first_state founds (suc n))) ((worker_holds program (λ c t. Unit {0}) (any_cells program) (λ A run. IsSlow run) slow_kept t).one (first_state founds n))
+  worker_one t founds n = shows (worker_run program t (first_state founds n)) (worker_run program t (first_state founds (suc n))) ((worker_holds program (λ c t. Unit {0}) (any_cells program) (λ A run. IsSlow run) slow_preserved t).one (first_state founds n))
 
 pub one_tick_more : OneTickMore
 one_tick_more p t founds n =

@@ -68,8 +68,8 @@ pub record AreCells (p : Program) (IsCell : ℕ → Scalar → Type 0) : Type 0 
   pub each : (x : List ℕ) (g : GlobalCells) (k : ℕ) → global_of p x ≡ Some g → nat_lt k (cells g.global) ≡ true → IsCell (g.cell + k) g.global.ty
 
 -- numbers are such pieces, and so is the literal text of the program's formats
-module _ (p : Program) (IsPiece : List ℕ → Type 0) (IsCell : ℕ → Scalar → Type 0) (cells_are : AreCells p IsCell) (number_piece : (z : ℤ) → IsPiece (signed_decimal z)) (literal_piece : (format : List ℕ) → IsFormatOf p format → (text : List ℕ) → Contains (pieces format) (Literal text) → IsPiece text) (Q : (A : Type 0) → Action A → Type 0) (kept : IsPreserved IsPiece IsCell Q) where
-  open kept use {pure_holds, on_holds, astray_holds, trap_holds, tick_holds, locals_holds, put_locals_holds, load_holds, store_holds, may_print_holds, print_piece_holds, loop_holds, transaction_holds, begin_value_holds}
+module _ (p : Program) (IsPiece : List ℕ → Type 0) (IsCell : ℕ → Scalar → Type 0) (cells_are : AreCells p IsCell) (number_piece : (z : ℤ) → IsPiece (signed_decimal z)) (literal_piece : (format : List ℕ) → IsFormatOf p format → (text : List ℕ) → Contains (pieces format) (Literal text) → IsPiece text) (Q : (A : Type 0) → Action A → Type 0) (preserved : IsPreserved IsPiece IsCell Q) where
+  open preserved use {pure_holds, on_holds, astray_holds, trap_holds, tick_holds, locals_holds, put_locals_holds, load_holds, store_holds, may_print_holds, print_piece_holds, loop_holds, transaction_holds, begin_value_holds}
 
   then_holds : {A B : Type 0} {run : Action A} {rest : Action B} → Q A run → Q B rest → Q B (run >> rest)
   then_holds g h = on_holds g (λ _. h)
@@ -286,7 +286,7 @@ module _ (p : Program) (IsPiece : List ℕ → Type 0) (IsCell : ℕ → Scalar 
 
 -- where only pieces of the program are printed
 pub worker_holds : (p : Program) (IsCell : ℕ → Scalar → Type 0) → AreCells p IsCell → (Q : (A : Type 0) → Action A → Type 0) → IsPreserved (IsPieceOf p) IsCell Q → (t : ℕ) → Q _ (worker_run p t)
-worker_holds p IsCell are Q kept t = any_worker_holds p (IsPieceOf p) IsCell are (λ z. inr (z, refl)) (λ format is text c. inl (format, is, c)) Q kept t
+worker_holds p IsCell are Q preserved t = any_worker_holds p (IsPieceOf p) IsCell are (λ z. inr (z, refl)) (λ format is text c. inl (format, is, c)) Q preserved t
 
 -- whatever is printed
 abbrev pub IsAlwaysPreserved : ((A : Type 0) → Action A → Type 0) → Type 1
@@ -295,26 +295,26 @@ IsAlwaysPreserved Q = IsPreserved (λ text. Unit {0}) (λ c t. Unit {0}) Q
 pub any_cells : (p : Program) → AreCells p (λ c t. Unit {0})
 any_cells p = record { first = λ x g e. tt; each = λ x g k e h. tt }
 
-module _ (p : Program) (Q : (A : Type 0) → Action A → Type 0) (kept : IsAlwaysPreserved Q) where
+module _ (p : Program) (Q : (A : Type 0) → Action A → Type 0) (preserved : IsAlwaysPreserved Q) where
   pub block_holds : (call : Caller) → ((x : List ℕ) (vs : List Value) → Q Value (call x vs)) → (ss : Stmts) → Q Completion (in_scope (stmts p call ss))
   block_holds call h ss =
-      scoped_holds p (λ text. Unit {0}) (λ c t. Unit {0}) (any_cells p) (λ z. tt) (λ format is text c. tt) Q kept
-      (stmts_holds p (λ text. Unit {0}) (λ c t. Unit {0}) (any_cells p) (λ z. tt) (λ format is text c. tt) Q kept call h ss (λ format c text d. tt))
+      scoped_holds p (λ text. Unit {0}) (λ c t. Unit {0}) (any_cells p) (λ z. tt) (λ format is text c. tt) Q preserved
+      (stmts_holds p (λ text. Unit {0}) (λ c t. Unit {0}) (any_cells p) (λ z. tt) (λ format is text c. tt) Q preserved call h ss (λ format c text d. tt))
 
   -- an expression, as the body of a transaction
   pub returned_holds : (call : Caller) → ((x : List ℕ) (vs : List Value) → Q Value (call x vs)) → (e : Expr) → Q Completion (expr p call e >>= λ v. pure (Returns v))
   returned_holds call h e =
-      kept.on_holds (expr_holds p (λ text. Unit {0}) (λ c t. Unit {0}) (any_cells p) (λ z. tt) (λ format is text c. tt) Q kept call h e) (λ v. kept.pure_holds (Returns v))
+      preserved.on_holds (expr_holds p (λ text. Unit {0}) (λ c t. Unit {0}) (any_cells p) (λ z. tt) (λ format is text c. tt) Q preserved call h e) (λ v. preserved.pure_holds (Returns v))
 
-module _ (p : Program) (Q : (A : Type 0) → Action A → Type 0) (kept : IsAlwaysPreserved Q) (frames : ℕ) where
+module _ (p : Program) (Q : (A : Type 0) → Action A → Type 0) (preserved : IsAlwaysPreserved Q) (frames : ℕ) where
   pub called_holds : (x : List ℕ) (vs : List Value) → Q Value (calls p frames x vs)
-  called_holds = calls_holds p (λ text. Unit {0}) (λ c t. Unit {0}) (any_cells p) (λ z. tt) (λ format is text c. tt) Q kept frames
+  called_holds = calls_holds p (λ text. Unit {0}) (λ c t. Unit {0}) (any_cells p) (λ z. tt) (λ format is text c. tt) Q preserved frames
 
   pub each_expr_holds : (e : Expr) → Q Value (expr p (calls p frames) e)
-  each_expr_holds = expr_holds p (λ text. Unit {0}) (λ c t. Unit {0}) (any_cells p) (λ z. tt) (λ format is text c. tt) Q kept (calls p frames) called_holds
+  each_expr_holds = expr_holds p (λ text. Unit {0}) (λ c t. Unit {0}) (any_cells p) (λ z. tt) (λ format is text c. tt) Q preserved (calls p frames) called_holds
 
   pub each_simple_holds : (s : Simple) → Q Completion (simple p (calls p frames) s)
-  each_simple_holds = simple_holds p (λ text. Unit {0}) (λ c t. Unit {0}) (any_cells p) (λ z. tt) (λ format is text c. tt) Q kept (calls p frames) called_holds
+  each_simple_holds = simple_holds p (λ text. Unit {0}) (λ c t. Unit {0}) (any_cells p) (λ z. tt) (λ format is text c. tt) Q preserved (calls p frames) called_holds
 
   pub each_stmt_holds : (st : Stmt) → Q Completion (stmt p (calls p frames) st)
-  each_stmt_holds st = stmt_holds p (λ text. Unit {0}) (λ c t. Unit {0}) (any_cells p) (λ z. tt) (λ format is text c. tt) Q kept (calls p frames) called_holds st (λ format c text d. tt)
+  each_stmt_holds st = stmt_holds p (λ text. Unit {0}) (λ c t. Unit {0}) (any_cells p) (λ z. tt) (λ format is text c. tt) Q preserved (calls p frames) called_holds st (λ format c text d. tt)

@@ -79,8 +79,8 @@ enter_falls (Plain Relaxed) run h (Inside Atomic m) s = omega arith
 on_falling : {A B : Type 0} {run : Action A} {rest : A → Action B} → Falls run → ((a : A) → Falls (rest a)) → Falls (run >>= rest)
 on_falling {run = run} {rest = rest} g h = record { falls = λ s. on_falls s.ticks (run s) rest (g.falls s) (λ a t. (h a).falls t) }
 
-falls_kept : IsAlwaysPreserved (λ A run. Falls run)
-falls_kept = record {
+falls_preserved : IsAlwaysPreserved (λ A run. Falls run)
+falls_preserved = record {
   pure_holds = λ a. record { falls = λ s. omega arith };
   on_holds = on_falling;
   astray_holds = record { falls = λ s. omega arith };
@@ -99,8 +99,8 @@ falls_kept = record {
 
 pub ticks_never_grow : TicksNeverGrow
 ticks_never_grow p frames =
-    (λ e s. (each_expr_holds p (λ A run. Falls run) falls_kept frames e).falls s, λ st s. (each_stmt_holds p (λ A run. Falls run) falls_kept frames st).falls s)
+    (λ e s. (each_expr_holds p (λ A run. Falls run) falls_preserved frames e).falls s, λ st s. (each_stmt_holds p (λ A run. Falls run) falls_preserved frames st).falls s)
 
 -- nor does a simple statement
 pub simples_never_grow : (p : Program) (frames : ℕ) (st : Simple) (s : State) → (state_of (simple p (calls p frames) st s)).ticks ≤ s.ticks
-simples_never_grow p frames st s = (each_simple_holds p (λ A run. Falls run) falls_kept frames st).falls s
+simples_never_grow p frames st s = (each_simple_holds p (λ A run. Falls run) falls_preserved frames st).falls s

@@ -35,7 +35,7 @@ use Rattle.syntax.proofs.Expressions.{LeavesLocals, expr_holds, fetch_holds, or_
 use Rattle.syntax.proofs.Memories.{IsBounded, typed_cells, written_memory}
 use Rattle.syntax.proofs.Words.{some_below, word_below, truth_below, fitted_below, shift_below, computed_below}
 use Rattle.syntax.proofs.Preserved.{AreCells, block_holds, returned_holds, called_holds}
-use Rattle.syntax.proofs.Contexts.{Stays, stays_kept}
+use Rattle.syntax.proofs.Contexts.{Stays, stays_preserved}
 
 abbrev IsOwn : Local → Type 0
 IsOwn l = l.word < modulus l.ty
@@ -49,13 +49,13 @@ IsValue v = v.word < modulus v.ty
 abbrev IsAny : {A : Type 0} → A → Type 0
 IsAny a = Unit {0}
 
-abbrev IsEnd : Completion → Type 0
-IsEnd (Returns v) = IsValue v
-IsEnd end = Unit {0}
+abbrev IsCompletion : Completion → Type 0
+IsCompletion (Returns v) = IsValue v
+IsCompletion end = Unit {0}
 
 abbrev IsTurn : Option Completion → Type 0
 IsTurn None = Unit {0}
-IsTurn (Some end) = IsEnd end
+IsTurn (Some end) = IsCompletion end
 
 -- the local at an index has this type, if there is one
 abbrev TypeIs : List Local → ℕ → Scalar → Type 0
@@ -302,15 +302,15 @@ module _ (q : Program) (checked : IsTypedProgram q) where
   pieces_keep (Specifier t ∷ ps) [] = stop_keeps IsAny Astray
   pieces_keep (Specifier t ∷ ps) (v ∷ vs) = then_ IsAny IsAny (piece_keeps _) (pieces_keep ps vs)
 
-  on_next_keeps : {rest : Action Completion} → Keeps IsEnd rest → (end : Completion) → IsEnd end → Keeps IsEnd (on_next rest end)
+  on_next_keeps : {rest : Action Completion} → Keeps IsCompletion rest → (end : Completion) → IsCompletion end → Keeps IsCompletion (on_next rest end)
   on_next_keeps h Next e = h
-  on_next_keeps h Breaks e = pure_keeps IsEnd Breaks tt
-  on_next_keeps h Continues e = pure_keeps IsEnd Continues tt
-  on_next_keeps h (Returns v) e = pure_keeps IsEnd (Returns v) e
-  on_next_keeps h Cancels e = pure_keeps IsEnd Cancels tt
-  on_next_keeps h CancelsOuter e = pure_keeps IsEnd CancelsOuter tt
+  on_next_keeps h Breaks e = pure_keeps IsCompletion Breaks tt
+  on_next_keeps h Continues e = pure_keeps IsCompletion Continues tt
+  on_next_keeps h (Returns v) e = pure_keeps IsCompletion (Returns v) e
+  on_next_keeps h Cancels e = pure_keeps IsCompletion Cancels tt
+  on_next_keeps h CancelsOuter e = pure_keeps IsCompletion CancelsOuter tt
 
-  value_at_keeps : (end : Completion) → IsEnd end → Keeps IsValue (value_at end)
+  value_at_keeps : (end : Completion) → IsCompletion end → Keeps IsValue (value_at end)
   value_at_keeps (Returns v) e = pure_keeps IsValue v e
   value_at_keeps Next e = stop_keeps IsValue Astray
   value_at_keeps Breaks e = stop_keeps IsValue Astray
@@ -322,11 +322,11 @@ module _ (q : Program) (checked : IsTypedProgram q) where
   begin_keeps (Outside f l) s w = tick_keeps.keeps s w
   begin_keeps (Inside mode m) s w = (tt, w)
 
-  scoped_keeps : {run : Action Completion} → Keeps IsEnd run → Keeps IsEnd (in_scope run)
+  scoped_keeps : {run : Action Completion} → Keeps IsCompletion run → Keeps IsCompletion (in_scope run)
   scoped_keeps g =
-      on AreLocals IsEnd locals_keeps (λ outer _. on IsEnd IsEnd g (λ end e. on AreLocals IsEnd locals_keeps (λ all h. then_ IsAny IsEnd (put_locals_keeps _ (all_taken IsOwn (length outer) all h)) (pure_keeps IsEnd end e))))
+      on AreLocals IsCompletion locals_keeps (λ outer _. on IsCompletion IsCompletion g (λ end e. on AreLocals IsCompletion locals_keeps (λ all h. then_ IsAny IsCompletion (put_locals_keeps _ (all_taken IsOwn (length outer) all h)) (pure_keeps IsCompletion end e))))
 
-  after_body_keeps : {go : Action (Option Completion)} → Keeps IsTurn go → (end : Completion) → IsEnd end → Keeps IsTurn (after_body go end)
+  after_body_keeps : {go : Action (Option Completion)} → Keeps IsTurn go → (end : Completion) → IsCompletion end → Keeps IsTurn (after_body go end)
   after_body_keeps h Next e = h
   after_body_keeps h Breaks e = pure_keeps IsTurn (Some Next) tt
   after_body_keeps h Continues e = h
@@ -334,20 +334,20 @@ module _ (q : Program) (checked : IsTypedProgram q) where
   after_body_keeps h Cancels e = pure_keeps IsTurn (Some Cancels) tt
   after_body_keeps h CancelsOuter e = pure_keeps IsTurn (Some CancelsOuter) tt
 
-  after_turn_keeps : {rest : Action Completion} → Keeps IsEnd rest → (o : Option Completion) → IsTurn o → Keeps IsEnd (after_turn rest o)
+  after_turn_keeps : {rest : Action Completion} → Keeps IsCompletion rest → (o : Option Completion) → IsTurn o → Keeps IsCompletion (after_turn rest o)
   after_turn_keeps h None e = h
-  after_turn_keeps h (Some end) e = pure_keeps IsEnd end e
+  after_turn_keeps h (Some end) e = pure_keeps IsCompletion end e
 
-  turns_keep : {turn : Action (Option Completion)} → Keeps IsTurn turn → (n : ℕ) → Keeps IsEnd (turns n turn)
-  turns_keep h zero = stop_keeps IsEnd Spent
-  turns_keep h (suc n) = then_ IsAny IsEnd tick_keeps (on IsTurn IsEnd h (λ o e. after_turn_keeps (turns_keep h n) o e))
+  turns_keep : {turn : Action (Option Completion)} → Keeps IsTurn turn → (n : ℕ) → Keeps IsCompletion (turns n turn)
+  turns_keep h zero = stop_keeps IsCompletion Spent
+  turns_keep h (suc n) = then_ IsAny IsCompletion tick_keeps (on IsTurn IsCompletion h (λ o e. after_turn_keeps (turns_keep h n) o e))
 
-  loop_keeps : {turn : Action (Option Completion)} → Keeps IsTurn turn → Keeps IsEnd (loop turn)
+  loop_keeps : {turn : Action (Option Completion)} → Keeps IsTurn turn → Keeps IsCompletion (loop turn)
   loop_keeps h = record { keeps = λ s w. (turns_keep h s.ticks).keeps s w }
 
   -- what a transaction leaves
   record IsLeft (left : Left) : Type 0 where
-    end : IsEnd left.end
+    end : IsCompletion left.end
     locals : AreLocals left.locals
     memory : IsMemory (bounds q) left.memory
 
@@ -355,28 +355,28 @@ module _ (q : Program) (checked : IsTypedProgram q) where
   inside_memory mode m (Outside f l) e h = absurd e
   inside_memory mode m (Inside mode' m') e h = h.0
 
-  is_left : (undone : Bool) (mode : Mode) (mine : List Local) (m : Memory) (end : Completion) (now : State) → AreLocals mine → IsMemory (bounds q) m → StaysIn (Inside mode m) now.context → IsEnd end → HasWords q now → IsLeft (left_or undone mine m end now)
+  is_left : (undone : Bool) (mode : Mode) (mine : List Local) (m : Memory) (end : Completion) (now : State) → AreLocals mine → IsMemory (bounds q) m → StaysIn (Inside mode m) now.context → IsCompletion end → HasWords q now → IsLeft (left_or undone mine m end now)
   is_left true mode mine m end now h k in_ e w = record { end = tt; locals = h; memory = k }
   is_left false mode mine m end now h k in_ e w = record { end = e; locals = w.locals; memory = inside_memory mode m now.context in_ w.memories }
 
-  leave_keeps : (n : ℕ) (founds lefts : List Memory) (left : Left) (now : State) → IsLeft left → AllByRecursion (IsMemory (bounds q)) (founds ++ lefts) → WhereGiven (go_on (spend n (record now { context = Outside founds lefts })) (λ u then_. Gives left.end (record then_ { locals = left.locals; context = Outside founds (lefts ++ left.memory ∷ []) }))) (λ end last. IsEnd end × HasWords q last)
+  leave_keeps : (n : ℕ) (founds lefts : List Memory) (left : Left) (now : State) → IsLeft left → AllByRecursion (IsMemory (bounds q)) (founds ++ lefts) → WhereGiven (go_on (spend n (record now { context = Outside founds lefts })) (λ u then_. Gives left.end (record then_ { locals = left.locals; context = Outside founds (lefts ++ left.memory ∷ []) }))) (λ end last. IsCompletion end × HasWords q last)
   leave_keeps zero founds lefts left now h k = tt
   leave_keeps (suc n) founds lefts left now h k =
       let M = IsMemory (bounds q) in
       (h.end, record { locals = h.locals; memories = all_joined M founds (lefts ++ left.memory ∷ []) (all_before M founds lefts k) (all_joined M lefts (left.memory ∷ []) (all_behind M founds lefts k) (h.memory, tt)) })
 
-  close_keeps : (kind : TransactionKind) (founds lefts : List Memory) (mine : List Local) (m : Memory) (r : Answer Completion) → AreLocals mine → IsMemory (bounds q) m → AllByRecursion (IsMemory (bounds q)) (founds ++ lefts) → WhereGiven r (λ end now. StaysIn (Inside (mode_of kind) m) now.context) → WhereGiven r (λ end now. IsEnd end × HasWords q now) → WhereGiven (close kind founds lefts mine m r) (λ end now. IsEnd end × HasWords q now)
+  close_keeps : (kind : TransactionKind) (founds lefts : List Memory) (mine : List Local) (m : Memory) (r : Answer Completion) → AreLocals mine → IsMemory (bounds q) m → AllByRecursion (IsMemory (bounds q)) (founds ++ lefts) → WhereGiven r (λ end now. StaysIn (Inside (mode_of kind) m) now.context) → WhereGiven r (λ end now. IsCompletion end × HasWords q now) → WhereGiven (close kind founds lefts mine m r) (λ end now. IsCompletion end × HasWords q now)
   close_keeps kind founds lefts mine m (Gives end now) h k ms in_ w = leave_keeps now.ticks founds lefts (left_by kind mine m end now) now (is_left (undoes end kind) (mode_of kind) mine m end now h k in_ w.0 w.1) ms
   close_keeps kind founds lefts mine m (Stops (Trapped t) now) h k ms in_ w = tt
   close_keeps kind founds lefts mine m r h k ms in_ w = tt
 
-  inner_keeps : (outer : Mode) (kind : TransactionKind) (mine : List Local) (m : Memory) (r : Answer Completion) → AreLocals mine → IsMemory (bounds q) m → WhereGiven r (λ end now. StaysIn (Inside (mode_of kind) m) now.context) → WhereGiven r (λ end now. IsEnd end × HasWords q now) → WhereGiven (close_inner outer kind mine m r) (λ end now. IsEnd end × HasWords q now)
+  inner_keeps : (outer : Mode) (kind : TransactionKind) (mine : List Local) (m : Memory) (r : Answer Completion) → AreLocals mine → IsMemory (bounds q) m → WhereGiven r (λ end now. StaysIn (Inside (mode_of kind) m) now.context) → WhereGiven r (λ end now. IsCompletion end × HasWords q now) → WhereGiven (close_inner outer kind mine m r) (λ end now. IsCompletion end × HasWords q now)
   inner_keeps outer kind mine m (Gives end now) h k in_ w =
       let left = is_left (undoes end kind) (mode_of kind) mine m end now h k in_ w.0 w.1 in
       (left.end, record { locals = left.locals; memories = (left.memory, tt) })
   inner_keeps outer kind mine m (Stops why now) h k in_ w = tt
 
-  enter_keeps : (kind : TransactionKind) (run : Action Completion) → Stays run → Keeps IsEnd run → (p : Context) (n : ℕ) (ls : List Local) (t : List ℕ) → AreLocals ls → AllByRecursion (IsMemory (bounds q)) (memories_of p) → WhereGiven (enter p kind run (record { ticks = n; locals = ls; context = p; text = t })) (λ end now. IsEnd end × HasWords q now)
+  enter_keeps : (kind : TransactionKind) (run : Action Completion) → Stays run → Keeps IsCompletion run → (p : Context) (n : ℕ) (ls : List Local) (t : List ℕ) → AreLocals ls → AllByRecursion (IsMemory (bounds q)) (memories_of p) → WhereGiven (enter p kind run (record { ticks = n; locals = ls; context = p; text = t })) (λ end now. IsCompletion end × HasWords q now)
   enter_keeps kind run g h (Outside [] lefts) n ls t w ms = tt
   enter_keeps kind run g h (Outside (m ∷ founds) lefts) n ls t w ms =
       let s : State = record { ticks = n; locals = ls; context = Inside (mode_of kind) m; text = t } in
@@ -392,7 +392,7 @@ module _ (q : Program) (checked : IsTypedProgram q) where
       inner_keeps Atomic (Plain Atomic) ls m (run s) w ms.0 (g.stays s) (h.keeps s (record { locals = w; memories = ms }))
   enter_keeps (Plain Relaxed) run g h (Inside Atomic m) n ls t w ms = tt
 
-  transaction_keeps : (kind : TransactionKind) {run : Action Completion} → Stays run → Keeps IsEnd run → Keeps IsEnd (transaction kind run)
+  transaction_keeps : (kind : TransactionKind) {run : Action Completion} → Stays run → Keeps IsCompletion run → Keeps IsCompletion (transaction kind run)
   transaction_keeps kind {run} g h = record { keeps = λ s w. enter_keeps kind run g h s.context s.ticks s.locals s.text w.locals w.memories }
 
   -- the parameters hold words
@@ -467,7 +467,7 @@ module _ (q : Program) (checked : IsTypedProgram q) where
       expr_keeps (Conditional c a b at) = on IsValue IsValue (expr_keeps c) (λ v _. on IsValue IsValue (if_keeps IsValue _ (expr_keeps b) (expr_keeps a)) (λ w _. on AreLocals IsValue locals_keeps (λ mine _. on IsAny IsValue (any_or_astray (type_of (running_scope q mine) (Conditional c a b at))) (λ t _. pure_keeps IsValue (value_in_type t w) (word_below t (number_of w))))))
       expr_keeps (InTransaction mode keyword e at) =
           then_ IsAny IsValue (record { keeps = λ s w. begin_keeps s.context s w })
-          (on IsEnd IsValue (transaction_keeps (Plain mode) (returned_holds q (λ A run. Stays run) stays_kept call g e) (on IsValue IsEnd (expr_keeps e) (λ v w. pure_keeps IsEnd (Returns v) w))) value_at_keeps)
+          (on IsCompletion IsValue (transaction_keeps (Plain mode) (returned_holds q (λ A run. Stays run) stays_preserved call g e) (on IsValue IsCompletion (expr_keeps e) (λ v w. pure_keeps IsCompletion (Returns v) w))) value_at_keeps)
 
       exprs_keep : (es : Exprs) → Keeps IsAny (exprs q call es)
       exprs_keep Tree.[] = pure_keeps IsAny [] tt
@@ -493,13 +493,13 @@ module _ (q : Program) (checked : IsTypedProgram q) where
     one_leaves = record { leaves = λ s. refl }
 
     -- and then the next thing
-    next_at : (ls : List Local) {run : Action (Unit {0})} → KeepsAt ls IsAny run → KeepsAt ls IsEnd (run >> pure Next)
-    next_at ls {run} g = record { keeps = λ s e w. on_given IsAny IsEnd (run s) (λ _. pure Next) (g.keeps s e w) (λ a _. pure_keeps IsEnd Next tt) }
+    next_at : (ls : List Local) {run : Action (Unit {0})} → KeepsAt ls IsAny run → KeepsAt ls IsCompletion (run >> pure Next)
+    next_at ls {run} g = record { keeps = λ s e w. on_given IsAny IsCompletion (run s) (λ _. pure Next) (g.keeps s e w) (λ a _. pure_keeps IsCompletion Next tt) }
 
-    simple_keeps : (s : Simple) → Keeps IsEnd (simple q call s)
-    simple_keeps (Evaluate e) = then_ IsValue IsEnd (expr_keeps e) (pure_keeps IsEnd Next tt)
-    simple_keeps (Assign to op e) = on_lvalue IsEnd (lvalue_gives to) (λ ls at f. next_at ls (assigned_keeps ls at f (leaves_expr e) (expr_keeps e) op))
-    simple_keeps (Adjust to by) = on_lvalue IsEnd (lvalue_gives to) (λ ls at f. next_at ls (changed_keeps ls at f one_leaves (pure_keeps IsValue int_one one_below) (op_of by)))
+    simple_keeps : (s : Simple) → Keeps IsCompletion (simple q call s)
+    simple_keeps (Evaluate e) = then_ IsValue IsCompletion (expr_keeps e) (pure_keeps IsCompletion Next tt)
+    simple_keeps (Assign to op e) = on_lvalue IsCompletion (lvalue_gives to) (λ ls at f. next_at ls (assigned_keeps ls at f (leaves_expr e) (expr_keeps e) op))
+    simple_keeps (Adjust to by) = on_lvalue IsCompletion (lvalue_gives to) (λ ls at f. next_at ls (changed_keeps ls at f one_leaves (pure_keeps IsValue int_one one_below) (op_of by)))
 
     first_value_keeps : (ls : List Local) (at : Lvalue) → Fits ls at → (o : Option Expr) → KeepsAt ls IsAny (first_value q call at o)
     first_value_keeps ls at f None = any_at ls IsAny (pure_keeps IsAny tt tt)
@@ -516,16 +516,16 @@ module _ (q : Program) (checked : IsTypedProgram q) where
     then_at : {A B : Type 0} (Q : B → Type 0) (ls : List Local) (P : A → Type 0) {run : Action A} {rest : Action B} → KeepsAt ls P run → Keeps Q rest → KeepsAt ls Q (run >> rest)
     then_at Q ls P {run} {rest} g h = record { keeps = λ s e w. on_given P Q (run s) (λ _. rest) (g.keeps s e w) (λ a _. h) }
 
-    declare_keeps : (t : Scalar) (ds : List Declarator) → Keeps IsEnd (declare q call t ds)
-    declare_keeps t [] = pure_keeps IsEnd Next tt
+    declare_keeps : (t : Scalar) (ds : List Declarator) → Keeps IsCompletion (declare q call t ds)
+    declare_keeps t [] = pure_keeps IsCompletion Next tt
     declare_keeps t (d ∷ ds) =
-        on AreLocals IsEnd locals_keeps (λ mine w.
+        on AreLocals IsCompletion locals_keeps (λ mine w.
         let new : Local = record { name = d.name.text; ty = t; word = 0 } in
-        put_new IsEnd (mine ++ new ∷ []) (all_joined IsOwn mine (new ∷ []) w (some_below t, tt))
-        (then_at IsEnd (mine ++ new ∷ []) IsAny (first_value_keeps (mine ++ new ∷ []) (InLocal (length mine) t) (last_is mine new) d.first) (declare_keeps t ds)))
+        put_new IsCompletion (mine ++ new ∷ []) (all_joined IsOwn mine (new ∷ []) w (some_below t, tt))
+        (then_at IsCompletion (mine ++ new ∷ []) IsAny (first_value_keeps (mine ++ new ∷ []) (InLocal (length mine) t) (last_is mine new) d.first) (declare_keeps t ds)))
 
-    start_keeps : (s : Start) → Keeps IsEnd (start_with q call s)
-    start_keeps Nothing = pure_keeps IsEnd Next tt
+    start_keeps : (s : Start) → Keeps IsCompletion (start_with q call s)
+    start_keeps Nothing = pure_keeps IsCompletion Next tt
     start_keeps (Declares d) = declare_keeps d.ty d.declarators
     start_keeps (Does s) = simple_keeps s
 
@@ -535,7 +535,7 @@ module _ (q : Program) (checked : IsTypedProgram q) where
 
     stepped_keeps : (o : Option Simple) → Keeps IsTurn (optional_step q call o)
     stepped_keeps None = pure_keeps IsTurn None tt
-    stepped_keeps (Some s) = then_ IsEnd IsTurn (simple_keeps s) (pure_keeps IsTurn None tt)
+    stepped_keeps (Some s) = then_ IsCompletion IsTurn (simple_keeps s) (pure_keeps IsTurn None tt)
 
     return_keeps : (o : Option Expr) → Keeps IsValue (return_value q call o)
     return_keeps None = pure_keeps IsValue (flag false) (truth_below false)
@@ -547,27 +547,27 @@ module _ (q : Program) (checked : IsTypedProgram q) where
     ends_or_not false = tt
 
     mutual
-      stmt_keeps : (s : Stmt) → Keeps IsEnd (stmt q call s)
-      stmt_keeps Empty = then_ IsAny IsEnd tick_keeps (pure_keeps IsEnd Next tt)
-      stmt_keeps (Declare d) = then_ IsAny IsEnd tick_keeps (declare_keeps d.ty d.declarators)
-      stmt_keeps (Do s) = then_ IsAny IsEnd tick_keeps (simple_keeps s)
-      stmt_keeps (Block ss) = then_ IsAny IsEnd tick_keeps (scoped_keeps (stmts_keep ss))
-      stmt_keeps (Print at format format_at es) = then_ IsAny IsEnd tick_keeps (then_ IsAny IsEnd may_print_keeps (on IsAny IsEnd (exprs_keep es) (λ vs _. then_ IsAny IsEnd (pieces_keep (pieces format) vs) (pure_keeps IsEnd Next tt))))
-      stmt_keeps (If c a) = then_ IsAny IsEnd tick_keeps (on IsValue IsEnd (expr_keeps c) (λ v _. if_keeps IsEnd _ (pure_keeps IsEnd Next tt) (scoped_keeps (stmt_keeps a))))
-      stmt_keeps (IfElse c a b) = then_ IsAny IsEnd tick_keeps (on IsValue IsEnd (expr_keeps c) (λ v _. if_keeps IsEnd _ (scoped_keeps (stmt_keeps b)) (scoped_keeps (stmt_keeps a))))
-      stmt_keeps (While c a) = then_ IsAny IsEnd tick_keeps (loop_keeps (on IsValue IsTurn (expr_keeps c) (λ v _. if_keeps IsTurn _ (pure_keeps IsTurn (Some Next) tt) (on IsEnd IsTurn (scoped_keeps (stmt_keeps a)) (after_body_keeps (pure_keeps IsTurn None tt))))))
-      stmt_keeps (DoWhile a c) = then_ IsAny IsEnd tick_keeps (loop_keeps (on IsEnd IsTurn (scoped_keeps (stmt_keeps a)) (after_body_keeps (on IsValue IsTurn (expr_keeps c) (λ v _. pure_keeps IsTurn _ (ends_or_not _))))))
-      stmt_keeps (For start c step a) = then_ IsAny IsEnd tick_keeps (scoped_keeps (then_ IsEnd IsEnd (start_keeps start) (loop_keeps (on IsAny IsTurn (holds_keeps c) (λ more _. if_keeps IsTurn _ (on IsEnd IsTurn (scoped_keeps (stmt_keeps a)) (after_body_keeps (stepped_keeps step))) (pure_keeps IsTurn (Some Next) tt))))))
-      stmt_keeps (Break at) = then_ IsAny IsEnd tick_keeps (pure_keeps IsEnd Breaks tt)
-      stmt_keeps (Continue at) = then_ IsAny IsEnd tick_keeps (pure_keeps IsEnd Continues tt)
-      stmt_keeps (Return e at) = then_ IsAny IsEnd tick_keeps (on IsValue IsEnd (return_keeps e) (λ v w. pure_keeps IsEnd (Returns v) w))
-      stmt_keeps (Transaction kind ss at) = then_ IsAny IsEnd tick_keeps (transaction_keeps kind (block_holds q (λ A run. Stays run) stays_kept call g ss) (scoped_keeps (stmts_keep ss)))
-      stmt_keeps (Cancel at) = then_ IsAny IsEnd tick_keeps (pure_keeps IsEnd Cancels tt)
-      stmt_keeps (CancelOuter at) = then_ IsAny IsEnd tick_keeps (pure_keeps IsEnd CancelsOuter tt)
+      stmt_keeps : (s : Stmt) → Keeps IsCompletion (stmt q call s)
+      stmt_keeps Empty = then_ IsAny IsCompletion tick_keeps (pure_keeps IsCompletion Next tt)
+      stmt_keeps (Declare d) = then_ IsAny IsCompletion tick_keeps (declare_keeps d.ty d.declarators)
+      stmt_keeps (Do s) = then_ IsAny IsCompletion tick_keeps (simple_keeps s)
+      stmt_keeps (Block ss) = then_ IsAny IsCompletion tick_keeps (scoped_keeps (stmts_keep ss))
+      stmt_keeps (Print at format format_at es) = then_ IsAny IsCompletion tick_keeps (then_ IsAny IsCompletion may_print_keeps (on IsAny IsCompletion (exprs_keep es) (λ vs _. then_ IsAny IsCompletion (pieces_keep (pieces format) vs) (pure_keeps IsCompletion Next tt))))
+      stmt_keeps (If c a) = then_ IsAny IsCompletion tick_keeps (on IsValue IsCompletion (expr_keeps c) (λ v _. if_keeps IsCompletion _ (pure_keeps IsCompletion Next tt) (scoped_keeps (stmt_keeps a))))
+      stmt_keeps (IfElse c a b) = then_ IsAny IsCompletion tick_keeps (on IsValue IsCompletion (expr_keeps c) (λ v _. if_keeps IsCompletion _ (scoped_keeps (stmt_keeps b)) (scoped_keeps (stmt_keeps a))))
+      stmt_keeps (While c a) = then_ IsAny IsCompletion tick_keeps (loop_keeps (on IsValue IsTurn (expr_keeps c) (λ v _. if_keeps IsTurn _ (pure_keeps IsTurn (Some Next) tt) (on IsCompletion IsTurn (scoped_keeps (stmt_keeps a)) (after_body_keeps (pure_keeps IsTurn None tt))))))
+      stmt_keeps (DoWhile a c) = then_ IsAny IsCompletion tick_keeps (loop_keeps (on IsCompletion IsTurn (scoped_keeps (stmt_keeps a)) (after_body_keeps (on IsValue IsTurn (expr_keeps c) (λ v _. pure_keeps IsTurn _ (ends_or_not _))))))
+      stmt_keeps (For start c step a) = then_ IsAny IsCompletion tick_keeps (scoped_keeps (then_ IsCompletion IsCompletion (start_keeps start) (loop_keeps (on IsAny IsTurn (holds_keeps c) (λ more _. if_keeps IsTurn _ (on IsCompletion IsTurn (scoped_keeps (stmt_keeps a)) (after_body_keeps (stepped_keeps step))) (pure_keeps IsTurn (Some Next) tt))))))
+      stmt_keeps (Break at) = then_ IsAny IsCompletion tick_keeps (pure_keeps IsCompletion Breaks tt)
+      stmt_keeps (Continue at) = then_ IsAny IsCompletion tick_keeps (pure_keeps IsCompletion Continues tt)
+      stmt_keeps (Return e at) = then_ IsAny IsCompletion tick_keeps (on IsValue IsCompletion (return_keeps e) (λ v w. pure_keeps IsCompletion (Returns v) w))
+      stmt_keeps (Transaction kind ss at) = then_ IsAny IsCompletion tick_keeps (transaction_keeps kind (block_holds q (λ A run. Stays run) stays_preserved call g ss) (scoped_keeps (stmts_keep ss)))
+      stmt_keeps (Cancel at) = then_ IsAny IsCompletion tick_keeps (pure_keeps IsCompletion Cancels tt)
+      stmt_keeps (CancelOuter at) = then_ IsAny IsCompletion tick_keeps (pure_keeps IsCompletion CancelsOuter tt)
 
-      stmts_keep : (ss : Stmts) → Keeps IsEnd (stmts q call ss)
-      stmts_keep Tree.[] = pure_keeps IsEnd Next tt
-      stmts_keep (Tree.◌∷◌ s ss) = on IsEnd IsEnd (stmt_keeps s) (on_next_keeps (stmts_keep ss))
+      stmts_keep : (ss : Stmts) → Keeps IsCompletion (stmts q call ss)
+      stmts_keep Tree.[] = pure_keeps IsCompletion Next tt
+      stmts_keep (Tree.◌∷◌ s ss) = on IsCompletion IsCompletion (stmt_keeps s) (on_next_keeps (stmts_keep ss))
 
     result_keeps : (t : Option Scalar) (end : Completion) → Keeps IsValue (result_of t end)
     result_keeps t Next = pure_keeps IsValue (value_in_type (unwrap_or t Int) (flag false)) (word_below (unwrap_or t Int) (number_of (flag false)))
@@ -580,20 +580,20 @@ module _ (q : Program) (checked : IsTypedProgram q) where
     invoke_keeps : (x : List ℕ) (vs : List Value) → Keeps IsValue (invoke q call x vs)
     invoke_keeps x vs =
         on IsAny IsValue (any_or_astray (definition_of q x)) (λ f _. on AreLocals IsValue (or_astray_keeps AreLocals (call_locals f.0.parameters vs) (λ ls e. entered_words f.0.parameters vs ls e)) (λ mine w.
-        on AreLocals IsValue locals_keeps (λ outer o. then_ IsAny IsValue (put_locals_keeps mine w) (on IsEnd IsValue (stmts_keep f.1) (λ end _. then_ IsAny IsValue (put_locals_keeps outer o) (result_keeps f.0.result end))))))
+        on AreLocals IsValue locals_keeps (λ outer o. then_ IsAny IsValue (put_locals_keeps mine w) (on IsCompletion IsValue (stmts_keep f.1) (λ end _. then_ IsAny IsValue (put_locals_keeps outer o) (result_keeps f.0.result end))))))
 
   calls_keep : (n : ℕ) (x : List ℕ) (vs : List Value) → Keeps IsValue (calls q n x vs)
   calls_keep zero x vs = trap_keeps IsValue Frames
-  calls_keep (suc n) x vs = invoke_keeps (calls q n) (called_holds q (λ A run. Stays run) stays_kept n) (calls_holds q n) (calls_keep n) x vs
+  calls_keep (suc n) x vs = invoke_keeps (calls q n) (called_holds q (λ A run. Stays run) stays_preserved n) (calls_holds q n) (calls_keep n) x vs
 
 -- what a statement ends with is left out
-words_of : (q : Program) (r : Answer Completion) → WhereGiven r (λ end now. IsEnd end × HasWords q now) → WhereGiven r (λ end now. HasWords q now)
+words_of : (q : Program) (r : Answer Completion) → WhereGiven r (λ end now. IsCompletion end × HasWords q now) → WhereGiven r (λ end now. HasWords q now)
 words_of q (Gives end now) h = h.1
 words_of q (Stops why now) h = tt
 
 pub words_stay : WordsStay
 words_stay p checked frames =
-    let stay = called_holds p (λ A run. Stays run) stays_kept frames in (
+    let stay = called_holds p (λ A run. Stays run) stays_preserved frames in (
       λ e s w. (expr_keeps p checked (calls p frames) stay (calls_holds p frames) (calls_keep p checked frames) e).keeps s w,
       λ st s w. words_of p (stmt p (calls p frames) st s) ((stmt_keeps p checked (calls p frames) stay (calls_holds p frames) (calls_keep p checked frames) st).keeps s w),
     )

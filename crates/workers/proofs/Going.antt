@@ -40,9 +40,9 @@ module _ {A : Type 0} (z : TableId) (key : Setup) where
 
   -- the same by steps that are not yet counted
   pub by_same : (a b : Worker A) → b.number ≡ a.number → b.steps ≡ a.steps → ((steps : ℕ) (was : IsWorkerAt z key steps a) → (is : IsWorkerAt z key steps b) × GoesOnFrom key.code was.1.part was.1.now is.1.part is.1.now) → StepsBy z key 0 a b
-  by_same a b number kept f = (
+  by_same a b number same_steps f = (
     number,
-    kept,
+    same_steps,
     λ steps was. subst (λ (n : ℕ). (is : IsWorkerAt z key n b) × GoesOnFrom key.code was.1.part was.1.now is.1.part is.1.now) (sym (add-zero steps)) (f steps was),
   )
 

@@ -243,11 +243,11 @@ module _ (s : Simulation) (lock : ℕ) (words : List ℕ) (threads : List Thread
 
     -- the thread made ready for its step
     module _ (y : ThreadState) (th : y.thread ≡ x.thread) (n : y.accesses ≡ x.accesses) where
-      pub kept_is : (trace : List ℕ) → trace ≡ s.trace → record { code = s.code; threads = length (set threads t y); trace = trace } ≡ s
-      kept_is trace e = λ i. record { code = s.code; threads = (length-set threads t y ∙ sym k.count) i; trace = e i }
+      pub same_simulation : (trace : List ℕ) → trace ≡ s.trace → record { code = s.code; threads = length (set threads t y); trace = trace } ≡ s
+      same_simulation trace e = λ i. record { code = s.code; threads = (length-set threads t y ∙ sym k.count) i; trace = e i }
 
-      pub kept : (trace : List ℕ) → trace ≡ s.trace → IsWorldOf (record { code = s.code; threads = length (set threads t y); trace = trace }) lock words (set threads t y) accesses
-      kept trace e = subst (λ (v : Simulation). IsWorldOf v lock words (set threads t y) accesses) (sym (kept_is trace e))
+      pub same_world : (trace : List ℕ) → trace ≡ s.trace → IsWorldOf (record { code = s.code; threads = length (set threads t y); trace = trace }) lock words (set threads t y) accesses
+      same_world trace e = subst (λ (v : Simulation). IsWorldOf v lock words (set threads t y) accesses) (sym (same_simulation trace e))
           (record {
             valid = k.valid;
             few = k.few;

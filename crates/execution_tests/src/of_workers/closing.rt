@@ -117,7 +117,7 @@ fn wants_workers(alloc: Global, hall: Hall) -> bool {
 }
 
 /// A hall of 64 is not closed without workers.
-fn is_kept_open(alloc: Global) -> bool {
+fn stays_open(alloc: Global) -> bool {
     match open_hall(alloc, prints(), 64) {
         Ok((hall, _)) => wants_workers(alloc, hall),
         Err(_) => false,
@@ -127,6 +127,6 @@ fn is_kept_open(alloc: Global) -> bool {
 #[test]
 fn one_has_the_lock(rt: HostRuntime) {
     let closes = closes_at_last(rt.alloc());
-    let kept = is_kept_open(rt.alloc());
-    assert_all(&rt, &[("closed at last", closes), ("kept open", kept)]);
+    let open = stays_open(rt.alloc());
+    assert_all(&rt, &[("closed at last", closes), ("stays open", open)]);
 }

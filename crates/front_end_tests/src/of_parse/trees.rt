@@ -135,8 +135,8 @@ const DECLARED: &str =
 
 /// Whether the attributes, the type and the name are those of the text.
 fn keeps_head(f: &Function) -> bool {
-    let kept = [Attribute::Safe, Attribute::Unsafe, Attribute::Callable];
-    f.attributes.as_slice() == kept.as_slice()
+    let declared = [Attribute::Safe, Attribute::Unsafe, Attribute::Callable];
+    f.attributes.as_slice() == declared.as_slice()
         && f.result == Some(Scalar::Unsigned)
         && f.name.text.as_str() == "f"
         && f.body.is_none()

@@ -45,7 +45,7 @@ fn right_programs_are_accepted(rt: HostRuntime) {
     assert_none(&rt, faulty(rt.alloc(), Stage::Types, rows()));
 }
 
-/// Whether the program that is kept has so many items.
+/// Whether the program that is given on has so many items.
 fn has_items(alloc: Global, unit: Unit, count: usize) -> bool {
     match check(alloc, unit) {
         Ok(typed) => typed.unit().items.len() == count,
@@ -53,7 +53,7 @@ fn has_items(alloc: Global, unit: Unit, count: usize) -> bool {
     }
 }
 
-/// Whether what is kept of this text has so many items.
+/// Whether the program of this text has so many items.
 fn has_items_of(alloc: Global, text: &str, count: usize) -> bool {
     match unit_of(alloc, text) {
         Some(unit) => has_items(alloc, unit, count),
@@ -62,7 +62,7 @@ fn has_items_of(alloc: Global, text: &str, count: usize) -> bool {
 }
 
 #[test]
-fn the_program_is_kept(rt: HostRuntime) {
+fn the_program_is_given_on(rt: HostRuntime) {
     let text =
         "int x, a[3]; void f(void); unsigned y; void worker(int self) { } void f(void) { } int z;";
     let holds = has_items_of(rt.alloc(), text, 6);

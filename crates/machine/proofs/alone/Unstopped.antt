@@ -118,9 +118,9 @@ module _ {C : Type 0} (code : C → Effect C) (init : ℕ → C) (bounds : List 
       at None e = omega arith
       at (Some p) e =
           let a = access code p.thread in
-          let kept = part_step code bounds t (init t) h w.words fits v.history p (v.parts t p e) in
-          let up = kept.moves.lock in
-          let after : lock_after w.lock a ≡ kept.after.lock = ap (λ l. lock_after l a) v.lock ∙ kept.same_lock in
+          let made = part_step code bounds t (init t) h w.words fits v.history p (v.parts t p e) in
+          let up = made.moves.lock in
+          let after : lock_after w.lock a ≡ made.after.lock = ap (λ l. lock_after l a) v.lock ∙ made.same_lock in
           let before = v.lock in
           omega arith
 

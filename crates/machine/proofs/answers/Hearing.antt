@@ -206,7 +206,7 @@ module _ {C : Type 0} (code : C → Effect C) where
       by_store : (b : Attempt C) (j : ℕ) (q : ℕ × ℕ) → IsDistinct b.writes → h.stored ≡ take j b.writes → slice_get b.writes j ≡ Some q → words' ≡ set words q.0 q.1 → r.thread.attempt ≡ Some (record b { phase = Stores (suc j) }) → InHistory k.after words' l a v
       by_store b j q distinct st g ws after = at r.thread.attempt after k.part.now
         where
-          mine : (kept : Bool) → LockBy k.after t (record b { phase = Stores (suc j) }) (has_lock kept (Stores (suc j))) → k.after.stored ≡ take (suc j) b.writes
+          mine : (step_ok : Bool) → LockBy k.after t (record b { phase = Stores (suc j) }) (has_lock step_ok (Stores (suc j))) → k.after.stored ≡ take (suc j) b.writes
           mine true f = f.2
           mine false f = f.2
 
@@ -335,12 +335,12 @@ module _ {C : Type 0} (code : C → Effect C) (init : ℕ → C) (bounds : List 
     abbrev pub StepOkBy : ℕ → Type 0
     StepOkBy l = StepOk code bounds t (init t) s.history (lock_after l (access code p.thread)) (words_after w.words (access code p.thread)) (part_after w.words p (step_with code p.thread (answer l w.words (access code p.thread))))
 
-    pub kept : StepOkBy w.lock
-    kept = subst StepOkBy (sym s.invariant.lock) (part_step code bounds t (init t) s.history w.words fits s.invariant.history p (s.invariant.parts t p here))
+    pub step_ok : StepOkBy w.lock
+    step_ok = subst StepOkBy (sym s.invariant.lock) (part_step code bounds t (init t) s.history w.words fits s.invariant.history p (s.invariant.parts t p here))
 
   module _ (w : World C) (heard : List (List Heard)) (t : ℕ) (p : Part C) (hs : List Heard) (s : Sound w heard) (here : slice_get w.parts t ≡ Some p) (said : slice_get heard t ≡ Some hs) where
     abbrev k : StepOkBy w heard t p s here w.lock
-    k = kept w heard t p s here
+    k = step_ok w heard t p s here
 
     abbrev old : (us : List Heard) → HearsOk s.history w.words us → HearsOk k.after (words_after w.words (access code p.thread)) us
     old = hears_on code bounds t (init t) s.history w.words s.invariant.history (lock_after w.lock (access code p.thread)) (words_after w.words (access code p.thread)) (part_after w.words p (step_with code p.thread (answer w.lock w.words (access code p.thread)))) k p (s.invariant.parts t p here) refl

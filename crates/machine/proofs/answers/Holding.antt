@@ -21,7 +21,7 @@ use Rattle.machine.proofs.answers.Answering.{reached}
 use Rattle.machine.proofs.runs.Explained.{each_ok, holder_has, lock_of, part_at, whole}
 use Rattle.machine.proofs.merges.Follow.{Cut, all_left, counted, cut, last_is}
 use Rattle.machine.proofs.parts.Frame.{lock_bounds}
-use Rattle.machine.proofs.answers.Hearing.{InHistory, Sound, WordIn, WordsIn, kept, sound}
+use Rattle.machine.proofs.answers.Hearing.{InHistory, Sound, WordIn, WordsIn, step_ok, sound}
 use Rattle.machine.proofs.runs.Serializable.{serializable}
 use Rattle.machine.proofs.parts.Memories.{memory-overlay}
 use Rattle.machine.proofs.merges.Merge.{EntryOk}
@@ -58,7 +58,7 @@ module _ {C : Type 0} (code : C → Effect C) (init : ℕ → C) (bounds : List 
   -- the lock does not fall
   pub lock_grows : (t : ℕ) (p : Part C) → slice_get w.parts t ≡ Some p → w.lock ≤ lock_after w.lock (access code p.thread)
   lock_grows t p e =
-      let k = kept code init bounds m0 is_memory fits threads w heard t p s e in
+      let k = step_ok code init bounds m0 is_memory fits threads w heard t p s e in
       let up = k.moves.lock in
       let same = k.same_lock in
       let was = s.invariant.lock in

@@ -36,7 +36,7 @@ use Rattle.machine.specs.Standing.{begins_of, GivesWordsIf, IsThreadOf}
 use Rattle.machine.specs.States.{Ready, IsReady, asks, asks_by, asks_outside, attempt_has_lock}
 use Rattle.machine.specs.inner.Contexts.{PlainContext, machine_thread, shown_from, AreWithin, RunsInContext, ContextWith, IsContextOf, op_by, op_asked}
 use Rattle.machine.proofs.contexts.Asking.{asks_is, access_is}
-use Rattle.machine.proofs.contexts.Seen.{kept_of, thread_of}
+use Rattle.machine.proofs.contexts.Seen.{context_of, thread_of}
 use Rattle.machine.proofs.contexts.Work.{work_over}
 
 -- what is to be done without the core
@@ -111,7 +111,7 @@ module _ (code : Code) (k : PlainContext) (running : k.status ≡ Running) where
 -- a thread as its contracts see it, and what it keeps
 module _ (code : Code) (k : PlainContext) (th : Thread Configuration) (is : machine_thread k ≡ th) where
   pub runs_of : AreWithin k.configuration (begins_of k.core.attempt) → k.status ≡ Running → IsThreadOf code th → RunsInContext code k
-  runs_of w s t = subst (ContextWith code k) s (kept_of code k w (subst (IsThreadOf code) (sym is) t))
+  runs_of w s t = subst (ContextWith code k) s (context_of code k w (subst (IsThreadOf code) (sym is) t))
 
   none_by : (s : Status) → (s ≡ Running → ⊥) → ContextWith code k s → k.core.attempt ≡ None
   none_by Running ne h = absurd (ne refl)
@@ -119,15 +119,15 @@ module _ (code : Code) (k : PlainContext) (th : Thread Configuration) (is : mach
   none_by (HasTrapped cause) ne h = h
 
   module _ (w : AreWithin k.configuration (begins_of k.core.attempt)) (over : k.status ≡ Running → ⊥) (t : IsThreadOf code th) where
-    kept_so : IsContextOf code k
-    kept_so = kept_of code k w (subst (IsThreadOf code) (sym is) t)
+    is_context : IsContextOf code k
+    is_context = context_of code k w (subst (IsThreadOf code) (sym is) t)
 
     none : k.core.attempt ≡ None
-    none = none_by k.status over kept_so
+    none = none_by k.status over is_context
 
     pub over_makes : (y : Answer) → (machine_thread k ≡ (step_with (effect code) th y).thread) × (event.Quiet ≡ (step_with (effect code) th y).event)
     over_makes y =
-        let m = work_over code k y none over kept_so in
+        let m = work_over code k y none over is_context in
         (m.thread ∙ ap (λ (z : Thread Configuration). (step_with (effect code) z y).thread) is, m.event ∙ ap (λ (z : Thread Configuration). (step_with (effect code) z y).event) is)
 
     out_local : (s : Status) (x : Effect Configuration) → (s ≡ Running → ⊥) → outside_access s x ≡ Local

@@ -125,10 +125,10 @@ module _ (code : Code) (law : BeginsStayOpen code) (k : PlainContext) (to : ℕ)
     begin_makes l r e er ea z = core_makes code law k op.Begin (Value lock) running runs begin_asked (λ h. same) tt begin_word l r e er ea (begin_stays l.core.saved) z
 
 -- what is under way in the thread that is shown is so in the context that shows it
-pub kept_stores : (c : Configuration) (index : ℕ) (o : Option (Attempt Saved)) → IsSomeAnd (shown_from c o) (λ a. IsStoring index a) → IsSomeAnd o (λ a. IsStoring index a)
-kept_stores c index None h = absurd h
-kept_stores c index (Some a) h = h
+pub core_is_storing : (c : Configuration) (index : ℕ) (o : Option (Attempt Saved)) → IsSomeAnd (shown_from c o) (λ a. IsStoring index a) → IsSomeAnd o (λ a. IsStoring index a)
+core_is_storing c index None h = absurd h
+core_is_storing c index (Some a) h = h
 
-pub kept_none : (c : Configuration) (o : Option (Attempt Saved)) → shown_from c o ≡ None → o ≡ None
-kept_none c None e = refl
-kept_none c (Some a) e = absurd (cc)
+pub core_has_none : (c : Configuration) (o : Option (Attempt Saved)) → shown_from c o ≡ None → o ≡ None
+core_has_none c None e = refl
+core_has_none c (Some a) e = absurd (cc)

@@ -30,7 +30,7 @@ use Rattle.machine.specs.Threads.{Thread, resume, status_after, with_value}
 use Rattle.machine.specs.inner.Inside.{CanStepInside, Inside, LeadsInside, LeadsTo, counted_at, context_at}
 use Rattle.machine.specs.inner.Contexts.{Advances, AreWithin, PlainContext, Makes, RunsInContext, back_by, op_by, machine_thread}
 use Rattle.machine.proofs.contexts.Advancing.{advances, advances_once, once_asked}
-use Rattle.machine.proofs.contexts.Makes.{kept_same}
+use Rattle.machine.proofs.contexts.Makes.{context_same}
 use Rattle.machine.proofs.contexts.Operations.{does, reads_word}
 use Rattle.machine.proofs.contexts.Reading.{loads_next, makes_both, word_or_going}
 use Rattle.machine.proofs.contexts.Seen.{thread_of, within}
@@ -109,7 +109,7 @@ inside_same leads code {a} {b} from at n core same led text valid runs =
     let is : machine_thread k ≡ machine_thread l = ap (λ (z : Option (Attempt Saved)). machine_thread (record k { core = record b.core { attempt = z } })) (sym same) in
     record {
       led = λ s start before h. subst (λ (t : Thread Configuration). leads code s start (before + n) b.loads (record { thread = t; accesses = b.accesses })) is (o.led s start before h);
-      runs = kept_same code k l Running refl (sym same) o.runs;
+      runs = context_same code k l Running refl (sym same) o.runs;
       within = subst (λ (z : Option (Attempt Saved)). AreWithin at (begins_of z)) (sym same) o.within;
     }
 

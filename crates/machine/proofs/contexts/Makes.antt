@@ -55,23 +55,23 @@ module _ (x : Effect Configuration) (o : Op) (q : Matches x o) where
   is_commit (Commit c) att z m t h = commit_tells att z t
   is_commit y att z m t h = refl
 
-  module _ (c : Configuration) (s : Saved) (ss : List Saved) (n : CoreStep Saved) (kept : Saved) where
-    backs_at : (r : Outcome) (b : Option Saved) → n.outcome ≡ r → n.back ≡ b → back_by x r (begin_configuration c kept) ≡ if_some (begin_configuration c) b → back_by x n.outcome (begin_configuration c kept) ≡ if_some (begin_configuration c) n.back
-    backs_at r b e f h = ap (λ (z : Outcome). back_by x z (begin_configuration c kept)) e ∙ h ∙ sym (ap (if_some (begin_configuration c)) f)
+  module _ (c : Configuration) (s : Saved) (ss : List Saved) (n : CoreStep Saved) (saved : Saved) where
+    backs_at : (r : Outcome) (b : Option Saved) → n.outcome ≡ r → n.back ≡ b → back_by x r (begin_configuration c saved) ≡ if_some (begin_configuration c) b → back_by x n.outcome (begin_configuration c saved) ≡ if_some (begin_configuration c) n.back
+    backs_at r b e f h = ap (λ (z : Outcome). back_by x z (begin_configuration c saved)) e ∙ h ∙ sym (ap (if_some (begin_configuration c)) f)
 
-    same_kept : (t : Saved) → n.back ≡ Some t → IfSome n.back (λ z. kept ≡ z) → kept ≡ t
-    same_kept t e h = subst (λ (z : Option Saved). IfSome z (λ w. kept ≡ w)) e h
+    same_saved : (t : Saved) → n.back ≡ Some t → IfSome n.back (λ z. saved ≡ z) → saved ≡ t
+    same_saved t e h = subst (λ (z : Option Saved). IfSome z (λ w. saved ≡ w)) e h
 
     -- what the core set aside is what the step goes back to
-    pub backs : Does s ss o n → IfSome n.back (λ z. kept ≡ z) → back_by x n.outcome (begin_configuration c kept) ≡ if_some (begin_configuration c) n.back
+    pub backs : Does s ss o n → IfSome n.back (λ z. saved ≡ z) → back_by x n.outcome (begin_configuration c saved) ≡ if_some (begin_configuration c) n.back
     backs (goes e f b w) h = backs_at outcome.Going None e f refl
     backs (reads v r lt e f b w) h = backs_at (outcome.Read v) None e f refl
-    backs (works r e f b w) h = backs_at outcome.Done None e f (no_back x (begin_configuration c kept) q (plain_stays o r))
-    backs (begins r e f b w) h = backs_at outcome.Done None e f (no_back x (begin_configuration c kept) q (ap is_cancel r))
-    backs (commits t r e f b w d) h = backs_at outcome.Done None e f (no_back x (begin_configuration c kept) q (ap is_cancel r))
-    backs (cancels inner t r e f b w) h = backs_at outcome.Done (Some t) e f (is_back x (begin_configuration c kept) q (cancels_so o _ _ r) ∙ ap (λ (z : Saved). Some (begin_configuration c z)) (same_kept t f h))
-    backs (drops inner t e f b a) h = backs_at outcome.Aborted (Some t) e f (ap (λ (z : Saved). Some (begin_configuration c z)) (same_kept t f h))
-    backs (releases r e f a) h = backs_at outcome.Done None e f (no_back x (begin_configuration c kept) q (ap is_cancel r))
+    backs (works r e f b w) h = backs_at outcome.Done None e f (no_back x (begin_configuration c saved) q (plain_stays o r))
+    backs (begins r e f b w) h = backs_at outcome.Done None e f (no_back x (begin_configuration c saved) q (ap is_cancel r))
+    backs (commits t r e f b w d) h = backs_at outcome.Done None e f (no_back x (begin_configuration c saved) q (ap is_cancel r))
+    backs (cancels inner t r e f b w) h = backs_at outcome.Done (Some t) e f (is_back x (begin_configuration c saved) q (cancels_so o _ _ r) ∙ ap (λ (z : Saved). Some (begin_configuration c z)) (same_saved t f h))
+    backs (drops inner t e f b a) h = backs_at outcome.Aborted (Some t) e f (ap (λ (z : Saved). Some (begin_configuration c z)) (same_saved t f h))
+    backs (releases r e f a) h = backs_at outcome.Done None e f (no_back x (begin_configuration c saved) q (ap is_cancel r))
 
     events_at : (r : Outcome) → n.outcome ≡ r → event_by x r n.attempt ≡ event_of x r n.completed → event_by x n.outcome n.attempt ≡ event_of x n.outcome n.completed
     events_at r e h = ap (λ (z : Outcome). event_by x z n.attempt) e ∙ h ∙ sym (ap (λ (z : Outcome). event_of x z n.completed) e)
@@ -94,13 +94,13 @@ same_thread a b c d e f g =
     ∙ ap (λ z. record { configuration = b.configuration; attempt = b.attempt; trapping = b.trapping; text = z; status = a.status }) f
     ∙ ap (λ z. record { configuration = b.configuration; attempt = b.attempt; trapping = b.trapping; text = b.text; status = z }) g
 
-pub kept_same : (code : Code) (k l : PlainContext) (s : Status) → k.configuration ≡ l.configuration → k.core.attempt ≡ l.core.attempt → ContextWith code k s → ContextWith code l s
-kept_same code k l Running c a r = record {
+pub context_same : (code : Code) (k l : PlainContext) (s : Status) → k.configuration ≡ l.configuration → k.core.attempt ≡ l.core.attempt → ContextWith code k s → ContextWith code l s
+context_same code k l Running c a r = record {
   stands = subst (λ (z : Configuration). MayStand code z (begins_of l.core.attempt)) c (subst (λ (z : Option (Attempt Saved)). MayStand code k.configuration (begins_of z)) a r.stands);
   words = subst GivesWordsIf a r.words;
 }
-kept_same code k l HasEnded c a r = sym a ∙ r
-kept_same code k l (HasTrapped cause) c a r = sym a ∙ r
+context_same code k l HasEnded c a r = sym a ∙ r
+context_same code k l (HasTrapped cause) c a r = sym a ∙ r
 
 module _ (code : Code) (law : BeginsStayOpen code) where
   -- the thread after an operation's step
@@ -175,6 +175,6 @@ module _ (code : Code) (law : BeginsStayOpen code) where
         record {
           thread = same_thread (machine_thread l) (resume_next (effect code) (machine_thread k) x (core_step_as (begin_configuration c) n)).thread to att z.trapping z.text (z.status ∙ ap (λ (t : Outcome). status_after t x k.status) er) ∙ sym (ap (λ (t : Next Configuration). t.thread) step_is);
           event = ev ∙ sym (ap (λ (t : Next Configuration). t.event) step_is);
-          of = subst (ContextWith code l) (sym st) (kept_same code (record { configuration = resume (effect code) x c n.outcome (if_some (begin_configuration c) n.back); core = record { attempt = n.attempt; asked = None; saved = saved_in c; read_room = 0; write_room = 0 }; trapping = false; text = []; status = status_after n.outcome x Running }) l (status_after n.outcome x Running) (sym to) (sym ea) left.stands);
+          of = subst (ContextWith code l) (sym st) (context_same code (record { configuration = resume (effect code) x c n.outcome (if_some (begin_configuration c) n.back); core = record { attempt = n.attempt; asked = None; saved = saved_in c; read_room = 0; write_room = 0 }; trapping = false; text = []; status = status_after n.outcome x Running }) l (status_after n.outcome x Running) (sym to) (sym ea) left.stands);
           within = subst (λ (t : Configuration). AreWithin t (begins_of l.core.attempt)) (sym to) (subst (λ (t : Option (Attempt Saved)). AreWithin (resume (effect code) x c n.outcome (if_some (begin_configuration c) n.back)) (begins_of t)) (sym ea) left.within);
         }

@@ -8,17 +8,17 @@ use Rattle.norec_core.specs.Cores.{IsComparing, IsStoring}
 use Rattle.machine.specs.Threads.{Thread}
 use Rattle.machine.specs.States.{ComparesNext, StoresNext, ThreadState}
 use Rattle.machine.specs.inner.Contexts.{PlainContext, machine_thread, shown_from}
-use Rattle.machine.proofs.contexts.Committing.{kept_stores}
+use Rattle.machine.proofs.contexts.Committing.{core_is_storing}
 
-kept_compares : (c : Configuration) (time index : ℕ) (o : Option (Attempt Saved)) → IsSomeAnd (shown_from c o) (λ a. IsComparing time index a) → IsSomeAnd o (λ a. IsComparing time index a)
-kept_compares c time index None h = absurd h
-kept_compares c time index (Some a) h = h
+core_is_comparing : (c : Configuration) (time index : ℕ) (o : Option (Attempt Saved)) → IsSomeAnd (shown_from c o) (λ a. IsComparing time index a) → IsSomeAnd o (λ a. IsComparing time index a)
+core_is_comparing c time index None h = absurd h
+core_is_comparing c time index (Some a) h = h
 
 module _ (k : PlainContext) (s : ThreadState) (is : machine_thread k ≡ s.thread) where
   pub no_store : (r : Option ℕ) → IfNone r ((index : ℕ) → IsSomeAnd k.core.attempt (λ a. IsStoring index a) → ⊥) → IfNone r ((index : ℕ) → StoresNext s index → ⊥)
   no_store (Some index) h = tt
-  no_store None h = λ index n. h index (kept_stores k.configuration index k.core.attempt (subst (λ (th : Thread Configuration). IsSomeAnd th.attempt (λ a. IsStoring index a)) (sym is) n.stores))
+  no_store None h = λ index n. h index (core_is_storing k.configuration index k.core.attempt (subst (λ (th : Thread Configuration). IsSomeAnd th.attempt (λ a. IsStoring index a)) (sym is) n.stores))
 
   pub no_comparison : (code : Code) (r : Option (ℕ × ℕ)) → IfNone r ((time index : ℕ) → IsSomeAnd k.core.attempt (λ a. IsComparing time index a) → ⊥) → IfNone r ((time index : ℕ) → ComparesNext code s time index → ⊥)
   no_comparison code (Some at) h = tt
-  no_comparison code None h = λ time index n. h time index (kept_compares k.configuration time index k.core.attempt (subst (λ (th : Thread Configuration). IsSomeAnd th.attempt (λ a. IsComparing time index a)) (sym is) n.compares))
+  no_comparison code None h = λ time index n. h time index (core_is_comparing k.configuration time index k.core.attempt (subst (λ (th : Thread Configuration). IsSomeAnd th.attempt (λ a. IsComparing time index a)) (sym is) n.compares))

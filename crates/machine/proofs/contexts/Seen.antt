@@ -159,12 +159,12 @@ module _ (code : Code) (law : BeginsStayOpen code) where
   within c ss m = all_within c [] ss m
 
   -- what the thread that is shown says of the context that shows it, and back
-  kept_by : (k : PlainContext) (s : Status) → AreWithin k.configuration (begins_of k.core.attempt) → IsStanding code (machine_thread k) s → ContextWith code k s
-  kept_by k Running w r =
+  context_with : (k : PlainContext) (s : Status) → AreWithin k.configuration (begins_of k.core.attempt) → IsStanding code (machine_thread k) s → ContextWith code k s
+  context_with k Running w r =
       let same = same_begins k.configuration (begins_of k.core.attempt) r.saved w (within k.configuration r.saved r.stands) (sym (begins_shown (begin_configuration k.configuration) k.core.attempt) ∙ r.begins) in
       record { stands = subst (MayStand code k.configuration) (sym same) r.stands; words = words_in_context (begin_configuration k.configuration) k.core.attempt r.words }
-  kept_by k HasEnded w r = none_shown (begin_configuration k.configuration) k.core.attempt r
-  kept_by k (HasTrapped cause) w r = none_shown (begin_configuration k.configuration) k.core.attempt r
+  context_with k HasEnded w r = none_shown (begin_configuration k.configuration) k.core.attempt r
+  context_with k (HasTrapped cause) w r = none_shown (begin_configuration k.configuration) k.core.attempt r
 
 shown_by : (code : Code) (k : PlainContext) (s : Status) → ContextWith code k s → IsStanding code (machine_thread k) s
 shown_by code k Running r = record {
@@ -177,8 +177,8 @@ shown_by code k HasEnded r = ap (shown_from k.configuration) r
 shown_by code k (HasTrapped cause) r = ap (shown_from k.configuration) r
 
 -- of a whole thread
-pub kept_of : (code : Code) (k : PlainContext) → AreWithin k.configuration (begins_of k.core.attempt) → IsThreadOf code (machine_thread k) → IsContextOf code k
-kept_of code k w t = kept_by code (begins_stay_open code t.valid) k k.status w t.stands
+pub context_of : (code : Code) (k : PlainContext) → AreWithin k.configuration (begins_of k.core.attempt) → IsThreadOf code (machine_thread k) → IsContextOf code k
+context_of code k w t = context_with code (begins_stay_open code t.valid) k k.status w t.stands
 
 pub thread_of : (code : Code) → IsValid code → (k : PlainContext) → IsContextOf code k → IsThreadOf code (machine_thread k)
 thread_of code valid k r = record { valid = valid; stands = shown_by code k k.status r }

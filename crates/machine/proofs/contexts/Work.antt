@@ -19,7 +19,7 @@ use Rattle.machine.specs.Standing.{begins_of, GivesWordsIf}
 use Rattle.norec_core.specs.Saved.{attempt_as}
 use Rattle.machine.specs.inner.Contexts.{PlainContext, shown_from, machine_thread, AreWithin, RunsInContext, ContextWith, Makes}
 use Rattle.machine.proofs.contexts.Seen.{agree, within}
-use Rattle.machine.proofs.contexts.Makes.{same_thread, kept_same}
+use Rattle.machine.proofs.contexts.Makes.{same_thread, context_same}
 
 abbrev traps_of : Trap → Effect Configuration
 traps_of cause = Traps cause
@@ -72,7 +72,7 @@ module _ (code : Code) (law : BeginsStayOpen code) (k : PlainContext) (y : Answe
       record {
         thread = same_thread (machine_thread l) (record th { trapping = b; status = s }) cl att tl xl sl ∙ sym ne;
         event = sym ee;
-        of = subst (ContextWith code l) (sym sl) (kept_same code k l s (sym cl) (sym al) o);
+        of = subst (ContextWith code l) (sym sl) (context_same code k l s (sym cl) (sym al) o);
         within = subst (λ (z : Configuration). AreWithin z (begins_of l.core.attempt)) (sym cl) (subst (λ (z : Option (Attempt Saved)). AreWithin c (begins_of z)) (sym al) (within code law c (begins_of k.core.attempt) stand));
       }
 

@@ -76,8 +76,8 @@ module _ {C : Type 0} (code : C → Effect C) (bounds : List ℕ) (init : ℕ �
       at None e = (h, v)
       at (Some p) e =
           let a = access code p.thread in
-          let kept = part_step code bounds t (init t) h w.words fits v.history p (v.parts t p e) in
-          let moved = subst (λ l. StepOk code bounds t (init t) h (lock_after l a) (words_after w.words a) (part_after w.words p (step_with code p.thread (answer l w.words a)))) (sym v.lock) kept in
+          let made = part_step code bounds t (init t) h w.words fits v.history p (v.parts t p e) in
+          let moved = subst (λ l. StepOk code bounds t (init t) h (lock_after l a) (words_after w.words a) (part_after w.words p (step_with code p.thread (answer l w.words a)))) (sym v.lock) made in
           (moved.after, changed w h t p (part_after w.words p (step_with code p.thread (answer w.lock w.words a))) (lock_after w.lock a) (words_after w.words a) e v moved)
 
   -- any list of steps

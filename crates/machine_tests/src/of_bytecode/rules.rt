@@ -630,7 +630,7 @@ fn of_array(alloc: Global, length: u32) -> Option<bool> {
 }
 
 #[test]
-fn limits_are_kept(rt: HostRuntime) {
+fn limits_are_obeyed(rt: HostRuntime) {
     assert_none(&rt, has_another(rt.alloc(), widths()));
     // the variable is one cell
     let most = of_array(rt.alloc(), MOST_CELLS as u32 - 1);

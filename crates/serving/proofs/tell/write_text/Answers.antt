@@ -1,6 +1,6 @@
 use Rattle.std.proofs.Common.{◌≤◌, length, take, subst, sym}
 use Rattle.std.specs.Io.KnownBytes.{Appends}
-use Rattle.serving.proofs.Parts.{part_kept, part_more, part_within}
+use Rattle.serving.proofs.Parts.{part_unchanged, part_more, part_within}
 use Rattle.serving.proofs.tell.write_text.Goals as goal
 use Rattle.serving.proofs.tell.write_text.Goals.{in-Ok, in-Err+else-ne}
 
@@ -18,6 +18,6 @@ turns-preserved g c = elim c.match-write.branch [
       let was = c.turns.invariant in
       record {
         within = subst (λ n. n ≤ length text) (sym w.written-is) was.within;
-        appended = subst (λ n. Appends (g.W.Write.contents c.args.out.now) (g.W.Write.contents c.write.new.self) (take n text)) (sym w.written-is) (part_kept _ _ _ _ was.appended w.in-Err.ensures.bytes);
+        appended = subst (λ n. Appends (g.W.Write.contents c.args.out.now) (g.W.Write.contents c.write.new.self) (take n text)) (sym w.written-is) (part_unchanged _ _ _ _ was.appended w.in-Err.ensures.bytes);
       }
 ]

@@ -4,7 +4,7 @@ use Rattle.frames.specs.declared.doing.Doing.TheVariants as doing
 use Rattle.frames.proofs.Keeping.{begins_stay_open}
 use Rattle.machine.proofs.contexts.Calls.{runs_of, saved_same}
 use Rattle.machine.proofs.contexts.Committing.{begin_access}
-use Rattle.machine.proofs.contexts.Makes.{kept_same}
+use Rattle.machine.proofs.contexts.Makes.{context_same}
 use Rattle.machine.specs.States.{StandsAt, ThreadState}
 use Rattle.machine.specs.inner.Contexts.{context_of, shown_from}
 use Rattle.std.specs.Prelude.{◌<◌, ℕ, List, length}
@@ -30,7 +30,7 @@ returns-in-Running-clause-access g c = λ made.
     let l = record k { core = c.prepare_begin.new.self } in
     let runs = runs_of c.args.code.now k c.args.self.now.thread (ap (λ (s : ThreadState). s.thread) c.self.view_is) c.self.invariant c.in-Running.is c.requires.of in
     let tells = subst (λ (s : ThreadState). StandsAt c.args.code.now s (doing.Begin c.args.to)) (sym c.self.view_is) c.requires.stands c.in-Running.is in
-    begin_access c.args.code.now law l c.args.to c.in-Running.is (kept_same c.args.code.now k l Running refl (sym c.prepare_begin.ensures.attempt) runs) tells (c.prepare_begin.ensures.none made)
+    begin_access c.args.code.now law l c.args.to c.in-Running.is (context_same c.args.code.now k l Running refl (sym c.prepare_begin.ensures.attempt) runs) tells (c.prepare_begin.ensures.none made)
 
 pub returns-in-Running-clause-full : goal.returns-in-Running-clause-full
 returns-in-Running-clause-full g c = λ made runs none.

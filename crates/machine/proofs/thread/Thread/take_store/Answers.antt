@@ -3,7 +3,7 @@ use Rattle.std.specs.Prelude.{IsSomeAnd}
 use Rattle.norec_core.specs.Cores.{IsStoring}
 use Rattle.norec_core.specs.declared.step.Answer.TheVariants.{Done}
 use Rattle.machine.proofs.contexts.Calls.{runs_of}
-use Rattle.machine.proofs.contexts.Committing.{kept_stores}
+use Rattle.machine.proofs.contexts.Committing.{core_is_storing}
 use Rattle.machine.proofs.contexts.Seen.{thread_of}
 use Rattle.machine.specs.States.{ThreadState}
 use Rattle.machine.specs.inner.Contexts.{context_of}
@@ -17,7 +17,7 @@ take_store-event-requires-clause-runs g c =
 
 pub take_store-event-requires-clause-stores : goal.take_store-event-requires-clause-stores
 take_store-event-requires-clause-stores g c =
-    kept_stores c.self.inside.context.frames.configuration c.args.index c.self.inside.context.core.attempt
+    core_is_storing c.self.inside.context.frames.configuration c.args.index c.self.inside.context.core.attempt
     (subst (λ (s : ThreadState). IsSomeAnd s.thread.attempt (λ a. IsStoring c.args.index a)) (sym c.self.view_is) c.requires.stores.stores)
 
 pub returns-clause-of : goal.returns-clause-of

@@ -3,7 +3,7 @@ use mir.Val.{Fits}
 use Rattle.std.proofs.Common.{◌≡◌, ◌<◌, ◌≤◌, ◌+◌, ◌^◌, ◌∙◌, ℕ, List, [], ◌∷◌, ◌++◌, Some, refl, sym, ap, subst, slice_get, length, arith}
 use Rattle.std.proofs.lemmas.Option.{slice_get_read}
 use Rattle.world.specs.Simulations.{IsExplained, Simulation, further, shown_at, stops_at}
-use Rattle.world.proofs.Stepping.{after_is, explained, kept, kept_is, never, of_code, ready_count, ready_counts, ready_shown, ready_fits, ready_makeable, ready_of, ready_word, stepped_now, stops_is, used_up_by}
+use Rattle.world.proofs.Stepping.{after_is, explained, same_world, same_simulation, never, of_code, ready_count, ready_counts, ready_shown, ready_fits, ready_makeable, ready_of, ready_word, stepped_now, stops_is, used_up_by}
 use Rattle.world.proofs.world.World.step_shown.Goals as goal
 
 room_for : (len now items cap : ℕ) → len + 1 ≤ cap → len ≡ now → cap < 2 ^ 63 → now ≡ items → items + 1 < 2 ^ 64
@@ -22,13 +22,13 @@ pub invariant_of-self : goal.invariant_of-self
 invariant_of-self g c =
     let s : Simulation = record { code = c.self.inside.code; threads = length c.self.inside.threads.items; trace = c.self.inside.trace.items } in
     let here : slice_get c.self.inside.threads.items c.args.t ≡ Some c.index_mut-thread.result.now = slice_get_read c.self.inside.threads.items (length c.self.inside.threads.items) c.args.t c.index_mut-thread.result.now refl (subst (λ (v : Simulation). c.args.t < v.threads) (sym c.self.view_is) c.requires) c.index_mut-thread.ensures.value in
-    kept s c.self.inside.lock c.self.inside.words.items c.self.inside.threads.items c.self.inside.accesses c.self.invariant c.args.t c.index_mut-thread.result.now here c.prepare.new.self c.prepare.ensures.thread c.prepare.ensures.accesses c.self.inside.trace.items refl
+    same_world s c.self.inside.lock c.self.inside.words.items c.self.inside.threads.items c.self.inside.accesses c.self.invariant c.args.t c.index_mut-thread.result.now here c.prepare.new.self c.prepare.ensures.thread c.prepare.ensures.accesses c.self.inside.trace.items refl
 
 pub returns-in-Err-clause-err : goal.returns-in-Err-clause-err
 returns-in-Err-clause-err g c =
     let s : Simulation = record { code = c.self.inside.code; threads = length c.self.inside.threads.items; trace = c.self.inside.trace.items } in
     let here : slice_get c.self.inside.threads.items c.args.t ≡ Some c.index_mut-thread.result.now = slice_get_read c.self.inside.threads.items (length c.self.inside.threads.items) c.args.t c.index_mut-thread.result.now refl (subst (λ (v : Simulation). c.args.t < v.threads) (sym c.self.view_is) c.requires) c.index_mut-thread.ensures.value in
-    kept_is s c.self.inside.lock c.self.inside.words.items c.self.inside.threads.items c.self.inside.accesses c.self.invariant c.args.t c.index_mut-thread.result.now here c.prepare.new.self c.prepare.ensures.thread c.prepare.ensures.accesses c.self.inside.trace.items refl ∙ c.self.view_is
+    same_simulation s c.self.inside.lock c.self.inside.words.items c.self.inside.threads.items c.self.inside.accesses c.self.invariant c.args.t c.index_mut-thread.result.now here c.prepare.new.self c.prepare.ensures.thread c.prepare.ensures.accesses c.self.inside.trace.items refl ∙ c.self.view_is
 
 pub returns-in-Err-clause-used_up : goal.returns-in-Err-clause-used_up
 returns-in-Err-clause-used_up g c =
@@ -40,7 +40,7 @@ pub returns-in-Err-clause-explained : goal.returns-in-Err-clause-explained
 returns-in-Err-clause-explained g c =
     let s : Simulation = record { code = c.self.inside.code; threads = length c.self.inside.threads.items; trace = c.self.inside.trace.items } in
     let here : slice_get c.self.inside.threads.items c.args.t ≡ Some c.index_mut-thread.result.now = slice_get_read c.self.inside.threads.items (length c.self.inside.threads.items) c.args.t c.index_mut-thread.result.now refl (subst (λ (v : Simulation). c.args.t < v.threads) (sym c.self.view_is) c.requires) c.index_mut-thread.ensures.value in
-    subst IsExplained (sym (kept_is s c.self.inside.lock c.self.inside.words.items c.self.inside.threads.items c.self.inside.accesses c.self.invariant c.args.t c.index_mut-thread.result.now here c.prepare.new.self c.prepare.ensures.thread c.prepare.ensures.accesses c.self.inside.trace.items refl)) (explained s c.self.inside.lock c.self.inside.words.items c.self.inside.threads.items c.self.inside.accesses c.self.invariant)
+    subst IsExplained (sym (same_simulation s c.self.inside.lock c.self.inside.words.items c.self.inside.threads.items c.self.inside.accesses c.self.invariant c.args.t c.index_mut-thread.result.now here c.prepare.new.self c.prepare.ensures.thread c.prepare.ensures.accesses c.self.inside.trace.items refl)) (explained s c.self.inside.lock c.self.inside.words.items c.self.inside.threads.items c.self.inside.accesses c.self.invariant)
 
 pub make-answer-requires : goal.make-answer-requires
 make-answer-requires g c =
@@ -116,7 +116,7 @@ pub invariant_of-self-in_default : goal.invariant_of-self-in_default
 invariant_of-self-in_default g c =
     let s : Simulation = record { code = c.self.inside.code; threads = length c.self.inside.threads.items; trace = c.self.inside.trace.items } in
     let here : slice_get c.self.inside.threads.items c.args.t ≡ Some c.index_mut-thread.result.now = slice_get_read c.self.inside.threads.items (length c.self.inside.threads.items) c.args.t c.index_mut-thread.result.now refl (subst (λ (v : Simulation). c.args.t < v.threads) (sym c.self.view_is) c.requires) c.index_mut-thread.ensures.value in
-    kept s c.self.inside.lock c.self.inside.words.items c.self.inside.threads.items c.self.inside.accesses c.self.invariant c.args.t c.index_mut-thread.result.now here c.prepare.new.self c.prepare.ensures.thread c.prepare.ensures.accesses c.reserve.new.self.items c.reserve.ensures.items
+    same_world s c.self.inside.lock c.self.inside.words.items c.self.inside.threads.items c.self.inside.accesses c.self.invariant c.args.t c.index_mut-thread.result.now here c.prepare.new.self c.prepare.ensures.thread c.prepare.ensures.accesses c.reserve.new.self.items c.reserve.ensures.items
 
 pub returns-in_default-clause-used_up : goal.returns-in_default-clause-used_up
 returns-in_default-clause-used_up g c =
@@ -128,4 +128,4 @@ pub returns-in_default-clause-explained : goal.returns-in_default-clause-explain
 returns-in_default-clause-explained g c =
     let s : Simulation = record { code = c.self.inside.code; threads = length c.self.inside.threads.items; trace = c.self.inside.trace.items } in
     let here : slice_get c.self.inside.threads.items c.args.t ≡ Some c.index_mut-thread.result.now = slice_get_read c.self.inside.threads.items (length c.self.inside.threads.items) c.args.t c.index_mut-thread.result.now refl (subst (λ (v : Simulation). c.args.t < v.threads) (sym c.self.view_is) c.requires) c.index_mut-thread.ensures.value in
-    subst IsExplained (sym (kept_is s c.self.inside.lock c.self.inside.words.items c.self.inside.threads.items c.self.inside.accesses c.self.invariant c.args.t c.index_mut-thread.result.now here c.prepare.new.self c.prepare.ensures.thread c.prepare.ensures.accesses c.reserve.new.self.items c.reserve.ensures.items)) (explained s c.self.inside.lock c.self.inside.words.items c.self.inside.threads.items c.self.inside.accesses c.self.invariant)
+    subst IsExplained (sym (same_simulation s c.self.inside.lock c.self.inside.words.items c.self.inside.threads.items c.self.inside.accesses c.self.invariant c.args.t c.index_mut-thread.result.now here c.prepare.new.self c.prepare.ensures.thread c.prepare.ensures.accesses c.reserve.new.self.items c.reserve.ensures.items)) (explained s c.self.inside.lock c.self.inside.words.items c.self.inside.threads.items c.self.inside.accesses c.self.invariant)

@@ -167,8 +167,8 @@ fn push_again(items: &mut Items<u32, &Refusing<Global>>, item: u32) -> Option<bo
     if items.push(item) != Err(AllocError) {
         return Some(false);
     }
-    let kept = items.len() == item as usize;
-    (kept && items.push(item).is_ok()).then_some(true)
+    let unchanged = items.len() == item as usize;
+    (unchanged && items.push(item).is_ok()).then_some(true)
 }
 
 /// Pushes 100 items, the next growth refused before each, and says whether one was.
