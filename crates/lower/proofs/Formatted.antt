@@ -1,4 +1,4 @@
--- The code of a format, unit by unit.
+-- The code of a format, directive by directive.
 use Rattle.std.proofs.Common.{◌≡◌, ℕ, ◌+◌, ◌<◌, ◌≤◌, List, [], ◌∷◌, ◌++◌, length, drop, get_or, Ok, refl, sym, ap, ◌∙◌, append_assoc}
 use Rattle.std.proofs.lemmas.List.{drop_more, drop_all}
 use Rattle.lex.specs.declared.token.Scalar.{Scalar}

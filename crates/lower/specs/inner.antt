@@ -1,6 +1,6 @@
 -- with which constants the loops of a function compute, as it is found out
 pub mod Looped
--- formats, unit by unit
+-- formats, directive by directive
 pub mod Formats
 -- why no code is made of a part
 pub mod Parts

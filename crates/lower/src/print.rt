@@ -15,7 +15,7 @@ use lower_exprs::fault::Failure;
 use lower_exprs::lists::Lists;
 use lower_exprs::put::{after, put};
 use std::alloc::{AllocError, Allocator};
-use syntax::format::{FormatUnit, unit_at};
+use syntax::format::{FormatDirective, directive_at};
 
 /// The instruction that prints a number.
 fn printing(ty: Scalar, r: u16) -> Instr
@@ -115,14 +115,14 @@ pub(crate) fn put_pieces<A: Allocator + Copy>(
     let mut to = from;
     let mut k = 0;
     let mut i = 0;
-    'units: while i < format.len() {
-        match unit_at(format, i) {
-            FormatUnit::Byte(c, next) => {
+    'directives: while i < format.len() {
+        match directive_at(format, i) {
+            FormatDirective::Byte(c, next) => {
                 add_byte(&mut bytes, c)?;
                 i = next;
                 continue;
             }
-            FormatUnit::Specifier(ty, next) => {
+            FormatDirective::Specifier(ty, next) => {
                 if k >= registers.len() {
                     return put_text(lists, code, bytes, to);
                 }

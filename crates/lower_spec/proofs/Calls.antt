@@ -30,7 +30,7 @@ use Rattle.lower_spec.specs.Statements.{locals_at_end}
 use Rattle.lower_spec.specs.Programs.{parameter_locals, no_exits, ConstantsCode, FunctionIsLowered, IsLowered}
 use Rattle.lower_spec.specs.Means.{MeansItsProgram}
 use Rattle.lower_spec.proofs.Agreement.{Agrees, NeverAstray, astray, same, fewer, shown, over}
-use Rattle.lower_spec.proofs.Runs.{Around, Bare, Shared, context_of, holding, state, IsSeen, on_seen, KnownCells, HasCellsOf, AreMemories, IsGood, registers_in, Holds, configuration, effect_at, goes_by, traps, less, all}
+use Rattle.lower_spec.proofs.Runs.{Around, Bare, Shared, context_of, sequential_state, state, IsSeen, on_seen, KnownCells, HasCellsOf, AreMemories, IsGood, registers_in, HasLocals, configuration, effect_at, goes_by, traps, less, all}
 use Rattle.lower_spec.proofs.Conversions.{conversions, truth_converted}
 use Rattle.lower_spec.proofs.Expressions.{CallsFollow, handed}
 use Rattle.lower_spec.proofs.Locals.{AreWords, length_like}
@@ -173,8 +173,8 @@ is_set r (x ∷ ws) rs (suc k) w i at e h =
     let len : length (slice_set rs r x) ≡ length rs = length-set rs r x in
     is_set (suc r) ws (slice_set rs r x) k w i (omega (arith, at)) e (omega (arith, h, len))
 
-entered_holds : (g : FunctionCode) (layout : Layout) (qs : List Parameter) (vs : List Value) (ls : List Local) → Entered qs vs ls → g.parameters ≡ length qs → length qs ≤ layout.writable → g.registers ≡ registers_in layout → Holds (parameter_locals qs) ls layout (length (parameter_locals qs)) (set_from layout.writable layout.constants (first_registers g (argument_order qs (words_for qs vs))))
-entered_holds g layout qs vs ls h n fits all =
+entered_has_locals : (g : FunctionCode) (layout : Layout) (qs : List Parameter) (vs : List Value) (ls : List Local) → Entered qs vs ls → g.parameters ≡ length qs → length qs ≤ layout.writable → g.registers ≡ registers_in layout → HasLocals (parameter_locals qs) ls layout (length (parameter_locals qs)) (set_from layout.writable layout.constants (first_registers g (argument_order qs (words_for qs vs))))
+entered_has_locals g layout qs vs ls h n fits all =
     let ws : List ℕ = words_for qs vs in
     let zeros : List ℕ = replicate (g.registers - g.parameters) 0 in
     let old : List ℕ = first_registers g (argument_order qs ws) in
@@ -219,7 +219,7 @@ module _ (p : Program) (code : Code) (are : HasCellsOf code p) where
   abbrev GoesReturn : ℕ → ℕ → (a : Around) → (Answer Value → Outcome) → List Local → List Frame → Option Scalar → Type 0
   GoesReturn N K a after ls frames u =
       (v : Value) (sh : Shared) (text : List ℕ) (rs : List ℕ) (q : ℕ) (r : Option ℕ) → InstructionAt code q (Instr.Return r) → word_in r rs ≡ v.word → v.ty ≡ unwrap_or u Int → v.word < modulus v.ty → IsGood code a sh →
-      Agrees (effect code) N K (holding a sh text (configuration code q rs frames)) (λ n. after (Gives v (state n ls (context_of a sh) text)))
+      Agrees (effect code) N K (sequential_state a sh text (configuration code q rs frames)) (λ n. after (Gives v (state n ls (context_of a sh) text)))
 
   -- what follows a body
   abbrev leaving : List Local → Option Scalar → Completion → Action Value
@@ -227,7 +227,7 @@ module _ (p : Program) (code : Code) (are : HasCellsOf code p) where
 
   body_ends : (N K : ℕ) (layout : Layout) (a : Around) (ls : List Local) (frames : List Frame) (u : Option Scalar) (after : Answer Value → Outcome) (scope later : LocalScope) (last : ℕ) → InstructionAt code last (Instr.Return None) → IsSeen a after → GoesReturn N K a after ls frames u →
       (end : Completion) (sh : Shared) (text : List ℕ) (ls1 : List Local) (rs : List ℕ) (q : ℕ) → IsGood code a sh → ArrivedAt p code layout (no_exits u) (HereAt p code layout later) (MoreAt p code layout scope) last end q ls1 rs →
-      Agrees (effect code) N K (holding a sh text (configuration code q rs frames)) (λ n. after (go_on (Gives end (state n ls1 (context_of a sh) text)) (leaving ls u)))
+      Agrees (effect code) N K (sequential_state a sh text (configuration code q rs frames)) (λ n. after (go_on (Gives end (state n ls1 (context_of a sh) text)) (leaving ls u)))
   body_ends N K layout a ls frames u after scope later last i s go Next sh text ls1 rs q good arrived =
       go (value_in_type (unwrap_or u Int) (flag false)) sh text rs q None (subst (λ y. InstructionAt code y (Instr.Return None)) (sym arrived.0) i) (sym (ap (λ (v : Value). v.word) (truth_converted Int (unwrap_or u Int) false))) refl (word_below (unwrap_or u Int) (number_of (flag false))) good
   body_ends N K layout a ls frames u after scope later last i s go Breaks sh text ls1 rs q good arrived = astray (effect code) 0 (s.astray _)
@@ -238,8 +238,8 @@ module _ (p : Program) (code : Code) (are : HasCellsOf code p) where
   body_ends N K layout a ls frames u after scope later last i s go CancelsOuter sh text ls1 rs q good arrived = absurd arrived
 
   -- the constants are set
-  constants_run : {N K : ℕ} (ws : List ℕ) (r from to : ℕ) (a : Around) (sh : Shared) (text rs : List ℕ) (frames : List Frame) {does : ℕ → Outcome} → ConstantsCode code r ws from to → Agrees (effect code) N K (holding a sh text (configuration code to (set_from r ws rs) frames)) does → Agrees (effect code) N K (holding a sh text (configuration code from rs frames)) does
-  constants_run {N = N} {K = K} [] r from to a sh text rs frames {does = does} c go = subst (λ q. Agrees (effect code) N K (holding a sh text (configuration code q rs frames)) does) c go
+  constants_run : {N K : ℕ} (ws : List ℕ) (r from to : ℕ) (a : Around) (sh : Shared) (text rs : List ℕ) (frames : List Frame) {does : ℕ → Outcome} → ConstantsCode code r ws from to → Agrees (effect code) N K (sequential_state a sh text (configuration code to (set_from r ws rs) frames)) does → Agrees (effect code) N K (sequential_state a sh text (configuration code from rs frames)) does
+  constants_run {N = N} {K = K} [] r from to a sh text rs frames {does = does} c go = subst (λ q. Agrees (effect code) N K (sequential_state a sh text (configuration code q rs frames)) does) c go
   constants_run (w ∷ ws) r from to a sh text rs frames c go =
       goes_by code a sh text (configuration code from rs frames) (configuration code (suc from) (slice_set rs r w) frames) (effect_at code from (Instr.Constant r w) rs frames c.0)
       (constants_run ws (suc r) (suc from) to a sh text (slice_set rs r w) frames c.1 go)
@@ -247,12 +247,12 @@ module _ (p : Program) (code : Code) (are : HasCellsOf code p) where
   body_goes : (k : ℕ) (frames : List Frame) (layout : Layout) (cf : CallsFollow p (calls p k) code layout frames) (N K : ℕ) (a : Around) (ls : List Local) (u : Option Scalar) (after : Answer Value → Outcome) (scope later : LocalScope) (last : ℕ) → InstructionAt code last (Instr.Return None) → IsSeen a after → GoesReturn N K a after ls frames u → GoesByCompletion p (calls p k) code layout frames cf are N K a (λ q. after (go_on q (leaving ls u))) (no_exits u) (HereAt p code layout later) (MoreAt p code layout scope) last
   body_goes k frames layout cf N K a ls u after scope later last i s go = record { ends = body_ends N K layout a ls frames u after scope later last i s go; outer = tt }
 
-  body_follows : (k : ℕ) (frames : List Frame) (g : FunctionCode) (f : Function) (body : Stmts) → (c : FunctionIsLowered p code g f body) → CallsFollow p (calls p k) code c.layout frames → (N K : ℕ) (vs : List Value) (rs : List ℕ) (o : Option (List Local)) → EnteredSo f.parameters vs o → (length vs ≡ length f.parameters → rs ≡ first_registers g (argument_order f.parameters (words_for f.parameters vs))) → (a : Around) (sh : Shared) (text : List ℕ) (ls : List Local) (after : Answer Value → Outcome) → IsGood code a sh → IsSeen a after → GoesReturn N K a after ls frames f.result → Agrees (effect code) N K (holding a sh text (configuration code g.first rs frames)) (λ n. after (go_on (or_astray o (state n ls (context_of a sh) text)) (λ mine. locals >>= λ outer. put_locals mine >> (stmts p (calls p k) body >>= leaving outer f.result))))
+  body_follows : (k : ℕ) (frames : List Frame) (g : FunctionCode) (f : Function) (body : Stmts) → (c : FunctionIsLowered p code g f body) → CallsFollow p (calls p k) code c.layout frames → (N K : ℕ) (vs : List Value) (rs : List ℕ) (o : Option (List Local)) → EnteredSo f.parameters vs o → (length vs ≡ length f.parameters → rs ≡ first_registers g (argument_order f.parameters (words_for f.parameters vs))) → (a : Around) (sh : Shared) (text : List ℕ) (ls : List Local) (after : Answer Value → Outcome) → IsGood code a sh → IsSeen a after → GoesReturn N K a after ls frames f.result → Agrees (effect code) N K (sequential_state a sh text (configuration code g.first rs frames)) (λ n. after (go_on (or_astray o (state n ls (context_of a sh) text)) (λ mine. locals >>= λ outer. put_locals mine >> (stmts p (calls p k) body >>= leaving outer f.result))))
   body_follows k frames g f body c cf N K vs rs None h e a sh text ls after good s go = astray (effect code) 0 (s.astray _)
   body_follows k frames g f body c cf N K vs rs (Some mine) h e a sh text ls after good s go =
       constants_run c.layout.constants c.layout.writable g.first c.begins a sh text rs frames c.sets
       (stmts_follow p (calls p k) code c.layout frames cf are (turns_fall k c.layout frames cf) body N K (no_exits f.result) (parameter_locals f.parameters) c.begins c.last a sh text mine (set_from c.layout.writable c.layout.constants rs) (λ q. after (go_on q (leaving ls f.result))) c.runs
-      (subst (λ xs. Holds (parameter_locals f.parameters) mine c.layout (length (parameter_locals f.parameters)) (set_from c.layout.writable c.layout.constants xs)) (sym (e h.count)) (entered_holds g c.layout f.parameters vs mine h c.parameters c.fits c.registers)) good (on_seen a after (leaving ls f.result) s)
+      (subst (λ xs. HasLocals (parameter_locals f.parameters) mine c.layout (length (parameter_locals f.parameters)) (set_from c.layout.writable c.layout.constants xs)) (sym (e h.count)) (entered_has_locals g c.layout f.parameters vs mine h c.parameters c.fits c.registers)) good (on_seen a after (leaving ls f.result) s)
       (body_goes k frames c.layout cf N K a ls f.result after (parameter_locals f.parameters) (locals_at_end body (parameter_locals f.parameters)) c.last c.returns s go))
 
   -- calls, with so many further frames to come
@@ -287,7 +287,7 @@ module _ (p : Program) (code : Code) (are : HasCellsOf code p) where
         (go v sh1 text1 of_v below_v good1))))
 
     -- the worker's return ends the thread: its tick and the instruction are one
-    ends : {N K : ℕ} (c : Configuration) (founds lefts : List Memory) (text : List ℕ) (ls : List Local) (memory : Memory) (kept : Bool) → effect code c ≡ Effect.End → Agrees (effect code) N K (holding Bare (record { founds = founds; lefts = lefts; memory = memory; kept = kept }) text c) (λ n. outcome_of (tick (state n ls (Outside founds lefts) text)))
+    ends : {N K : ℕ} (c : Configuration) (founds lefts : List Memory) (text : List ℕ) (ls : List Local) (memory : Memory) (kept : Bool) → effect code c ≡ Effect.End → Agrees (effect code) N K (sequential_state Bare (record { founds = founds; lefts = lefts; memory = memory; kept = kept }) text c) (λ n. outcome_of (tick (state n ls (Outside founds lefts) text)))
     ends {N = N} {K = K} c founds lefts text ls memory kept e =
         fewer (effect code) (less code N) (less code K)
         (shown (effect code) (λ n. record { lefts = lefts; text = text; end = Ended }) (ap (λ x. sequential_step (outside c founds lefts text Running) false Running None x) e) refl (λ n. refl)

@@ -36,7 +36,7 @@ use Rattle.lower_spec.specs.Expressions.{ValueTransactionCode, LocalScope, IsLik
 use Rattle.lower_spec.proofs.Locals.{word_typed, type_like, KnownLocal, newest_known}
 use Rattle.lower_spec.proofs.Conversions.{unconverted, truth_under, truth_converted, zero_in, zero_preserved, operated_below}
 use Rattle.lower_spec.proofs.Agreement.{Agrees, astray, same, fewer}
-use Rattle.lower_spec.proofs.Runs.{Enters, enters, Transactions, with_inner, outermost_alone, begins_inner, begins_outermost, wants_one, commits_inner, leaves_outermost, next_commit, IsBounded, AreBounded, KnownCells, HasCellsOf, AreMemories, Around, Bare, Within, Shared, context_of, holding, state, IsSeen, on_seen, IsGood, registers_in, Holds, Keeps, keeps_all, keeps_more, keeps_set, keeps_on, unchanged_at, holds_on, configuration, effect_at, goes, goes_by, reads_by, word_read, tick_goes, traps}
+use Rattle.lower_spec.proofs.Runs.{Enters, enters, Transactions, with_inner, outermost_alone, begins_inner, begins_outermost, wants_one, commits_inner, leaves_outermost, next_commit, IsBounded, AreBounded, KnownCells, HasCellsOf, AreMemories, Around, Bare, Within, Shared, context_of, sequential_state, state, IsSeen, on_seen, IsGood, registers_in, HasLocals, Keeps, keeps_all, keeps_more, keeps_set, keeps_on, unchanged_at, has_locals_on, configuration, effect_at, goes, goes_by, reads_by, word_read, tick_goes, traps}
 
 complement_below : (t : Scalar) (w : ℕ) → bitwise_complement t w < modulus t
 complement_below Int w = omega arith
@@ -92,11 +92,11 @@ module _ (p : Program) (call : Caller) (code : Code) (layout : Layout) (frames :
   -- the thread goes on from there as the source does
   abbrev pub GoesOn : ℕ → ℕ → (a : Around) → (Answer Value → Outcome) → List Local → (to : ℕ) → Option ℕ → (free r : ℕ) → Scalar → List ℕ → Type 0
   GoesOn N K a after ls to home free r t old =
-      (v : Value) (sh : Shared) (text : List ℕ) (new : List ℕ) → Computed a t r home free old v sh new → Agrees (effect code) N K (holding a sh text (configuration code to new frames)) (λ n. after (Gives v (state n ls (context_of a sh) text)))
+      (v : Value) (sh : Shared) (text : List ℕ) (new : List ℕ) → Computed a t r home free old v sh new → Agrees (effect code) N K (sequential_state a sh text (configuration code to new frames)) (λ n. after (Gives v (state n ls (context_of a sh) text)))
 
   -- from a place on, the thread does what the source does
   abbrev pub Does : ℕ → ℕ → Around → Shared → List ℕ → List Local → ℕ → List ℕ → (State → Outcome) → Type 0
-  Does N K a sh text ls from registers does = Agrees (effect code) N K (holding a sh text (configuration code from registers frames)) (λ n. does (state n ls (context_of a sh) text))
+  Does N K a sh text ls from registers does = Agrees (effect code) N K (sequential_state a sh text (configuration code from registers frames)) (λ n. does (state n ls (context_of a sh) text))
 
   -- a word is set in a register
   arrives : (a : Around) (sh : Shared) (home : Option ℕ) (free r w : ℕ) (t : Scalar) (old rs : List ℕ) → MayTake home free r → r < layout.writable → length rs ≡ registers_in layout → w < modulus t → Keeps layout home free old rs → IsGood code a sh → Computed a t r home free old (record { ty = t; word = w }) sh (slice_set rs r w)
@@ -127,20 +127,20 @@ module _ (p : Program) (call : Caller) (code : Code) (layout : Layout) (frames :
       (go_at (Within h) after ls to (suc q) home free r t u old c.to_is c.type_is go (record { ty = u; word = w }) sh text (slice_set rs r w) (arrives (Within h) sh home free r w u old rs c.takes c.register len (word_read code sh.memory cell u g.0 bounded) k g))
 
   -- a register is set, and the thread goes on from the place behind
-  pub set_on : {N K : ℕ} (i : Instr) (w : ℕ) (u : Scalar) (a : Around) (sh : Shared) (text : List ℕ) (does : ℕ → Outcome) (q to : ℕ) (home : Option ℕ) (free r : ℕ) (old rs : List ℕ) → GivenBy code layout home i u q to free r u → effect_of code (configuration code q rs frames) (Some i) ≡ Effect.Pure (setting (configuration code q rs frames) r w) → length rs ≡ registers_in layout → Keeps layout home free old rs → ((new : List ℕ) → slice_index new r ≡ w → Keeps layout home free old new → Agrees (effect code) N K (holding a sh text (configuration code to new frames)) does) → Agrees (effect code) N K (holding a sh text (configuration code q rs frames)) does
+  pub set_on : {N K : ℕ} (i : Instr) (w : ℕ) (u : Scalar) (a : Around) (sh : Shared) (text : List ℕ) (does : ℕ → Outcome) (q to : ℕ) (home : Option ℕ) (free r : ℕ) (old rs : List ℕ) → GivenBy code layout home i u q to free r u → effect_of code (configuration code q rs frames) (Some i) ≡ Effect.Pure (setting (configuration code q rs frames) r w) → length rs ≡ registers_in layout → Keeps layout home free old rs → ((new : List ℕ) → slice_index new r ≡ w → Keeps layout home free old new → Agrees (effect code) N K (sequential_state a sh text (configuration code to new frames)) does) → Agrees (effect code) N K (sequential_state a sh text (configuration code q rs frames)) does
   set_on {N = N} {K = K} i w u a sh text does q to home free r old rs c e len k go =
       goes_by code a sh text (configuration code q rs frames) (setting (configuration code q rs frames) r w) (effect_at code q i rs frames c.instr ∙ e)
-      (subst (λ x. Agrees (effect code) N K (holding a sh text (configuration code x (slice_set rs r w) frames)) does) c.to_is
+      (subst (λ x. Agrees (effect code) N K (sequential_state a sh text (configuration code x (slice_set rs r w) frames)) does) c.to_is
       (go (slice_set rs r w) (get_or-set_same rs r w 0 (let b = c.register in omega (arith, b, len))) (keeps_set layout home free old rs r w c.takes c.register k)))
 
   -- a value that lies in a register in the other type too
-  remains : {N K : ℕ} (s u : Scalar) (v : Value) (a : Around) (sh : Shared) (text : List ℕ) (does : ℕ → Outcome) (q to : ℕ) (home : Option ℕ) (free ra r : ℕ) (old rs : List ℕ) → to ≡ q → r ≡ ra → word_of u (number s v.word) ≡ v.word → Computed a s ra home free old v sh rs → ((new : List ℕ) → slice_index new r ≡ (value_in_type u v).word → Keeps layout home free old new → Agrees (effect code) N K (holding a sh text (configuration code to new frames)) does) → Agrees (effect code) N K (holding a sh text (configuration code q rs frames)) does
+  remains : {N K : ℕ} (s u : Scalar) (v : Value) (a : Around) (sh : Shared) (text : List ℕ) (does : ℕ → Outcome) (q to : ℕ) (home : Option ℕ) (free ra r : ℕ) (old rs : List ℕ) → to ≡ q → r ≡ ra → word_of u (number s v.word) ≡ v.word → Computed a s ra home free old v sh rs → ((new : List ℕ) → slice_index new r ≡ (value_in_type u v).word → Keeps layout home free old new → Agrees (effect code) N K (sequential_state a sh text (configuration code to new frames)) does) → Agrees (effect code) N K (sequential_state a sh text (configuration code q rs frames)) does
   remains {N = N} {K = K} s u v a sh text does q to home free ra r old rs at there same d go =
-      subst (λ x. Agrees (effect code) N K (holding a sh text (configuration code x rs frames)) does) at
+      subst (λ x. Agrees (effect code) N K (sequential_state a sh text (configuration code x rs frames)) does) at
       (go rs (ap (slice_index rs) there ∙ d.here ∙ sym same ∙ ap (λ o. word_of u (number o v.word)) (sym d.typed_so)) d.keeps)
 
   -- a conversion of a value that lies in a register
-  pub comes : {N K : ℕ} (s u : Scalar) (v : Value) (a : Around) (sh : Shared) (text : List ℕ) (does : ℕ → Outcome) (q to : ℕ) (home : Option ℕ) (free ra r : ℕ) (old rs : List ℕ) → Converts code layout home s u ra q to free r → Computed a s ra home free old v sh rs → length rs ≡ registers_in layout → ((new : List ℕ) → slice_index new r ≡ (value_in_type u v).word → Keeps layout home free old new → Agrees (effect code) N K (holding a sh text (configuration code to new frames)) does) → Agrees (effect code) N K (holding a sh text (configuration code q rs frames)) does
+  pub comes : {N K : ℕ} (s u : Scalar) (v : Value) (a : Around) (sh : Shared) (text : List ℕ) (does : ℕ → Outcome) (q to : ℕ) (home : Option ℕ) (free ra r : ℕ) (old rs : List ℕ) → Converts code layout home s u ra q to free r → Computed a s ra home free old v sh rs → length rs ≡ registers_in layout → ((new : List ℕ) → slice_index new r ≡ (value_in_type u v).word → Keeps layout home free old new → Agrees (effect code) N K (sequential_state a sh text (configuration code to new frames)) does) → Agrees (effect code) N K (sequential_state a sh text (configuration code q rs frames)) does
   comes Int LongLong v a sh text does q to home free ra r old rs c d len go =
       set_on (Instr.Extend r ra) (word_of LongLong (number Int (slice_index rs ra))) LongLong a sh text does q to home free r old rs c refl len d.keeps
       (λ new here keeps. go new (here ∙ ap (λ w. word_of LongLong (number Int w)) d.here ∙ ap (λ o. word_of LongLong (number o v.word)) (sym d.typed_so)) keeps)
@@ -180,7 +180,7 @@ module _ (p : Program) (call : Caller) (code : Code) (layout : Layout) (frames :
   same_length : (scope : LocalScope) (ls : List Local) → IsLike scope ls → length ls ≡ length scope
   same_length scope ls e = sym (length-map ls shape) ∙ ap length e ∙ length-map scope shape
 
-  variable_runs : {N K : ℕ} (home : Option ℕ) (o : Option (ℕ × Scalar)) (g : Option GlobalCells) (scope : LocalScope) (from to free r : ℕ) (t : Scalar) → VariableCode code layout home (length scope) o g from to free r t → KnownLocal scope o → KnownCells code g → (a : Around) (sh : Shared) (text : List ℕ) (ls : List Local) (old : List ℕ) (after : Answer Value → Outcome) → Holds scope ls layout free old → IsGood code a sh → IsSeen a after → GoesOn N K a after ls to home free r t old → Does N K a sh text ls from old (λ s. after (go_on (lvalue_in o g s) fetch))
+  variable_runs : {N K : ℕ} (home : Option ℕ) (o : Option (ℕ × Scalar)) (g : Option GlobalCells) (scope : LocalScope) (from to free r : ℕ) (t : Scalar) → VariableCode code layout home (length scope) o g from to free r t → KnownLocal scope o → KnownCells code g → (a : Around) (sh : Shared) (text : List ℕ) (ls : List Local) (old : List ℕ) (after : Answer Value → Outcome) → HasLocals scope ls layout free old → IsGood code a sh → IsSeen a after → GoesOn N K a after ls to home free r t old → Does N K a sh text ls from old (λ s. after (go_on (lvalue_in o g s) fetch))
   variable_runs home (Some l) g scope from to free r t c type_is known a sh text ls old after h good s go =
       let below : l.0 < length ls = subst (λ n. l.0 < n) (sym (same_length scope ls h.like)) c.known in
       go_at a after ls to from home free r t l.1 old c.to_is c.type_is go (record { ty = l.1; word = word_at ls l.0 }) sh text old
@@ -192,7 +192,7 @@ module _ (p : Program) (call : Caller) (code : Code) (layout : Layout) (frames :
   -- what an expression's instructions do, wherever they stand
   abbrev pub Follows : Option ℕ → LocalScope → Expr → (N K from to free r : ℕ) → Scalar → Around → Shared → List ℕ → List Local → List ℕ → (Answer Value → Outcome) → Type 0
   Follows home scope e N K from to free r t a sh text ls old after =
-      ExprCode code layout p home scope e from to free r t → Holds scope ls layout free old → IsGood code a sh → IsSeen a after →
+      ExprCode code layout p home scope e from to free r t → HasLocals scope ls layout free old → IsGood code a sh → IsSeen a after →
       GoesOn N K a after ls to home free r t old → Does N K a sh text ls from old (λ s. after (expr p call e s))
 
   abbrev pub AlwaysFollows : Option ℕ → LocalScope → Expr → Type 0
@@ -213,7 +213,7 @@ module _ (p : Program) (call : Caller) (code : Code) (layout : Layout) (frames :
       ∙ ap (λ w. if nat_lt w (cells g.global) then Effect.Read (g.cell + w) (setting (configuration code q rs frames) r) else Effect.Traps Index) f
       ∙ ap (λ b. if b then Effect.Read (g.cell + k.word) (setting (configuration code q rs frames) r) else Effect.Traps Index) e)
 
-  element_follows : (home : Option ℕ) (o : Option GlobalCells) (scope : LocalScope) (i : Expr) → AlwaysFollows None scope i → (N K from to free r : ℕ) (t : Scalar) (a : Around) (sh : Shared) (text : List ℕ) (ls : List Local) (old : List ℕ) (after : Answer Value → Outcome) → ElementAt code layout home o (ExprCode code layout p None scope i) from to free r t → KnownCells code o → Holds scope ls layout free old → IsGood code a sh → IsSeen a after → GoesOn N K a after ls to home free r t old → Does N K a sh text ls from old (λ s. after (go_on (expr p call i s) (λ k. element_in o k >>= fetch)))
+  element_follows : (home : Option ℕ) (o : Option GlobalCells) (scope : LocalScope) (i : Expr) → AlwaysFollows None scope i → (N K from to free r : ℕ) (t : Scalar) (a : Around) (sh : Shared) (text : List ℕ) (ls : List Local) (old : List ℕ) (after : Answer Value → Outcome) → ElementAt code layout home o (ExprCode code layout p None scope i) from to free r t → KnownCells code o → HasLocals scope ls layout free old → IsGood code a sh → IsSeen a after → GoesOn N K a after ls to home free r t old → Does N K a sh text ls from old (λ s. after (go_on (expr p call i s) (λ k. element_in o k >>= fetch)))
   element_follows home None scope i ih N K from to free r t a sh text ls old after c known h good s go = absurd c
   element_follows home (Some g) scope i ih N K from to free r t a sh text ls old after c known h good s go =
       let rest : Value → Action Value = λ k. element_in (Some g) k >>= fetch in
@@ -221,15 +221,15 @@ module _ (p : Program) (call : Caller) (code : Code) (layout : Layout) (frames :
       (λ k sh1 text1 rs1 d. indexed g c.ri (nat_lt k.word (cells g.global)) k a sh1 text1 ls after c.mid to home free r t old rs1 known refl d.here c.reads (d.keeps.size ∙ h.size_is) (keeps_more layout home free old rs1 d.keeps) d.good s go)
 
   -- an unconditional jump, and a place that leads on
-  pub passes : {N K : ℕ} (a : Around) (sh : Shared) (text : List ℕ) (q to : ℕ) (rs : List ℕ) {does : ℕ → Outcome} → InstructionAt code q (Instr.Jump to) → Agrees (effect code) N K (holding a sh text (configuration code to rs frames)) does → Agrees (effect code) N K (holding a sh text (configuration code q rs frames)) does
+  pub passes : {N K : ℕ} (a : Around) (sh : Shared) (text : List ℕ) (q to : ℕ) (rs : List ℕ) {does : ℕ → Outcome} → InstructionAt code q (Instr.Jump to) → Agrees (effect code) N K (sequential_state a sh text (configuration code to rs frames)) does → Agrees (effect code) N K (sequential_state a sh text (configuration code q rs frames)) does
   passes a sh text q to rs at go = goes_by code a sh text (configuration code q rs frames) (configuration code to rs frames) (effect_at code q (Instr.Jump to) rs frames at) go
 
-  pub leads : {N K : ℕ} (a : Around) (sh : Shared) (text : List ℕ) (q to : ℕ) (rs : List ℕ) {does : ℕ → Outcome} → LeadsTo code q to → Agrees (effect code) N K (holding a sh text (configuration code to rs frames)) does → Agrees (effect code) N K (holding a sh text (configuration code q rs frames)) does
-  leads {N = N} {K = K} a sh text q to rs {does = does} (inl e) go = subst (λ y. Agrees (effect code) N K (holding a sh text (configuration code y rs frames)) does) (sym e) go
+  pub leads : {N K : ℕ} (a : Around) (sh : Shared) (text : List ℕ) (q to : ℕ) (rs : List ℕ) {does : ℕ → Outcome} → LeadsTo code q to → Agrees (effect code) N K (sequential_state a sh text (configuration code to rs frames)) does → Agrees (effect code) N K (sequential_state a sh text (configuration code q rs frames)) does
+  leads {N = N} {K = K} a sh text q to rs {does = does} (inl e) go = subst (λ y. Agrees (effect code) N K (sequential_state a sh text (configuration code y rs frames)) does) (sym e) go
   leads a sh text q to rs (inr i) go = passes a sh text q to rs i go
 
   -- a jump on a register, where it is known whether that is 0: it counts as an instruction
-  jumps : {N K : ℕ} (i : Instr) (hit miss : ℕ) (b : Bool) (w : ℕ) (a : Around) (sh : Shared) (text : List ℕ) (q ra : ℕ) (rs : List ℕ) (does : ℕ → Outcome) → InstructionAt code q i → effect_of code (configuration code q rs frames) (Some i) ≡ Effect.Pure (if slice_index rs ra == 0 then configuration code hit rs frames else configuration code miss rs frames) → slice_index rs ra ≡ w → (w == 0) ≡ b → Agrees (effect code) N K (holding a sh text (configuration code (if b then hit else miss) rs frames)) does → Agrees (effect code) N (suc K) (holding a sh text (configuration code q rs frames)) does
+  jumps : {N K : ℕ} (i : Instr) (hit miss : ℕ) (b : Bool) (w : ℕ) (a : Around) (sh : Shared) (text : List ℕ) (q ra : ℕ) (rs : List ℕ) (does : ℕ → Outcome) → InstructionAt code q i → effect_of code (configuration code q rs frames) (Some i) ≡ Effect.Pure (if slice_index rs ra == 0 then configuration code hit rs frames else configuration code miss rs frames) → slice_index rs ra ≡ w → (w == 0) ≡ b → Agrees (effect code) N K (sequential_state a sh text (configuration code (if b then hit else miss) rs frames)) does → Agrees (effect code) N (suc K) (sequential_state a sh text (configuration code q rs frames)) does
   jumps i hit miss b w a sh text q ra rs does at e here zero_is go =
       goes code a sh text (configuration code q rs frames) (configuration code (if b then hit else miss) rs frames)
       (effect_at code q i rs frames at ∙ e ∙ ap (λ x. Effect.Pure (if x == 0 then configuration code hit rs frames else configuration code miss rs frames)) here ∙ ap (λ x. Effect.Pure (if x then configuration code hit rs frames else configuration code miss rs frames)) zero_is ∙ joined b hit miss rs)
@@ -243,18 +243,18 @@ module _ (p : Program) (call : Caller) (code : Code) (layout : Layout) (frames :
   abbrev pub GoesBoth : ℕ → ℕ → (a : Around) → (Answer Value → Outcome) → List Local → (true_exit false_exit free : ℕ) → List ℕ → Type 0
   GoesBoth N K a after ls true_exit false_exit free old =
       (v : Value) (b : Bool) (sh : Shared) (text : List ℕ) (new : List ℕ) → is_zero v ≡ b → v.word < modulus v.ty → Keeps layout None free old new → IsGood code a sh →
-      Agrees (effect code) N K (holding a sh text (configuration code (if b then false_exit else true_exit) new frames)) (λ n. after (Gives v (state n ls (context_of a sh) text)))
+      Agrees (effect code) N K (sequential_state a sh text (configuration code (if b then false_exit else true_exit) new frames)) (λ n. after (Gives v (state n ls (context_of a sh) text)))
 
   abbrev GoesFlag : ℕ → ℕ → (a : Around) → (Answer Value → Outcome) → List Local → (true_exit false_exit free : ℕ) → List ℕ → Type 0
   GoesFlag N K a after ls true_exit false_exit free old =
       (b : Bool) (sh : Shared) (text : List ℕ) (new : List ℕ) → Keeps layout None free old new → IsGood code a sh →
-      Agrees (effect code) N K (holding a sh text (configuration code (if b then false_exit else true_exit) new frames)) (λ n. after (Gives (flag (not b)) (state n ls (context_of a sh) text)))
+      Agrees (effect code) N K (sequential_state a sh text (configuration code (if b then false_exit else true_exit) new frames)) (λ n. after (Gives (flag (not b)) (state n ls (context_of a sh) text)))
 
   -- or with a 0 or 1 of whatever type
   abbrev GoesTruth : ℕ → ℕ → (a : Around) → (Answer Value → Outcome) → List Local → (true_exit false_exit free : ℕ) → List ℕ → Type 0
   GoesTruth N K a after ls true_exit false_exit free old =
       (t : Scalar) (b : Bool) (sh : Shared) (text : List ℕ) (new : List ℕ) → Keeps layout None free old new → IsGood code a sh →
-      Agrees (effect code) N K (holding a sh text (configuration code (if b then false_exit else true_exit) new frames)) (λ n. after (Gives (record { ty = t; word = truth (not b) }) (state n ls (context_of a sh) text)))
+      Agrees (effect code) N K (sequential_state a sh text (configuration code (if b then false_exit else true_exit) new frames)) (λ n. after (Gives (record { ty = t; word = truth (not b) }) (state n ls (context_of a sh) text)))
 
   truth_of : {N K : ℕ} (a : Around) (after : Answer Value → Outcome) (ls : List Local) (true_exit false_exit free : ℕ) (old : List ℕ) → GoesBoth N K a after ls true_exit false_exit free old → GoesTruth N K a after ls true_exit false_exit free old
   truth_of a after ls true_exit false_exit free old go t true sh text new k g = go (record { ty = t; word = truth false }) true sh text new refl (truth_under t false) k g
@@ -267,28 +267,28 @@ module _ (p : Program) (call : Caller) (code : Code) (layout : Layout) (frames :
   abbrev pub BranchingFollows : LocalScope → Action Value → Branching → Type 0
   BranchingFollows scope run tests =
       (N K from true_exit false_exit free : ℕ) (a : Around) (sh : Shared) (text : List ℕ) (ls : List Local) (old : List ℕ) (after : Answer Value → Outcome) →
-      tests from true_exit false_exit free → Holds scope ls layout free old → IsGood code a sh → IsSeen a after →
+      tests from true_exit false_exit free → HasLocals scope ls layout free old → IsGood code a sh → IsSeen a after →
       GoesBoth N K a after ls true_exit false_exit free old → Does N (suc K) a sh text ls from old (λ s. after (run s))
 
   -- the same of one that gives a 0 or 1
   abbrev OwnFollows : LocalScope → Action Value → Branching → Type 0
   OwnFollows scope run tests =
       (N K from true_exit false_exit free : ℕ) (a : Around) (sh : Shared) (text : List ℕ) (ls : List Local) (old : List ℕ) (after : Answer Value → Outcome) →
-      tests from true_exit false_exit free → Holds scope ls layout free old → IsGood code a sh → IsSeen a after →
+      tests from true_exit false_exit free → HasLocals scope ls layout free old → IsGood code a sh → IsSeen a after →
       GoesTruth N K a after ls true_exit false_exit free old → Does N (suc K) a sh text ls from old (λ s. after (run s))
 
   -- and of one that gives a flag
   abbrev FlagFollows : LocalScope → Action Value → Branching → Type 0
   FlagFollows scope run tests =
       (N K from true_exit false_exit free : ℕ) (a : Around) (sh : Shared) (text : List ℕ) (ls : List Local) (old : List ℕ) (after : Answer Value → Outcome) →
-      tests from true_exit false_exit free → Holds scope ls layout free old → IsGood code a sh → IsSeen a after →
+      tests from true_exit false_exit free → HasLocals scope ls layout free old → IsGood code a sh → IsSeen a after →
       GoesFlag N K a after ls true_exit false_exit free old → Does N (suc K) a sh text ls from old (λ s. after (run s))
 
-  zero_jumps : {N K : ℕ} (b : Bool) (w : ℕ) (a : Around) (sh : Shared) (text : List ℕ) (q r there on : ℕ) (rs : List ℕ) (does : ℕ → Outcome) → InstructionAt code q (Instr.JumpZero r there) → LeadsTo code (suc q) on → slice_index rs r ≡ w → (w == 0) ≡ b → Agrees (effect code) N K (holding a sh text (configuration code (if b then there else on) rs frames)) does → Agrees (effect code) N (suc K) (holding a sh text (configuration code q rs frames)) does
+  zero_jumps : {N K : ℕ} (b : Bool) (w : ℕ) (a : Around) (sh : Shared) (text : List ℕ) (q r there on : ℕ) (rs : List ℕ) (does : ℕ → Outcome) → InstructionAt code q (Instr.JumpZero r there) → LeadsTo code (suc q) on → slice_index rs r ≡ w → (w == 0) ≡ b → Agrees (effect code) N K (sequential_state a sh text (configuration code (if b then there else on) rs frames)) does → Agrees (effect code) N (suc K) (sequential_state a sh text (configuration code q rs frames)) does
   zero_jumps true w a sh text q r there on rs does at l here e go = jumps (Instr.JumpZero r there) there (suc q) true w a sh text q r rs does at refl here e go
   zero_jumps false w a sh text q r there on rs does at l here e go = jumps (Instr.JumpZero r there) there (suc q) false w a sh text q r rs does at refl here e (leads a sh text (suc q) on rs l go)
 
-  nonzero_jumps : {N K : ℕ} (b : Bool) (w : ℕ) (a : Around) (sh : Shared) (text : List ℕ) (q r there on : ℕ) (rs : List ℕ) (does : ℕ → Outcome) → InstructionAt code q (Instr.JumpNonzero r there) → LeadsTo code (suc q) on → slice_index rs r ≡ w → (w == 0) ≡ b → Agrees (effect code) N K (holding a sh text (configuration code (if b then on else there) rs frames)) does → Agrees (effect code) N (suc K) (holding a sh text (configuration code q rs frames)) does
+  nonzero_jumps : {N K : ℕ} (b : Bool) (w : ℕ) (a : Around) (sh : Shared) (text : List ℕ) (q r there on : ℕ) (rs : List ℕ) (does : ℕ → Outcome) → InstructionAt code q (Instr.JumpNonzero r there) → LeadsTo code (suc q) on → slice_index rs r ≡ w → (w == 0) ≡ b → Agrees (effect code) N K (sequential_state a sh text (configuration code (if b then on else there) rs frames)) does → Agrees (effect code) N (suc K) (sequential_state a sh text (configuration code q rs frames)) does
   nonzero_jumps true w a sh text q r there on rs does at l here e go = jumps (Instr.JumpNonzero r there) (suc q) there true w a sh text q r rs does at refl here e (leads a sh text (suc q) on rs l go)
   nonzero_jumps false w a sh text q r there on rs does at l here e go = jumps (Instr.JumpNonzero r there) (suc q) there false w a sh text q r rs does at refl here e go
 
@@ -328,7 +328,7 @@ module _ (p : Program) (call : Caller) (code : Code) (layout : Layout) (frames :
       first v false sh1 text1 new e below k g =
           same (effect code) (λ n. after (go_on (y (state n ls (context_of a sh1) text1)) tested)) (λ n. ap (λ z. after (go_on ((if z then pure v else y) (state n ls (context_of a sh1) text1)) tested)) e)
           (fewer (effect code) (omega arith) (omega arith)
-          (ihy N K c.mid true_exit false_exit free a sh1 text1 ls new (λ q. after (go_on q tested)) c.second (holds_on scope ls layout free free old new (omega arith) h k) g (on_seen a after tested s)
+          (ihy N K c.mid true_exit false_exit free a sh1 text1 ls new (λ q. after (go_on q tested)) c.second (has_locals_on scope ls layout free free old new (omega arith) h k) g (on_seen a after tested s)
           (goes_tested a after ls true_exit false_exit free new (goes_later a after ls true_exit false_exit free old new k go))))
 
   either_follows : (scope : LocalScope) (x y : Action Value) (A B : Branching) → BranchingFollows scope x A → BranchingFollows scope y B → FlagFollows scope (x >>= λ v. (if is_zero v then y else pure v) >>= tested) (EitherHolds code layout A B)
@@ -343,7 +343,7 @@ module _ (p : Program) (call : Caller) (code : Code) (layout : Layout) (frames :
       first v true sh1 text1 new e below k g =
           same (effect code) (λ n. after (go_on (y (state n ls (context_of a sh1) text1)) tested)) (λ n. ap (λ z. after (go_on ((if z then y else pure v) (state n ls (context_of a sh1) text1)) tested)) e)
           (fewer (effect code) (omega arith) (omega arith)
-          (ihy N K c.mid true_exit false_exit free a sh1 text1 ls new (λ q. after (go_on q tested)) c.second (holds_on scope ls layout free free old new (omega arith) h k) g (on_seen a after tested s)
+          (ihy N K c.mid true_exit false_exit free a sh1 text1 ls new (λ q. after (go_on q tested)) c.second (has_locals_on scope ls layout free free old new (omega arith) h k) g (on_seen a after tested s)
           (goes_tested a after ls true_exit false_exit free new (goes_later a after ls true_exit false_exit free old new k go))))
 
   -- the other way round
@@ -385,7 +385,7 @@ module _ (p : Program) (call : Caller) (code : Code) (layout : Layout) (frames :
       (λ v s below. ap (λ z. comparing z y v s) c.0 ∙ ap (λ z. comparing Equal z v s) nought.2 ∙ zero_equals nought.0 nought.1 v s below) go)
 
   -- the flag of a condition in a register
-  truth_follows : (home : Option ℕ) (scope : LocalScope) (run : Action Value) (tests : Branching) → FlagFollows scope run tests → (N K from to free r : ℕ) (t : Scalar) (a : Around) (sh : Shared) (text : List ℕ) (ls : List Local) (old : List ℕ) (after : Answer Value → Outcome) → TruthCode code layout home tests from to free r t → Holds scope ls layout free old → IsGood code a sh → IsSeen a after → GoesOn N K a after ls to home free r t old → Does N K a sh text ls from old (λ s. after (run s))
+  truth_follows : (home : Option ℕ) (scope : LocalScope) (run : Action Value) (tests : Branching) → FlagFollows scope run tests → (N K from to free r : ℕ) (t : Scalar) (a : Around) (sh : Shared) (text : List ℕ) (ls : List Local) (old : List ℕ) (after : Answer Value → Outcome) → TruthCode code layout home tests from to free r t → HasLocals scope ls layout free old → IsGood code a sh → IsSeen a after → GoesOn N K a after ls to home free r t old → Does N K a sh text ls from old (λ s. after (run s))
   truth_follows home scope run tests ih N K from to free r t a sh text ls old after c h good s go =
       fewer (effect code) (omega arith) (omega arith) (ih N K from c.true_exit c.false_exit free a sh text ls old after c.decides h good s places)
     where
@@ -408,11 +408,11 @@ module _ (p : Program) (call : Caller) (code : Code) (layout : Layout) (frames :
       (sets (Instr.Move r rc) t a sh text ls after q to home free r (slice_index rs rc) t old rs c refl len (subst (λ z. z < modulus t) (sym d.here) (subst (λ z. x.word < modulus z) d.typed_so d.word)) (keeps_more layout home free old rs d.keeps) d.good go)
 
   -- a word that is set, or that is preloaded
-  pub word_comes : {N K : ℕ} (w : ℕ) (u : Scalar) (a : Around) (sh : Shared) (text : List ℕ) (scope : LocalScope) (ls : List Local) (does : ℕ → Outcome) (from to free r : ℕ) (old : List ℕ) → WordCode code layout w u from to free r → Holds scope ls layout free old → ((new : List ℕ) → slice_index new r ≡ w → Keeps layout None free old new → Agrees (effect code) N K (holding a sh text (configuration code to new frames)) does) → Agrees (effect code) N K (holding a sh text (configuration code from old frames)) does
+  pub word_comes : {N K : ℕ} (w : ℕ) (u : Scalar) (a : Around) (sh : Shared) (text : List ℕ) (scope : LocalScope) (ls : List Local) (does : ℕ → Outcome) (from to free r : ℕ) (old : List ℕ) → WordCode code layout w u from to free r → HasLocals scope ls layout free old → ((new : List ℕ) → slice_index new r ≡ w → Keeps layout None free old new → Agrees (effect code) N K (sequential_state a sh text (configuration code to new frames)) does) → Agrees (effect code) N K (sequential_state a sh text (configuration code from old frames)) does
   word_comes w u a sh text scope ls does from to free r old (inl c) h go =
       set_on (Instr.Constant r w) w u a sh text does from to None free r old old c refl h.size_is (keeps_all layout None free old) go
   word_comes {N = N} {K = K} w u a sh text scope ls does from to free r old (inr c) h go =
-      subst (λ x. Agrees (effect code) N K (holding a sh text (configuration code x old frames)) does) c.to_is
+      subst (λ x. Agrees (effect code) N K (sequential_state a sh text (configuration code x old frames)) does) c.to_is
       (go old (ap (slice_index old) c.register ∙ h.preloaded c.number w c.known) (keeps_all layout None free old))
 
   -- a value of type t that is due in u: the register has its word in that type
@@ -424,7 +424,7 @@ module _ (p : Program) (call : Caller) (code : Code) (layout : Layout) (frames :
 
   abbrev pub GoesTaken : ℕ → ℕ → (a : Around) → (Answer Value → Outcome) → List Local → (to : ℕ) → Option ℕ → (free r : ℕ) → (u t : Scalar) → List ℕ → Type 0
   GoesTaken N K a after ls to home free r u t old =
-      (v : Value) (sh : Shared) (text : List ℕ) (new : List ℕ) → Taken a u t r home free old v sh new → Agrees (effect code) N K (holding a sh text (configuration code to new frames)) (λ n. after (Gives v (state n ls (context_of a sh) text)))
+      (v : Value) (sh : Shared) (text : List ℕ) (new : List ℕ) → Taken a u t r home free old v sh new → Agrees (effect code) N K (sequential_state a sh text (configuration code to new frames)) (λ n. after (Gives v (state n ls (context_of a sh) text)))
 
   -- a value that lies in a register, once it is converted
   pub taken : {N K : ℕ} (u t : Scalar) (v : Value) (a : Around) (sh : Shared) (text : List ℕ) (ls : List Local) (after : Answer Value → Outcome) (q to : ℕ) (home : Option ℕ) (free ra r : ℕ) (old rs : List ℕ) → Converts code layout home t u ra q to free r → Computed a t ra home free old v sh rs → length rs ≡ registers_in layout → GoesTaken N K a after ls to home free r u t old → Does N K a sh text ls q rs (λ s. after (Gives v s))
@@ -432,7 +432,7 @@ module _ (p : Program) (call : Caller) (code : Code) (layout : Layout) (frames :
       comes t u v a sh text (λ m. after (Gives v (state m ls (context_of a sh) text))) q to home free ra r old rs c d len
       (λ new here keeps. go v sh text new (record { typed_so = d.typed_so; here = here; keeps = keeps; good = d.good }))
 
-  pub due_follows : (home : Option ℕ) (scope : LocalScope) (e : Expr) → AlwaysFollows home scope e → (u : Scalar) (N K from to free r : ℕ) (t : Scalar) (a : Around) (sh : Shared) (text : List ℕ) (ls : List Local) (old : List ℕ) (after : Answer Value → Outcome) → DueCode code layout home e (ExprCode code layout p home scope e) u from to free r t → Holds scope ls layout free old → IsGood code a sh → IsSeen a after → GoesTaken N K a after ls to home free r u t old → Does N K a sh text ls from old (λ s. after (expr p call e s))
+  pub due_follows : (home : Option ℕ) (scope : LocalScope) (e : Expr) → AlwaysFollows home scope e → (u : Scalar) (N K from to free r : ℕ) (t : Scalar) (a : Around) (sh : Shared) (text : List ℕ) (ls : List Local) (old : List ℕ) (after : Answer Value → Outcome) → DueCode code layout home e (ExprCode code layout p home scope e) u from to free r t → HasLocals scope ls layout free old → IsGood code a sh → IsSeen a after → GoesTaken N K a after ls to home free r u t old → Does N K a sh text ls from old (λ s. after (expr p call e s))
   due_follows home scope (Constant n x at) ih u N K from to free r t a sh text ls old after c h good s go =
       let v : Value = record { ty = x; word = word_of x (pos n) } in
       set_on (Instr.Constant r (constant_in u x n)) (constant_in u x n) u a sh text (λ m. after (Gives v (state m ls (context_of a sh) text))) from to home free r old old c.1 refl h.size_is (keeps_all layout home free old)
@@ -442,7 +442,7 @@ module _ (p : Program) (call : Caller) (code : Code) (layout : Layout) (frames :
       (λ v sh1 text1 rs1 d. taken u t v a sh1 text1 ls after c.mid to home free c.ra r old rs1 c.converts d (d.keeps.size ∙ h.size_is) go)
 
   -- a branch's value, in the type of both, straight
-  straight_follows : (home : Option ℕ) (whole : Expr) (scope : LocalScope) (e : Expr) → AlwaysFollows home scope e → (N K from to free r : ℕ) (t : Scalar) (a : Around) (sh : Shared) (text : List ℕ) (ls : List Local) (old : List ℕ) (after : Answer Value → Outcome) → TypedCode code layout home e (ExprCode code layout p home scope e) t from to free r → type_of (running_scope p ls) whole ≡ Some t → Holds scope ls layout free old → IsGood code a sh → IsSeen a after → GoesOn N K a after ls to home free r t old → Does N K a sh text ls from old (λ s. after (go_on (expr p call e s) (choosing whole)))
+  straight_follows : (home : Option ℕ) (whole : Expr) (scope : LocalScope) (e : Expr) → AlwaysFollows home scope e → (N K from to free r : ℕ) (t : Scalar) (a : Around) (sh : Shared) (text : List ℕ) (ls : List Local) (old : List ℕ) (after : Answer Value → Outcome) → TypedCode code layout home e (ExprCode code layout p home scope e) t from to free r → type_of (running_scope p ls) whole ≡ Some t → HasLocals scope ls layout free old → IsGood code a sh → IsSeen a after → GoesOn N K a after ls to home free r t old → Does N K a sh text ls from old (λ s. after (go_on (expr p call e s) (choosing whole)))
   straight_follows home whole scope e ih N K from to free r t a sh text ls old after c is h good s go =
       due_follows home scope e ih t N K from to free r c.0 a sh text ls old (λ q. after (go_on q (choosing whole))) c.1 h good (on_seen a after (choosing whole) s)
       (λ w sh1 text1 rs1 d.
@@ -451,7 +451,7 @@ module _ (p : Program) (call : Caller) (code : Code) (layout : Layout) (frames :
       (go (value_in_type t w) sh1 text1 rs1 (record { typed_so = refl; word = word_below t (number_of w); here = d.here; keeps = d.keeps; good = d.good })))
 
   -- and where it is moved
-  branch_follows : (home : Option ℕ) (whole : Expr) (scope : LocalScope) (e : Expr) → ((h : Option ℕ) → AlwaysFollows h scope e) → (N K from to free r : ℕ) (t : Scalar) (a : Around) (sh : Shared) (text : List ℕ) (ls : List Local) (old : List ℕ) (after : Answer Value → Outcome) → BranchCode code layout home e (λ h. ExprCode code layout p h scope e) from to free r t → type_of (running_scope p ls) whole ≡ Some t → Holds scope ls layout free old → IsGood code a sh → IsSeen a after → GoesOn N K a after ls to home free r t old → Does N K a sh text ls from old (λ s. after (go_on (expr p call e s) (choosing whole)))
+  branch_follows : (home : Option ℕ) (whole : Expr) (scope : LocalScope) (e : Expr) → ((h : Option ℕ) → AlwaysFollows h scope e) → (N K from to free r : ℕ) (t : Scalar) (a : Around) (sh : Shared) (text : List ℕ) (ls : List Local) (old : List ℕ) (after : Answer Value → Outcome) → BranchCode code layout home e (λ h. ExprCode code layout p h scope e) from to free r t → type_of (running_scope p ls) whole ≡ Some t → HasLocals scope ls layout free old → IsGood code a sh → IsSeen a after → GoesOn N K a after ls to home free r t old → Does N K a sh text ls from old (λ s. after (go_on (expr p call e s) (choosing whole)))
   branch_follows home whole scope e ih N K from to free r t a sh text ls old after (inl c) is h good s go =
       straight_follows home whole scope e (ih home) N K from to free r t a sh text ls old after c is h good s go
   branch_follows home whole scope e ih N K from to free r t a sh text ls old after (inr c) is h good s go =
@@ -461,7 +461,7 @@ module _ (p : Program) (call : Caller) (code : Code) (layout : Layout) (frames :
   goes_after : {N K : ℕ} (a : Around) (after : Answer Value → Outcome) (ls : List Local) (to : ℕ) (home : Option ℕ) (free r : ℕ) (t : Scalar) (old mid : List ℕ) → Keeps layout None free old mid → GoesOn N K a after ls to home free r t old → GoesOn N K a after ls to home free r t mid
   goes_after a after ls to home free r t old mid k go v sh text new d = go v sh text new (record { typed_so = d.typed_so; word = d.word; here = d.here; keeps = keeps_on layout home free free old mid new (omega arith) k d.keeps; good = d.good })
 
-  conditional_follows : (home : Option ℕ) (whole : Expr) (scope : LocalScope) (run : Action Value) (x y : Expr) (T : Branching) → BranchingFollows scope run T → ((h : Option ℕ) → AlwaysFollows h scope x) → ((h : Option ℕ) → AlwaysFollows h scope y) → (N K from to free r : ℕ) (t : Scalar) (a : Around) (sh : Shared) (text : List ℕ) (ls : List Local) (old : List ℕ) (after : Answer Value → Outcome) → ConditionalCode code layout home T (BranchCode code layout home x (λ h. ExprCode code layout p h scope x)) (BranchCode code layout home y (λ h. ExprCode code layout p h scope y)) from to free r t → type_of (running_scope p ls) whole ≡ Some t → Holds scope ls layout free old → IsGood code a sh → IsSeen a after → GoesOn N K a after ls to home free r t old → Does N K a sh text ls from old (λ s. after ((run >>= λ v. (if is_zero v then expr p call y else expr p call x) >>= choosing whole) s))
+  conditional_follows : (home : Option ℕ) (whole : Expr) (scope : LocalScope) (run : Action Value) (x y : Expr) (T : Branching) → BranchingFollows scope run T → ((h : Option ℕ) → AlwaysFollows h scope x) → ((h : Option ℕ) → AlwaysFollows h scope y) → (N K from to free r : ℕ) (t : Scalar) (a : Around) (sh : Shared) (text : List ℕ) (ls : List Local) (old : List ℕ) (after : Answer Value → Outcome) → ConditionalCode code layout home T (BranchCode code layout home x (λ h. ExprCode code layout p h scope x)) (BranchCode code layout home y (λ h. ExprCode code layout p h scope y)) from to free r t → type_of (running_scope p ls) whole ≡ Some t → HasLocals scope ls layout free old → IsGood code a sh → IsSeen a after → GoesOn N K a after ls to home free r t old → Does N K a sh text ls from old (λ s. after ((run >>= λ v. (if is_zero v then expr p call y else expr p call x) >>= choosing whole) s))
   conditional_follows home whole scope run x y T iht ihx ihy N K from to free r t a sh text ls old after c is h good s go =
       let rest : Value → Action Value = λ v. (if is_zero v then expr p call y else expr p call x) >>= choosing whole in
       fewer (effect code) (omega arith) (omega arith)
@@ -470,11 +470,11 @@ module _ (p : Program) (call : Caller) (code : Code) (layout : Layout) (frames :
       places : GoesBoth N K a (λ q. after (go_on q (λ v. (if is_zero v then expr p call y else expr p call x) >>= choosing whole))) ls c.true_exit c.false_exit free old
       places v true sh1 text1 new e below k g =
           same (effect code) (λ n. after (go_on (expr p call y (state n ls (context_of a sh1) text1)) (choosing whole))) (λ n. ap (λ z. after (go_on ((if z then expr p call y else expr p call x) (state n ls (context_of a sh1) text1)) (choosing whole))) e)
-          (branch_follows home whole scope y ihy N K c.false_exit c.end free r t a sh1 text1 ls new after c.else_code is (holds_on scope ls layout free free old new (omega arith) h k) g s
+          (branch_follows home whole scope y ihy N K c.false_exit c.end free r t a sh1 text1 ls new after c.else_code is (has_locals_on scope ls layout free free old new (omega arith) h k) g s
           (λ w sh2 text2 rs2 d. leads a sh2 text2 c.end to rs2 c.else_leads (goes_after a after ls to home free r t old new k go w sh2 text2 rs2 d)))
       places v false sh1 text1 new e below k g =
           same (effect code) (λ n. after (go_on (expr p call x (state n ls (context_of a sh1) text1)) (choosing whole))) (λ n. ap (λ z. after (go_on ((if z then expr p call y else expr p call x) (state n ls (context_of a sh1) text1)) (choosing whole))) e)
-          (branch_follows home whole scope x ihx N K c.true_exit c.last free r t a sh1 text1 ls new after c.then_code is (holds_on scope ls layout free free old new (omega arith) h k) g s
+          (branch_follows home whole scope x ihx N K c.true_exit c.last free r t a sh1 text1 ls new after c.then_code is (has_locals_on scope ls layout free free old new (omega arith) h k) g s
           (λ w sh2 text2 rs2 d. leads a sh2 text2 c.last to rs2 c.then_leads (goes_after a after ls to home free r t old new k go w sh2 text2 rs2 d)))
 
   -- a value that is computed in a transaction of its own: its body's end is the value
@@ -485,7 +485,7 @@ module _ (p : Program) (call : Caller) (code : Code) (layout : Layout) (frames :
   given_there : {a b : Around} {t : Scalar} {r : ℕ} {home : Option ℕ} {free : ℕ} {old : List ℕ} {v : Value} {sh sh1 : Shared} {new : List ℕ} → IsGood code b sh1 → Computed a t r home free old v sh new → Computed b t r home free old v sh1 new
   given_there g d = record { typed_so = d.typed_so; word = d.word; here = d.here; keeps = d.keeps; good = g }
 
-  bare_value : {N K : ℕ} (mode : Mode) (home : Option ℕ) (scope : LocalScope) (e : Expr) → AlwaysFollows home scope e → (from to free r : ℕ) (t : Scalar) (founds lefts : List Memory) (memory : Memory) (kept : Bool) (text : List ℕ) (ls : List Local) (old : List ℕ) (after : Answer Value → Outcome) → ValueTransactionCode code layout (ExprCode code layout p home scope e) from to free r t → Holds scope ls layout free old → AreMemories code founds → IsSeen Bare after → GoesOn N K Bare after ls to home free r t old → Does N K Bare (record { founds = founds; lefts = lefts; memory = memory; kept = kept }) text ls from old (λ s. after (value_transaction mode (expr p call e) s))
+  bare_value : {N K : ℕ} (mode : Mode) (home : Option ℕ) (scope : LocalScope) (e : Expr) → AlwaysFollows home scope e → (from to free r : ℕ) (t : Scalar) (founds lefts : List Memory) (memory : Memory) (kept : Bool) (text : List ℕ) (ls : List Local) (old : List ℕ) (after : Answer Value → Outcome) → ValueTransactionCode code layout (ExprCode code layout p home scope e) from to free r t → HasLocals scope ls layout free old → AreMemories code founds → IsSeen Bare after → GoesOn N K Bare after ls to home free r t old → Does N K Bare (record { founds = founds; lefts = lefts; memory = memory; kept = kept }) text ls from old (λ s. after (value_transaction mode (expr p call e) s))
   unfolding returning
   bare_value mode home scope e ih from to free r t [] lefts memory kept text ls old after c h g s go =
       same (effect code) (λ n. after (go_on (tick (state n ls (Outside [] lefts) text)) (λ u. stop Wants))) wanted
@@ -509,7 +509,7 @@ module _ (p : Program) (call : Caller) (code : Code) (layout : Layout) (frames :
       (on_seen Bare after value_at s)
       (go_at Bare after ls to (suc c.last) home free r t t old c.to_is refl go v sh2 text1 new (given_there g.1 d)))))
 
-  inner_value : {N K : ℕ} (mode : Mode) (home : Option ℕ) (scope : LocalScope) (e : Expr) → AlwaysFollows home scope e → (from to free r : ℕ) (t : Scalar) (k : Transactions) (sh : Shared) (text : List ℕ) (ls : List Local) (old : List ℕ) (after : Answer Value → Outcome) → Enters k.mode (Plain mode) → ValueTransactionCode code layout (ExprCode code layout p home scope e) from to free r t → Holds scope ls layout free old → IsGood code (Within k) sh → IsSeen (Within k) after → GoesOn N K (Within k) after ls to home free r t old → Does N K (Within k) sh text ls from old (λ s. after (value_transaction mode (expr p call e) s))
+  inner_value : {N K : ℕ} (mode : Mode) (home : Option ℕ) (scope : LocalScope) (e : Expr) → AlwaysFollows home scope e → (from to free r : ℕ) (t : Scalar) (k : Transactions) (sh : Shared) (text : List ℕ) (ls : List Local) (old : List ℕ) (after : Answer Value → Outcome) → Enters k.mode (Plain mode) → ValueTransactionCode code layout (ExprCode code layout p home scope e) from to free r t → HasLocals scope ls layout free old → IsGood code (Within k) sh → IsSeen (Within k) after → GoesOn N K (Within k) after ls to home free r t old → Does N K (Within k) sh text ls from old (λ s. after (value_transaction mode (expr p call e) s))
   unfolding returning
   inner_value mode home scope e ih from to free r t k sh text ls old after (inr f) c h g s go =
       same (effect code) (λ n. after (Stops Astray (state n ls (Inside k.mode sh.memory) text))) (λ n. ap (λ q. after (go_on q value_at)) (f sh.memory (expr p call e >>= returning) (state n ls (Inside k.mode sh.memory) text)))
@@ -526,7 +526,7 @@ module _ (p : Program) (call : Caller) (code : Code) (layout : Layout) (frames :
       commits_inner code k sh1 text1 mode sh.memory (configuration code c.last new frames) (configuration code (suc c.last) new frames) (configuration code to old frames) (effect_at code c.last Instr.Commit new frames c.commits)
       (go_at (Within k) after ls to (suc c.last) home free r t t old c.to_is refl go v sh1 text1 new (given_there good1 d)))))
 
-  value_transaction_follows : (mode : Mode) (home : Option ℕ) (scope : LocalScope) (e : Expr) → AlwaysFollows home scope e → (N K from to free r : ℕ) (t : Scalar) (a : Around) (sh : Shared) (text : List ℕ) (ls : List Local) (old : List ℕ) (after : Answer Value → Outcome) → ValueTransactionCode code layout (ExprCode code layout p home scope e) from to free r t → Holds scope ls layout free old → IsGood code a sh → IsSeen a after → GoesOn N K a after ls to home free r t old → Does N K a sh text ls from old (λ s. after (value_transaction mode (expr p call e) s))
+  value_transaction_follows : (mode : Mode) (home : Option ℕ) (scope : LocalScope) (e : Expr) → AlwaysFollows home scope e → (N K from to free r : ℕ) (t : Scalar) (a : Around) (sh : Shared) (text : List ℕ) (ls : List Local) (old : List ℕ) (after : Answer Value → Outcome) → ValueTransactionCode code layout (ExprCode code layout p home scope e) from to free r t → HasLocals scope ls layout free old → IsGood code a sh → IsSeen a after → GoesOn N K a after ls to home free r t old → Does N K a sh text ls from old (λ s. after (value_transaction mode (expr p call e) s))
   value_transaction_follows mode home scope e ih N K from to free r t Bare sh text ls old after c h g s go =
       bare_value mode home scope e ih from to free r t sh.founds sh.lefts sh.memory sh.kept text ls old after c h g s go
   value_transaction_follows mode home scope e ih N K from to free r t (Within k) sh text ls old after c h g s go =
@@ -540,11 +540,11 @@ module _ (p : Program) (call : Caller) (code : Code) (layout : Layout) (frames :
       InstructionAt code q (Instr.Call number d (argument_order f.parameters args)) → slice_get code.functions number ≡ Some g → g.name ≡ x → definition_of p x ≡ Some (f, body) →
       map (slice_index rs) args ≡ handed (map (λ q. q.ty) f.parameters) vs → IsGood code a sh → IsSeen a after →
       ((v : Value) (sh1 : Shared) (text1 : List ℕ) → v.ty ≡ unwrap_or f.result Int → v.word < modulus v.ty → IsGood code a sh1 →
-      Agrees (effect code) N K (holding a sh1 text1 (configuration code (suc q) (slice_set rs d v.word) frames)) (λ n. after (Gives v (state n ls (context_of a sh1) text1)))) →
-      Agrees (effect code) N K (holding a sh text (configuration code q rs frames)) (λ n. after (call x vs (state n ls (context_of a sh) text)))
+      Agrees (effect code) N K (sequential_state a sh1 text1 (configuration code (suc q) (slice_set rs d v.word) frames)) (λ n. after (Gives v (state n ls (context_of a sh1) text1)))) →
+      Agrees (effect code) N K (sequential_state a sh text (configuration code q rs frames)) (λ n. after (call x vs (state n ls (context_of a sh) text)))
 
   -- an operand of an operator
-  pub operand_follows : (scope : LocalScope) (e : Expr) → AlwaysFollows None scope e → (u : Scalar) (N K from to free r : ℕ) (t : Scalar) (a : Around) (sh : Shared) (text : List ℕ) (ls : List Local) (old : List ℕ) (after : Answer Value → Outcome) → OperandCode code layout e (ExprCode code layout p None scope e) u from to free r t → Holds scope ls layout free old → IsGood code a sh → IsSeen a after → GoesTaken N K a after ls to None free r u t old → Does N K a sh text ls from old (λ s. after (expr p call e s))
+  pub operand_follows : (scope : LocalScope) (e : Expr) → AlwaysFollows None scope e → (u : Scalar) (N K from to free r : ℕ) (t : Scalar) (a : Around) (sh : Shared) (text : List ℕ) (ls : List Local) (old : List ℕ) (after : Answer Value → Outcome) → OperandCode code layout e (ExprCode code layout p None scope e) u from to free r t → HasLocals scope ls layout free old → IsGood code a sh → IsSeen a after → GoesTaken N K a after ls to None free r u t old → Does N K a sh text ls from old (λ s. after (expr p call e s))
   operand_follows scope (Constant n x at) ih u N K from to free r t a sh text ls old after c h good s go =
       let v : Value = record { ty = x; word = word_of x (pos n) } in
       word_comes (constant_in u x n) u a sh text scope ls (λ m. after (Gives v (state m ls (context_of a sh) text))) from to free r old c.1 h
@@ -556,9 +556,9 @@ module _ (p : Program) (call : Caller) (code : Code) (layout : Layout) (frames :
   -- the first of several values, in the type that is due
   abbrev GoesHanded : ℕ → ℕ → (a : Around) → (Answer Value → Outcome) → List Local → List Scalar → (to free r : ℕ) → List ℕ → Type 0
   GoesHanded N K a after ls ts to free r old =
-      (v : Value) (sh : Shared) (text : List ℕ) (new : List ℕ) → slice_index new r ≡ first_word ts v → Keeps layout None free old new → IsGood code a sh → Agrees (effect code) N K (holding a sh text (configuration code to new frames)) (λ n. after (Gives v (state n ls (context_of a sh) text)))
+      (v : Value) (sh : Shared) (text : List ℕ) (new : List ℕ) → slice_index new r ≡ first_word ts v → Keeps layout None free old new → IsGood code a sh → Agrees (effect code) N K (sequential_state a sh text (configuration code to new frames)) (λ n. after (Gives v (state n ls (context_of a sh) text)))
 
-  handed_follows : (scope : LocalScope) (ts : List Scalar) (e : Expr) → AlwaysFollows None scope e → (N K from to free r : ℕ) (a : Around) (sh : Shared) (text : List ℕ) (ls : List Local) (old : List ℕ) (after : Answer Value → Outcome) → HandedCode code layout ts e (ExprCode code layout p None scope e) from to free r → Holds scope ls layout free old → IsGood code a sh → IsSeen a after → GoesHanded N K a after ls ts to free r old → Does N K a sh text ls from old (λ s. after (expr p call e s))
+  handed_follows : (scope : LocalScope) (ts : List Scalar) (e : Expr) → AlwaysFollows None scope e → (N K from to free r : ℕ) (a : Around) (sh : Shared) (text : List ℕ) (ls : List Local) (old : List ℕ) (after : Answer Value → Outcome) → HandedCode code layout ts e (ExprCode code layout p None scope e) from to free r → HasLocals scope ls layout free old → IsGood code a sh → IsSeen a after → GoesHanded N K a after ls ts to free r old → Does N K a sh text ls from old (λ s. after (expr p call e s))
   handed_follows scope [] e ih N K from to free r a sh text ls old after c h good s go =
       ih N K from to free r c.0 a sh text ls old after c.1 h good s (λ v sh1 text1 rs1 d. go v sh1 text1 rs1 d.here d.keeps d.good)
   handed_follows scope (t ∷ ts) e ih N K from to free r a sh text ls old after c h good s go =
@@ -568,7 +568,7 @@ module _ (p : Program) (call : Caller) (code : Code) (layout : Layout) (frames :
   abbrev pub GoesArgs : ℕ → ℕ → (a : Around) → (Answer (List Value) → Outcome) → List Local → List Scalar → (to free : ℕ) → (args old : List ℕ) → Type 0
   GoesArgs N K a after ls ts to free args old =
       (vs : List Value) (sh : Shared) (text : List ℕ) (new : List ℕ) → map (slice_index new) args ≡ handed ts vs → Keeps layout None free old new → IsGood code a sh →
-      Agrees (effect code) N K (holding a sh text (configuration code to new frames)) (λ n. after (Gives vs (state n ls (context_of a sh) text)))
+      Agrees (effect code) N K (sequential_state a sh text (configuration code to new frames)) (λ n. after (Gives vs (state n ls (context_of a sh) text)))
 
   module _ (cf : CallsFollow) (are : HasCellsOf code p) where
     mutual
@@ -632,7 +632,7 @@ module _ (p : Program) (call : Caller) (code : Code) (layout : Layout) (frames :
           operand_follows scope x (expr_follows None scope x) (operand_type op c.ta c.tb) N K from c.mid free c.ra c.ta a sh text ls old (λ q. after (go_on q rest)) c.left h good (on_seen a after rest s)
           (λ v sh1 text1 rs1 d.
           let rest1 : Value → Action Value = λ w. or_trap (binary op v w) in
-          operand_follows scope y (expr_follows None scope y) (operand_type op c.tb c.ta) N K c.mid c.last c.later c.rb c.tb a sh1 text1 ls rs1 (λ q. after (go_on q rest1)) c.right (holds_on scope ls layout free c.later old rs1 c.is_above h d.keeps) d.good (on_seen a after rest1 s)
+          operand_follows scope y (expr_follows None scope y) (operand_type op c.tb c.ta) N K c.mid c.last c.later c.rb c.tb a sh1 text1 ls rs1 (λ q. after (go_on q rest1)) c.right (has_locals_on scope ls layout free c.later old rs1 c.is_above h d.keeps) d.good (on_seen a after rest1 s)
           (λ w sh2 text2 rs2 e.
           let keeps : Keeps layout None free old rs2 = keeps_on layout None free c.later old rs1 rs2 c.is_above d.keeps e.keeps in
           operates op v w c.ta c.tb c.ra c.rb a sh2 text2 ls after c.last to home free r t old rs2 d.typed_so e.typed_so (unchanged_at layout c.later c.ra rs1 rs2 c.apart e.keeps ∙ d.here) e.here c.operates (keeps.size ∙ h.size_is) (keeps_more layout home free old rs2 keeps) e.good s go))
@@ -682,15 +682,15 @@ module _ (p : Program) (call : Caller) (code : Code) (layout : Layout) (frames :
           N K from true_exit false_exit free a sh text ls old after c h good s (flag_of a after ls true_exit false_exit free old go)
       own_follows scope e N K from true_exit false_exit free a sh text ls old after c h good s go = absurd c
 
-      pub args_follow : (scope : LocalScope) (ts : List Scalar) (es : Exprs) (N K from to free : ℕ) (args : List ℕ) (a : Around) (sh : Shared) (text : List ℕ) (ls : List Local) (old : List ℕ) (after : Answer (List Value) → Outcome) → ArgsCode code layout p scope ts es from to free args → Holds scope ls layout free old → IsGood code a sh → IsSeen a after → GoesArgs N K a after ls ts to free args old → Does N K a sh text ls from old (λ s. after (exprs p call es s))
+      pub args_follow : (scope : LocalScope) (ts : List Scalar) (es : Exprs) (N K from to free : ℕ) (args : List ℕ) (a : Around) (sh : Shared) (text : List ℕ) (ls : List Local) (old : List ℕ) (after : Answer (List Value) → Outcome) → ArgsCode code layout p scope ts es from to free args → HasLocals scope ls layout free old → IsGood code a sh → IsSeen a after → GoesArgs N K a after ls ts to free args old → Does N K a sh text ls from old (λ s. after (exprs p call es s))
       args_follow scope ts Exprs.[] N K from to free args a sh text ls old after c h good s go =
-          subst (λ q. Agrees (effect code) N K (holding a sh text (configuration code q old frames)) (λ n. after (Gives [] (state n ls (context_of a sh) text)))) c.0 (go [] sh text old (ap (map (slice_index old)) c.1) (keeps_all layout None free old) good)
+          subst (λ q. Agrees (effect code) N K (sequential_state a sh text (configuration code q old frames)) (λ n. after (Gives [] (state n ls (context_of a sh) text)))) c.0 (go [] sh text old (ap (map (slice_index old)) c.1) (keeps_all layout None free old) good)
       args_follow scope ts (Exprs.◌∷◌ e es) N K from to free args a sh text ls old after c h good s go =
           let rest : Value → Action (List Value) = λ v. exprs p call es >>= λ vs. pure (v ∷ vs) in
           handed_follows scope ts e (expr_follows None scope e) N K from c.last free c.r a sh text ls old (λ q. after (go_on q rest)) c.computes h good (on_seen a after rest s)
           (λ v sh1 text1 rs1 here keeps1 good1.
           let rest1 : List Value → Action (List Value) = λ vs. pure (v ∷ vs) in
-          args_follow scope (types_left ts) es N K c.last to c.later c.others a sh1 text1 ls rs1 (λ q. after (go_on q rest1)) c.goes_on (holds_on scope ls layout free c.later old rs1 c.is_above h keeps1) good1 (on_seen a after rest1 s)
+          args_follow scope (types_left ts) es N K c.last to c.later c.others a sh1 text1 ls rs1 (λ q. after (go_on q rest1)) c.goes_on (has_locals_on scope ls layout free c.later old rs1 c.is_above h keeps1) good1 (on_seen a after rest1 s)
           (λ vs sh2 text2 rs2 words keeps good2.
           go (v ∷ vs) sh2 text2 rs2 (ap (map (slice_index rs2)) c.are ∙ ap (λ w. w ∷ map (slice_index rs2) c.others) (keeps.below c.r c.apart tt ∙ here) ∙ ap (λ ws. first_word ts v ∷ ws) words) (keeps_on layout None free c.later old rs1 rs2 c.is_above keeps1 keeps) good2))
 

@@ -24,7 +24,7 @@ use Rattle.syntax.specs.Meaning.{InLocal, Completion, Next, Breaks, Continues, R
 use Rattle.bytecode.specs.Code.{Code, Configuration, Frame, Instr, effect}
 use Rattle.lower_spec.specs.Expressions.{LocalScope, IsLike, InstructionAt, LeadsTo, Layout}
 use Rattle.lower_spec.specs.Statements.{LocalAt, Exits, with_level, in_transaction, looping, with_local, with_declared, locals_of_start, locals_after, locals_at_end, Testing, Leaves, FirstValueCode, DeclareCode, IfCode, IfElseCode, WhileCode, DoWhileCode, HoldsCode, SteppedCode, StartCode, ForCode, TransactionCode, StmtCode, StmtsCode}
-use Rattle.lower_spec.proofs.Runs.{Enters, enters, Transactions, Around, Bare, Within, Shared, context_of, holding, state, IsSeen, on_seen, HasCellsOf, AreMemories, IsGood, Holds, configuration, effect_at, goes, goes_by, seen_spent, tick_goes, tick_counts, with_inner, outermost_alone, begins_inner, begins_outermost, wants_one, commits_inner, cancels_inner, leaves_outermost, next_commit, next_cancel}
+use Rattle.lower_spec.proofs.Runs.{Enters, enters, Transactions, Around, Bare, Within, Shared, context_of, sequential_state, state, IsSeen, on_seen, HasCellsOf, AreMemories, IsGood, HasLocals, configuration, effect_at, goes, goes_by, seen_spent, tick_goes, tick_counts, with_inner, outermost_alone, begins_inner, begins_outermost, wants_one, commits_inner, cancels_inner, leaves_outermost, next_commit, next_cancel}
 use Rattle.lower_spec.proofs.Conversions.{truth_converted}
 use Rattle.lower_spec.proofs.Locals.{TypeIs, type_last, length_like, word_taken, words_taken, shape_taken, word_new, word_last, words_new, shape_new}
 use Rattle.lower_spec.proofs.Statements.{Goes, GoesNext, GoesTest, expr_stores, result_follows, test_follows, simple_follows}
@@ -34,16 +34,16 @@ use Rattle.syntax.proofs.Loops.{loop_is_its_turns}
 use Rattle.syntax.proofs.Words.{some_below}
 
 -- the registers hold what a scope knows, and further names declared in it
-pub record HoldsMore (scope : LocalScope) (ls : List Local) (layout : Layout) (registers : List ℕ) : Type 0 where
+pub record HasMoreLocals (scope : LocalScope) (ls : List Local) (layout : Layout) (registers : List ℕ) : Type 0 where
   pub more : LocalScope
-  pub holds : Holds (scope ++ more) ls layout (length (scope ++ more)) registers
+  pub locals : HasLocals (scope ++ more) ls layout (length (scope ++ more)) registers
 
-abbrev pub Holding : Type 1
-Holding = List Local → List ℕ → Type 0
+abbrev pub ArrivalCondition : Type 1
+ArrivalCondition = List Local → List ℕ → Type 0
 
 -- the end of a scope
-pub holds_taken : (scope more : LocalScope) (ls : List Local) (layout : Layout) (free : ℕ) (rs : List ℕ) → Holds (scope ++ more) ls layout free rs → Holds scope (take (length scope) ls) layout (length scope) rs
-holds_taken scope more ls layout free rs h =
+pub has_locals_taken : (scope more : LocalScope) (ls : List Local) (layout : Layout) (free : ℕ) (rs : List ℕ) → HasLocals (scope ++ more) ls layout free rs → HasLocals scope (take (length scope) ls) layout (length scope) rs
+has_locals_taken scope more ls layout free rs h =
     let like : IsLike scope (take (length scope) ls) = shape_taken ls scope more h.like in
     let len : length (take (length scope) ls) ≡ length scope = length_like scope (take (length scope) ls) like in
     let whole : length ls ≡ length (scope ++ more) = length_like (scope ++ more) ls h.like in
@@ -97,7 +97,7 @@ word_in (Some r) rs = slice_index rs r
 
 module _ (p : Program) (code : Code) (layout : Layout) where
   -- how the code stands where a statement has come to its end: what its registers hold, and what is next
-  abbrev pub ArrivedAt : Exits → (next others : Holding) → (to : ℕ) → Completion → ℕ → List Local → List ℕ → Type 0
+  abbrev pub ArrivedAt : Exits → (next others : ArrivalCondition) → (to : ℕ) → Completion → ℕ → List Local → List ℕ → Type 0
   ArrivedAt x after others to Next q ls rs = (q ≡ to) × after ls rs
   ArrivedAt x after others to Breaks q ls rs = Leaves code layout p q x.in_loop (Instr.Jump x.break_to) × others ls rs
   ArrivedAt x after others to Continues q ls rs = Leaves code layout p q x.in_loop (Instr.Jump x.continue_to) × others ls rs
@@ -105,29 +105,29 @@ module _ (p : Program) (code : Code) (layout : Layout) where
   ArrivedAt x after others to Cancels q ls rs = (x.innermost ≡ Some Atomic) × InstructionAt code q Instr.Cancel
   ArrivedAt x after others to CancelsOuter q ls rs = ⊥
 
-  abbrev pub HereAt : LocalScope → Holding
-  HereAt scope ls rs = Holds scope ls layout (length scope) rs
+  abbrev pub HereAt : LocalScope → ArrivalCondition
+  HereAt scope ls rs = HasLocals scope ls layout (length scope) rs
 
-  abbrev pub MoreAt : LocalScope → Holding
-  MoreAt scope ls rs = HoldsMore scope ls layout rs
+  abbrev pub MoreAt : LocalScope → ArrivalCondition
+  MoreAt scope ls rs = HasMoreLocals scope ls layout rs
 
 module _ (p : Program) (call : Caller) (code : Code) (layout : Layout) (frames : List Frame) (cf : CallsFollow p call code layout frames) (are : HasCellsOf code p) where
-  abbrev pub Arrived : Exits → (next others : Holding) → (to : ℕ) → Completion → ℕ → List Local → List ℕ → Type 0
+  abbrev pub Arrived : Exits → (next others : ArrivalCondition) → (to : ℕ) → Completion → ℕ → List Local → List ℕ → Type 0
   Arrived x after others to end q ls rs = ArrivedAt p code layout x after others to end q ls rs
 
-  abbrev pub Here : LocalScope → Holding
+  abbrev pub Here : LocalScope → ArrivalCondition
   Here scope ls rs = HereAt p code layout scope ls rs
 
-  abbrev pub More : LocalScope → Holding
+  abbrev pub More : LocalScope → ArrivalCondition
   More scope ls rs = MoreAt p code layout scope ls rs
 
   -- where control goes by the end: no place of the code is an outer cancel's, so that one is said by itself
-  abbrev EndsGo : ℕ → ℕ → (a : Around) → (Answer Completion → Outcome) → Exits → (next others : Holding) → (to : ℕ) → Type 0
+  abbrev EndsGo : ℕ → ℕ → (a : Around) → (Answer Completion → Outcome) → Exits → (next others : ArrivalCondition) → (to : ℕ) → Type 0
   EndsGo N K a after x later others to =
       (end : Completion) (sh : Shared) (text : List ℕ) (ls : List Local) (rs : List ℕ) (q : ℕ) → IsGood code a sh → Arrived x later others to end q ls rs →
       Goes p call code layout frames cf are N K a sh text ls q rs (λ s. after (Gives end s))
 
-  pub record GoesByCompletion (N K : ℕ) (a : Around) (after : Answer Completion → Outcome) (x : Exits) (later others : Holding) (to : ℕ) : Type 0 where
+  pub record GoesByCompletion (N K : ℕ) (a : Around) (after : Answer Completion → Outcome) (x : Exits) (later others : ArrivalCondition) (to : ℕ) : Type 0 where
     pub ends : EndsGo N K a after x later others to
     pub outer : OuterGoes code N K a after x.in_outer
 
@@ -148,9 +148,9 @@ module _ (p : Program) (call : Caller) (code : Code) (layout : Layout) (frames :
   closing outer end = locals >>= λ all. put_locals (take (length outer) all) >> pure end
 
   ends_scope : (x : Exits) (scope later : LocalScope) (end : Completion) (to q : ℕ) (ls : List Local) (rs : List ℕ) → (more : LocalScope) × (later ≡ scope ++ more) → Arrived x (Here later) (More scope) to end q ls rs → Arrived x (Here scope) (Here scope) to end q (take (length scope) ls) rs
-  ends_scope x scope later Next to q ls rs g a = (a.0, holds_taken scope g.0 ls layout (length later) rs (subst (λ y. Holds y ls layout (length later) rs) g.1 a.1))
-  ends_scope x scope later Breaks to q ls rs g a = (a.0, holds_taken scope a.1.more ls layout (length (scope ++ a.1.more)) rs a.1.holds)
-  ends_scope x scope later Continues to q ls rs g a = (a.0, holds_taken scope a.1.more ls layout (length (scope ++ a.1.more)) rs a.1.holds)
+  ends_scope x scope later Next to q ls rs g a = (a.0, has_locals_taken scope g.0 ls layout (length later) rs (subst (λ y. HasLocals y ls layout (length later) rs) g.1 a.1))
+  ends_scope x scope later Breaks to q ls rs g a = (a.0, has_locals_taken scope a.1.more ls layout (length (scope ++ a.1.more)) rs a.1.locals)
+  ends_scope x scope later Continues to q ls rs g a = (a.0, has_locals_taken scope a.1.more ls layout (length (scope ++ a.1.more)) rs a.1.locals)
   ends_scope x scope later (Returns v) to q ls rs g a = a
   ends_scope x scope later Cancels to q ls rs g a = a
   ends_scope x scope later CancelsOuter to q ls rs g a = a
@@ -172,9 +172,9 @@ module _ (p : Program) (call : Caller) (code : Code) (layout : Layout) (frames :
 
   -- a branch or a loop's body is a scope of its own
   part_ends : (x : Exits) (scope : LocalScope) (st : Stmt) (end : Completion) (to q : ℕ) (ls : List Local) (rs : List ℕ) → Arrived x (Here (locals_after st scope)) (Here scope) to end q ls rs → Arrived x (Here scope) (Here scope) to end q (take (length scope) ls) rs
-  part_ends x scope st Next to q ls rs a = (a.0, holds_taken scope (after_grows st scope).0 ls layout (length (locals_after st scope)) rs (subst (λ y. Holds y ls layout (length (locals_after st scope)) rs) (after_grows st scope).1 a.1))
-  part_ends x scope st Breaks to q ls rs a = (a.0, holds_taken scope [] ls layout (length scope) rs (subst (λ y. Holds y ls layout (length scope) rs) (sym (append-nil scope)) a.1))
-  part_ends x scope st Continues to q ls rs a = (a.0, holds_taken scope [] ls layout (length scope) rs (subst (λ y. Holds y ls layout (length scope) rs) (sym (append-nil scope)) a.1))
+  part_ends x scope st Next to q ls rs a = (a.0, has_locals_taken scope (after_grows st scope).0 ls layout (length (locals_after st scope)) rs (subst (λ y. HasLocals y ls layout (length (locals_after st scope)) rs) (after_grows st scope).1 a.1))
+  part_ends x scope st Breaks to q ls rs a = (a.0, has_locals_taken scope [] ls layout (length scope) rs (subst (λ y. HasLocals y ls layout (length scope) rs) (sym (append-nil scope)) a.1))
+  part_ends x scope st Continues to q ls rs a = (a.0, has_locals_taken scope [] ls layout (length scope) rs (subst (λ y. HasLocals y ls layout (length scope) rs) (sym (append-nil scope)) a.1))
   part_ends x scope st (Returns v) to q ls rs a = a
   part_ends x scope st Cancels to q ls rs a = a
   part_ends x scope st CancelsOuter to q ls rs a = a
@@ -200,17 +200,17 @@ module _ (p : Program) (call : Caller) (code : Code) (layout : Layout) (frames :
   later_ends x scope mid later Breaks to q ls rs g a = (a.0, more_of scope mid ls rs g a.1)
     where
       more_of : (scope mid : LocalScope) (ls : List Local) (rs : List ℕ) → (more : LocalScope) × (mid ≡ scope ++ more) → More mid ls rs → More scope ls rs
-      more_of scope mid ls rs g h = record { more = g.0 ++ h.more; holds = subst (λ y. Holds y ls layout (length y) rs) (ap (λ y. y ++ h.more) g.1 ∙ append_assoc scope g.0 h.more) h.holds }
+      more_of scope mid ls rs g h = record { more = g.0 ++ h.more; locals = subst (λ y. HasLocals y ls layout (length y) rs) (ap (λ y. y ++ h.more) g.1 ∙ append_assoc scope g.0 h.more) h.locals }
   later_ends x scope mid later Continues to q ls rs g a = (a.0, more_of scope mid ls rs g a.1)
     where
       more_of : (scope mid : LocalScope) (ls : List Local) (rs : List ℕ) → (more : LocalScope) × (mid ≡ scope ++ more) → More mid ls rs → More scope ls rs
-      more_of scope mid ls rs g h = record { more = g.0 ++ h.more; holds = subst (λ y. Holds y ls layout (length y) rs) (ap (λ y. y ++ h.more) g.1 ∙ append_assoc scope g.0 h.more) h.holds }
+      more_of scope mid ls rs g h = record { more = g.0 ++ h.more; locals = subst (λ y. HasLocals y ls layout (length y) rs) (ap (λ y. y ++ h.more) g.1 ∙ append_assoc scope g.0 h.more) h.locals }
   later_ends x scope mid later (Returns v) to q ls rs g a = a
   later_ends x scope mid later Cancels to q ls rs g a = a
   later_ends x scope mid later CancelsOuter to q ls rs g a = a
 
   no_more : (scope : LocalScope) (ls : List Local) (rs : List ℕ) → Here scope ls rs → More scope ls rs
-  no_more scope ls rs h = record { more = []; holds = subst (λ y. Holds y ls layout (length y) rs) (sym (append-nil scope)) h }
+  no_more scope ls rs h = record { more = []; locals = subst (λ y. HasLocals y ls layout (length y) rs) (sym (append-nil scope)) h }
 
   later_goes : {N K : ℕ} (x : Exits) (scope mid later : LocalScope) (to : ℕ) (a : Around) (after : Answer Completion → Outcome) → (more : LocalScope) × (mid ≡ scope ++ more) → GoesByCompletion N K a after x (Here later) (More scope) to → GoesByCompletion N K a after x (Here later) (More mid) to
   later_goes x scope mid later to a after grown go = record {
@@ -289,7 +289,7 @@ module _ (p : Program) (call : Caller) (code : Code) (layout : Layout) (frames :
       (sh : Shared) (text : List ℕ) (ls : List Local) (rs : List ℕ) → IsGood code a sh → Here scope ls rs →
       Goes p call code layout frames cf are N K a sh text ls head rs (λ s. after (loop turn s))
 
-  fewer_end : {N K N' K' : ℕ} (a : Around) (after : Answer Completion → Outcome) (x : Exits) (later others : Holding) (to : ℕ) → N' ≤ N → K' ≤ K → GoesByCompletion N K a after x later others to → GoesByCompletion N' K' a after x later others to
+  fewer_end : {N K N' K' : ℕ} (a : Around) (after : Answer Completion → Outcome) (x : Exits) (later others : ArrivalCondition) (to : ℕ) → N' ≤ N → K' ≤ K → GoesByCompletion N K a after x later others to → GoesByCompletion N' K' a after x later others to
   fewer_end a after x later others to b d go =
       record { ends = λ end sh text ls rs q good arrived. fewer (effect code) b d (go.ends end sh text ls rs q good arrived); outer = outer_fewer code a after b d x.in_outer go.outer }
 
@@ -473,9 +473,9 @@ module _ (p : Program) (call : Caller) (code : Code) (layout : Layout) (frames :
 
   -- a scope that a run ends with no statements
   shrinks : (x : Exits) (scope later : LocalScope) (end : Completion) (to q : ℕ) (ls : List Local) (rs : List ℕ) → (more : LocalScope) × (later ≡ scope ++ more) → Arrived x (Here later) (Here later) to end q ls rs → Arrived x (Here scope) (Here scope) to end q (take (length scope) ls) rs
-  shrinks x scope later Next to q ls rs g a = (a.0, holds_taken scope g.0 ls layout (length later) rs (subst (λ y. Holds y ls layout (length later) rs) g.1 a.1))
-  shrinks x scope later Breaks to q ls rs g a = (a.0, holds_taken scope g.0 ls layout (length later) rs (subst (λ y. Holds y ls layout (length later) rs) g.1 a.1))
-  shrinks x scope later Continues to q ls rs g a = (a.0, holds_taken scope g.0 ls layout (length later) rs (subst (λ y. Holds y ls layout (length later) rs) g.1 a.1))
+  shrinks x scope later Next to q ls rs g a = (a.0, has_locals_taken scope g.0 ls layout (length later) rs (subst (λ y. HasLocals y ls layout (length later) rs) g.1 a.1))
+  shrinks x scope later Breaks to q ls rs g a = (a.0, has_locals_taken scope g.0 ls layout (length later) rs (subst (λ y. HasLocals y ls layout (length later) rs) g.1 a.1))
+  shrinks x scope later Continues to q ls rs g a = (a.0, has_locals_taken scope g.0 ls layout (length later) rs (subst (λ y. HasLocals y ls layout (length later) rs) g.1 a.1))
   shrinks x scope later (Returns v) to q ls rs g a = a
   shrinks x scope later Cancels to q ls rs g a = a
   shrinks x scope later CancelsOuter to q ls rs g a = a
@@ -515,7 +515,7 @@ module _ (p : Program) (call : Caller) (code : Code) (layout : Layout) (frames :
   atomic_of mode e = ap some_mode e
 
   -- an outermost transaction is left by a commit
-  bare_commits : {N K : ℕ} (end : Completion) (kind : TransactionKind) (found : Memory) (founds lefts : List Memory) (to : ℕ) (sh : Shared) (text : List ℕ) (ls : List Local) (old rs : List ℕ) (q : ℕ) (after : Answer Completion → Outcome) → InstructionAt code q Instr.Commit → IsSeen Bare after → AreMemories code founds → Goes p call code layout frames cf are N K Bare (record { founds = founds; lefts = lefts ++ sh.memory ∷ []; memory = sh.memory; kept = sh.kept }) text ls (suc q) rs (λ s. after (Gives end s)) → Agrees (effect code) N K (holding (Within (outermost_alone code (mode_of kind) (configuration code to old frames) found founds lefts)) sh text (configuration code q rs frames)) (λ n. after (leave founds lefts (record { end = end; locals = ls; memory = sh.memory }) (state n ls (Inside (mode_of kind) sh.memory) text)))
+  bare_commits : {N K : ℕ} (end : Completion) (kind : TransactionKind) (found : Memory) (founds lefts : List Memory) (to : ℕ) (sh : Shared) (text : List ℕ) (ls : List Local) (old rs : List ℕ) (q : ℕ) (after : Answer Completion → Outcome) → InstructionAt code q Instr.Commit → IsSeen Bare after → AreMemories code founds → Goes p call code layout frames cf are N K Bare (record { founds = founds; lefts = lefts ++ sh.memory ∷ []; memory = sh.memory; kept = sh.kept }) text ls (suc q) rs (λ s. after (Gives end s)) → Agrees (effect code) N K (sequential_state (Within (outermost_alone code (mode_of kind) (configuration code to old frames) found founds lefts)) sh text (configuration code q rs frames)) (λ n. after (leave founds lefts (record { end = end; locals = ls; memory = sh.memory }) (state n ls (Inside (mode_of kind) sh.memory) text)))
   bare_commits end kind found founds lefts to sh text ls old rs q after i s g go =
       leaves_outermost code after (Gives end) (mode_of kind) found sh.memory founds lefts sh text ls ls (configuration code q rs frames) (configuration code (suc q) rs frames) (configuration code to old frames)
       (next_commit code (mode_of kind) found founds lefts sh text (configuration code q rs frames) (configuration code (suc q) rs frames) (configuration code to old frames) (effect_at code q Instr.Commit rs frames i)) s go
@@ -541,7 +541,7 @@ module _ (p : Program) (call : Caller) (code : Code) (layout : Layout) (frames :
     (λ e. refl),
     λ sh text ls1 s0 good cancels.
         leaves_by code after (Gives Next) found founds lefts text ls1 ls (configuration code to old frames) s0
-        (cancels.next_is ∙ ap (λ b. cancel_step (holding (Within (outermost_alone code Atomic (configuration code to old frames) found founds lefts)) sh text s0.configuration) (opened code (outermost_alone code Atomic (configuration code to old frames) found founds lefts) sh) [] b) (cancels.free refl))
+        (cancels.next_is ∙ ap (λ b. cancel_step (sequential_state (Within (outermost_alone code Atomic (configuration code to old frames) found founds lefts)) sh text s0.configuration) (opened code (outermost_alone code Atomic (configuration code to old frames) found founds lefts) sh) [] b) (cancels.free refl))
         cancels.seen s
         (go.ends Next (record { founds = founds; lefts = lefts ++ found ∷ []; memory = sh.memory; kept = sh.kept }) text ls old to g (refl, h)),
   )

@@ -17,7 +17,7 @@ use Rattle.bytecode.specs.Sequential.{Sequential, OpenTransaction, InnerTransact
 use Rattle.lower_spec.specs.Expressions.{InstructionAt, Layout}
 use Rattle.lower_spec.specs.Statements.{cancelling, OuterCancelCode}
 use Rattle.lower_spec.proofs.Agreement.{Agrees, same, fewer, shown}
-use Rattle.lower_spec.proofs.Runs.{Transactions, Around, Bare, Within, Shared, context_of, holding, state, IsSeen, IsGood, configuration, effect_at, with_inner}
+use Rattle.lower_spec.proofs.Runs.{Transactions, Around, Bare, Within, Shared, context_of, sequential_state, state, IsSeen, IsGood, configuration, effect_at, with_inner}
 
 module _ (code : Code) where
   -- a thread whose next step cancels the innermost transaction of h, and with it so many that lie round it
@@ -26,7 +26,7 @@ module _ (code : Code) where
 
   pub record IsCancelling (n : ℕ) (h : Transactions) (sh : Shared) (text : List ℕ) (s : Sequential Configuration) : Type 0 where
     pub seen : outcome_of s ≡ record { lefts = h.lefts; text = text; end = Stopped Spent }
-    pub next_is : next (effect code) s ≡ cancel_step (holding (Within h) sh text s.configuration) (opened h sh) (drop n h.inner) sh.kept
+    pub next_is : next (effect code) s ≡ cancel_step (sequential_state (Within h) sh text s.configuration) (opened h sh) (drop n h.inner) sh.kept
     pub free : drop n h.inner ≡ [] → sh.kept ≡ false
 
   -- where an outer cancel goes on, by how many transactions lie inside the outer one
@@ -49,7 +49,7 @@ module _ (code : Code) where
   outer_fewer (Within h) after b d (Some n) g = (g.0, λ sh text ls s good c. fewer (effect code) b d (g.1 sh text ls s good c))
 
   -- through a plain transaction inside another
-  through_step : (k : Transactions) (mode : Mode) (m : Memory) (d c : Configuration) (sh : Shared) (text : List ℕ) (ls : List (InnerTransaction Configuration)) (kept : Bool) → (ls ≡ [] → kept ≡ false) → cancel_step (holding (Within (with_inner code k mode m d)) sh text c) (opened (with_inner code k mode m d) sh) ls kept ≡ cancel_step (holding (Within k) sh text c) (opened k sh) ls kept
+  through_step : (k : Transactions) (mode : Mode) (m : Memory) (d c : Configuration) (sh : Shared) (text : List ℕ) (ls : List (InnerTransaction Configuration)) (kept : Bool) → (ls ≡ [] → kept ≡ false) → cancel_step (sequential_state (Within (with_inner code k mode m d)) sh text c) (opened (with_inner code k mode m d) sh) ls kept ≡ cancel_step (sequential_state (Within k) sh text c) (opened k sh) ls kept
   through_step k mode m d c sh text [] false f = refl
   through_step k mode m d c sh text [] true f = absurd (cc (f refl))
   through_step k mode m d c sh text (l ∷ ls) kept f = refl
@@ -71,16 +71,16 @@ module _ (code : Code) where
   leaves_by after give left founds lefts text ls ls' d s0 e seen s g = fewer (effect code) (omega arith) (omega arith) (shown (effect code) _ e (s.spent _ ∙ sym seen) (λ n. refl) g)
 
   -- the instruction of an outer cancel
-  cancels_next : (frames : List Frame) (n : ℕ) (h : Transactions) (sh : Shared) (text : List ℕ) (q : ℕ) (rs : List ℕ) → InstructionAt code q (cancelling n) → next (effect code) (holding (Within h) sh text (configuration code q rs frames)) ≡ cancel_step (holding (Within h) sh text (configuration code q rs frames)) (opened h sh) (drop n h.inner) sh.kept
-  cancels_next frames zero h sh text q rs i = ap (λ x. sequential_step (holding (Within h) sh text (configuration code q rs frames)) false Running (holding (Within h) sh text (configuration code q rs frames)).inside x) (effect_at code q Instr.Cancel rs frames i)
+  cancels_next : (frames : List Frame) (n : ℕ) (h : Transactions) (sh : Shared) (text : List ℕ) (q : ℕ) (rs : List ℕ) → InstructionAt code q (cancelling n) → next (effect code) (sequential_state (Within h) sh text (configuration code q rs frames)) ≡ cancel_step (sequential_state (Within h) sh text (configuration code q rs frames)) (opened h sh) (drop n h.inner) sh.kept
+  cancels_next frames zero h sh text q rs i = ap (λ x. sequential_step (sequential_state (Within h) sh text (configuration code q rs frames)) false Running (sequential_state (Within h) sh text (configuration code q rs frames)).inside x) (effect_at code q Instr.Cancel rs frames i)
   cancels_next frames (suc n) h sh text q rs i =
       let one_less : suc (suc n) - 1 ≡ suc n = omega arith in
-      ap (λ x. sequential_step (holding (Within h) sh text (configuration code q rs frames)) false Running (holding (Within h) sh text (configuration code q rs frames)).inside x) (effect_at code q (Instr.CancelOuter (suc (suc n))) rs frames i)
-      ∙ ap (λ k. cancel_step (holding (Within h) sh text (configuration code q rs frames)) (opened h sh) (drop k h.inner) sh.kept) one_less
+      ap (λ x. sequential_step (sequential_state (Within h) sh text (configuration code q rs frames)) false Running (sequential_state (Within h) sh text (configuration code q rs frames)).inside x) (effect_at code q (Instr.CancelOuter (suc (suc n))) rs frames i)
+      ∙ ap (λ k. cancel_step (sequential_state (Within h) sh text (configuration code q rs frames)) (opened h sh) (drop k h.inner) sh.kept) one_less
 
-  pub outer_follows : {N K : ℕ} (p : Program) (layout : Layout) (frames : List Frame) (o : Option ℕ) (q : ℕ) → OuterCancelCode code layout p o q → (a : Around) (sh : Shared) (text : List ℕ) (ls : List Local) (rs : List ℕ) (after : Answer Completion → Outcome) → IsGood code a sh → OuterGoes N K a after o → Agrees (effect code) N K (holding a sh text (configuration code q rs frames)) (λ n. after (Gives CancelsOuter (state n ls (context_of a sh) text)))
+  pub outer_follows : {N K : ℕ} (p : Program) (layout : Layout) (frames : List Frame) (o : Option ℕ) (q : ℕ) → OuterCancelCode code layout p o q → (a : Around) (sh : Shared) (text : List ℕ) (ls : List Local) (rs : List ℕ) (after : Answer Completion → Outcome) → IsGood code a sh → OuterGoes N K a after o → Agrees (effect code) N K (sequential_state a sh text (configuration code q rs frames)) (λ n. after (Gives CancelsOuter (state n ls (context_of a sh) text)))
   outer_follows p layout frames None q c a sh text ls rs after good g = absurd c
   outer_follows p layout frames (Some n) q c Bare sh text ls rs after good g = absurd g
   outer_follows p layout frames (Some n) q c (Within h) sh text ls rs after good g =
-      g.1 sh text ls (holding (Within h) sh text (configuration code q rs frames)) good
+      g.1 sh text ls (sequential_state (Within h) sh text (configuration code q rs frames)) good
       (record { seen = refl; next_is = cancels_next frames n h sh text q rs c; free = λ e. (good.1 (g.0 e)).0 })

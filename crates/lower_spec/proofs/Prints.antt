@@ -16,7 +16,7 @@ use Rattle.bytecode.specs.Code.{Code, Frame, Instr, effect, print_effect}
 use Rattle.lower_spec.specs.Expressions.{LocalScope, Layout}
 use Rattle.lower_spec.specs.Statements.{PiecesCode, PrintCode}
 use Rattle.lower_spec.proofs.Agreement.{astray, same}
-use Rattle.lower_spec.proofs.Runs.{Transactions, Around, Bare, Within, Shared, state, IsSeen, on_seen, HasCellsOf, IsGood, Holds, configuration, effect_at, PrintsIn, prints_piece, irrevocable_bare, irrevocable_within}
+use Rattle.lower_spec.proofs.Runs.{Transactions, Around, Bare, Within, Shared, state, IsSeen, on_seen, HasCellsOf, IsGood, HasLocals, configuration, effect_at, PrintsIn, prints_piece, irrevocable_bare, irrevocable_within}
 use Rattle.std.specs.Fmt.{signed_decimal}
 use Rattle.syntax.specs.Numbers.{number}
 use Rattle.syntax.specs.Formats.{Piece, Literal, Specifier, pieces}
@@ -76,7 +76,7 @@ module _ (p : Program) (call : Caller) (code : Code) (layout : Layout) (frames :
   abbrev pub print_rest : List ℕ → Exprs → Action Completion
   print_rest format es = exprs p call es >>= λ vs. print_pieces (pieces format) vs >> pure Next
 
-  print_goes : {N K : ℕ} (scope : LocalScope) (format : List ℕ) (es : Exprs) (from to : ℕ) (c : PrintCode code layout p scope format es from to) (a : Around) (sh : Shared) (text : List ℕ) (ls : List Local) (old : List ℕ) (after : Answer Completion → Outcome) → ((sh1 : Shared) → IsGood code a sh1 → MayPrint a sh1) → Holds scope ls layout (length scope) old → IsGood code a sh → IsSeen a after → GoesNext p call code layout frames cf are N K a after scope to → Goes p call code layout frames cf are N K a sh text ls (suc from) old (λ s. after (print_rest format es s))
+  print_goes : {N K : ℕ} (scope : LocalScope) (format : List ℕ) (es : Exprs) (from to : ℕ) (c : PrintCode code layout p scope format es from to) (a : Around) (sh : Shared) (text : List ℕ) (ls : List Local) (old : List ℕ) (after : Answer Completion → Outcome) → ((sh1 : Shared) → IsGood code a sh1 → MayPrint a sh1) → HasLocals scope ls layout (length scope) old → IsGood code a sh → IsSeen a after → GoesNext p call code layout frames cf are N K a after scope to → Goes p call code layout frames cf are N K a sh text ls (suc from) old (λ s. after (print_rest format es s))
   print_goes {N = N} {K = K} scope format es from to c a sh text ls old after may h good s go =
       let rest : List Value → Action Completion = λ vs. print_pieces (pieces format) vs >> pure Next in
       args_follow p call code layout frames cf are scope [] es N K (suc from) c.mid c.free c.rs a sh text ls old (λ q. after (go_on q rest)) c.args (raised scope ls layout c.free old c.room h) good (on_seen a after rest s)
@@ -84,7 +84,7 @@ module _ (p : Program) (call : Caller) (code : Code) (layout : Layout) (frames :
       pieces_follow (pieces format) c.rs vs c.mid to c.prints a sh1 text1 ls rs1 (λ q. after (go_on q (λ u. pure Next))) (words ∙ unhanded vs) (may sh1 good1) (on_seen a after (λ u. pure Next) s)
       (λ text2. go sh1 text2 ls rs1 good1 (lowered scope ls layout c.free old rs1 c.room h keeps)))
 
-  pub print_follows : {N K : ℕ} (scope : LocalScope) (format : List ℕ) (es : Exprs) (from to : ℕ) (c : PrintCode code layout p scope format es from to) (a : Around) (sh : Shared) (text : List ℕ) (ls : List Local) (old : List ℕ) (after : Answer Completion → Outcome) → Holds scope ls layout (length scope) old → IsGood code a sh → IsSeen a after → GoesNext p call code layout frames cf are N K a after scope to → Goes p call code layout frames cf are N K a sh text ls from old (λ s. after (go_on (may_print s) (λ u. print_rest format es)))
+  pub print_follows : {N K : ℕ} (scope : LocalScope) (format : List ℕ) (es : Exprs) (from to : ℕ) (c : PrintCode code layout p scope format es from to) (a : Around) (sh : Shared) (text : List ℕ) (ls : List Local) (old : List ℕ) (after : Answer Completion → Outcome) → HasLocals scope ls layout (length scope) old → IsGood code a sh → IsSeen a after → GoesNext p call code layout frames cf are N K a after scope to → Goes p call code layout frames cf are N K a sh text ls from old (λ s. after (go_on (may_print s) (λ u. print_rest format es)))
   print_follows scope format es from to c Bare sh text ls old after h good s go =
       irrevocable_bare code sh text (configuration code from old frames) (configuration code (suc from) old frames) (effect_at code from Instr.Irrevocable old frames c.irrevocable)
       (print_goes scope format es from to c Bare sh text ls old after (λ sh1 g. tt) h good s go)

@@ -51,9 +51,9 @@ abbrev pub context_of : Around → Shared → Context
 context_of Bare sh = Outside sh.founds sh.lefts
 context_of (Within h) sh = Inside h.mode sh.memory
 
-abbrev pub holding : Around → Shared → List ℕ → Configuration → Sequential Configuration
-holding Bare sh text c = outside c sh.founds sh.lefts text Running
-holding (Within h) sh text c = record { configuration = c; inside = Some (record { cancelled = h.cancelled; found = h.found; mem = sh.memory; inner = h.inner; kept = sh.kept }); founds = h.founds; lefts = h.lefts; text = text; status = Running; wants = false }
+abbrev pub sequential_state : Around → Shared → List ℕ → Configuration → Sequential Configuration
+sequential_state Bare sh text c = outside c sh.founds sh.lefts text Running
+sequential_state (Within h) sh text c = record { configuration = c; inside = Some (record { cancelled = h.cancelled; found = h.found; mem = sh.memory; inner = h.inner; kept = sh.kept }); founds = h.founds; lefts = h.lefts; text = text; status = Running; wants = false }
 
 abbrev pub state : ℕ → List Local → Context → List ℕ → State
 state n ls c text = record { ticks = n; locals = ls; context = c; text = text }
@@ -101,7 +101,7 @@ abbrev pub ArePreloaded : Layout → List ℕ → Type 0
 ArePreloaded layout registers = (k w : ℕ) → slice_get layout.constants k ≡ Some w → slice_index registers (layout.writable + k) ≡ w
 
 -- the registers hold the locals and the constants
-pub record Holds (scope : LocalScope) (ls : List Local) (layout : Layout) (free : ℕ) (registers : List ℕ) : Type 0 where
+pub record HasLocals (scope : LocalScope) (ls : List Local) (layout : Layout) (free : ℕ) (registers : List ℕ) : Type 0 where
   pub like : IsLike scope ls
   pub room : length ls ≤ free
   pub fits : length ls ≤ layout.writable
@@ -156,8 +156,8 @@ unchanged_at layout free i old new (inr h) k = k.behind i h
 pub preloaded_stay : (layout : Layout) (home : Option ℕ) (free : ℕ) (old new : List ℕ) → ArePreloaded layout old → Keeps layout home free old new → ArePreloaded layout new
 preloaded_stay layout home free old new h k i w e = k.behind (layout.writable + i) (omega arith) ∙ h i w e
 
-pub holds_on : (scope : LocalScope) (ls : List Local) (layout : Layout) (free later : ℕ) (old new : List ℕ) → free ≤ later → Holds scope ls layout free old → Keeps layout None free old new → Holds scope ls layout later new
-holds_on scope ls layout free later old new b h k = record {
+pub has_locals_on : (scope : LocalScope) (ls : List Local) (layout : Layout) (free later : ℕ) (old new : List ℕ) → free ≤ later → HasLocals scope ls layout free old → Keeps layout None free old new → HasLocals scope ls layout later new
+has_locals_on scope ls layout free later old new b h k = record {
   like = h.like;
   room = let r = h.room in omega (arith, r, b);
   fits = h.fits;
@@ -207,16 +207,16 @@ module _ (code : Code) where
   pub effect_at : (q : ℕ) (i : Instr) (registers : List ℕ) (frames : List Frame) → InstructionAt code q i → effect code (configuration q registers frames) ≡ effect_of code (configuration q registers frames) (Some i)
   effect_at q i registers frames h = ap (λ o. effect_of code (configuration q registers frames) o) h
 
-  next_pure : (a : Around) (sh : Shared) (text : List ℕ) (c c' : Configuration) → effect code c ≡ Effect.Pure c' → next (effect code) (holding a sh text c) ≡ holding a sh text c'
-  next_pure Bare sh text c c' e = ap (λ x. sequential_step (holding Bare sh text c) false Running None x) e
-  next_pure (Within h) sh text c c' e = ap (λ x. sequential_step (holding (Within h) sh text c) false Running (holding (Within h) sh text c).inside x) e
+  next_pure : (a : Around) (sh : Shared) (text : List ℕ) (c c' : Configuration) → effect code c ≡ Effect.Pure c' → next (effect code) (sequential_state a sh text c) ≡ sequential_state a sh text c'
+  next_pure Bare sh text c c' e = ap (λ x. sequential_step (sequential_state Bare sh text c) false Running None x) e
+  next_pure (Within h) sh text c c' e = ap (λ x. sequential_step (sequential_state (Within h) sh text c) false Running (sequential_state (Within h) sh text c).inside x) e
 
-  same_outcome : (a : Around) (sh : Shared) (text : List ℕ) (c c' : Configuration) → outcome_of (holding a sh text c') ≡ outcome_of (holding a sh text c)
+  same_outcome : (a : Around) (sh : Shared) (text : List ℕ) (c c' : Configuration) → outcome_of (sequential_state a sh text c') ≡ outcome_of (sequential_state a sh text c)
   same_outcome Bare sh text c c' = refl
   same_outcome (Within h) sh text c c' = refl
 
   -- an instruction that works on registers and place
-  pub goes : {N K : ℕ} (a : Around) (sh : Shared) (text : List ℕ) {does : ℕ → Outcome} (c c' : Configuration) → effect code c ≡ Effect.Pure c' → Agrees (effect code) N K (holding a sh text c') does → Agrees (effect code) N (suc K) (holding a sh text c) does
+  pub goes : {N K : ℕ} (a : Around) (sh : Shared) (text : List ℕ) {does : ℕ → Outcome} (c c' : Configuration) → effect code c ≡ Effect.Pure c' → Agrees (effect code) N K (sequential_state a sh text c') does → Agrees (effect code) N (suc K) (sequential_state a sh text c) does
   goes a sh text c c' e m = quiet (effect code) (next_pure a sh text c c' e) (same_outcome a sh text c c') m
 
   pub less : (K : ℕ) → K ≤ suc K
@@ -225,19 +225,19 @@ module _ (code : Code) where
   pub all : (K : ℕ) → K ≤ K
   all K = omega arith
 
-  pub goes_by : {N K : ℕ} (a : Around) (sh : Shared) (text : List ℕ) {does : ℕ → Outcome} (c c' : Configuration) → effect code c ≡ Effect.Pure c' → Agrees (effect code) N K (holding a sh text c') does → Agrees (effect code) N K (holding a sh text c) does
+  pub goes_by : {N K : ℕ} (a : Around) (sh : Shared) (text : List ℕ) {does : ℕ → Outcome} (c c' : Configuration) → effect code c ≡ Effect.Pure c' → Agrees (effect code) N K (sequential_state a sh text c') does → Agrees (effect code) N K (sequential_state a sh text c) does
   goes_by {N = N} {K = K} a sh text c c' e m = fewer (effect code) (all N) (less K) (goes a sh text c c' e m)
 
   -- what is seen of a thread that runs
-  pub seen_spent : (a : Around) {A : Type 0} (after : Answer A → Outcome) (sh : Shared) (n : ℕ) (ls : List Local) (text : List ℕ) (c : Configuration) → IsSeen a after → after (Stops Spent (state n ls (context_of a sh) text)) ≡ outcome_of (holding a sh text c)
+  pub seen_spent : (a : Around) {A : Type 0} (after : Answer A → Outcome) (sh : Shared) (n : ℕ) (ls : List Local) (text : List ℕ) (c : Configuration) → IsSeen a after → after (Stops Spent (state n ls (context_of a sh) text)) ≡ outcome_of (sequential_state a sh text c)
   seen_spent Bare after sh n ls text c s = s.spent _
   seen_spent (Within h) after sh n ls text c s = s.spent _
 
   -- a tick
-  pub tick_goes : {N K : ℕ} (a : Around) {A : Type 0} (after : Answer A → Outcome) (rest : Action A) (sh : Shared) (ls : List Local) (text : List ℕ) (c : Configuration) → IsSeen a after → Agrees (effect code) N K (holding a sh text c) (λ n. after (rest (state n ls (context_of a sh) text))) → Agrees (effect code) N K (holding a sh text c) (λ n. after (go_on (tick (state n ls (context_of a sh) text)) (λ _. rest)))
+  pub tick_goes : {N K : ℕ} (a : Around) {A : Type 0} (after : Answer A → Outcome) (rest : Action A) (sh : Shared) (ls : List Local) (text : List ℕ) (c : Configuration) → IsSeen a after → Agrees (effect code) N K (sequential_state a sh text c) (λ n. after (rest (state n ls (context_of a sh) text))) → Agrees (effect code) N K (sequential_state a sh text c) (λ n. after (go_on (tick (state n ls (context_of a sh) text)) (λ _. rest)))
   tick_goes {N = N} {K = K} a after rest sh ls text c s m = fewer (effect code) (less N) (all K) (ticked (effect code) _ (seen_spent a after sh 0 ls text c s) (λ n. refl) m)
 
-  pub tick_counts : {N K : ℕ} (a : Around) {A : Type 0} (after : Answer A → Outcome) (rest : Action A) (sh : Shared) (ls : List Local) (text : List ℕ) (c : Configuration) → IsSeen a after → Agrees (effect code) N K (holding a sh text c) (λ n. after (rest (state n ls (context_of a sh) text))) → Agrees (effect code) (suc N) K (holding a sh text c) (λ n. after (go_on (tick (state n ls (context_of a sh) text)) (λ _. rest)))
+  pub tick_counts : {N K : ℕ} (a : Around) {A : Type 0} (after : Answer A → Outcome) (rest : Action A) (sh : Shared) (ls : List Local) (text : List ℕ) (c : Configuration) → IsSeen a after → Agrees (effect code) N K (sequential_state a sh text c) (λ n. after (rest (state n ls (context_of a sh) text))) → Agrees (effect code) (suc N) K (sequential_state a sh text c) (λ n. after (go_on (tick (state n ls (context_of a sh) text)) (λ _. rest)))
   tick_counts a after rest sh ls text c s m = ticked (effect code) _ (seen_spent a after sh 0 ls text c s) (λ n. refl) m
 
   -- a trap, which takes a tick
@@ -245,10 +245,10 @@ module _ (code : Code) where
   trapped_thread Bare sh text c k = outside c sh.founds sh.lefts text (HasTrapped k)
   trapped_thread (Within h) sh text c k = outside c h.founds (h.lefts ++ h.found ∷ []) text (HasTrapped k)
 
-  next_trap : (a : Around) (sh : Shared) (text : List ℕ) (c : Configuration) (k : Trap) → effect code c ≡ Effect.Traps k → next (effect code) (holding a sh text c) ≡ trapped_thread a sh text c k
+  next_trap : (a : Around) (sh : Shared) (text : List ℕ) (c : Configuration) (k : Trap) → effect code c ≡ Effect.Traps k → next (effect code) (sequential_state a sh text c) ≡ trapped_thread a sh text c k
   unfolding trapped_thread
-  next_trap Bare sh text c k e = ap (λ x. sequential_step (holding Bare sh text c) false Running None x) e
-  next_trap (Within h) sh text c k e = ap (λ x. sequential_step (holding (Within h) sh text c) false Running (holding (Within h) sh text c).inside x) e
+  next_trap Bare sh text c k e = ap (λ x. sequential_step (sequential_state Bare sh text c) false Running None x) e
+  next_trap (Within h) sh text c k e = ap (λ x. sequential_step (sequential_state (Within h) sh text c) false Running (sequential_state (Within h) sh text c).inside x) e
 
   trapped_rests : (a : Around) (sh : Shared) (text : List ℕ) (c : Configuration) (k : Trap) → next (effect code) (trapped_thread a sh text c k) ≡ trapped_thread a sh text c k
   unfolding trapped_thread
@@ -260,7 +260,7 @@ module _ (code : Code) where
   seen_trapped Bare after sh n ls text c k s = s.trapped k _
   seen_trapped (Within h) after sh n ls text c k s = s.trapped k _
 
-  pub traps : {N K : ℕ} (a : Around) {A : Type 0} (after : Answer A → Outcome) (sh : Shared) (ls : List Local) (text : List ℕ) (c : Configuration) (k : Trap) → IsSeen a after → effect code c ≡ Effect.Traps k → Agrees (effect code) N K (holding a sh text c) (λ n. after (trap k (state n ls (context_of a sh) text)))
+  pub traps : {N K : ℕ} (a : Around) {A : Type 0} (after : Answer A → Outcome) (sh : Shared) (ls : List Local) (text : List ℕ) (c : Configuration) (k : Trap) → IsSeen a after → effect code c ≡ Effect.Traps k → Agrees (effect code) N K (sequential_state a sh text c) (λ n. after (trap k (state n ls (context_of a sh) text)))
   traps {N = N} {K = K} a after sh ls text c k s e =
       fewer (effect code) (less N) (less K)
       (shown (effect code) (λ n. after (Stops (Trapped k) (state n ls (context_of a sh) text))) (next_trap a sh text c k e) (seen_spent a after sh 0 ls text c s) (λ n. refl)
@@ -271,14 +271,14 @@ module _ (code : Code) where
   word_read m cell t h e = word_in_memory (bounds_of code) m cell (modulus t) h e (some_below t)
 
   -- a shared read inside a transaction
-  pub reads_by : {N K : ℕ} (h : Transactions) (sh : Shared) (text : List ℕ) {does : ℕ → Outcome} (c : Configuration) (cell : ℕ) (k : ℕ → Configuration) → effect code c ≡ Effect.Read cell k → Agrees (effect code) N K (holding (Within h) sh text (k (slice_index sh.memory cell))) does → Agrees (effect code) N K (holding (Within h) sh text c) does
+  pub reads_by : {N K : ℕ} (h : Transactions) (sh : Shared) (text : List ℕ) {does : ℕ → Outcome} (c : Configuration) (cell : ℕ) (k : ℕ → Configuration) → effect code c ≡ Effect.Read cell k → Agrees (effect code) N K (sequential_state (Within h) sh text (k (slice_index sh.memory cell))) does → Agrees (effect code) N K (sequential_state (Within h) sh text c) does
   reads_by {N = N} {K = K} h sh text c cell k e m =
-      fewer (effect code) (all N) (less K) (quiet (effect code) (ap (λ x. sequential_step (holding (Within h) sh text c) false Running (holding (Within h) sh text c).inside x) e) refl m)
+      fewer (effect code) (all N) (less K) (quiet (effect code) (ap (λ x. sequential_step (sequential_state (Within h) sh text c) false Running (sequential_state (Within h) sh text c).inside x) e) refl m)
 
   -- a shared write inside a transaction
-  pub writes_by : {N K : ℕ} (h : Transactions) (sh : Shared) (text : List ℕ) {does : ℕ → Outcome} (c c' : Configuration) (cell w : ℕ) → effect code c ≡ Effect.Write cell w c' → Agrees (effect code) N K (holding (Within h) (record sh { memory = slice_set sh.memory cell w }) text c') does → Agrees (effect code) N K (holding (Within h) sh text c) does
+  pub writes_by : {N K : ℕ} (h : Transactions) (sh : Shared) (text : List ℕ) {does : ℕ → Outcome} (c c' : Configuration) (cell w : ℕ) → effect code c ≡ Effect.Write cell w c' → Agrees (effect code) N K (sequential_state (Within h) (record sh { memory = slice_set sh.memory cell w }) text c') does → Agrees (effect code) N K (sequential_state (Within h) sh text c) does
   writes_by {N = N} {K = K} h sh text c c' cell w e m =
-      fewer (effect code) (all N) (less K) (quiet (effect code) (ap (λ x. sequential_step (holding (Within h) sh text c) false Running (holding (Within h) sh text c).inside x) e) refl m)
+      fewer (effect code) (all N) (less K) (quiet (effect code) (ap (λ x. sequential_step (sequential_state (Within h) sh text c) false Running (sequential_state (Within h) sh text c).inside x) e) refl m)
 
   -- the transactions round what runs inside one more, which begins
   abbrev pub with_inner : Transactions → Mode → Memory → Configuration → Transactions
@@ -287,11 +287,11 @@ module _ (code : Code) where
   abbrev pub outermost_alone : Mode → Configuration → Memory → List Memory → List Memory → Transactions
   outermost_alone mode cancelled found founds lefts = record { outer = mode; must = false; mode = mode; cancelled = cancelled; found = found; inner = []; founds = founds; lefts = lefts }
 
-  pub begins_inner : {N K : ℕ} (h : Transactions) (sh : Shared) (text : List ℕ) {does : ℕ → Outcome} (mode : Mode) (c c' d : Configuration) → effect code c ≡ Effect.Begin c' d → Agrees (effect code) N K (holding (Within (with_inner h mode sh.memory d)) sh text c') does → Agrees (effect code) N K (holding (Within h) sh text c) does
+  pub begins_inner : {N K : ℕ} (h : Transactions) (sh : Shared) (text : List ℕ) {does : ℕ → Outcome} (mode : Mode) (c c' d : Configuration) → effect code c ≡ Effect.Begin c' d → Agrees (effect code) N K (sequential_state (Within (with_inner h mode sh.memory d)) sh text c') does → Agrees (effect code) N K (sequential_state (Within h) sh text c) does
   begins_inner {N = N} {K = K} h sh text mode c c' d e m =
-      fewer (effect code) (all N) (less K) (quiet (effect code) (ap (λ x. sequential_step (holding (Within h) sh text c) false Running (holding (Within h) sh text c).inside x) e) refl m)
+      fewer (effect code) (all N) (less K) (quiet (effect code) (ap (λ x. sequential_step (sequential_state (Within h) sh text c) false Running (sequential_state (Within h) sh text c).inside x) e) refl m)
 
-  pub begins_outermost : {N K : ℕ} (found : Memory) (founds lefts : List Memory) (memory : Memory) (kept : Bool) (text : List ℕ) {does : ℕ → Outcome} (mode : Mode) (c c' d : Configuration) → effect code c ≡ Effect.Begin c' d → Agrees (effect code) N K (holding (Within (outermost_alone mode d found founds lefts)) (record { founds = founds; lefts = lefts; memory = found; kept = false }) text c') does → Agrees (effect code) N K (holding Bare (record { founds = found ∷ founds; lefts = lefts; memory = memory; kept = kept }) text c) does
+  pub begins_outermost : {N K : ℕ} (found : Memory) (founds lefts : List Memory) (memory : Memory) (kept : Bool) (text : List ℕ) {does : ℕ → Outcome} (mode : Mode) (c c' d : Configuration) → effect code c ≡ Effect.Begin c' d → Agrees (effect code) N K (sequential_state (Within (outermost_alone mode d found founds lefts)) (record { founds = founds; lefts = lefts; memory = found; kept = false }) text c') does → Agrees (effect code) N K (sequential_state Bare (record { founds = found ∷ founds; lefts = lefts; memory = memory; kept = kept }) text c) does
   begins_outermost {N = N} {K = K} found founds lefts memory kept text mode c c' d e m =
       fewer (effect code) (all N) (less K) (quiet (effect code) (ap (λ x. sequential_step (outside c (found ∷ founds) lefts text Running) false Running None x) e) refl m)
 
@@ -311,54 +311,54 @@ module _ (code : Code) where
   unfolding wanting
   wanting_seen after c lefts text n ls s = s.wants _
 
-  pub wants_one : {N K : ℕ} {A : Type 0} (after : Answer A → Outcome) (lefts : List Memory) (memory : Memory) (kept : Bool) (text : List ℕ) (ls : List Local) (c c' d : Configuration) → IsSeen Bare after → effect code c ≡ Effect.Begin c' d → Agrees (effect code) N K (holding Bare (record { founds = []; lefts = lefts; memory = memory; kept = kept }) text c) (λ n. after (go_on (tick (state n ls (Outside [] lefts) text)) (λ u. stop Wants)))
+  pub wants_one : {N K : ℕ} {A : Type 0} (after : Answer A → Outcome) (lefts : List Memory) (memory : Memory) (kept : Bool) (text : List ℕ) (ls : List Local) (c c' d : Configuration) → IsSeen Bare after → effect code c ≡ Effect.Begin c' d → Agrees (effect code) N K (sequential_state Bare (record { founds = []; lefts = lefts; memory = memory; kept = kept }) text c) (λ n. after (go_on (tick (state n ls (Outside [] lefts) text)) (λ u. stop Wants)))
   wants_one {N = N} {K = K} after lefts memory kept text ls c c' d s e =
       fewer (effect code) (less N) (less K)
       (shown (effect code) (λ n. after (Stops Wants (state n ls (Outside [] lefts) text))) (next_wants c c' d lefts text e) (s.spent _) (λ n. refl)
       (over (effect code) (wanting_rests c lefts text) (λ n. wanting_seen after c lefts text n ls s)))
 
   -- an inner commit, and an inner cancel
-  pub commits_inner : {N K : ℕ} (h : Transactions) (sh : Shared) (text : List ℕ) {does : ℕ → Outcome} (mode : Mode) (m : Memory) (c c' d : Configuration) → effect code c ≡ Effect.Commit c' → Agrees (effect code) N K (holding (Within h) sh text c') does → Agrees (effect code) N K (holding (Within (with_inner h mode m d)) sh text c) does
+  pub commits_inner : {N K : ℕ} (h : Transactions) (sh : Shared) (text : List ℕ) {does : ℕ → Outcome} (mode : Mode) (m : Memory) (c c' d : Configuration) → effect code c ≡ Effect.Commit c' → Agrees (effect code) N K (sequential_state (Within h) sh text c') does → Agrees (effect code) N K (sequential_state (Within (with_inner h mode m d)) sh text c) does
   commits_inner {N = N} {K = K} h sh text mode m c c' d e g =
-      fewer (effect code) (all N) (less K) (quiet (effect code) (ap (λ x. sequential_step (holding (Within (with_inner h mode m d)) sh text c) false Running (holding (Within (with_inner h mode m d)) sh text c).inside x) e) refl g)
+      fewer (effect code) (all N) (less K) (quiet (effect code) (ap (λ x. sequential_step (sequential_state (Within (with_inner h mode m d)) sh text c) false Running (sequential_state (Within (with_inner h mode m d)) sh text c).inside x) e) refl g)
 
-  pub cancels_inner : {N K : ℕ} (h : Transactions) (sh : Shared) (text : List ℕ) {does : ℕ → Outcome} (mode : Mode) (m : Memory) (c d : Configuration) → effect code c ≡ Effect.Cancel → Agrees (effect code) N K (holding (Within h) (record sh { memory = m }) text d) does → Agrees (effect code) N K (holding (Within (with_inner h mode m d)) sh text c) does
+  pub cancels_inner : {N K : ℕ} (h : Transactions) (sh : Shared) (text : List ℕ) {does : ℕ → Outcome} (mode : Mode) (m : Memory) (c d : Configuration) → effect code c ≡ Effect.Cancel → Agrees (effect code) N K (sequential_state (Within h) (record sh { memory = m }) text d) does → Agrees (effect code) N K (sequential_state (Within (with_inner h mode m d)) sh text c) does
   cancels_inner {N = N} {K = K} h sh text mode m c d e g =
-      fewer (effect code) (all N) (less K) (quiet (effect code) (ap (λ x. sequential_step (holding (Within (with_inner h mode m d)) sh text c) false Running (holding (Within (with_inner h mode m d)) sh text c).inside x) e) refl g)
+      fewer (effect code) (all N) (less K) (quiet (effect code) (ap (λ x. sequential_step (sequential_state (Within (with_inner h mode m d)) sh text c) false Running (sequential_state (Within (with_inner h mode m d)) sh text c).inside x) e) refl g)
 
   -- an outermost transaction is left: its tick and the instruction are one
-  pub leaves_outermost : {N K : ℕ} {A : Type 0} (after : Answer A → Outcome) (give : State → Answer A) (mode : Mode) (found left : Memory) (founds lefts : List Memory) (sh : Shared) (text : List ℕ) (ls ls' : List Local) (c c' d : Configuration) → next (effect code) (holding (Within (outermost_alone mode d found founds lefts)) sh text c) ≡ outside c' founds (lefts ++ left ∷ []) text Running → IsSeen Bare after → Agrees (effect code) N K (outside c' founds (lefts ++ left ∷ []) text Running) (λ n. after (give (state n ls' (Outside founds (lefts ++ left ∷ [])) text))) → Agrees (effect code) N K (holding (Within (outermost_alone mode d found founds lefts)) sh text c) (λ n. after (go_on (tick (state n ls (Outside founds lefts) text)) (λ u then_. give (record then_ { locals = ls'; context = Outside founds (lefts ++ left ∷ []) }))))
+  pub leaves_outermost : {N K : ℕ} {A : Type 0} (after : Answer A → Outcome) (give : State → Answer A) (mode : Mode) (found left : Memory) (founds lefts : List Memory) (sh : Shared) (text : List ℕ) (ls ls' : List Local) (c c' d : Configuration) → next (effect code) (sequential_state (Within (outermost_alone mode d found founds lefts)) sh text c) ≡ outside c' founds (lefts ++ left ∷ []) text Running → IsSeen Bare after → Agrees (effect code) N K (outside c' founds (lefts ++ left ∷ []) text Running) (λ n. after (give (state n ls' (Outside founds (lefts ++ left ∷ [])) text))) → Agrees (effect code) N K (sequential_state (Within (outermost_alone mode d found founds lefts)) sh text c) (λ n. after (go_on (tick (state n ls (Outside founds lefts) text)) (λ u then_. give (record then_ { locals = ls'; context = Outside founds (lefts ++ left ∷ []) }))))
   leaves_outermost {N = N} {K = K} after give mode found left founds lefts sh text ls ls' c c' d e s g =
       fewer (effect code) (less N) (less K) (shown (effect code) _ e (s.spent _) (λ n. refl) g)
 
-  pub next_commit : (mode : Mode) (found : Memory) (founds lefts : List Memory) (sh : Shared) (text : List ℕ) (c c' d : Configuration) → effect code c ≡ Effect.Commit c' → next (effect code) (holding (Within (outermost_alone mode d found founds lefts)) sh text c) ≡ outside c' founds (lefts ++ sh.memory ∷ []) text Running
-  next_commit mode found founds lefts sh text c c' d e = ap (λ x. sequential_step (holding (Within (outermost_alone mode d found founds lefts)) sh text c) false Running (holding (Within (outermost_alone mode d found founds lefts)) sh text c).inside x) e
+  pub next_commit : (mode : Mode) (found : Memory) (founds lefts : List Memory) (sh : Shared) (text : List ℕ) (c c' d : Configuration) → effect code c ≡ Effect.Commit c' → next (effect code) (sequential_state (Within (outermost_alone mode d found founds lefts)) sh text c) ≡ outside c' founds (lefts ++ sh.memory ∷ []) text Running
+  next_commit mode found founds lefts sh text c c' d e = ap (λ x. sequential_step (sequential_state (Within (outermost_alone mode d found founds lefts)) sh text c) false Running (sequential_state (Within (outermost_alone mode d found founds lefts)) sh text c).inside x) e
 
-  pub next_cancel : (mode : Mode) (found : Memory) (founds lefts : List Memory) (sh : Shared) (text : List ℕ) (c d : Configuration) → effect code c ≡ Effect.Cancel → sh.kept ≡ false → next (effect code) (holding (Within (outermost_alone mode d found founds lefts)) sh text c) ≡ outside d founds (lefts ++ found ∷ []) text Running
+  pub next_cancel : (mode : Mode) (found : Memory) (founds lefts : List Memory) (sh : Shared) (text : List ℕ) (c d : Configuration) → effect code c ≡ Effect.Cancel → sh.kept ≡ false → next (effect code) (sequential_state (Within (outermost_alone mode d found founds lefts)) sh text c) ≡ outside d founds (lefts ++ found ∷ []) text Running
   next_cancel mode found founds lefts sh text c d e k =
-      ap (λ x. sequential_step (holding (Within (outermost_alone mode d found founds lefts)) sh text c) false Running (holding (Within (outermost_alone mode d found founds lefts)) sh text c).inside x) e
-      ∙ ap (λ b. cancel_step (holding (Within (outermost_alone mode d found founds lefts)) sh text c) (record { cancelled = d; found = found; mem = sh.memory; inner = []; kept = sh.kept }) [] b) k
+      ap (λ x. sequential_step (sequential_state (Within (outermost_alone mode d found founds lefts)) sh text c) false Running (sequential_state (Within (outermost_alone mode d found founds lefts)) sh text c).inside x) e
+      ∙ ap (λ b. cancel_step (sequential_state (Within (outermost_alone mode d found founds lefts)) sh text c) (record { cancelled = d; found = found; mem = sh.memory; inner = []; kept = sh.kept }) [] b) k
 
   -- what may be printed: outside, or behind an irrevocable
   abbrev pub PrintsIn : Around → Shared → Type 0
   PrintsIn Bare sh = Unit {0}
   PrintsIn (Within h) sh = sh.kept ≡ true
 
-  next_prints : (a : Around) (sh : Shared) (text piece : List ℕ) (c c' : Configuration) → PrintsIn a sh → effect code c ≡ Effect.Print piece c' → next (effect code) (holding a sh text c) ≡ holding a sh (text ++ piece) c'
-  next_prints Bare sh text piece c c' m e = ap (λ x. sequential_step (holding Bare sh text c) false Running None x) e
+  next_prints : (a : Around) (sh : Shared) (text piece : List ℕ) (c c' : Configuration) → PrintsIn a sh → effect code c ≡ Effect.Print piece c' → next (effect code) (sequential_state a sh text c) ≡ sequential_state a sh (text ++ piece) c'
+  next_prints Bare sh text piece c c' m e = ap (λ x. sequential_step (sequential_state Bare sh text c) false Running None x) e
   next_prints (Within h) sh text piece c c' m e =
-      ap (λ x. sequential_step (holding (Within h) sh text c) false Running (holding (Within h) sh text c).inside x) e
-      ∙ ap (λ b. print_step (holding (Within h) sh text c) piece c' b) m
+      ap (λ x. sequential_step (sequential_state (Within h) sh text c) false Running (sequential_state (Within h) sh text c).inside x) e
+      ∙ ap (λ b. print_step (sequential_state (Within h) sh text c) piece c' b) m
 
   -- a piece is printed: its tick and the instruction are one
-  pub prints_piece : {N K : ℕ} (a : Around) {A : Type 0} (after : Answer A → Outcome) (rest : Action A) (sh : Shared) (ls : List Local) (text piece : List ℕ) (c c' : Configuration) → IsSeen a after → PrintsIn a sh → effect code c ≡ Effect.Print piece c' → Agrees (effect code) N K (holding a sh (text ++ piece) c') (λ n. after (rest (state n ls (context_of a sh) (text ++ piece)))) → Agrees (effect code) N K (holding a sh text c) (λ n. after ((print_piece piece >> rest) (state n ls (context_of a sh) text)))
+  pub prints_piece : {N K : ℕ} (a : Around) {A : Type 0} (after : Answer A → Outcome) (rest : Action A) (sh : Shared) (ls : List Local) (text piece : List ℕ) (c c' : Configuration) → IsSeen a after → PrintsIn a sh → effect code c ≡ Effect.Print piece c' → Agrees (effect code) N K (sequential_state a sh (text ++ piece) c') (λ n. after (rest (state n ls (context_of a sh) (text ++ piece)))) → Agrees (effect code) N K (sequential_state a sh text c) (λ n. after ((print_piece piece >> rest) (state n ls (context_of a sh) text)))
   prints_piece {N = N} {K = K} a after rest sh ls text piece c c' s m e g =
       fewer (effect code) (less N) (less K) (shown (effect code) _ (next_prints a sh text piece c c' m e) (seen_spent a after sh 0 ls text c s) (λ n. refl) g)
 
-  pub irrevocable_bare : {N K : ℕ} (sh : Shared) (text : List ℕ) {does : ℕ → Outcome} (c c' : Configuration) → effect code c ≡ Effect.Irrevocable c' → Agrees (effect code) N K (holding Bare sh text c') does → Agrees (effect code) N K (holding Bare sh text c) does
+  pub irrevocable_bare : {N K : ℕ} (sh : Shared) (text : List ℕ) {does : ℕ → Outcome} (c c' : Configuration) → effect code c ≡ Effect.Irrevocable c' → Agrees (effect code) N K (sequential_state Bare sh text c') does → Agrees (effect code) N K (sequential_state Bare sh text c) does
   irrevocable_bare {N = N} {K = K} sh text c c' e m =
-      fewer (effect code) (all N) (less K) (quiet (effect code) (ap (λ x. sequential_step (holding Bare sh text c) false Running None x) e) refl m)
+      fewer (effect code) (all N) (less K) (quiet (effect code) (ap (λ x. sequential_step (sequential_state Bare sh text c) false Running None x) e) refl m)
 
-  pub irrevocable_within : {N K : ℕ} (h : Transactions) (sh : Shared) (text : List ℕ) {does : ℕ → Outcome} (c c' : Configuration) → effect code c ≡ Effect.Irrevocable c' → Agrees (effect code) N K (holding (Within h) (record sh { kept = true }) text c') does → Agrees (effect code) N K (holding (Within h) sh text c) does
+  pub irrevocable_within : {N K : ℕ} (h : Transactions) (sh : Shared) (text : List ℕ) {does : ℕ → Outcome} (c c' : Configuration) → effect code c ≡ Effect.Irrevocable c' → Agrees (effect code) N K (sequential_state (Within h) (record sh { kept = true }) text c') does → Agrees (effect code) N K (sequential_state (Within h) sh text c) does
   irrevocable_within {N = N} {K = K} h sh text c c' e m =
-      fewer (effect code) (all N) (less K) (quiet (effect code) (ap (λ x. sequential_step (holding (Within h) sh text c) false Running (holding (Within h) sh text c).inside x) e) refl m)
+      fewer (effect code) (all N) (less K) (quiet (effect code) (ap (λ x. sequential_step (sequential_state (Within h) sh text c) false Running (sequential_state (Within h) sh text c).inside x) e) refl m)

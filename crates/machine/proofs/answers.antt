@@ -7,7 +7,7 @@ pub mod Answering
 -- what a thread was answered: the lock values never fall, and each word answered is one that a place of the run has or that
 pub mod Hearing
 -- what each world has that steps which do not stop lead to, with what each thread was answered
-pub mod Holding
+pub mod Reached
 -- in every world that a list of steps leads to, threads use cells alone
 pub mod Cells
 -- the worlds that steps which do not stop lead to are those of the traces that run on

@@ -31,7 +31,7 @@ specifier_continued true t ps (v ∷ vs) s = refl
 specifier_continued false t ps [] s = refl
 specifier_continued false t ps (v ∷ vs) s = refl
 
--- from one unit of a format on
+-- from one directive of a format on
 module _ (format : List ℕ) (values : List Value) (begun : Bool) (i k : ℕ) (s : State) (whole : Answer (Unit {0})) where
   pub byte_goes : (c next : ℕ) (now : State) → print_from begun (pieces (drop i format)) (drop k values) s ≡ whole → pieces (drop i format) ≡ literal c (pieces (drop next format)) → push_byte begun c s ≡ Gives tt now →
       print_from true (pieces (drop next format)) (drop k values) now ≡ whole

@@ -13,7 +13,7 @@ use crate::machine::{Context, Halted, Machine, tick};
 use itoa::Buffer;
 use lex::token::Scalar;
 use std::alloc::Allocator;
-use syntax::format::{FormatUnit, unit_at};
+use syntax::format::{FormatDirective, directive_at};
 use syntax::number::number;
 use syntax::numbers::{Halt, Value};
 use syntax::tree::Mode;
@@ -92,14 +92,14 @@ pub(crate) fn print_pieces<A: Allocator>(
     let mut k = 0;
     let mut i = 0;
     'bytes: while i < format.len() {
-        match unit_at(format, i) {
-            FormatUnit::Byte(c, next) => {
+        match directive_at(format, i) {
+            FormatDirective::Byte(c, next) => {
                 put_byte(m, begun, c)?;
                 begun = true;
                 i = next;
                 continue;
             }
-            FormatUnit::Specifier(ty, next) => {
+            FormatDirective::Specifier(ty, next) => {
                 put_specifier(m, ty, values, k)?;
                 begun = false;
                 k += 1;

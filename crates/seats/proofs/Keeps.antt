@@ -19,7 +19,7 @@ use Rattle.norec_core.specs.Accesses.{stops}
 use Rattle.machine.specs.Worlds.{Part, World, answer, lock_after, part_after, words_after}
 use Rattle.machine.proofs.answers.Answering.{after_step, paused_once, pauses, turns}
 use Rattle.machine.proofs.answers.Hearing.{lock_value_is}
-use Rattle.machine.proofs.answers.Holding.{lock_grows, memory, within}
+use Rattle.machine.proofs.answers.Reached.{lock_grows, memory, within}
 use Rattle.machine.proofs.steps.Worlds.{get-set_other, get-set_same}
 use Rattle.bytecode.specs.Code.{effect}
 use Rattle.bytecode.specs.Beginning.{beginning}

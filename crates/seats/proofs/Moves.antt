@@ -13,7 +13,7 @@ use Rattle.seats.specs.Setup.{Setup}
 use Rattle.seats.specs.Views.{Among, ViewPart, all_floored, first_of, with_floor, parts_of, without_first}
 use Rattle.seats.specs.Rule.{Fits, Floored, IsRuled, MayBeFloor}
 use Rattle.seats.proofs.Parts.{parts_in-set, parts_in-append, parts_of-append, among_append, none_since}
-use Rattle.machine.proofs.answers.Holding.{answers_ok, numbers_below}
+use Rattle.machine.proofs.answers.Reached.{answers_ok, numbers_below}
 use Rattle.bytecode.specs.Code.{effect}
 use Rattle.bytecode.specs.Beginning.{beginning}
 

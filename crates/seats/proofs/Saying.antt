@@ -7,7 +7,7 @@ use mathlib.Core.Option.{some}
 use lib.ListN.{get_elem?}
 use Rattle.machine.specs.Answered.{Heard}
 use Rattle.machine.specs.Worlds.{World}
-use Rattle.machine.proofs.answers.Holding.{answers_ok, numbers_below, runs}
+use Rattle.machine.proofs.answers.Reached.{answers_ok, numbers_below, runs}
 use Rattle.machine.proofs.answers.Traces.{traced}
 use Rattle.machine.proofs.runs.Computes.{answered_compute}
 use Rattle.machine.proofs.runs.Drops.{drops_are_bounded}

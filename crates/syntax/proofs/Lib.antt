@@ -35,6 +35,6 @@ pub mod Seen
 pub mod ThreadLaws
 pub mod Ticks
 pub mod TypedParts
-pub mod Units
+pub mod FormatDirectives
 pub mod ValueTypes
 pub mod Words

@@ -8,7 +8,7 @@ pub mod Numbers
 pub mod Names
 pub mod Types
 pub mod Formats
-pub mod Units
+pub mod FormatDirectives
 -- the rules of types, and the order of faults
 pub mod Typing
 -- what threads do and how they stand in a run, for source and code alike

@@ -2,12 +2,12 @@
 
 ghost use Rattle.std.specs.Prelude.{◌≡◌, ◌<◌, ◌≤◌, ◌+◌, length, drop, IfSome};
 ghost use Rattle.syntax.specs.Formats.{specifier_at};
-ghost use Rattle.syntax.specs.Units.{IsUnitAt};
+ghost use Rattle.syntax.specs.FormatDirectives.{IsDirectiveAt};
 
 use lex::token::Scalar;
 
 /// A byte of literal text or a number, and the index behind what says it.
-pub enum FormatUnit {
+pub enum FormatDirective {
     Byte(u8, usize),
     Specifier(Scalar, usize),
 }
@@ -28,16 +28,16 @@ fn specifier_at(format: &[u8], i: usize) -> Option<(Scalar, usize)>
 }
 
 /// What stands at an index of a format.
-pub fn unit_at(format: &[u8], i: usize) -> FormatUnit
+pub fn directive_at(format: &[u8], i: usize) -> FormatDirective
     requires { i < length format.now }
-    ensures { IsUnitAt result format.now i }
+    ensures { IsDirectiveAt result format.now i }
 {
     let byte = format[i];
     if byte != b'%' || format.len() - i == 1 {
-        return FormatUnit::Byte(byte, i + 1);
+        return FormatDirective::Byte(byte, i + 1);
     }
     match specifier_at(format, i + 1) {
-        Some((ty, count)) => FormatUnit::Specifier(ty, i + 1 + count),
-        None => FormatUnit::Byte(format[i + 1], i + 2),
+        Some((ty, count)) => FormatDirective::Specifier(ty, i + 1 + count),
+        None => FormatDirective::Byte(format[i + 1], i + 2),
     }
 }

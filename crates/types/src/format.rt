@@ -3,7 +3,7 @@
 ghost use Rattle.std.specs.Prelude.{◌≡◌, ◌&&◌, ◌==◌, length};
 ghost use Rattle.syntax.specs.Views.{expr_of, exprs_of};
 ghost use Rattle.syntax.specs.Formats.{is_format, pieces, specifiers};
-ghost use Rattle.syntax.specs.Units.{says};
+ghost use Rattle.syntax.specs.FormatDirectives.{says};
 ghost use Rattle.syntax.specs.Typing.{span_of};
 ghost use Rattle.syntax.specs.Types.{type_of};
 ghost use Rattle.syntax.specs.Typing.{first_unmet, demand, HaveTypes, IsTypedPrint};
@@ -17,7 +17,7 @@ use crate::fault::{Violation, demand};
 use crate::table::ScopeTable;
 use lex::token::{Scalar, Span};
 use std::alloc::Allocator;
-use syntax::format::{FormatUnit, unit_at};
+use syntax::format::{FormatDirective, directive_at};
 use syntax::tree::Expr;
 use syntax::types::same_type;
 
@@ -33,16 +33,16 @@ fn is_format(format: &[u8]) -> bool
     ensures { result ≡ is_format format.now }
 {
     let mut i = 0;
-    'units: while i < format.len() {
-        match unit_at(format, i) {
-            FormatUnit::Byte(byte, next) => {
+    'directives: while i < format.len() {
+        match directive_at(format, i) {
+            FormatDirective::Byte(byte, next) => {
                 if !says(next - i, byte) {
                     return false;
                 }
                 i = next;
                 continue;
             }
-            FormatUnit::Specifier(_, next) => {
+            FormatDirective::Specifier(_, next) => {
                 i = next;
             }
         }
@@ -56,13 +56,13 @@ fn count_specifiers(format: &[u8]) -> usize
 {
     let mut count: usize = 0;
     let mut i = 0;
-    'units: while i < format.len() {
-        match unit_at(format, i) {
-            FormatUnit::Byte(_, next) => {
+    'directives: while i < format.len() {
+        match directive_at(format, i) {
+            FormatDirective::Byte(_, next) => {
                 i = next;
                 continue;
             }
-            FormatUnit::Specifier(_, next) => {
+            FormatDirective::Specifier(_, next) => {
                 count += 1;
                 i = next;
             }
@@ -107,13 +107,13 @@ fn check_specifiers<'a, A: Allocator + Copy>(
 {
     let mut next: usize = 0;
     let mut i = 0;
-    'units: while i < format.len() {
-        match unit_at(format, i) {
-            FormatUnit::Byte(_, behind) => {
+    'directives: while i < format.len() {
+        match directive_at(format, i) {
+            FormatDirective::Byte(_, behind) => {
                 i = behind;
                 continue;
             }
-            FormatUnit::Specifier(ty, behind) => {
+            FormatDirective::Specifier(ty, behind) => {
                 let Some(arg) = args.get(next) else {
                     return Ok(());
                 };

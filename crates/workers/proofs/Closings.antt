@@ -12,7 +12,7 @@ use Rattle.machine.specs.Explained.{HasLock}
 use Rattle.bytecode.specs.Code.{Configuration}
 use Rattle.machine.specs.Worlds.{Part, World}
 use Rattle.machine.proofs.answers.Answering.{pauses}
-use Rattle.machine.proofs.answers.Holding.{unheld}
+use Rattle.machine.proofs.answers.Reached.{unheld}
 use Rattle.machine.proofs.runs.Programs.{explained_source}
 use Rattle.machine.proofs.steps.Worlds.{get-set_other, get-set_same}
 use Rattle.bytecode.specs.Code.{effect}

@@ -12,7 +12,7 @@ use Rattle.norec_core.specs.Accesses.{IsAnswerTo, cost, stops}
 use Rattle.machine.specs.Worlds.{Part, part_after}
 use Rattle.machine.specs.NamedCells.{AccessFits}
 use Rattle.machine.proofs.answers.Answering.{added_grows, local_grows, local_is, paused_more, pauses}
-use Rattle.machine.proofs.answers.Holding.{swaps_even, within}
+use Rattle.machine.proofs.answers.Reached.{swaps_even, within}
 use Rattle.machine.proofs.steps.Worlds.{get-set_same}
 use Rattle.bytecode.specs.Code.{Code, effect}
 use Rattle.bytecode.specs.Beginning.{beginning}

@@ -29,7 +29,7 @@ use Rattle.machine.specs.Threads.{Thread, access, step_with}
 use Rattle.machine.specs.Traces.{DoesNotStop, RunsOn, heard_run}
 use Rattle.machine.specs.Worlds.{Part, World, answer, lock_after, new_world, part_after, run, step, step_of, words_after}
 use Rattle.machine.proofs.answers.Answering.{reached}
-use Rattle.machine.proofs.answers.Holding.{memory, runs, swaps_even, unheld, within}
+use Rattle.machine.proofs.answers.Reached.{memory, runs, swaps_even, unheld, within}
 use Rattle.machine.proofs.answers.Traces.{answered}
 use Rattle.machine.proofs.runs.Computes.{all_compute}
 use Rattle.machine.proofs.runs.Drops.{drops_are_bounded, drops_come_after_takings}

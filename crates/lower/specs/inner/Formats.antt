@@ -1,4 +1,4 @@
--- What the code of a format is, unit by unit.
+-- What the code of a format is, directive by directive.
 use Rattle.std.specs.Prelude.{ℕ, ◌+◌, List, [], ◌∷◌, ◌++◌, length}
 use Rattle.lex.specs.declared.token.Scalar.{Scalar}
 use Rattle.syntax.specs.Formats.{Piece, literal}

@@ -158,19 +158,19 @@ past_even s l even lt = omega (arith, even, lt)
 
 module _ {C : Type 0} where
   -- twice what has been counted is at most the first snapshot of the attempt, or else the lock rounded up
-  abbrev Holds : ℕ → ℕ → Option (Attempt C) → List Record → Type 0
-  Holds d lock None xs = 2 * (d + takers xs) ≤ lock + lock % 2
-  Holds d lock (Some a) xs = 2 * (d + takers xs) ≤ a.first
+  abbrev FewDrops : ℕ → ℕ → Option (Attempt C) → List Record → Type 0
+  FewDrops d lock None xs = 2 * (d + takers xs) ≤ lock + lock % 2
+  FewDrops d lock (Some a) xs = 2 * (d + takers xs) ≤ a.first
 
-  abbrev HoldsIf : ℕ → ℕ → Option (Part C) → Type 0
-  HoldsIf d lock None = Unit {0}
-  HoldsIf d lock (Some p) = Holds d lock p.thread.attempt p.records
+  abbrev FewDropsIf : ℕ → ℕ → Option (Part C) → Type 0
+  FewDropsIf d lock None = Unit {0}
+  FewDropsIf d lock (Some p) = FewDrops d lock p.thread.attempt p.records
 
-  higher : (d l k : ℕ) (o : Option (Attempt C)) (xs : List Record) → l ≤ k → Holds d l o xs → Holds d k o xs
+  higher : (d l k : ℕ) (o : Option (Attempt C)) (xs : List Record) → l ≤ k → FewDrops d l o xs → FewDrops d k o xs
   higher d l k None xs le b = let r : l + l % 2 ≤ k + k % 2 = rounded l k le in omega (arith, r, b)
   higher d l k (Some a) xs le b = b
 
-  higher_if : (d l k : ℕ) (o : Option (Part C)) → l ≤ k → HoldsIf d l o → HoldsIf d k o
+  higher_if : (d l k : ℕ) (o : Option (Part C)) → l ≤ k → FewDropsIf d l o → FewDropsIf d k o
   higher_if d l k None le b = tt
   higher_if d l k (Some p) le b = higher d l k p.thread.attempt p.records le b
 
@@ -219,8 +219,8 @@ module _ {C : Type 0} (code : C → Effect C) (init : ℕ → C) (bounds : List 
         omega (arith, since, is, top, same, two)
     takes a r false since in_time is l = let g : w.lock ≤ lock_after w.lock x = grows in omega (arith, since, in_time, g)
 
-    by : (o o' : Option (Attempt C)) (j : Option Completed) → p.thread.attempt ≡ o → n.thread.attempt ≡ o' → n.completed ≡ j → Now code bounds h t (init t) p.records p.base p.thread o → StepGoes o n → Holds d w.lock o p.records
-        → Holds (d + drop_count o o' j) (lock_after w.lock x) o' (with_record p.records (step_record p.base j))
+    by : (o o' : Option (Attempt C)) (j : Option Completed) → p.thread.attempt ≡ o → n.thread.attempt ≡ o' → n.completed ≡ j → Now code bounds h t (init t) p.records p.base p.thread o → StepGoes o n → FewDrops d w.lock o p.records
+        → FewDrops (d + drop_count o o' j) (lock_after w.lock x) o' (with_record p.records (step_record p.base j))
     by None o' (Some y) ea eb ec now g b = absurd (let e : n.completed ≡ None = g.0 in let f : Some y ≡ None = sym ec ∙ e in cc)
     by None None None ea eb ec now g b = let r : w.lock + w.lock % 2 ≤ lock_after w.lock x + lock_after w.lock x % 2 = rounded w.lock (lock_after w.lock x) grows in omega (arith, r, b)
     by None (Some c) None ea eb ec now g b =
@@ -252,17 +252,17 @@ module _ {C : Type 0} (code : C → Effect C) (init : ℕ → C) (bounds : List 
         omega (arith, same, b)
     by (Some a) (Some c) (Some y) ea eb ec now g b = absurd (let e : n.completed ≡ None = stays code p.thread a ea (answer w.lock w.words x) c eb in let f : Some y ≡ None = sym ec ∙ e in cc)
 
-    mine : Holds d w.lock p.thread.attempt p.records → Holds (d + drop_count p.thread.attempt n.thread.attempt n.completed) (lock_after w.lock x) n.thread.attempt q.records
+    mine : FewDrops d w.lock p.thread.attempt p.records → FewDrops (d + drop_count p.thread.attempt n.thread.attempt n.completed) (lock_after w.lock x) n.thread.attempt q.records
     mine b = by p.thread.attempt n.thread.attempt n.completed refl refl refl (v.parts t p here).now (goes code p.thread (answer w.lock w.words x)) b
 
-  one_step : (w : World C) (h : History) (t u d : ℕ) → Invariant code bounds init m0 h w → HoldsIf d w.lock (slice_get w.parts t)
-      → HoldsIf (d + (if u == t then dropped_in code w (slice_get w.parts u) else 0)) (step code w u).lock (slice_get (step code w u).parts t)
+  one_step : (w : World C) (h : History) (t u d : ℕ) → Invariant code bounds init m0 h w → FewDropsIf d w.lock (slice_get w.parts t)
+      → FewDropsIf (d + (if u == t then dropped_in code w (slice_get w.parts u) else 0)) (step code w u).lock (slice_get (step code w u).parts t)
   one_step w h t u d v b = at (slice_get w.parts u) refl
     where
-      same_count : (k : ℕ) → d ≡ k → HoldsIf k w.lock (slice_get w.parts t)
-      same_count k e = subst (λ j. HoldsIf j w.lock (slice_get w.parts t)) e b
+      same_count : (k : ℕ) → d ≡ k → FewDropsIf k w.lock (slice_get w.parts t)
+      same_count k e = subst (λ j. FewDropsIf j w.lock (slice_get w.parts t)) e b
 
-      at : (o : Option (Part C)) → slice_get w.parts u ≡ o → HoldsIf (d + (if u == t then dropped_in code w o else 0)) (step_of code w u o).lock (slice_get (step_of code w u o).parts t)
+      at : (o : Option (Part C)) → slice_get w.parts u ≡ o → FewDropsIf (d + (if u == t then dropped_in code w o else 0)) (step_of code w u o).lock (slice_get (step_of code w u o).parts t)
       at None e = same_count (d + (if u == t then 0 else 0)) (nothing (u == t))
         where
           nothing : (c : Bool) → d ≡ d + (if c then 0 else 0)
@@ -276,22 +276,22 @@ module _ {C : Type 0} (code : C → Effect C) (init : ℕ → C) (bounds : List 
           l : ℕ
           l = lock_after w.lock (access code p.thread)
 
-          by_number : ((u == t) ≡ true) × (u ≡ t) ⊎ ((u == t) ≡ false) × (u ≢ t) → HoldsIf (d + (if u == t then dropped_in code w (Some p) else 0)) (lock_after w.lock (access code p.thread)) (slice_get (set w.parts u (part_after w.words p (step_with code p.thread (answer w.lock w.words (access code p.thread))))) t)
+          by_number : ((u == t) ≡ true) × (u ≡ t) ⊎ ((u == t) ≡ false) × (u ≢ t) → FewDropsIf (d + (if u == t then dropped_in code w (Some p) else 0)) (lock_after w.lock (access code p.thread)) (slice_get (set w.parts u (part_after w.words p (step_with code p.thread (answer w.lock w.words (access code p.thread))))) t)
           by_number (inl f) =
               let here : slice_get w.parts t ≡ Some p = ap (slice_get w.parts) (sym f.1) ∙ e in
               let now : slice_get (set w.parts u (part_after w.words p (step_with code p.thread (answer w.lock w.words (access code p.thread))))) t ≡ Some (part_after w.words p (step_with code p.thread (answer w.lock w.words (access code p.thread)))) =
               ap (slice_get (set w.parts u (part_after w.words p (step_with code p.thread (answer w.lock w.words (access code p.thread)))))) (sym f.1) ∙ get-set_same w.parts u _ p e in
-              rw f.0 (rw now (mine w h t v d p here (subst (HoldsIf d w.lock) here b)))
+              rw f.0 (rw now (mine w h t v d p here (subst (FewDropsIf d w.lock) here b)))
           by_number (inr f) =
               let zero_more : d ≡ d + 0 = omega arith in
               rw f.0 (rw (get-set_other w.parts u t (part_after w.words p (step_with code p.thread (answer w.lock w.words (access code p.thread)))) (λ k. f.1 (sym k)))
               (higher_if (d + 0) w.lock (lock_after w.lock (access code p.thread)) (slice_get w.parts t) (grows w h u v d p e) (same_count (d + 0) zero_more)))
 
-  over : (us : List ℕ) (w : World C) (h : History) (t d : ℕ) → Invariant code bounds init m0 h w → HoldsIf d w.lock (slice_get w.parts t) → (q : Part C) → slice_get (run code us w).parts t ≡ Some q
+  over : (us : List ℕ) (w : World C) (h : History) (t d : ℕ) → Invariant code bounds init m0 h w → FewDropsIf d w.lock (slice_get w.parts t) → (q : Part C) → slice_get (run code us w).parts t ≡ Some q
       → 2 * (d + drops code t us w + takers q.records) ≤ (run code us w).lock + (run code us w).lock % 2
-  over [] w h t d v b q e = last q.thread.attempt (v.parts t q e).now (subst (HoldsIf d w.lock) e b)
+  over [] w h t d v b q e = last q.thread.attempt (v.parts t q e).now (subst (FewDropsIf d w.lock) e b)
     where
-      last : (o : Option (Attempt C)) → Now code bounds h t (init t) q.records q.base q.thread o → Holds d w.lock o q.records → 2 * (d + 0 + takers q.records) ≤ w.lock + w.lock % 2
+      last : (o : Option (Attempt C)) → Now code bounds h t (init t) q.records q.base q.thread o → FewDrops d w.lock o q.records → 2 * (d + 0 + takers q.records) ≤ w.lock + w.lock % 2
       last None now b = omega (arith, b)
       last (Some a) now b =
           let since : a.first ≤ a.snapshot = now.steady.since in
@@ -313,9 +313,9 @@ module _ {C : Type 0} (code : C → Effect C) (init : ℕ → C) (bounds : List 
       → 2 * (0 + drops code t ts (new_world init m0 threads) + takers p.records) ≤ (world_after code init m0 threads ts).lock + (world_after code init m0 threads ts).lock % 2
   counted threads ts t p e = over ts (new_world init m0 threads) (start_of m0) t 0 (new_invariant code init bounds m0 is_memory threads) (new (slice_get (new_parts init 0 threads) t) refl) p e
     where
-      new : (o : Option (Part C)) → slice_get (new_parts init 0 threads) t ≡ o → HoldsIf 0 0 o
+      new : (o : Option (Part C)) → slice_get (new_parts init 0 threads) t ≡ o → FewDropsIf 0 0 o
       new None e = tt
-      new (Some p) e = subst (HoldsIf 0 0) (ap Some (sym (new_part_at init 0 threads t p e))) (omega arith)
+      new (Some p) e = subst (FewDropsIf 0 0) (ap Some (sym (new_part_at init 0 threads t p e))) (omega arith)
 
   pub drops_are_bounded : (threads : ℕ) (ts : List ℕ) → DropsAreBounded code init m0 threads ts
   drops_are_bounded threads ts es m t p e =

@@ -177,13 +177,13 @@ module _ {C : Type 0} (code : C → Effect C) (init : ℕ → C) (bounds : List 
   pub holder_has : (t : ℕ) (p : Part C) → slice_get w.parts t ≡ Some p → h.holder ≡ Some t → (a : Attempt C) × HasLock p a
   holder_has t p e is = at p.thread.attempt refl (v.parts t p e).now
     where
-      holding : (a : Attempt C) (b : Bool) → has_lock a.kept a.phase ≡ b → LockBy h t a b → has_lock a.kept a.phase ≡ true
-      holding a true f k = f
-      holding a false f k = absurd (k is)
+      lock_by : (a : Attempt C) (b : Bool) → has_lock a.kept a.phase ≡ b → LockBy h t a b → has_lock a.kept a.phase ≡ true
+      lock_by a true f k = f
+      lock_by a false f k = absurd (k is)
 
       at : (o : Option (Attempt C)) → p.thread.attempt ≡ o → Now code bounds h t (init t) p.records p.base p.thread o → (a : Attempt C) × HasLock p a
       at None f n = absurd (n.1 is)
-      at (Some a) f n = (a, (f, holding a (has_lock a.kept a.phase) refl n.holds))
+      at (Some a) f n = (a, (f, lock_by a (has_lock a.kept a.phase) refl n.holds))
 
   free_or_held : IsFree m0 w es ⊎ IsHeld m0 w es
   free_or_held = at h.holder refl v.history.lock

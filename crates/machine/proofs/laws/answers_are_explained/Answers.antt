@@ -1,4 +1,4 @@
-use Rattle.machine.proofs.answers.Holding.{answers_ok}
+use Rattle.machine.proofs.answers.Reached.{answers_ok}
 use Rattle.machine.proofs.laws.answers_are_explained.Goals as goal
 
 pub returns : goal.returns

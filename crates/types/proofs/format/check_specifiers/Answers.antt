@@ -7,12 +7,12 @@ use Rattle.types.proofs.Formats.{literal_specifiers, specifier_more}
 use Rattle.types.proofs.Steps.{skip, stop}
 use Rattle.types.proofs.format.check_specifiers.Goals as goal
 
-pub units-preserved-in-Byte : goal.units-preserved-in-Byte
-units-preserved-in-Byte g c =
+pub directives-preserved-in-Byte : goal.directives-preserved-in-Byte
+directives-preserved-in-Byte g c =
     let k = known_in c.args.names.now in
-    let es = exprs_of (drop c.units.next c.args.args.now) in (
-      ap (λ ts. first_unmet (HaveTypes k ts es)) (sym (ap specifiers c.in-Byte.ensures.is ∙ literal_specifiers _ (pieces (drop c.in-Byte.behind c.args.format.now)))) ∙ c.units.invariant.0,
-      c.units.invariant.1,
+    let es = exprs_of (drop c.directives.next c.args.args.now) in (
+      ap (λ ts. first_unmet (HaveTypes k ts es)) (sym (ap specifiers c.in-Byte.ensures.is ∙ literal_specifiers _ (pieces (drop c.in-Byte.behind c.args.format.now)))) ∙ c.directives.invariant.0,
+      c.directives.invariant.1,
       c.in-Byte.ensures.within,
     )
 
@@ -22,15 +22,15 @@ returns-in_err-check_specifier-in-Specifier g c =
     let args = c.args.args.now in
     let rest = specifiers (pieces (drop c.in-Specifier.behind c.args.format.now)) in
     let got = c.in-Some.ensures.lookup in
-    stop c.check_specifier.result _ c.in_err-check_specifier-in-Specifier.field-0.0 _ _ _ (sym c.units.invariant.0 ∙ ap (λ ps. first_unmet (HaveTypes k (specifiers ps) (exprs_of (drop c.units.next args)))) c.in-Specifier.ensures.is ∙ specifier_more k args c.units.next c.in-Some.arg.now c.in-Specifier.ty rest got.1 got.3.0) c.check_specifier.ensures c.in_err-check_specifier-in-Specifier.was c.from_residual.ensures
+    stop c.check_specifier.result _ c.in_err-check_specifier-in-Specifier.field-0.0 _ _ _ (sym c.directives.invariant.0 ∙ ap (λ ps. first_unmet (HaveTypes k (specifiers ps) (exprs_of (drop c.directives.next args)))) c.in-Specifier.ensures.is ∙ specifier_more k args c.directives.next c.in-Some.arg.now c.in-Specifier.ty rest got.1 got.3.0) c.check_specifier.ensures c.in_err-check_specifier-in-Specifier.was c.from_residual.ensures
 
-pub units-preserved : goal.units-preserved
-units-preserved g c =
+pub directives-preserved : goal.directives-preserved
+directives-preserved g c =
     let k = known_in c.args.names.now in
     let args = c.args.args.now in
     let rest = specifiers (pieces (drop c.in-Specifier.behind c.args.format.now)) in
     let got = c.in-Some.ensures.lookup in (
-      sym (skip c.check_specifier.result _ _ _ _ (ap (λ ps. first_unmet (HaveTypes k (specifiers ps) (exprs_of (drop c.units.next args)))) c.in-Specifier.ensures.is ∙ specifier_more k args c.units.next c.in-Some.arg.now c.in-Specifier.ty rest got.1 got.3.0) c.check_specifier.ensures c.in_ok-check_specifier-in-Specifier.was) ∙ c.units.invariant.0,
+      sym (skip c.check_specifier.result _ _ _ _ (ap (λ ps. first_unmet (HaveTypes k (specifiers ps) (exprs_of (drop c.directives.next args)))) c.in-Specifier.ensures.is ∙ specifier_more k args c.directives.next c.in-Some.arg.now c.in-Specifier.ty rest got.1 got.3.0) c.check_specifier.ensures c.in_ok-check_specifier-in-Specifier.was) ∙ c.directives.invariant.0,
       (let less = got.3.0 in omega (arith, less)),
       c.in-Specifier.ensures.within,
     )

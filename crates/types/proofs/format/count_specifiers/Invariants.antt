@@ -2,10 +2,10 @@ use Rattle.std.proofs.Common.{◌≡◌, ◌+◌, ◌-◌, ◌≤◌, drop, leng
 use Rattle.syntax.specs.Formats.{pieces, specifiers}
 use Rattle.types.proofs.format.count_specifiers.Given as goal
 
-abbrev pub decreases-units : goal.decreases-units
-decreases-units l = length l.format - l.i
+abbrev pub decreases-directives : goal.decreases-directives
+decreases-directives l = length l.format - l.i
 
-abbrev pub invariant-units : goal.invariant-units
-invariant-units l =
+abbrev pub invariant-directives : goal.invariant-directives
+invariant-directives l =
     (l.count + length (specifiers (pieces (drop l.i l.format))) ≡ length (specifiers (pieces l.format)))
     × (l.count ≤ l.i) × (l.i ≤ length l.format)

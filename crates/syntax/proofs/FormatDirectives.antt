@@ -4,7 +4,7 @@ use Rattle.std.specs.Prelude.{◌==◌, slice_index}
 use Rattle.std.proofs.lemmas.List.{drop-drop, drop_more}
 use Rattle.syntax.specs.Tree.{Scalar}
 use Rattle.syntax.specs.Formats.{Specifier, specifier_at, pieces_from, pieces, is_format_from, is_format}
-use Rattle.syntax.specs.Units.{IsSpecifierAt}
+use Rattle.syntax.specs.FormatDirectives.{IsSpecifierAt}
 
 -- bytes that are used up say nothing
 used_pieces : (n : ℕ) (cs : List ℕ) → pieces_from n cs ≡ pieces (drop n cs)

@@ -1,7 +1,7 @@
 use Rattle.std.proofs.Common.{◌≡◌, ◌==◌, ◌∙◌, true, sym, ap}
 use Rattle.std.specs.Prelude.{slice_index}
-use Rattle.syntax.proofs.Units.{specifier_is}
-use Rattle.syntax.proofs.format.unit_at.Goals as goal
+use Rattle.syntax.proofs.FormatDirectives.{specifier_is}
+use Rattle.syntax.proofs.format.directive_at.Goals as goal
 
 pub returns-in-Some : goal.returns-in-Some
 returns-in-Some c =

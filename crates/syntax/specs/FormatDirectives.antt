@@ -2,8 +2,8 @@
 use Rattle.std.specs.Prelude.{◌≡◌, ℕ, ◌-◌, ◌<◌, ◌≤◌, List, ◌∷◌, length, drop, Bool, ◌==◌, ◌&&◌, if◌then◌else◌}
 use Rattle.syntax.specs.Tree.{Scalar}
 use Rattle.syntax.specs.Formats.{Specifier, literal, pieces, is_format}
-use Rattle.syntax.specs.declared.format.FormatUnit as U
-use Rattle.syntax.specs.declared.format.FormatUnit.TheVariants as unit
+use Rattle.syntax.specs.declared.format.FormatDirective as D
+use Rattle.syntax.specs.declared.format.FormatDirective.TheVariants as directive
 
 -- so many bytes say a byte of literal text: two a percent sign, and one any other
 abbrev pub says : ℕ → ℕ → Bool
@@ -22,6 +22,6 @@ pub record IsSpecifierAt (t : Scalar) (next : ℕ) (format : List ℕ) (i : ℕ)
   pub after : i < next
   pub within : next ≤ length format
 
-abbrev pub IsUnitAt : U.FormatUnit → List ℕ → ℕ → Type 0
-IsUnitAt (unit.Byte c next) format i = IsByteAt c next format i
-IsUnitAt (unit.Specifier t next) format i = IsSpecifierAt t next format i
+abbrev pub IsDirectiveAt : D.FormatDirective → List ℕ → ℕ → Type 0
+IsDirectiveAt (directive.Byte c next) format i = IsByteAt c next format i
+IsDirectiveAt (directive.Specifier t next) format i = IsSpecifierAt t next format i
