@@ -9,12 +9,12 @@ use std::alloc::{AllocError, Global};
 /// where the log has not as many pairs before as the cell says, or room is refused again.
 fn insist(log: &mut ReadLog<&Refusing<Global>>, cell: u32) -> Option<bool> {
     let refused = log.reserve_one().is_err();
-    let is_first = log.len() == cell as usize;
+    let unchanged = log.len() == cell as usize;
     if log.reserve_one().is_err() {
         return None;
     }
     log.push(cell, 9);
-    is_first.then_some(refused)
+    unchanged.then_some(refused)
 }
 
 /// Pushes the pairs of 20 cells, and says whether room was refused.
