@@ -16,6 +16,10 @@ fn push_zeros<A: Allocator>(registers: &mut Vec<u64, A>, count: usize)
     }
 }
 
+/// How many words lie at least between the registers of two threads that are laid one after another: two of the
+/// processor's lines, so that no thread waits for a line in which another one writes.
+const APART: usize = 16;
+
 /// The registers of a thread's first frame: the thread's number, and so many zeros. The error comes only where the
 /// allocator refuses the memory.
 pub(crate) fn lay_first<A: Allocator>(
@@ -25,7 +29,7 @@ pub(crate) fn lay_first<A: Allocator>(
 ) -> Result<(), AllocError>
     ensures { OnOk result (registers.new.items ≡ registers.old.items ++ thread ∷ replicate zeros 0) }
 {
-    registers.reserve(zeros.saturating_add(1))?;
+    registers.reserve(zeros.saturating_add(1 + APART))?;
     registers.push_reserved(thread);
     push_zeros(registers, zeros);
     Ok(())

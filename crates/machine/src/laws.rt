@@ -16,7 +16,7 @@ ghost use Rattle.machine.specs.Threads.{Thread, access, step_with};
 ghost use Rattle.machine.specs.Worlds.{Part, World, Reached, answer, new_world};
 ghost use Rattle.machine.specs.Merges.{Entry};
 ghost use Rattle.machine.specs.Serializable.{world_after, IsOpaque, HasChanged, HoldersGoOn};
-ghost use Rattle.machine.specs.Strict.{IsStrictlySerializable};
+ghost use Rattle.machine.specs.Strict.{IsStrictlySerializable, RecordsAreLater};
 ghost use Rattle.machine.specs.Alone.{ReachesEnd};
 ghost use Rattle.machine.specs.Computes.{AttemptsCompute};
 ghost use Rattle.machine.specs.OneOrder.{IsInOneOrder};
@@ -214,4 +214,12 @@ pub fn answered_by_traces<C>()
 pub fn attempts_begin_past_their_floor<C>()
     ensures { (does : Behaviour) (bounds : List ℕ) (m0 : Memory) (threads : ℕ) (w : World C) (es : List Entry) →
         BeginsPast does bounds m0 threads w es }
+{}
+
+/// Each transaction of a thread that takes effect after the steps ts, where it had no attempt then, has a last snapshot
+/// that is not below the lock as it was after ts: read-only ones too, and such that are over by now.
+pub fn later_records_have_later_snapshots<C>()
+    ensures { (code : C → Effect C) (init : ℕ → C) (bounds : List ℕ) (m0 : Memory) (threads : ℕ)
+        (ts us : List ℕ) → FitsCells code bounds → IsMemory bounds m0 →
+        RecordsAreLater code init m0 threads ts us }
 {}

@@ -86,9 +86,12 @@ impl<A: Allocator + Copy> Thread<A> {
     {
         // The prover learns here that the code is valid.
         code.note_valid();
+        // Room that is written in seldom lies before and behind the registers, so that no two threads write in one of
+        // the processor's lines.
+        let mut text = String::new(alloc);
+        text.reserve(128)?;
         let frames = Frames::new(alloc, code, number)?;
         let core = Core::new(alloc);
-        let text = String::new(alloc);
         Ok(Thread {
             context: ThreadContext {
                 frames,

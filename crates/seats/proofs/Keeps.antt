@@ -1,5 +1,5 @@
 -- Each access keeps the rule.
-use Rattle.std.proofs.Common.{◌≡◌, ◌≢◌, ℕ, suc, ◌+◌, ◌≤◌, ◌==◌, Bool, true, false, List, [], ◌∷◌, get_or, drop, length, set, refl, sym, ap, ◌∙◌, subst, Some, arith, add-one, inl, ⊎_elim}
+use Rattle.std.proofs.Common.{◌≡◌, ◌≢◌, ℕ, suc, ◌++◌, replicate, ◌+◌, ◌≤◌, ◌==◌, Bool, true, false, List, [], ◌∷◌, get_or, drop, length, set, refl, sym, ap, ◌∙◌, subst, Some, arith, add-one, inl, ⊎_elim}
 use Rattle.std.specs.Prelude.{if◌then◌else◌, nat_lt}
 use Rattle.std.proofs.lemmas.List.{set-get_or}
 use mathlib.Core.Option.{some}
@@ -17,7 +17,7 @@ use Rattle.machine.specs.States.{IsWordOf}
 use Rattle.machine.specs.Threads.{Thread, access, step_with}
 use Rattle.norec_core.specs.Accesses.{stops}
 use Rattle.machine.specs.Worlds.{Part, World, answer, lock_after, part_after, words_after}
-use Rattle.machine.proofs.answers.Answering.{after_step, paused_once, pauses, turns}
+use Rattle.machine.proofs.answers.Answering.{after_step, paused_once, pauses}
 use Rattle.machine.proofs.answers.Hearing.{lock_value_is}
 use Rattle.machine.proofs.answers.Reached.{lock_grows, memory, within}
 use Rattle.machine.proofs.steps.Worlds.{get-set_other, get-set_same}
@@ -28,7 +28,9 @@ use Rattle.bytecode.specs.Valid.{bounds_of}
 use Rattle.bytecode.proofs.Fits.{fits_cells}
 use Rattle.machine.proofs.answers.Hearing.{answer_fits}
 use Rattle.seats.proofs.Codes.{initial_fits, word_fits}
-use Rattle.seats.specs.Setup.{Setup, IsPart, IsWorldOf}
+use Rattle.seats.specs.Setup.{Begins, IsTraceOf, IsWorldOf, Setup, StandsAt}
+use Rattle.seats.proofs.Traces.{begins_on, begins_self, counted_once, stands_here, turns_begin, world_is}
+use Rattle.seats.proofs.Traces as traces
 use Rattle.seats.specs.Views.{Among, ViewPart, Views, parts_in, parts_of}
 use Rattle.seats.specs.Rule.{Fits, IsRuled, SeatView, Sits, Took, TookAs, more_heard, reply}
 use Rattle.seats.proofs.Parts.{LocksFrom-more, among_one, counted, parts_in-set, parts_in-two}
@@ -59,13 +61,20 @@ module _ (key : Setup) where
 
     -- and the seat's
     abbrev u : ViewPart
-    u = record p { part = q; heard = more_heard p.heard x a }
+    u = record p { part = q; heard = more_heard p.heard x a; seen = (rule.trace ++ replicate k p.number) ++ p.number ∷ []; made = p.made + suc k }
 
-    mine : Fits key w rule.heard p
+    -- the steps made by then
+    abbrev made : List ℕ
+    made = (rule.trace ++ replicate k p.number) ++ p.number ∷ []
+
+    mine : Fits key rule.trace w rule.heard p
     mine = rule.fits id (p ∷ []) p at (inl refl)
 
-    turned : IsWorldOf key (after_step (effect key.code) w p.number now x) (set rule.heard p.number (more_heard p.heard x a))
-    turned = turns (effect key.code) (beginning key.code) (initial_of key.code) key.threads k p.number p.part now p.heard w rule.heard x rule.answered mine.part mine.answers pause is far on
+    turned : IsTraceOf key made (after_step (effect key.code) w p.number now x) (set rule.heard p.number (more_heard p.heard x a))
+    turned = traces.turns key rule.trace k p.number p.part now p.heard w rule.heard x rule.is_trace mine.part mine.answers pause is far on
+
+    longer : Begins rule.trace made
+    longer = turns_begin key rule.trace k p.number
 
     grows : rule.world.lock ≤ lock_after rule.world.lock x
     grows =
@@ -88,19 +97,24 @@ module _ (key : Setup) where
     abbrev heard_after : List (List Heard)
     heard_after = set rule.heard p.number (more_heard p.heard x a)
 
+    stands_after : StandsAt key made p.number q (more_heard p.heard x a)
+    stands_after = stands_here key made after heard_after p.number q (more_heard p.heard x a) turned (get-set_same w.parts p.number q p.part mine.part) (get-set_same rule.heard p.number (more_heard p.heard x a) p.heard mine.answers)
+
     once : (number : ℕ) → parts_in number views ≤ 1
     once number = at_most_one (nat_lt number key.threads) (parts_in number views) (rule.once number)
 
-    fits_after : (seat : ℕ) (view : List ViewPart) (r : ViewPart) → get_elem? (set views id (u ∷ [])) seat ≡ some view → Among r view → Fits key after heard_after r
+    fits_after : (seat : ℕ) (view : List ViewPart) (r : ViewPart) → get_elem? (set views id (u ∷ [])) seat ≡ some view → Among r view → Fits key made after heard_after r
     fits_after seat view r e among = ⊎_elim
         (λ (h : (seat ≡ id) × ((u ∷ []) ≡ view)).
         let same : r ≡ u = among_one u r (subst (Among r) (sym h.1) among) in
-        subst (Fits key after heard_after) (sym same) (record {
+        subst (Fits key made after heard_after) (sym same) (record {
           setup = mine.setup;
           part = get-set_same w.parts p.number q p.part mine.part;
           answers = get-set_same rule.heard p.number (more_heard p.heard x a) p.heard mine.answers;
           floor = (let m = mine.floor in let g = grows in omega arith);
           since = since_after;
+          seen = begins_self made;
+          stands = stands_after;
         }))
         (λ (h : (seat ≢ id) × (get_elem? views seat ≡ some view)).
         let old = rule.fits seat view r h.1 among in
@@ -111,38 +125,35 @@ module _ (key : Setup) where
           answers = get-set_other rule.heard p.number r.number (more_heard p.heard x a) other ∙ old.answers;
           floor = (let m = old.floor in let g = grows in omega arith);
           since = old.since;
+          seen = begins_on r.seen rule.trace made old.seen longer;
+          stands = old.stands;
         })
         (at_set views id seat (u ∷ []) view e)
 
     pub ruled_after : IsRuled key (lock_after rule.world.lock x ∷ words_after rule.world.words x) (set views id (u ∷ []))
     ruled_after = record {
+      trace = made;
       world = after;
       heard = heard_after;
       words_are = refl;
       valid = rule.valid;
-      answered = turned;
+      is_trace = turned;
+      answered = world_is key made after heard_after turned;
       once = λ number. let c = parts_in-set number views id (p ∷ []) (u ∷ []) at in (omega arith) ∙ rule.once number;
       fits = fits_after;
     }
 
-    pub stands_after : IsPart key p.number q (more_heard p.heard x a)
-    stands_after = record {
-      world = after;
-      heard = heard_after;
-      answered = turned;
-      part = get-set_same w.parts p.number q p.part mine.part;
-      answers = get-set_same rule.heard p.number (more_heard p.heard x a) p.heard mine.answers;
-    }
-
-    pub took_as : p.setup ≡ key → TookAs p now x a (u ∷ [])
+    pub took_as : p.setup ≡ key → TookAs p k now x a (u ∷ [])
     took_as same = record {
       words = rule.world.words;
-      leaves = ap (λ (s : Setup). record p { part = part_after rule.world.words now (step_with (effect s.code) now.thread a); heard = more_heard p.heard x a } ∷ []) (sym same);
+      steps = made;
+      leaves = ap (λ (s : Setup). record p { part = part_after rule.world.words now (step_with (effect s.code) now.thread a); heard = more_heard p.heard x a; seen = made; made = p.made + suc k } ∷ []) (sym same);
       answers = answer_fits x rule.world.lock rule.world.words;
       word = subst (λ (s : Setup). IsWordOf s.code x a) (sym same)
           (word_fits key.code x rule.world.lock rule.world.words names_cell (memory (effect key.code) (beginning key.code) (bounds_of key.code) (initial_of key.code) (initial_fits key.code) (fits_cells key.code rule.valid) key.threads rule.world rule.heard rule.answered));
       since = since_after;
-      stands = subst (λ (s : Setup). IsPart s p.number (part_after rule.world.words now (step_with (effect s.code) now.thread a)) (more_heard p.heard x a)) (sym same) stands_after;
+      seen = begins_on p.seen rule.trace made mine.seen longer;
+      stands = subst (λ (s : Setup). StandsAt s made p.number (part_after rule.world.words now (step_with (effect s.code) now.thread a)) (more_heard p.heard x a)) (sym same) stands_after;
     }
 
   -- What the table makes of the words, as the world does
@@ -158,23 +169,24 @@ module _ (key : Setup) where
       told_is : reply x n ≡ answer rule.world.lock rule.world.words x
       told_is = ap (reply x) (found ∙ ap (λ (ws : List ℕ). g (get_or ws i 0)) rule.words_are) ∙ (agrees rule.world.lock rule.world.words).1
 
-      took_so : TookAs p now x (reply x n) left
-      took_so = subst (λ (y : Answer). TookAs p now x y left) (sym told_is) (took_as words views rule id p at k now x pause is far on same)
+      took_so : TookAs p k now x (reply x n) left
+      took_so = subst (λ (y : Answer). TookAs p k now x y left) (sym told_is) (took_as words views rule id p at k now x pause is far on same)
 
-      took_one : (j : ℕ) (other : Part Configuration) → after_local_steps (effect p.setup.code) j p.part ≡ Some other → is_local (access (effect p.setup.code) other.thread) ≡ false → TookAs p other (access (effect p.setup.code) other.thread) (reply (access (effect p.setup.code) other.thread) n) left
+      took_one : (j : ℕ) (other : Part Configuration) → after_local_steps (effect p.setup.code) j p.part ≡ Some other → is_local (access (effect p.setup.code) other.thread) ≡ false → TookAs p j other (access (effect p.setup.code) other.thread) (reply (access (effect p.setup.code) other.thread) n) left
       took_one j other ps away =
           let ps' : after_local_steps (effect key.code) j p.part ≡ Some other = subst (λ (s : Setup). after_local_steps (effect s.code) j p.part ≡ Some other) same ps in
           let away' : is_local (access (effect key.code) other.thread) ≡ false = subst (λ (s : Setup). is_local (access (effect s.code) other.thread) ≡ false) same away in
           let one : now ≡ other = paused_once (effect key.code) k j p.part now other pause ps' (ap is_local is ∙ far) away' in
+          let count : k ≡ j = counted_once (effect key.code) k j p.part now other pause ps' (ap is_local is ∙ far) away' in
           let x' : x ≡ access (effect p.setup.code) other.thread = sym is ∙ (λ i. access (effect (sym same i).code) (one i).thread) in
-          subst (λ (z : Part Configuration × Access). TookAs p z.0 z.1 (reply z.1 n) left) (λ i. (one i, x' i)) took_so
+          subst (λ (z : ℕ × Part Configuration × Access). TookAs p z.0 z.1 z.2 (reply z.2 n) left) (λ i. (count i, one i, x' i)) took_so
 
       took : (me : SeatView) → me.0 ≡ p ∷ [] → Took me n (left, me.1)
       took me mine = (
         refl,
         λ r j other mine' ps away.
             let same_part : p ≡ r = (let e : (p ∷ []) ≡ (r ∷ []) = sym mine ∙ mine' in cc) in
-            subst (λ (r : ViewPart). (j : ℕ) (other : Part Configuration) → after_local_steps (effect r.setup.code) j r.part ≡ Some other → is_local (access (effect r.setup.code) other.thread) ≡ false → TookAs r other (access (effect r.setup.code) other.thread) (reply (access (effect r.setup.code) other.thread) n) left)
+            subst (λ (r : ViewPart). (j : ℕ) (other : Part Configuration) → after_local_steps (effect r.setup.code) j r.part ≡ Some other → is_local (access (effect r.setup.code) other.thread) ≡ false → TookAs r j other (access (effect r.setup.code) other.thread) (reply (access (effect r.setup.code) other.thread) n) left)
             same_part took_one j other ps away,
       )
 

@@ -1,6 +1,7 @@
 -- Two seats meet: one speaks for both threads while the lock is loaded, once for each.
-use Rattle.std.proofs.Common.{◌≡◌, inl, inr, ℕ, [], ◌∷◌, ◌++◌, refl, sym, ap, ◌∙◌, subst, arith}
+use Rattle.std.proofs.Common.{◌≡◌, inl, inr, ℕ, List, [], ◌∷◌, ◌++◌, refl, sym, ap, ◌∙◌, subst, arith}
 use Rattle.seats.specs.Views.{Among, ViewPart, all_floored, first_of, with_floor, without_first}
+use Rattle.seats.proofs.Traces.{begins_on}
 use Rattle.seats.specs.Rule.{Floored, SeatView, MayBeFloor}
 
 module _ (m o m1 m2 m3 m4 o1 o2 w t : SeatView) (k n : ℕ) (e1 : o1 ≡ ([], o.1)) (e2 : w ≡ (o.0, [])) (e3 : m1 ≡ (m.0 ++ w.0, m.1)) (e4 : Floored m1 k m2) (e5 : Floored m2 n m3) (e6 : m4 ≡ (first_of m3.0, m3.1)) (e7 : t ≡ (without_first m3.0, [])) (e8 : o2 ≡ (o1.0 ++ t.0, o1.1))
@@ -8,27 +9,33 @@ module _ (m o m1 m2 m3 m4 o1 o2 w t : SeatView) (k n : ℕ) (e1 : o1 ≡ ([], o.
   both : m1.0 ≡ p ∷ q ∷ []
   both = ap (λ (x : SeatView). x.0) e3 ∙ (λ i. (mine i).0 ++ (ap (λ (x : SeatView). x.0) e2 ∙ ap (λ (x : SeatView). x.0) theirs) i)
 
-  first : m2.0 ≡ with_floor k p ∷ with_floor k q ∷ []
-  first = e4.1 ∙ ap (all_floored k) both
+  abbrev ks : List ℕ
+  ks = e4.0
 
-  second : m3.0 ≡ with_floor n p ∷ with_floor n q ∷ []
-  second = e5.1 ∙ ap (all_floored n) first
+  abbrev pub ns : List ℕ
+  ns = e5.0
 
-  m4_is : m4 ≡ (with_floor n p ∷ [], [])
-  m4_is = e6 ∙ (λ i. (first_of (second i), (e5.0 ∙ (e4.0 ∙ (ap (λ (x : SeatView). x.1) e3 ∙ ap (λ (x : SeatView). x.1) mine))) i))
+  first : m2.0 ≡ with_floor k ks p ∷ with_floor k ks q ∷ []
+  first = e4.2 ∙ ap (all_floored k ks) both
 
-  o2_is : o2 ≡ (with_floor n q ∷ [], [])
+  second : m3.0 ≡ with_floor n ns p ∷ with_floor n ns q ∷ []
+  second = e5.2 ∙ ap (all_floored n ns) first
+
+  m4_is : m4 ≡ (with_floor n ns p ∷ [], [])
+  m4_is = e6 ∙ (λ i. (first_of (second i), (e5.1 ∙ (e4.1 ∙ (ap (λ (x : SeatView). x.1) e3 ∙ ap (λ (x : SeatView). x.1) mine))) i))
+
+  o2_is : o2 ≡ (with_floor n ns q ∷ [], [])
   o2_is = e8 ∙ (λ i. ((e1 i).0 ++ (ap (λ (x : SeatView). x.0) e7 ∙ ap without_first second) i, (ap (λ (x : SeatView). x.1) e1 ∙ ap (λ (x : SeatView). x.1) theirs) i))
 
   -- the second load is not below the first, nor that below the old floor
-  may_be_floor : (r : ViewPart) → MayBeFloor k r → MayBeFloor n (with_floor k r) → MayBeFloor n r
-  may_be_floor r f g = let a = f.2 in let b = g.2 in (g.0, g.1, omega arith)
+  may_be_floor : (r : ViewPart) → MayBeFloor k ks r → MayBeFloor n ns (with_floor k ks r) → MayBeFloor n ns r
+  may_be_floor r f g = let a = f.floor in let b = g.floor in record { locks = g.locks; below = g.below; floor = omega arith; lock = g.lock; seen = begins_on r.seen ks ns f.seen g.seen; stands = g.stands }
 
-  mine_may_be : MayBeFloor n p
-  mine_may_be = may_be_floor p (e4.2 p (subst (Among p) (sym both) (inl refl))) (e5.2 (with_floor k p) (subst (Among (with_floor k p)) (sym first) (inl refl)))
+  mine_may_be : MayBeFloor n ns p
+  mine_may_be = may_be_floor p (e4.3 p (subst (Among p) (sym both) (inl refl))) (e5.3 (with_floor k ks p) (subst (Among (with_floor k ks p)) (sym first) (inl refl)))
 
-  theirs_may_be : MayBeFloor n q
-  theirs_may_be = may_be_floor q (e4.2 q (subst (Among q) (sym both) (inr (inl refl)))) (e5.2 (with_floor k q) (subst (Among (with_floor k q)) (sym first) (inr (inl refl))))
+  theirs_may_be : MayBeFloor n ns q
+  theirs_may_be = may_be_floor q (e4.3 q (subst (Among q) (sym both) (inr (inl refl)))) (e5.3 (with_floor k ks q) (subst (Among (with_floor k ks q)) (sym first) (inr (inl refl))))
 
-  pub meets_both : ((m4 ≡ (with_floor n p ∷ [], [])) × MayBeFloor n p) × ((o2 ≡ (with_floor n q ∷ [], [])) × MayBeFloor n q)
+  pub meets_both : ((m4 ≡ (with_floor n ns p ∷ [], [])) × MayBeFloor n ns p) × ((o2 ≡ (with_floor n ns q ∷ [], [])) × MayBeFloor n ns q)
   meets_both = ((m4_is, mine_may_be), (o2_is, theirs_may_be))

@@ -9,7 +9,10 @@ use Rattle.bytecode.specs.Initial.{initial_of}
 use Rattle.bytecode.specs.Valid.{bounds_of}
 use Rattle.bytecode.proofs.Fits.{fits_cells}
 use Rattle.seats.proofs.Codes.{initial_fits}
-use Rattle.seats.specs.Setup.{Setup}
+use Rattle.seats.specs.Setup.{Setup, StandsAt, world_of}
+use Rattle.seats.proofs.Traces.{begins_self, stands_here}
+use Rattle.machine.specs.Worlds.{World}
+use Rattle.bytecode.specs.Code.{Configuration}
 use Rattle.seats.specs.Views.{Among, ViewPart, all_floored, first_of, with_floor, parts_of, without_first}
 use Rattle.seats.specs.Rule.{Fits, Floored, IsRuled, MayBeFloor}
 use Rattle.seats.proofs.Parts.{parts_in-set, parts_in-append, parts_of-append, among_append, none_since}
@@ -36,6 +39,8 @@ whole_cut v = record { counts = λ n. omega arith; lefts = λ p a. absurd a; rig
 module _ (key : Setup) where
   cuts : (id : ℕ) (v left right : List ViewPart) → Cut v left right → Splits {S = Unit {0}} (λ s. IsRuled key s.words s.views) id v left right
   cuts id v left right cut s rule at = record {
+    trace = rule.trace;
+    is_trace = rule.is_trace;
     world = rule.world;
     heard = rule.heard;
     valid = rule.valid;
@@ -69,6 +74,8 @@ module _ (key : Setup) where
       let theirs = at_set s.views id other (v ++ w) w there in
       let was : get_elem? s.views other ≡ some w = ⊎_elim (λ (h : (other ≡ id) × ((v ++ w) ≡ w)). absurd (ne h.0)) (λ (h : (other ≢ id) × (get_elem? s.views other ≡ some w)). h.1) theirs in
       record {
+        trace = rule.trace;
+        is_trace = rule.is_trace;
         world = rule.world;
         heard = rule.heard;
         valid = rule.valid;
@@ -89,44 +96,54 @@ module _ (key : Setup) where
       }
 
   -- a part with a new floor
-  same_counts : (number n : ℕ) (v : List ViewPart) → parts_of number (all_floored n v) ≡ parts_of number v
-  same_counts number n [] = refl
-  same_counts number n (p ∷ ps) = let h = same_counts number n ps in omega arith
+  same_counts : (number n : ℕ) (ts : List ℕ) (v : List ViewPart) → parts_of number (all_floored n ts v) ≡ parts_of number v
+  same_counts number n ts [] = refl
+  same_counts number n ts (p ∷ ps) = let h = same_counts number n ts ps in omega arith
 
-  was_among : (n : ℕ) (v : List ViewPart) (q : ViewPart) → Among q (all_floored n v) → (p : ViewPart) × (q ≡ with_floor n p) × Among p v
-  was_among n [] q a = absurd a
-  was_among n (p ∷ ps) q (inl e) = (p, e, inl refl)
-  was_among n (p ∷ ps) q (inr a) = let r = was_among n ps q a in (r.0, r.1, inr r.2)
+  was_among : (n : ℕ) (ts : List ℕ) (v : List ViewPart) (q : ViewPart) → Among q (all_floored n ts v) → (p : ViewPart) × (q ≡ with_floor n ts p) × Among p v
+  was_among n ts [] q a = absurd a
+  was_among n ts (p ∷ ps) q (inl e) = (p, e, inl refl)
+  was_among n ts (p ∷ ps) q (inr a) = let r = was_among n ts ps q a in (r.0, r.1, inr r.2)
 
   pub meets : (slots id : ℕ) (me : Me (Unit {0}) (List ViewPart)) → Allows (λ s. IsRuled key s.words s.views) slots id me 0 (λ n. n) (Floored me)
   meets slots id me s rule _ at _ =
       let n : ℕ = get_or s.words 0 0 in
       let is : n ≡ rule.world.lock = ap (λ (ws : List ℕ). get_or ws 0 0) rule.words_are in (
-        all_floored n me.0,
+        all_floored n rule.trace me.0,
         keeps,
         tt,
         record {
+          trace = rule.trace;
+          is_trace = rule.is_trace;
           world = rule.world;
           heard = rule.heard;
           valid = rule.valid;
           words_are = set-get_or s.words 0 0 ∙ rule.words_are;
           answered = rule.answered;
-          once = λ number. let a = parts_in-set number s.views id me.0 (all_floored n me.0) at in let b = same_counts number n me.0 in (omega arith) ∙ rule.once number;
+          once = λ number. let a = parts_in-set number s.views id me.0 (all_floored n rule.trace me.0) at in let b = same_counts number n rule.trace me.0 in (omega arith) ∙ rule.once number;
           fits = λ seat view q e a. ⊎_elim
-              (λ (h : (seat ≡ id) × (all_floored n me.0 ≡ view)).
-              let r = was_among n me.0 q (subst (Among q) (sym h.1) a) in
+              (λ (h : (seat ≡ id) × (all_floored n rule.trace me.0 ≡ view)).
+              let r = was_among n rule.trace me.0 q (subst (Among q) (sym h.1) a) in
               let f = rule.fits id me.0 r.0 at r.2 in
-              subst (Fits key rule.world rule.heard) (sym r.1) (record { setup = f.setup; part = f.part; answers = f.answers; floor = (omega arith); since = none_since n r.0.heard }))
+              subst (Fits key rule.trace rule.world rule.heard) (sym r.1) (record { setup = f.setup; part = f.part; answers = f.answers; floor = (omega arith); since = none_since n r.0.heard; seen = begins_self rule.trace; stands = stands_here key rule.trace rule.world rule.heard r.0.number r.0.part r.0.heard rule.is_trace f.part f.answers }))
               (λ (h : (seat ≢ id) × (get_elem? s.views seat ≡ some view)). rule.fits seat view q h.1 a)
-              (at_set s.views id seat (all_floored n me.0) view e);
+              (at_set s.views id seat (all_floored n rule.trace me.0) view e);
         },
         (
+          rule.trace,
           refl,
           refl,
           λ p a.
               let f = rule.fits id me.0 p at a in
               let ok = answers_ok (effect key.code) (beginning key.code) (bounds_of key.code) (initial_of key.code) (initial_fits key.code) (fits_cells key.code rule.valid) key.threads rule.world rule.heard rule.answered p.number p.part p.heard f.part f.answers in
               let below = numbers_below (effect key.code) (beginning key.code) (bounds_of key.code) (initial_of key.code) (initial_fits key.code) (fits_cells key.code rule.valid) key.threads rule.world rule.heard rule.answered p.number p.part f.part in
-              subst (λ (l : ℕ). MayBeFloor l p) (sym is) (ok.bounded, below, f.floor),
+              subst (λ (l : ℕ). MayBeFloor l rule.trace p) (sym is) (record {
+                locks = ok.bounded;
+                below = below;
+                floor = f.floor;
+                lock = ap (λ (s : Setup). (world_of s rule.trace).lock) f.setup ∙ ap (λ (w : World Configuration). w.lock) (sym rule.is_trace.world);
+                seen = f.seen;
+                stands = subst (λ (s : Setup). StandsAt s rule.trace p.number p.part p.heard) (sym f.setup) (stands_here key rule.trace rule.world rule.heard p.number p.part p.heard rule.is_trace f.part f.answers);
+              }),
         ),
       )

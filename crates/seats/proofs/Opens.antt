@@ -72,19 +72,27 @@ module _ (key : Setup) where
   numbered p from (suc count) (inl e) = let n : p.number ≡ from = ap (λ (q : ViewPart). q.number) e in (e ∙ ap (first_part key) (sym n), omega arith)
   numbered p from (suc count) (inr a) = let r = numbered p (suc from) count a in (r.0, let b = r.1 in omega arith)
 
-  first_fits : (p : ViewPart) → Among p (first_view key) → Fits key (new_world (beginning key.code) (initial_of key.code) key.threads) (replicate key.threads []) p
+  first_fits : (p : ViewPart) → Among p (first_view key) → Fits key [] (new_world (beginning key.code) (initial_of key.code) key.threads) (replicate key.threads []) p
   first_fits p a = let n = numbered p 0 key.threads a in
       let lt = n.1 in
-      subst (λ (q : ViewPart). Fits key (new_world (beginning key.code) (initial_of key.code) key.threads) (replicate key.threads []) q) (sym n.0) (record {
+      subst (λ (q : ViewPart). Fits key [] (new_world (beginning key.code) (initial_of key.code) key.threads) (replicate key.threads []) q) (sym n.0) (record {
         setup = refl;
         part = new_part_there (beginning key.code) 0 key.threads p.number (omega arith) ∙ (let e : 0 + p.number ≡ p.number = omega arith in ap (λ k. Some (new_part (beginning key.code k))) e);
         answers = none_heard key.threads p.number (omega arith);
         floor = omega arith;
         since = tt;
+        seen = ([], refl);
+        stands = record {
+          steps = tt;
+          part = new_part_there (beginning key.code) 0 key.threads p.number (omega arith) ∙ (let e : 0 + p.number ≡ p.number = omega arith in ap (λ k. Some (new_part (beginning key.code k))) e);
+          answers = none_heard key.threads p.number (omega arith);
+        };
       })
 
   pub opens : (words : List ℕ) → IsValid key.code → words ≡ 0 ∷ initial_of key.code → IsRuled key words (first_view key ∷ [])
   opens words valid e = record {
+    trace = [];
+    is_trace = record { steps = tt; world = refl; answers = refl };
     world = new_world (beginning key.code) (initial_of key.code) key.threads;
     heard = replicate key.threads [];
     words_are = e;
@@ -94,6 +102,6 @@ module _ (key : Setup) where
     fits = one;
   }
     where
-      one : (seat : ℕ) (view : List ViewPart) (p : ViewPart) → get_elem? (first_view key ∷ []) seat ≡ some view → Among p view → Fits key (new_world (beginning key.code) (initial_of key.code) key.threads) (replicate key.threads []) p
+      one : (seat : ℕ) (view : List ViewPart) (p : ViewPart) → get_elem? (first_view key ∷ []) seat ≡ some view → Among p view → Fits key [] (new_world (beginning key.code) (initial_of key.code) key.threads) (replicate key.threads []) p
       one zero view p f a = first_fits p (subst (Among p) (sym (some-injective _ _ f)) a)
       one (suc seat) view p f a = absurd (some-ne-none view (sym f))

@@ -16,4 +16,4 @@ pub use access::{Words, load_lock, load_word, make};
 pub use closing::close;
 pub use opening::{WordsTable, open};
 pub use rule::{Ruled, Setup, View};
-pub use sharing::{join, meet, split_first};
+pub use sharing::{join, meet, settle, split_first};

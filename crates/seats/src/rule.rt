@@ -134,3 +134,13 @@ impl Play<(), View> for Met {
 
     ghost then = { λ st m n w. Floored m n w };
 }
+
+/// A seat brings its thread's last local steps into the list. The value that is swapped for itself is the number of all
+/// steps that the thread has made.
+pub(crate) struct Settling;
+
+impl Play<(), View> for Settling {
+    ghost use Rattle.seats.specs.Rule.{Settled};
+
+    ghost then = { λ st m n w. Settled st.first m w };
+}

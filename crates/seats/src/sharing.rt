@@ -2,10 +2,10 @@
 
 ghost use Rattle.std.specs.Prelude.{◌≡◌, ◌++◌, ◌<◌, []};
 ghost use Rattle.seats.specs.Views.{first_of, without_first};
-ghost use Rattle.seats.specs.Rule.{Floored, MeetsBoth};
+ghost use Rattle.seats.specs.Rule.{Floored, MeetsBoth, Settled, SitsAfter};
 
 use crate::access::Words;
-use crate::rule::{FirstRule, Joined, Met, Rest, View, Whole};
+use crate::rule::{FirstRule, Joined, Met, Rest, Settling, View, Whole};
 use atomic_table::Seat;
 use std::alloc::Allocator;
 
@@ -60,4 +60,16 @@ pub fn meet<A: Allocator>(
     let back = words.split_seat::<Rest>(mine);
     words.join_seat::<Joined>(theirs, back);
     found
+}
+
+/// Brings the local steps that the seat's one thread has made since its last access into the list of steps, so that a
+/// transaction that took effect in one of them, as one that stores nothing does, stands there from now on. The number
+/// of all steps of the thread says which they are; the lock is swapped for itself, if at all.
+pub fn settle<A: Allocator>(words: &Words<A>, seat: &mut Seat<(), View>, all: u64)
+    requires table { (seat.old.table_id ≡ words.now.table_id) × (0 < words.now.table_id.words) }
+    requires sits { SitsAfter words.now.key seat.old.me all }
+    ensures table { seat.new.table_id ≡ seat.old.table_id }
+    ensures settled { Settled all seat.old.me seat.new.me }
+{
+    let _found = words.compare_exchange::<Settling>(seat, 0, all, all);
 }

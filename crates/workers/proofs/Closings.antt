@@ -1,5 +1,5 @@
 -- What the workers of a hall add up to when it is closed.
-use Rattle.std.proofs.Common.{drop, ◌≡◌, ◌≢◌, ◌⊎◌, inl, inr, ⊎_elim, ℕ, zero, suc, ◌+◌, ◌<◌, ◌≤◌, true, false, List, [], ◌∷◌, ◌++◌, Some, length, length-append, get_or, set, slice_get, refl, sym, ap, ◌∙◌, subst, arith}
+use Rattle.std.proofs.Common.{drop, ◌≡◌, ◌≢◌, ◌⊎◌, inl, inr, ⊎_elim, ℕ, zero, suc, ◌+◌, ◌<◌, ◌≤◌, true, false, List, [], ◌∷◌, ◌++◌, Some, length, length-append, replicate, get_or, set, slice_get, refl, sym, ap, ◌∙◌, subst, arith}
 use Rattle.std.specs.Prelude.{Option, nat_lt, unwrap_or}
 use Rattle.std.proofs.lemmas.Option.{slice_get_within}
 use mathlib.Core.Option.{some, some-ne-none, some-injective}
@@ -11,7 +11,6 @@ use Rattle.machine.specs.Answered.{Heard}
 use Rattle.machine.specs.Explained.{HasLock}
 use Rattle.bytecode.specs.Code.{Configuration}
 use Rattle.machine.specs.Worlds.{Part, World}
-use Rattle.machine.proofs.answers.Answering.{pauses}
 use Rattle.machine.proofs.answers.Reached.{unheld}
 use Rattle.machine.proofs.runs.Programs.{explained_source}
 use Rattle.machine.proofs.steps.Worlds.{get-set_other, get-set_same}
@@ -23,7 +22,11 @@ use Rattle.bytecode.specs.Sequential.{meaning}
 use Rattle.bytecode.specs.Valid.{bounds_of}
 use Rattle.bytecode.proofs.Fits.{fits_cells}
 use Rattle.seats.proofs.Codes.{initial_fits}
-use Rattle.seats.specs.Setup.{Setup, IsWorldOf}
+use Rattle.seats.specs.Setup.{Begins, IsTraceOf, IsWorldOf, Setup}
+use Rattle.seats.proofs.Traces.{begins_on, begins_self, world_is}
+use Rattle.seats.proofs.Traces as traces
+use Rattle.seats.proofs.InTime.{keeps_time}
+use Rattle.workers.specs.Closing.{HaveSeen}
 use Rattle.workers.specs.declared.worker.Worker.{Worker}
 use Rattle.workers.specs.declared.close.Finished.{Finished}
 use Rattle.seats.specs.Views.{Among, ViewPart, parts_in, parts_of}
@@ -90,22 +93,24 @@ module _ {A : Type 0} (z : TableId) (key : Setup) where
       let apart : x.number ≢ n = (λ e. let o = one_if works.part.number n (works.number_is ∙ e) in omega arith) in
       (get-set_other w.parts n x.number now apart ∙ t.0, t.1, there_stays w heard n now xs all.1 (omega arith) t.2)
 
-  module _ (w : World Configuration) (heard : List (List Heard)) (answered : IsWorldOf key w heard) where
+  module _ (ts : List ℕ) (w : World Configuration) (heard : List (List Heard)) (is_trace : IsTraceOf key ts w heard) where
     -- the world once each worker's last local steps are made
     pub record LastStepsMade (ws : List (Worker A)) (all : AreWorkersOf z key ws) : Type 0 where
       pub parts : List (Part Configuration)
-      pub reached : IsWorldOf key (record w { parts = parts }) heard
+      pub trace : List ℕ
+      pub reached : IsTraceOf key trace (record w { parts = parts }) heard
+      pub longer : Begins ts trace
       pub there : AreThere z key (record w { parts = parts }) heard ws all
       pub others : (n : ℕ) → parts_of n (parts_back ws) ≡ 0 → slice_get parts n ≡ slice_get w.parts n
 
-    all_close : (ws : List (Worker A)) (all : AreWorkersOf z key ws) → ((n : ℕ) → parts_of n (parts_back ws) ≤ 1) → ((p : ViewPart) → Among p (parts_back ws) → Fits key w heard p) → LastStepsMade ws all
-    all_close [] all once fits = record { parts = w.parts; reached = answered; there = tt; others = λ n none. refl }
+    all_close : (ws : List (Worker A)) (all : AreWorkersOf z key ws) → ((n : ℕ) → parts_of n (parts_back ws) ≤ 1) → ((p : ViewPart) → Among p (parts_back ws) → Fits key ts w heard p) → LastStepsMade ws all
+    all_close [] all once fits = record { parts = w.parts; trace = ts; reached = is_trace; longer = begins_self ts; there = tt; others = λ n none. refl }
     all_close (x ∷ xs) all once fits =
         let works = all.0.1 in
         let p : ViewPart = works.part in
         let view : x.seat.me.0 ≡ p ∷ [] = ap (λ m. m.0) works.sits in
         let rest = all_close xs all.1 (λ n. let o = once n in let a = count_front x all.0 xs n in omega arith) (λ q a. fits q (among_front q (parts_back xs) x.seat.me.0 a)) in
-        let mine : Fits key w heard p = fits p (among_back p (parts_back xs) x.seat.me.0 (subst (Among p) (sym view) (inl refl))) in
+        let mine : Fits key ts w heard p = fits p (among_back p (parts_back xs) x.seat.me.0 (subst (Among p) (sym view) (inl refl))) in
         let alone : parts_of p.number (parts_back xs) ≡ 0 = (
         let o = once p.number in
         let a = count_front x all.0 xs p.number in
@@ -114,7 +119,9 @@ module _ {A : Type 0} (z : TableId) (key : Setup) where
         let at : slice_get rest.parts p.number ≡ Some p.part = rest.others p.number alone ∙ mine.part in
         record {
           parts = set rest.parts p.number works.now;
-          reached = pauses (effect key.code) (beginning key.code) (initial_of key.code) key.threads works.pauses p.number p.part works.now p.heard w.lock w.words rest.parts heard rest.reached at mine.answers works.paused_to;
+          trace = rest.trace ++ replicate works.pauses p.number;
+          longer = begins_on ts rest.trace (rest.trace ++ replicate works.pauses p.number) rest.longer (replicate works.pauses p.number, refl);
+          reached = traces.pauses key works.pauses rest.trace p.number p.part works.now p.heard w.lock w.words rest.parts heard rest.reached at mine.answers works.paused_to;
           there = (
             ap (slice_get (set rest.parts p.number works.now)) (sym works.number_is) ∙ get-set_same rest.parts p.number works.now p.part at,
             ap (slice_get heard) (sym works.number_is) ∙ mine.answers,
@@ -125,6 +132,14 @@ module _ {A : Type 0} (z : TableId) (key : Setup) where
               let ne : n ≢ p.number = (λ e. let one = one_if p.number n (sym e) in omega arith) in
               get-set_other rest.parts p.number n works.now ne ∙ rest.others n (omega arith);
         }
+
+  have_seen : (ts trace : List ℕ) (w : World Configuration) (heard : List (List Heard)) → Begins ts trace → (ws : List (Worker A)) (all : AreWorkersOf z key ws) → ((p : ViewPart) → Among p (parts_back ws) → Fits key ts w heard p) → HaveSeen z key trace ws all
+  have_seen ts trace w heard longer [] all fits = tt
+  have_seen ts trace w heard longer (x ∷ xs) all fits =
+      let works = all.0.1 in
+      let view : x.seat.me.0 ≡ works.part ∷ [] = ap (λ m. m.0) works.sits in
+      let mine : Fits key ts w heard works.part = fits works.part (among_back works.part (parts_back xs) x.seat.me.0 (subst (Among works.part) (sym view) (inl refl))) in
+      (begins_on works.part.seen ts trace mine.seen longer, have_seen ts trace w heard longer xs all.1 (λ q a. fits q (among_front q (parts_back xs) x.seat.me.0 a)))
 
   -- a worker that is there has its thread there
   thread_there : (w : World Configuration) (heard : List (List Heard)) (ws : List (Worker A)) (all : AreWorkersOf z key ws) → AreThere z key w heard ws all → (k : ℕ) (x : Worker A) → get_elem? ws k ≡ some x → (p : Part Configuration) × (slice_get w.parts x.number ≡ Some p) × (p.thread ≡ x.thread.thread)
@@ -146,19 +161,24 @@ module _ {A : Type 0} (z : TableId) (key : Setup) where
       let views = left.1 in
       let rule = left.2 in
       let at : get_elem? views id ≡ some (parts_back ws) = subst (λ (v : List ViewPart). get_elem? views id ≡ some v) same left.3 in
-      let s = all_close rule.world rule.heard rule.answered ws all (λ n. let a = parts_in-at n views id (parts_back ws) at in let o = at_most_one (nat_lt n key.threads) (parts_in n views) (rule.once n) in omega arith) (λ p a. rule.fits id (parts_back ws) p at a) in
-      let r = runs_say key (record rule.world { parts = s.parts }) rule.heard rule.valid s.reached in
+      let s = all_close rule.trace rule.world rule.heard rule.is_trace ws all (λ n. let a = parts_in-at n views id (parts_back ws) at in let o = at_most_one (nat_lt n key.threads) (parts_in n views) (rule.once n) in omega arith) (λ p a. rule.fits id (parts_back ws) p at a) in
+      let reached : IsWorldOf key (record rule.world { parts = s.parts }) rule.heard = world_is key s.trace (record rule.world { parts = s.parts }) rule.heard s.reached in
+      let r = runs_say key (record rule.world { parts = s.parts }) rule.heard rule.valid reached in
       record {
         world = record rule.world { parts = s.parts };
         heard = rule.heard;
-        answered = s.reached;
+        trace = s.trace;
+        is_trace = s.reached;
+        seen = have_seen rule.trace s.trace rule.world rule.heard s.longer ws all (λ p a. rule.fits id (parts_back ws) p at a);
+        time = keeps_time key s.trace (record rule.world { parts = s.parts }) rule.heard rule.valid s.reached;
+        answered = reached;
         cells_are = (let e : (left.0 ∷ cells) ≡ rule.world.lock ∷ rule.world.words = rule.words_are in sym (ap (λ (l : List ℕ). drop 1 l) e));
         there = s.there;
         threads_are = finished;
         runs = r;
         programs = λ does means few es m. explained_source (bounds_of key.code) (initial_of key.code) (initial_fits key.code) (meaning (effect key.code) (beginning key.code)) does means key.threads few (record rule.world { parts = s.parts }) es (r.each es m);
-        drops = drops_say key (record rule.world { parts = s.parts }) rule.heard rule.valid s.reached;
-        even = λ here free. unheld (effect key.code) (beginning key.code) (bounds_of key.code) (initial_of key.code) (initial_fits key.code) (fits_cells key.code rule.valid) key.threads (record rule.world { parts = s.parts }) rule.heard s.reached
+        drops = drops_say key (record rule.world { parts = s.parts }) rule.heard rule.valid reached;
+        even = λ here free. unheld (effect key.code) (beginning key.code) (bounds_of key.code) (initial_of key.code) (initial_fits key.code) (fits_cells key.code rule.valid) key.threads (record rule.world { parts = s.parts }) rule.heard reached
             (λ t p a e has.
             let count = (r.each r.entries r.is_merge).count in
             let below = slice_get_within s.parts t p e in

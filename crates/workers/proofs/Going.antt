@@ -16,7 +16,7 @@ begins_on : {A : Type 0} (xs ys zs : List A) → Grows xs ys → Grows ys zs →
 begins_on xs ys zs g h = (g.0 ++ h.0, h.1 ∙ ap (λ l. l ++ h.0) g.1 ∙ append_assoc xs g.0 h.0)
 
 pub goes_nowhere : (code : Code) (p : ViewPart) (now : Part Configuration) → GoesOnFrom code p now p now
-goes_nowhere code p now = record { count = 0; more = []; heard = sym (append-nil p.heard); steps = StepsHearing.none; records = ([], sym (append-nil now.records)); floor = (refl, refl) }
+goes_nowhere code p now = record { count = 0; more = []; heard = sym (append-nil p.heard); steps = StepsHearing.none; records = ([], sym (append-nil now.records)); floor = (refl, refl); seen = ([], sym (append-nil p.seen)) }
 
 pub goes_further : (code : Code) (p q r : ViewPart) (a b c : Part Configuration) → GoesOnFrom code p a q b → GoesOnFrom code q b r c → GoesOnFrom code p a r c
 goes_further code p q r a b c f g = record {
@@ -26,6 +26,7 @@ goes_further code p q r a b c f g = record {
   steps = replays_on (effect code) a.thread b.thread c.thread f.count g.count f.more g.more f.steps g.steps;
   records = begins_on a.records b.records c.records f.records g.records;
   floor = (g.floor.0 ∙ f.floor.0, g.floor.1 ∙ f.floor.1);
+  seen = begins_on p.seen q.seen r.seen f.seen g.seen;
 }
 
 module _ {A : Type 0} (z : TableId) (key : Setup) where

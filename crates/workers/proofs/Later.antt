@@ -10,7 +10,7 @@ drop_front [] gs = refl
 drop_front (h ∷ hs) gs = drop_front hs gs
 
 pub begins_later : BeginsLater
-begins_later code n p now q later a g since idle has =
+begins_later code n ts p now q later a g since idle has =
     let at : q.floor ≡ n = g.floor.0 in
     let rest : drop q.floor_at q.heard ≡ g.more = (λ i. drop (g.floor.1 i) (g.heard i)) ∙ drop_front p.heard g.more in
     first_from n a.first g.more (subst (λ (z : ℕ × List Heard). LocksFrom z.0 z.1) (λ i. (at i, rest i)) since) (first_heard (effect code) now.thread idle g.count g.more later.thread g.steps a has)

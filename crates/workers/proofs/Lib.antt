@@ -24,3 +24,5 @@ pub mod Later
 pub mod Loading
 -- accesses of validation and of a begin that waits
 pub mod Waiting
+-- what is begun after a meeting stands behind all that had taken effect by then
+pub mod Behind

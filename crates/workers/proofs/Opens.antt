@@ -63,11 +63,10 @@ module _ (key : Setup) where
     replays = StepsHearing.none;
     counted = refl;
     fewer = omega arith;
+    made = refl;
     since = tt;
     stands = record {
-      world = new_world (beginning key.code) (initial_of key.code) key.threads;
-      heard = replicate key.threads [];
-      answered = Answered.new;
+      steps = tt;
       part = new_part_there (beginning key.code) 0 key.threads number h ∙ (let e : 0 + number ≡ number = omega arith in ap (λ k. Some (new_part (beginning key.code k))) e);
       answers = none_heard key.threads number h;
     };

@@ -48,6 +48,7 @@ module _ (key : Setup) (number : ℕ) (th : Thread Configuration) (steps accesse
               (replays_on (effect key.code) (first_thread key.code number) th u steps n works.part.heard [] works.replays s);
           counted = works.counted ∙ sym count_is;
           fewer = (let f = works.fewer in omega (arith, f, all_is, count_is));
+          made = (let f = works.made in omega (arith, f, all_is));
           since = works.since;
           stands = works.stands;
         },
@@ -58,5 +59,6 @@ module _ (key : Setup) (number : ℕ) (th : Thread Configuration) (steps accesse
           steps = subst (λ (z : Thread Configuration × Thread Configuration). StepsHearing (effect key.code) z.0 n [] z.1) (λ i. (sym works.thread_is i, sym b.2 i)) s;
           records = b.3;
           floor = (refl, refl);
+          seen = ([], sym (append-nil works.part.seen));
         },
       )

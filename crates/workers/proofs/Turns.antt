@@ -21,7 +21,8 @@ use Rattle.bytecode.specs.Initial.{initial_of}
 use Rattle.bytecode.specs.Valid.{bounds_of, cells_of}
 use Rattle.bytecode.proofs.Fits.{fits_cells}
 use Rattle.seats.proofs.Codes.{count_bounds, initial_fits}
-use Rattle.seats.specs.Setup.{Setup, IsPart}
+use Rattle.seats.specs.Setup.{Setup, IsPart, StandsAt}
+use Rattle.seats.proofs.Traces.{is_part}
 use Rattle.seats.specs.Rule.{IsMakeable, IsNext, IsSeatStep, SeatView, Sits, Took, TookAs, more_heard, reply}
 use Rattle.machine.specs.States.{IsWordOf}
 use Rattle.workers.specs.Works.{GoesOnFrom, Works}
@@ -57,7 +58,7 @@ module _ (key : Setup) (number : ℕ) (th : Thread Configuration) (steps accesse
   sits_at = (works.now, (works.part, works.pauses, works.sits, works.setup, works.paused_to), works.thread_is)
 
   pub now_stands : IsPart key number works.now works.part.heard
-  now_stands = stands_now key number works.pauses works.part.part works.now works.part.heard works.paused_to works.stands
+  now_stands = stands_now key number works.pauses works.part.part works.now works.part.heard works.paused_to (is_part key works.part.seen number works.part.part works.part.heard works.stands)
 
   -- the next access can be made
   pub makeable : IsMakeable (cells_of key.code) (access (effect key.code) th)
@@ -97,6 +98,7 @@ module _ (key : Setup) (number : ℕ) (th : Thread Configuration) (steps accesse
           replays = rw add-one (StepsHearing.local_more steps works.part.heard th works.replays far);
           counted = works.counted;
           fewer = (let f = works.fewer in omega arith);
+          made = (let f = works.made in omega arith);
           since = works.since;
           stands = works.stands;
         },
@@ -107,6 +109,7 @@ module _ (key : Setup) (number : ℕ) (th : Thread Configuration) (steps accesse
           steps = StepsHearing.local_more 0 [] works.now.thread StepsHearing.none far_now;
           records = local_grows (effect key.code) works.now;
           floor = (refl, refl);
+          seen = ([], sym (append-nil works.part.seen));
         },
       )
 
@@ -114,13 +117,13 @@ module _ (key : Setup) (number : ℕ) (th : Thread Configuration) (steps accesse
     abbrev a : Answer
     a = reply (access (effect key.code) th) n
 
-    one : TookAs works.part works.now (access (effect key.code) th) a w.0
+    one : TookAs works.part works.pauses works.now (access (effect key.code) th) a w.0
     one =
         let same : works.part.setup.code ≡ key.code = ap (λ (s : Setup). s.code) works.setup in
         let pause : after_local_steps (effect works.part.setup.code) works.pauses works.part.part ≡ Some works.now = subst (λ (c : Code). after_local_steps (effect c) works.pauses works.part.part ≡ Some works.now) (sym same) works.paused_to in
         let access_is : access (effect works.part.setup.code) works.now.thread ≡ access (effect key.code) th = (λ i. access (effect (same i)) (works.thread_is i)) in
         let away : is_local (access (effect works.part.setup.code) works.now.thread) ≡ false = ap is_local access_is ∙ far in
-        subst (λ (x : Access). TookAs works.part works.now x (reply x n) w.0) access_is (took.1 works.part works.pauses works.now (ap (λ (x : SeatView). x.0) works.sits) pause away)
+        subst (λ (x : Access). TookAs works.part works.pauses works.now x (reply x n) w.0) access_is (took.1 works.part works.pauses works.now (ap (λ (x : SeatView). x.0) works.sits) pause away)
 
     works_heard : stops (access (effect key.code) th) ≡ false → IsThreadOf key.code (step_with (effect key.code) th a).thread → Later (step_with (effect key.code) th a).thread (accesses + 1) w
     unfolding Later
@@ -129,10 +132,10 @@ module _ (key : Setup) (number : ℕ) (th : Thread Configuration) (steps accesse
         let same : works.part.setup ≡ key = works.setup in
         let access_now : access (effect key.code) works.now.thread ≡ access (effect key.code) th = ap (access (effect key.code)) works.thread_is in
         let q : Part Configuration = part_after one.words works.now (step_with (effect key.code) works.now.thread a) in
-        let leaves : w.0 ≡ record works.part { part = q; heard = more_heard works.part.heard x a } ∷ [] =
-        one.leaves ∙ ap (λ (s : Setup). record works.part { part = part_after one.words works.now (step_with (effect s.code) works.now.thread a); heard = more_heard works.part.heard x a } ∷ []) same in (
+        let leaves : w.0 ≡ record works.part { part = q; heard = more_heard works.part.heard x a; seen = one.steps; made = works.part.made + suc works.pauses } ∷ [] =
+        one.leaves ∙ ap (λ (s : Setup). record works.part { part = part_after one.words works.now (step_with (effect s.code) works.now.thread a); heard = more_heard works.part.heard x a; seen = one.steps; made = works.part.made + suc works.pauses } ∷ []) same in (
           record {
-            part = record works.part { part = q; heard = more_heard works.part.heard x a };
+            part = record works.part { part = q; heard = more_heard works.part.heard x a; seen = one.steps; made = works.part.made + suc works.pauses };
             pauses = 0;
             now = q;
             sits = (let s : w.1 ≡ [] = took.0 ∙ ap (λ (x : SeatView). x.1) works.sits in λ i. (leaves i, s i));
@@ -145,9 +148,10 @@ module _ (key : Setup) (number : ℕ) (th : Thread Configuration) (steps accesse
             replays = rw add-one (StepsHearing.heard_more steps works.part.heard th a works.replays far on);
             counted = (let c = works.counted in let l = length-append works.part.heard (record { access = x; answer = a } ∷ []) in omega arith);
             fewer = (let f = works.fewer in omega arith);
+            made = (let f = works.made in omega arith);
             since = one.since;
-            stands = subst (λ (k : ℕ). IsPart key k q (more_heard works.part.heard x a)) works.number_is
-                (subst (λ (s : Setup). IsPart s works.part.number (part_after one.words works.now (step_with (effect s.code) works.now.thread a)) (more_heard works.part.heard x a)) same one.stands);
+            stands = subst (λ (k : ℕ). StandsAt key one.steps k q (more_heard works.part.heard x a)) works.number_is
+                (subst (λ (s : Setup). StandsAt s one.steps works.part.number (part_after one.words works.now (step_with (effect s.code) works.now.thread a)) (more_heard works.part.heard x a)) same one.stands);
           },
           record {
             count = 1;
@@ -157,6 +161,7 @@ module _ (key : Setup) (number : ℕ) (th : Thread Configuration) (steps accesse
                 (StepsHearing.heard_more 0 [] works.now.thread a StepsHearing.none (ap is_local access_now ∙ far) (ap stops access_now ∙ on));
             records = added_grows works.now.records _;
             floor = (refl, refl);
+            seen = one.seen;
           },
         )
 
@@ -219,4 +224,4 @@ module _ (key : Setup) (number : ℕ) (th : Thread Configuration) (steps accesse
   module _ (ready : Thread Configuration) (r : ready ≡ th) (count : ℕ) (n : count ≡ accesses) where
     pub not_stepped : (is : Works key number ready steps count m) × GoesOnFrom key.code works.part works.now is.part is.now
     not_stepped = subst (λ (z : Thread Configuration × ℕ). (is : Works key number z.0 steps z.1 m) × GoesOnFrom key.code works.part works.now is.part is.now) (λ i. (sym r i, sym n i))
-        (works, record { count = 0; more = []; heard = sym (append-nil works.part.heard); steps = StepsHearing.none; records = ([], sym (append-nil works.now.records)); floor = (refl, refl) })
+        (works, record { count = 0; more = []; heard = sym (append-nil works.part.heard); steps = StepsHearing.none; records = ([], sym (append-nil works.now.records)); floor = (refl, refl); seen = ([], sym (append-nil works.part.seen)) })

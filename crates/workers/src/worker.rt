@@ -1,6 +1,6 @@
 //! One thread of the machine, with its seat at the table.
 
-ghost use Rattle.std.specs.Prelude.{◌≡◌, ◌+◌, ◌%◌, ◌^◌, ◌<◌, ◌≤◌, ℕ, true, false, None, Some, OnOk, OnErr, OnSome};
+ghost use Rattle.std.specs.Prelude.{◌≡◌, ◌+◌, ◌%◌, ◌^◌, ◌<◌, ◌≤◌, ℕ, List, true, false, None, Some, OnOk, OnErr, OnSome};
 ghost use Rattle.std.specs.Prelude.{IfErr, IfNone, IfOk, IfSome};
 ghost use Rattle.atomic_table.specs.Seated.{TableId};
 ghost use Rattle.bytecode.specs.Code.{effect};
@@ -541,9 +541,12 @@ impl<A: Allocator + Copy> Worker<A> {
             × (steps_of other.new ≡ steps_of other.old) }
         ensures mine { IsWorkerOf (table_of hall.now) (setup_of hall.now) self.new }
         ensures theirs { IsWorkerOf (table_of hall.now) (setup_of hall.now) other.new }
-        ensures floors { (n : ℕ) × FloorsAt (table_of hall.now) (setup_of hall.now) n self.old self.new
-            × FloorsAt (table_of hall.now) (setup_of hall.now) n other.old other.new }
+        ensures floors { (n : ℕ) × (seen : List ℕ)
+            × FloorsAt (table_of hall.now) (setup_of hall.now) n seen self.old self.new
+            × FloorsAt (table_of hall.now) (setup_of hall.now) n seen other.old other.new }
     {
+        seats::settle(&hall.table.shared, &mut self.seat, self.steps);
+        seats::settle(&hall.table.shared, &mut other.seat, other.steps);
         let _found = seats::meet(&hall.table.shared, &mut self.seat, &mut other.seat);
     }
 

@@ -16,6 +16,9 @@ pub join_seat-requires-2 : goal.join_seat-requires-2
 join_seat-requires-2 g c = (search rules, search rules, search rules, search rules, joins c.args.words.now.key _ _ _ _)
 
 pub returns-clause-both : goal.returns-clause-both
-returns-clause-both g c = λ p q mine theirs.
-    meets_both c.args.mine.now.me c.args.theirs.now.me c.join_seat.new.seat.me c.floor-first.new.seat.me c.floor-found.new.seat.me c.split_seat-back.new.seat.me c.split_seat-whole.new.seat.me c.join_seat-2.new.seat.me c.split_seat-whole.result.me c.split_seat-back.result.me c.floor-first.result c.floor-found.result
-    c.split_seat-whole.ensures.2 c.split_seat-whole.ensures.4 c.join_seat.ensures.2 c.floor-first.ensures.floor c.floor-found.ensures.floor c.split_seat-back.ensures.2 c.split_seat-back.ensures.4 c.join_seat-2.ensures.2 p q mine theirs
+returns-clause-both g c = (
+  c.floor-found.ensures.floor.0,
+  λ p q mine theirs.
+      meets_both c.args.mine.now.me c.args.theirs.now.me c.join_seat.new.seat.me c.floor-first.new.seat.me c.floor-found.new.seat.me c.split_seat-back.new.seat.me c.split_seat-whole.new.seat.me c.join_seat-2.new.seat.me c.split_seat-whole.result.me c.split_seat-back.result.me c.floor-first.result c.floor-found.result
+      c.split_seat-whole.ensures.2 c.split_seat-whole.ensures.4 c.join_seat.ensures.2 c.floor-first.ensures.floor c.floor-found.ensures.floor c.split_seat-back.ensures.2 c.split_seat-back.ensures.4 c.join_seat-2.ensures.2 p q mine theirs,
+)
