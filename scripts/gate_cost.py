@@ -200,9 +200,13 @@ def look(root, taken, most, proved):
         if stat:
             stats[pid] = stat
             below.setdefault(stat[1], []).append(pid)
-    for top in below.get(str(root), []):
+    tops = [*below.get(str(root), [])]
+    while tops:
+        top = tops.pop()
         work = work_of(top)
         if work is None:
+            # (the shell of .ci/run, and the `rt` that it started)
+            tops += below.get(top, [])
             continue
         if "--crate-name" in text_of(top, "cmdline").split("\0"):
             proved.setdefault(work, set()).add(room_of(top))
