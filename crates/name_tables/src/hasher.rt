@@ -13,26 +13,27 @@ use std::hash::{BuildHasher, DefaultHasher, Hasher};
 /// it.
 #[derive(Clone, Copy)]
 pub struct Keyed {
-    key: u64,
+    /// The hasher that has read the key.
+    started: DefaultHasher,
 }
 
 impl Keyed {
     /// A hash by this key, any 64 bits.
     pub fn new(key: u64) -> Keyed
-        ensures { result.key ≡ key }
+        ensures { result.started ≡ fold sip.write sip.initial (fed.u64 key) }
     {
-        Keyed { key }
+        let mut started = DefaultHasher::new();
+        started.write_u64(key);
+        Keyed { started }
     }
 }
 
 impl BuildHasher for Keyed {
     type Hasher = DefaultHasher;
 
-    ghost build_hasher = { λ k. fold sip.write sip.initial (fed.u64 k.key) };
+    ghost build_hasher = { λ k. k.started };
 
     fn build_hasher(&self) -> DefaultHasher {
-        let mut hasher = DefaultHasher::new();
-        hasher.write_u64(self.key);
-        hasher
+        self.started
     }
 }
