@@ -52,12 +52,27 @@ AreThreads _ _ = ⊥
 abbrev pub IsOrder : Text → List ℕ → Type 0
 IsOrder text order = ((text ≡ []) × (order ≡ [])) ⊎ AreThreads (slice_split (λ b. b == 44) text) order
 
+-- so many steps are asked for
+abbrev pub AreCounted : List Row → ℕ → Type 0
+AreCounted given count = IsNumberInRange given (codes "steps") 100000 0 1048576 count
+
+-- the source and this file are not both standard input
+abbrev pub IsNotBoth : List Row → Text → Type 0
+IsNotBoth given file = (first_of (codes "FILE") given ≡ Some (codes "-")) × (file ≡ codes "-") → ⊥
+
+-- a schedule and no seed; a number of steps has no effect beside it, and is in its range all the same
+pub record AreScheduled (given : List Row) (file : Text) : Type 0 where
+  pub named : first_of (codes "schedule") given ≡ Some file
+  pub no_seed : one_of (codes "seed") given ≡ None
+  pub count : ℕ
+  pub counted : AreCounted given count
+  pub not_both : IsNotBoth given file
+
 -- either a schedule or a seed, and not both
 abbrev pub AreSteps : List Row → Steps → Type 0
-AreSteps given (Schedule file) =
-    (first_of (codes "schedule") given ≡ Some (string_bytes file)) × (one_of (codes "seed") given ≡ None)
+AreSteps given (Schedule file) = AreScheduled given (string_bytes file)
 AreSteps given (Seed seed count) = (first_of (codes "schedule") given ≡ None) × IsGiven given (codes "seed") seed
-    × IsNumberInRange given (codes "steps") 100000 0 1048576 count
+    × AreCounted given count
 
 -- 1 to 64 threads
 abbrev pub AreThreadsGiven : List Row → ℕ → Type 0

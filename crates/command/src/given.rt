@@ -43,14 +43,21 @@ pub(crate) fn text_wanted(
     }
 }
 
+/// Whether this text is given for an argument.
+pub(crate) fn is_given(given: &ArgMatches<'_>, id: &str, text: &str) -> bool
+    ensures { IsTrue result ↔ (first_of id.now (rows_of (found_of given.now)) ≡ Some text.now) }
+{
+    match text_given(given, id) {
+        Some(found) => found == text,
+        None => false,
+    }
+}
+
 /// Whether a flag is given.
 pub(crate) fn flag_given(given: &ArgMatches<'_>, id: &str) -> bool
     ensures { IsTrue result ↔ (first_of id.now (rows_of (found_of given.now)) ≡ Some (codes "true")) }
 {
-    match text_given(given, id) {
-        Some(text) => text == "true",
-        None => false,
-    }
+    is_given(given, id, "true")
 }
 
 /// A text that says no number below 2^32.

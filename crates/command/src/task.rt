@@ -1,12 +1,15 @@
 //! What a command does with a program.
 
-ghost use Rattle.std.specs.Prelude.{◌≡◌, ◌≤◌, ℕ, List, IfOk, IfErr, Some, None, codes};
+ghost use Rattle.std.specs.Prelude.{◌≡◌, ◌≤◌, ◌↔◌, ℕ, List, IfOk, IfErr, IsTrue, Some, None, codes, string_bytes};
 ghost use Rattle.clap.specs.Words.{first_of, found_of, rows_of};
-ghost use Rattle.command.specs.Asked.{AreSteps, IsNumberInRange, IsTask, AreThreadsGiven, IsOrderGiven};
+ghost use Rattle.command.specs.Asked.{AreCounted, AreScheduled, AreSteps, AreThreadsGiven, IsNotBoth, IsNumberInRange};
+ghost use Rattle.command.specs.Asked.{IsOrderGiven, IsTask};
 ghost use Rattle.command.specs.declared.request.Steps.{Steps};
 ghost use Rattle.command.specs.inner.Refusals.{AreNoTask, IsOutOfRange, IsOwn};
 
-use crate::given::{flag_given, number_given, out_of_range, text_given, text_wanted, wrong};
+use crate::given::{
+    flag_given, is_given, number_given, out_of_range, text_given, text_wanted, wrong,
+};
 use crate::order::order;
 use crate::request::{Steps, Task, UsageFault};
 use clap::ArgMatches;
@@ -49,20 +52,49 @@ fn threads(alloc: Global, given: &ArgMatches<'_>) -> Result<u32, UsageFault>
     number(alloc, given, "threads", 1, 1, MOST_THREADS)
 }
 
+/// How many steps are asked for.
+fn count_given(alloc: Global, given: &ArgMatches<'_>) -> Result<u32, UsageFault>
+    ensures ok { IfOk result (AreCounted (rows_of (found_of given.now))) }
+    ensures err { IfErr result (IsOwn ((n : ℕ) → AreCounted (rows_of (found_of given.now)) n → ⊥)) }
+{
+    number(alloc, given, "steps", 100000, 0, MOST_STEPS)
+}
+
+/// Whether both the source and this file are standard input.
+fn are_both(given: &ArgMatches<'_>, file: &str) -> bool
+    ensures { IsTrue result ↔ (first_of (codes "FILE") (rows_of (found_of given.now)) ≡ Some (codes "-"))
+        × (file.now ≡ codes "-") }
+{
+    file == "-" && is_given(given, "FILE", "-")
+}
+
+/// The file of a schedule.
+fn schedule(alloc: Global, given: &ArgMatches<'_>, file: &str) -> Result<String, UsageFault>
+    ensures ok { IfOk result (λ s. string_bytes s ≡ file.now) }
+    ensures counted { IfOk result (λ s. (n : ℕ) × AreCounted (rows_of (found_of given.now)) n) }
+    ensures not_both { IfOk result (λ s. IsNotBoth (rows_of (found_of given.now)) file.now) }
+    ensures err { IfErr result (IsOwn (AreScheduled (rows_of (found_of given.now)) file.now → ⊥)) }
+{
+    let _count = count_given(alloc, given)?;
+    if are_both(given, file) {
+        return Err(wrong(alloc, "FILE and S can't both be -"));
+    }
+    Ok(String::from_str(alloc, file)?)
+}
+
 /// Where the steps of a replay come from: a schedule or a seed.
 fn steps(alloc: Global, given: &ArgMatches<'_>) -> Result<Steps, UsageFault>
     ensures ok { IfOk result (AreSteps (rows_of (found_of given.now))) }
     ensures err { IfErr result (IsOwn ((s : Steps) → AreSteps (rows_of (found_of given.now)) s → ⊥)) }
 {
     let seed = number_given(alloc, given, "seed", 0, u32::MAX)?;
-    let schedule = text_given(given, "schedule");
-    match (schedule, seed) {
+    match (text_given(given, "schedule"), seed) {
         (Some(file), None) => Ok(Steps::Schedule {
-            file: String::from_str(alloc, file)?,
+            file: schedule(alloc, given, file)?,
         }),
         (None, Some(seed)) => Ok(Steps::Seed {
             seed,
-            count: number(alloc, given, "steps", 100000, 0, MOST_STEPS)?,
+            count: count_given(alloc, given)?,
         }),
         _ => Err(wrong(alloc, "one of --schedule and --seed")),
     }
@@ -94,6 +126,20 @@ fn replay(alloc: Global, given: &ArgMatches<'_>) -> Result<Task, UsageFault>
     }
 }
 
+/// Says that an order is none, and how one is written where more is to be told.
+fn bad_order(alloc: Global, given: &ArgMatches<'_>) -> UsageFault
+    ensures { IsOwn (Unit {0}) result }
+{
+    if flag_given(given, "verbose") {
+        wrong(
+            alloc,
+            "bad --order\nan order is thread numbers joined by commas, as 0,1,0",
+        )
+    } else {
+        wrong(alloc, "bad --order")
+    }
+}
+
 /// The order of threads that is given.
 fn order_given(alloc: Global, given: &ArgMatches<'_>) -> Result<Vec<u32>, UsageFault>
     ensures ok { IfOk result (λ v. IsOrderGiven (rows_of (found_of given.now)) v.items) }
@@ -102,7 +148,7 @@ fn order_given(alloc: Global, given: &ArgMatches<'_>) -> Result<Vec<u32>, UsageF
     let text = text_wanted(alloc, given, "order")?;
     match order(alloc, text.as_str())? {
         Some(order) => Ok(order),
-        None => Err(wrong(alloc, "--order is thread numbers joined by commas")),
+        None => Err(bad_order(alloc, given)),
     }
 }
 

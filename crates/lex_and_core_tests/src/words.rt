@@ -61,6 +61,29 @@ fn reads_runs(rt: HostRuntime) {
     assert_none(&rt, ask_otherwise(rt.alloc(), runs()));
 }
 
+/// Whether a run of so many threads is asked for, which takes no more memory than there is.
+fn asks_for_threads(alloc: Global, threads: u32) -> bool {
+    match format!(in alloc; "txc|run|a.c|--threads|{threads}") {
+        Ok(line) => has(alloc, line.as_str(), "Ok(Program {", "Run { threads: "),
+        Err(_) => false,
+    }
+}
+
+/// The first number of threads for which no run is asked.
+fn threads_not_asked_for(alloc: Global) -> Option<u32> {
+    for threads in 1..65 {
+        if !asks_for_threads(alloc, threads) {
+            return Some(threads);
+        }
+    }
+    None
+}
+
+#[test]
+fn takes_each_number_of_threads(rt: HostRuntime) {
+    assert_that(&rt, threads_not_asked_for(rt.alloc()).is_none());
+}
+
 fn words() -> &'static [Row] {
     static ROWS: [Row; 3] = [
         (
@@ -163,38 +186,42 @@ fn reads_outcomes(rt: HostRuntime) {
 
 /// Orders that the program itself refuses.
 fn refused_orders() -> &'static [Row] {
-    static ROWS: [Row; 11] = [
+    static ROWS: [Row; 12] = [
         (
             "txc|source|--order=0,,1|a.c",
-            br#"Err(Wrong { text: "txc: usage: --order is thread numbers joined by commas\n" })"#,
+            br#"Err(Wrong { text: "txc: usage: bad --order\n" })"#,
         ),
         (
             "txc|source|--order=,|a.c",
-            br#"Err(Wrong { text: "txc: usage: --order is thread numbers joined by commas\n" })"#,
+            br#"Err(Wrong { text: "txc: usage: bad --order\n" })"#,
         ),
         (
             "txc|source|--order=0,|a.c",
-            br#"Err(Wrong { text: "txc: usage: --order is thread numbers joined by commas\n" })"#,
+            br#"Err(Wrong { text: "txc: usage: bad --order\n" })"#,
         ),
         (
             "txc|source|--order=+1|a.c",
-            br#"Err(Wrong { text: "txc: usage: --order is thread numbers joined by commas\n" })"#,
+            br#"Err(Wrong { text: "txc: usage: bad --order\n" })"#,
         ),
         (
             "txc|source|--order=-1|a.c",
-            br#"Err(Wrong { text: "txc: usage: --order is thread numbers joined by commas\n" })"#,
+            br#"Err(Wrong { text: "txc: usage: bad --order\n" })"#,
         ),
         (
             "txc|source|--order=1 |a.c",
-            br#"Err(Wrong { text: "txc: usage: --order is thread numbers joined by commas\n" })"#,
+            br#"Err(Wrong { text: "txc: usage: bad --order\n" })"#,
         ),
         (
             "txc|source|--order=a|a.c",
-            br#"Err(Wrong { text: "txc: usage: --order is thread numbers joined by commas\n" })"#,
+            br#"Err(Wrong { text: "txc: usage: bad --order\n" })"#,
         ),
         (
             "txc|source|--order=4294967296|a.c",
-            br#"Err(Wrong { text: "txc: usage: --order is thread numbers joined by commas\n" })"#,
+            br#"Err(Wrong { text: "txc: usage: bad --order\n" })"#,
+        ),
+        (
+            "txc|source|--order=a|a.c|--verbose",
+            br#"Err(Wrong { text: "txc: usage: bad --order\nan order is thread numbers joined by commas, as 0,1,0\n" })"#,
         ),
         (
             "txc|source|--threads=0|--order=0|a.c",
@@ -267,7 +294,7 @@ fn refuses_values(rt: HostRuntime) {
 
 /// Replays, and where their steps come from.
 fn replays() -> &'static [Row] {
-    static ROWS: [Row; 4] = [
+    static ROWS: [Row; 6] = [
         (
             "txc|replay|--picture|--schedule=s|a.c",
             br#"Ok(Program { file: "a.c", verbose: false, format: Plain, task: Picture { threads: 1, steps: Schedule { file: "s" } } })"#,
@@ -284,6 +311,15 @@ fn replays() -> &'static [Row] {
         (
             "txc|replay|--schedule=s|--timeline|a.c",
             br#"Ok(Program { file: "a.c", verbose: false, format: Plain, task: Timeline { threads: 1, steps: Schedule { file: "s" } } })"#,
+        ),
+        // one of the files is standard input
+        (
+            "txc|replay|--schedule=-|a.c",
+            br#"Ok(Program { file: "a.c", verbose: false, format: Plain, task: Replay { threads: 1, steps: Schedule { file: "-" } } })"#,
+        ),
+        (
+            "txc|replay|-|--schedule=s",
+            br#"Ok(Program { file: "-", verbose: false, format: Plain, task: Replay { threads: 1, steps: Schedule { file: "s" } } })"#,
         ),
     ];
     &ROWS
@@ -324,7 +360,7 @@ fn reads_seeds(rt: HostRuntime) {
 
 /// Replays that the program itself refuses.
 fn refused_replays() -> &'static [Row] {
-    static ROWS: [Row; 11] = [
+    static ROWS: [Row; 16] = [
         (
             "txc|replay|a.c|--picture|--seed=1|--timeline",
             br#"Err(Wrong { text: "txc: usage: one of --picture, --print-schedule and --timeline\n" })"#,
@@ -364,6 +400,27 @@ fn refused_replays() -> &'static [Row] {
         (
             "txc|replay|a.c|--seed=1|--steps=1048577",
             br#"Err(Wrong { text: "txc: usage: --steps is 0 to 1048576\n" })"#,
+        ),
+        // a number of steps has no effect beside a schedule, and is a number in its range all the same
+        (
+            "txc|replay|a.c|--schedule=s|--steps=1048577",
+            br#"Err(Wrong { text: "txc: usage: --steps is 0 to 1048576\n" })"#,
+        ),
+        (
+            "txc|replay|a.c|--schedule=s|--steps=x",
+            br#"Err(Wrong { text: "txc: usage: --steps is 0 to 1048576\n" })"#,
+        ),
+        (
+            "txc|replay|a.c|--schedule=s|--steps=99999999999999999999|--timeline",
+            br#"Err(Wrong { text: "txc: usage: --steps is 0 to 1048576\n" })"#,
+        ),
+        (
+            "txc|replay|a.c|--schedule=s|--steps=",
+            br#"Err(Wrong { text: "txc: usage: --steps is 0 to 1048576\n" })"#,
+        ),
+        (
+            "txc|replay|-|--schedule=-",
+            br#"Err(Wrong { text: "txc: usage: FILE and S can't both be -\n" })"#,
         ),
         (
             "txc|replay|a.c|--seed=1|--threads=65",

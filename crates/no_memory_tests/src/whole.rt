@@ -128,18 +128,19 @@ while (c) { c--; if (c > 5) break; } do c = 1; while (!c); \
 if (__transaction_atomic (x) + __transaction_atomic (a[__transaction_atomic (x & 1)])) \
 __transaction_atomic [[outer]] { __transaction_atomic { x++; if (c) __transaction_cancel [[outer]]; } } \
 __transaction_atomic { g(self); x = y; w = w * 2; } \
-i = __transaction_relaxed (f(__transaction_atomic (a[1]), 5)) * 7; h(-i); printf(\"%d\", c && i | 1); return; }",
+i = __transaction_relaxed (f(__transaction_atomic (a[1]), 5)) * 7; h(-i); printf(\"%d\", c && i | 1); \
+{ long long v = 4294967299 * i; i = v; printf(\"%lld\", v); } return; }",
         transactions: 7,
         order: &[0, 1],
         schedule: "0 a7\n1 a9\n0 a9999\n1 a9999\n0 a9999",
         meant: &[
             "left [1, 1, 2, 0, 1, 0, 10]",
-            "ended [49, 33, 48, 51, 33, 48, 45, 49, 52, 33, 55, 49]",
+            "ended [49, 33, 48, 51, 33, 48, 45, 49, 52, 33, 55, 49, 54, 48, 49, 50, 57, 53, 52, 50, 49, 56, 54]",
             "cell [4294967294]",
             "end",
         ],
         made: &[
-            "instructions [206]",
+            "instructions [213]",
             "event [25, 0]",
             "event [58, 1]",
             "replay [1, 1, 2, 0, 1, 0, 20]",

@@ -9,20 +9,20 @@ use std::sync::Wait;
 use std::thread::Threads;
 
 /// What is found of a file's name: the bytes of the file, or why it is not opened.
-type Found = Result<&'static [u8], ErrorKind>;
+pub(crate) type Found = Result<&'static [u8], ErrorKind>;
 
 /// The two files that there are.
 #[derive(Drop)]
-struct TwoFiles {
+pub(crate) struct TwoFiles {
     /// The file `a.c`.
-    source: Found,
+    pub(crate) source: Found,
     /// The file `s.txt`.
-    schedule: Found,
+    pub(crate) schedule: Found,
 }
 
 /// A file that was opened.
 #[derive(Drop)]
-struct Opened {
+pub(crate) struct Opened {
     rest: &'static [u8],
 }
 
@@ -54,9 +54,9 @@ impl Files for TwoFiles {
 
 /// Standard error, on a terminal or not.
 #[derive(Drop)]
-struct Told {
-    bytes: Vec<u8>,
-    is_terminal: bool,
+pub(crate) struct Told {
+    pub(crate) bytes: Vec<u8>,
+    pub(crate) is_terminal: bool,
 }
 
 impl Write for Told {
@@ -78,15 +78,15 @@ impl IsTerminal for Told {
 /// A command line, what is found of its two files, whether standard error is a terminal, and what is answered.
 type Row = (&'static str, Found, Found, bool, ServeResult<'static>);
 
-const REPLAY: &str = "txc replay a.c --threads 2 --schedule s.txt";
+pub(crate) const REPLAY: &str = "txc replay a.c --threads 2 --schedule s.txt";
 
 const TIMELINE: &str = "txc replay a.c --timeline --schedule s.txt";
 
 const RUN: &str = "txc run a.c";
 
-const NONE: Found = Err(ErrorKind::NotFound);
+pub(crate) const NONE: Found = Err(ErrorKind::NotFound);
 
-const REFUSED: Found = Err(ErrorKind::OutOfMemory);
+pub(crate) const REFUSED: Found = Err(ErrorKind::OutOfMemory);
 
 const OUT_OF_MEMORY: ServeResult<'static> = (4, b"", b"txc: out of memory\n");
 

@@ -14,7 +14,7 @@ use std::thread::Threads;
 
 /// A writer that takes no byte.
 #[derive(Drop)]
-struct Closed;
+pub(crate) struct Closed;
 
 impl Write for Closed {
     fn write(&mut self, _buf: &[u8]) -> io::Result<usize> {
@@ -647,7 +647,7 @@ fn is_refused(alloc: Global, line: &str, wanted: ServeResult) -> bool {
 #[test]
 fn says_what_words_are_wrong(rt: HostRuntime) {
     let wrong = "txc source no/such/file.c --order=0,,1";
-    let told = b"txc: usage: --order is thread numbers joined by commas\n";
+    let told = b"txc: usage: bad --order\n";
     assert!(rt; is_refused(rt.alloc(), wrong, (2, b"", told)));
     let help = "txc source --help";
     assert!(rt; is_refused(rt.alloc(), help, (0, b"Runs the source itself", b"")));

@@ -1,5 +1,5 @@
 use Rattle.command.proofs.Reading.{text_compared, none_compared}
-use Rattle.command.proofs.given.flag_given.Goals as goal
+use Rattle.command.proofs.given.is_given.Goals as goal
 
 pub returns-in-Some : goal.returns-in-Some
 returns-in-Some c = text_compared _ _ _ _ c.in-Some.ensures c.eq.ensures
