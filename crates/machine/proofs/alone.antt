@@ -8,3 +8,9 @@ pub mod Lefts
 pub mod Founds
 -- the world of one thread comes to the end of its meaning, by steps that do not stop
 pub mod OneThread
+-- a thread alone, through its next transaction
+pub mod Transaction
+-- a thread that steps alone beside others
+pub mod Beside
+-- in a reached world a thread without an attempt gets on alone
+pub mod Calm

@@ -18,6 +18,8 @@ pub mod OneOrder
 pub mod Drops
 -- a thread that steps alone
 pub mod Alone
+-- a thread that runs alone beside others
+pub mod Solo
 -- how many accesses an undisturbed transaction makes, by what its code means
 pub mod Tallies
 -- what becomes of a thread that has the lock

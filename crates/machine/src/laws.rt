@@ -18,6 +18,7 @@ ghost use Rattle.machine.specs.Merges.{Entry};
 ghost use Rattle.machine.specs.Serializable.{world_after, IsOpaque, HasChanged, HoldersGoOn};
 ghost use Rattle.machine.specs.Strict.{IsStrictlySerializable, RecordsAreLater};
 ghost use Rattle.machine.specs.Alone.{ReachesEnd};
+ghost use Rattle.machine.specs.Solo.{RunsAlone, SoloProgress, StaysReached};
 ghost use Rattle.machine.specs.Computes.{AttemptsCompute};
 ghost use Rattle.machine.specs.OneOrder.{IsInOneOrder};
 ghost use Rattle.machine.specs.Drops.{DropsAreBounded, DropsComeAfterTakings};
@@ -116,6 +117,13 @@ pub fn drops_are_bounded<C>()
 
 /// What a thread's meaning does alone, a machine of one thread does in some number of steps, and stays there: the same
 /// end, text and memory, without a step that stops. The same for every program whose threads the code means.
+///
+/// Beside other threads, wherever these stand still (in the midst of an attempt too): while the lock is free, a thread
+/// outside transactions that steps alone does what its meaning does on these words, up to where this ends, traps or
+/// wants one more memory. No attempt is dropped on the way, the other threads and what they have are left as they are,
+/// and the lock is then free again (`RunsAlone`). In a reached world whose lock is not near its last value no step of it
+/// stops (`SoloProgress`): this is obstruction freedom of a thread that has no attempt, while nobody has the lock.
+/// Nothing is said here of a thread with an attempt open, nor while another thread has the lock, for which it waits.
 pub fn alone<C>()
     ensures code { (code : C → Effect C) (init : ℕ → C) (bounds : List ℕ) (m0 : Memory) (run : List Step) (n : ℕ) →
         FitsCells code bounds → IsMemory bounds m0 →
@@ -123,6 +131,11 @@ pub fn alone<C>()
     ensures programs { (code : C → Effect C) (init : ℕ → C) (program : Program) (bounds : List ℕ) (m0 : Memory)
         (run : List Step) (n : ℕ) → FitsCells code bounds → IsMemory bounds m0 →
         Means bounds (meaning code init) (source program) → ReachesEnd code init (source program) m0 run n }
+    ensures beside { (code : C → Effect C) (bounds : List ℕ) → FitsCells code bounds → RunsAlone code bounds }
+    ensures progress { (code : C → Effect C) (init : ℕ → C) (bounds : List ℕ) (m0 : Memory) →
+        FitsCells code bounds → IsMemory bounds m0 → SoloProgress code init m0 }
+    ensures reached { (code : C → Effect C) (init : ℕ → C) (bounds : List ℕ) (m0 : Memory) →
+        FitsCells code bounds → IsMemory bounds m0 → StaysReached code init m0 }
 {}
 
 /// How many accesses a transaction makes that nobody disturbs, counted by what its code means on the memory that it
