@@ -21,6 +21,12 @@ abbrev pub cost : Access → ℕ
 cost Local = 0
 cost _ = 1
 
+-- the access stores a word, or the lock
+abbrev pub IsStore : Access → Type 0
+IsStore (StoreWord cell word) = Unit {0}
+IsStore (StoreLock value) = Unit {0}
+IsStore _ = ⊥
+
 -- the last even value of a lock of 64 bits
 abbrev pub last_snapshot : ℕ
 last_snapshot = 2 ^ 64 - 2

@@ -1,15 +1,17 @@
 -- A core as its contracts see it.
-use Rattle.std.specs.Prelude.{◌≡◌, ℕ, Bool, true, false, Option, None, Some, IsSomeAnd}
+use Rattle.std.specs.Prelude.{◌≡◌, ℕ, Bool, true, false, Option, None, Some, IfSome, IsSomeAnd}
 use Rattle.std.specs.List.{slice_get}
 use Rattle.write_log.specs.Overlay.{overlay_word}
 use Rattle.norec_core.specs.declared.step.Op.{Op}
+use Rattle.norec_core.specs.declared.step.Op.TheVariants as op
 use Rattle.norec_core.specs.declared.step.Access.TheVariants.{Local}
 use Rattle.norec_core.specs.declared.step.Answer.{Answer}
 use Rattle.norec_core.specs.declared.step.Answer.TheVariants.{Done}
 use Rattle.norec_core.specs.declared.step.Outcome.{Outcome}
 use Rattle.norec_core.specs.declared.step.Outcome.TheVariants as outcome
 use Rattle.norec_core.specs.declared.step.Phase.{Phase}
-use Rattle.norec_core.specs.declared.step.Phase.TheVariants.{AtOperation, Stores, ValidatesTime, ValidatesEntry}
+use Rattle.norec_core.specs.declared.step.Phase.TheVariants.{AtOperation, ReadsLock, ValidatesTime, ValidatesEntry}
+use Rattle.norec_core.specs.declared.step.Phase.TheVariants.{Stores}
 use Rattle.nesting.specs.Begins.{Saved}
 use Rattle.norec_core.specs.Attempts.{Attempt}
 use Rattle.norec_core.specs.Accesses.{IsAnswerTo}
@@ -33,6 +35,20 @@ stepped_by c (Some op) answer = core_step c.saved c.attempt op answer
 
 abbrev pub core_step_with : CoreState → Answer → CoreStep Saved
 core_step_with c answer = stepped_by c c.asked answer
+
+-- an operation under way may yet add to a log: the attempt stands at it, or a read has its word
+abbrev pub MayLog : Phase → Type 0
+MayLog AtOperation = Unit {0}
+MayLog (ReadsLock word) = Unit {0}
+MayLog _ = ⊥
+
+-- the step of this operation may want memory: a begin; a read or a write that may yet log, where its log has no room. No
+-- step of validation does, none that stores and no release
+abbrev pub MayWantRoom : (read_room write_room : ℕ) → Option (Attempt Saved) → Op → Type 0
+MayWantRoom reads writes o op.Begin = Unit {0}
+MayWantRoom reads writes o (op.Read cell) = (reads ≡ 0) × IfSome o (λ a. MayLog a.phase)
+MayWantRoom reads writes o (op.Write cell word) = (writes ≡ 0) × IfSome o (λ a. MayLog a.phase)
+MayWantRoom reads writes o _ = ⊥
 
 -- a read of this cell loads its word and then the lock
 abbrev pub LoadsBoth : {S : Type 0} → Attempt S → ℕ → Type 0

@@ -7,7 +7,7 @@ ghost use Rattle.norec_core.specs.Phases.{core_access, core_step};
 ghost use Rattle.norec_core.specs.Cores.{CommitsLocally, ComparesWith, IsAnswered, IsAskedAgain, IsComparing};
 ghost use Rattle.norec_core.specs.Cores.{IsDoneLocally, IsDropped, IsStoring, IsUnlocked, IsWaiting, LoadsBoth};
 ghost use Rattle.norec_core.specs.Cores.{core_step_with};
-ghost use Rattle.norec_core.specs.Cores.{stepped_twice, is_kept, has_lock};
+ghost use Rattle.norec_core.specs.Cores.{stepped_twice, is_kept, has_lock, MayWantRoom};
 ghost use Rattle.norec_core.specs.declared.step.Answer.{Answer as Reply};
 ghost use Rattle.norec_core.specs.declared.step.Op.{Op as Operation};
 ghost use Rattle.norec_core.specs.declared.step.Answer.TheVariants.{Value};
@@ -67,8 +67,9 @@ impl<A: Allocator + Copy> Core<A> {
     /// Prepares the next step of an operation, and names its access. A begin saves these registers, this number of
     /// frames and this place, which counts instructions; other operations do not look at them.
     ///
-    /// An error leaves all as it was: `OutOfMemory` where room was refused, `SequenceUsedUp` where the step would swap
-    /// the lock from its last even value.
+    /// An error leaves all as it was: `OutOfMemory` where room was refused, for a begin, or for a read or a write whose
+    /// log has none, and never under validation; `SequenceUsedUp` where the step would swap the lock from its last even
+    /// value.
     #[inline(always)]
     pub fn prepare(
         &mut self,
@@ -85,6 +86,8 @@ impl<A: Allocator + Copy> Core<A> {
         ensures attempt { self.new.attempt ≡ self.old.attempt }
         ensures err { OnErr result ((self.new.asked ≡ self.old.asked) × (self.new.saved ≡ self.old.saved)) }
         ensures used_up { (result ≡ Err Stop.SequenceUsedUp) ↔ (stops (core_access self.old.attempt op) ≡ true) }
+        ensures full { result ≡ Err Stop.OutOfMemory
+            → MayWantRoom self.old.read_room self.old.write_room self.old.attempt op }
     {
         let access = self.steps.access(op);
         if let Access::Swap(LAST_SNAPSHOT) = access {

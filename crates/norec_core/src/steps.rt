@@ -7,7 +7,7 @@ ghost use Rattle.norec_core.specs.Accesses.{stops};
 ghost use Rattle.norec_core.specs.Phases.{core_access, core_step, core_phase, core_operation, core_read, core_commit};
 ghost use Rattle.norec_core.specs.Phases.{core_cancel, core_store, core_swap, core_check, core_time, core_compare};
 ghost use Rattle.norec_core.specs.Phases.{operation_access, commit_access, entry_access, store_access};
-ghost use Rattle.norec_core.specs.Cores.{LoadsBoth, holds_lock};
+ghost use Rattle.norec_core.specs.Cores.{LoadsBoth, MayLog, MayWantRoom, holds_lock};
 ghost use Rattle.norec_core.specs.declared.step.Answer.TheVariants.{Value};
 ghost use Rattle.norec_core.specs.declared.step.Phase.TheVariants.{ReadsLock};
 ghost use Rattle.norec_core.specs.inner.Runs.{attempt_of, IsStep, IsWritten, GainsRoom, HasRoom, IsPlain, CanRelease};
@@ -79,12 +79,28 @@ impl<A: Allocator + Copy> CoreSteps<A> {
         ensures same { op ≢ Op.Begin → self.new.aside ≡ self.old.aside }
         ensures err { OnErr result (self.new.aside ≡ self.old.aside) }
         ensures others { GainsRoom (record self.old { aside = self.new.aside }) self.new }
+        ensures full { OnErr result (MayWantRoom self.old.read_room self.old.write_room (attempt_of self.old) op) }
     {
         match op {
             Op::Begin => self.logs.prepare_begin(registers, frames, place),
-            Op::Read(_) => self.logs.prepare_read(),
-            Op::Write(_, _) => self.logs.prepare_write(),
+            Op::Read(_) if self.may_log() => self.logs.prepare_read(),
+            Op::Write(_, _) if self.may_log() => self.logs.prepare_write(),
             _ => Ok(()),
+        }
+    }
+
+    /// Whether an operation under way may yet add to a log.
+    #[inline(always)]
+    fn may_log(&self) -> bool
+        ensures may { result ≡ true → MayLog self.now.attempt.phase }
+        ensures may_not { result ≡ false → MayLog self.now.attempt.phase → ⊥ }
+    {
+        match self.phase {
+            Phase::AtOperation => true,
+            Phase::ReadsLock(_) => true,
+            Phase::ValidatesTime => false,
+            Phase::ValidatesEntry(_, _) => false,
+            Phase::Stores(_) => false,
         }
     }
 

@@ -14,6 +14,7 @@ use Rattle.norec_core.specs.declared.step.Phase.TheVariants.{AtOperation, ReadsL
 use Rattle.norec_core.specs.declared.step.Phase.TheVariants.{Stores}
 use Rattle.norec_core.specs.Attempts.{Attempt}
 use Rattle.norec_core.specs.Accesses.{stops}
+use Rattle.norec_core.specs.Cores.{MayLog}
 use Rattle.norec_core.specs.Phases.{CoreStep, core_access, core_step, core_swap}
 
 -- an attempt, whether it is under way, what was set aside, and for how many inner begins, reads and writes there is
@@ -61,8 +62,8 @@ pub record GainsRoom (old new : Run) : Type 0 where
 -- there is room for what a step of this operation may add
 abbrev pub HasRoom : Op → Run → Type 0
 HasRoom op.Begin r = 0 < r.begin_room
-HasRoom (op.Read cell) r = 0 < r.read_room
-HasRoom (op.Write cell word) r = 0 < r.write_room
+HasRoom (op.Read cell) r = MayLog r.attempt.phase → 0 < r.read_room
+HasRoom (op.Write cell word) r = MayLog r.attempt.phase → 0 < r.write_room
 HasRoom _ r = Unit {0}
 
 -- what was prepared, where its step is still to be told

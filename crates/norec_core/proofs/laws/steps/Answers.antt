@@ -1,4 +1,5 @@
 use Rattle.norec_core.proofs.LawsOfSteps.{begins, snapshots, entries, reads, pairs, release, effect}
+use Rattle.norec_core.proofs.Ending.{commit_ends}
 use Rattle.norec_core.proofs.laws.steps.Goals as goal
 
 pub returns-clause-begins : goal.returns-clause-begins
@@ -21,3 +22,6 @@ returns-clause-release g c = release
 
 pub returns-clause-effect : goal.returns-clause-effect
 returns-clause-effect g c = effect
+
+pub returns-clause-ends : goal.returns-clause-ends
+returns-clause-ends g c = commit_ends
