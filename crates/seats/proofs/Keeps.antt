@@ -28,7 +28,7 @@ use Rattle.bytecode.specs.Valid.{bounds_of}
 use Rattle.bytecode.proofs.Fits.{fits_cells}
 use Rattle.machine.proofs.answers.Hearing.{answer_fits}
 use Rattle.seats.proofs.Codes.{initial_fits, word_fits}
-use Rattle.seats.specs.Setup.{Begins, IsTraceOf, IsWorldOf, Setup, StandsAt}
+use Rattle.seats.specs.Setup.{IsPrefix, IsTraceOf, IsWorldOf, Setup, IsPartAfter}
 use Rattle.seats.proofs.Traces.{begins_on, begins_self, counted_once, stands_here, turns_begin, world_is}
 use Rattle.seats.proofs.Traces as traces
 use Rattle.seats.specs.Views.{Among, ViewPart, Views, parts_in, parts_of}
@@ -73,7 +73,7 @@ module _ (key : Setup) where
     turned : IsTraceOf key made (after_step (effect key.code) w p.number now x) (set rule.heard p.number (more_heard p.heard x a))
     turned = traces.turns key rule.trace k p.number p.part now p.heard w rule.heard x rule.is_trace mine.part mine.answers pause is far on
 
-    longer : Begins rule.trace made
+    longer : IsPrefix rule.trace made
     longer = turns_begin key rule.trace k p.number
 
     grows : rule.world.lock ≤ lock_after rule.world.lock x
@@ -97,7 +97,7 @@ module _ (key : Setup) where
     abbrev heard_after : List (List Heard)
     heard_after = set rule.heard p.number (more_heard p.heard x a)
 
-    stands_after : StandsAt key made p.number q (more_heard p.heard x a)
+    stands_after : IsPartAfter key made p.number q (more_heard p.heard x a)
     stands_after = stands_here key made after heard_after p.number q (more_heard p.heard x a) turned (get-set_same w.parts p.number q p.part mine.part) (get-set_same rule.heard p.number (more_heard p.heard x a) p.heard mine.answers)
 
     once : (number : ℕ) → parts_in number views ≤ 1
@@ -153,7 +153,7 @@ module _ (key : Setup) where
           (word_fits key.code x rule.world.lock rule.world.words names_cell (memory (effect key.code) (beginning key.code) (bounds_of key.code) (initial_of key.code) (initial_fits key.code) (fits_cells key.code rule.valid) key.threads rule.world rule.heard rule.answered));
       since = since_after;
       seen = begins_on p.seen rule.trace made mine.seen longer;
-      stands = subst (λ (s : Setup). StandsAt s made p.number (part_after rule.world.words now (step_with (effect s.code) now.thread a)) (more_heard p.heard x a)) (sym same) stands_after;
+      stands = subst (λ (s : Setup). IsPartAfter s made p.number (part_after rule.world.words now (step_with (effect s.code) now.thread a)) (more_heard p.heard x a)) (sym same) stands_after;
     }
 
   -- What the table makes of the words, as the world does

@@ -9,7 +9,7 @@ use Rattle.bytecode.specs.Initial.{initial_of}
 use Rattle.bytecode.specs.Valid.{bounds_of}
 use Rattle.bytecode.proofs.Fits.{fits_cells}
 use Rattle.seats.proofs.Codes.{initial_fits}
-use Rattle.seats.specs.Setup.{Setup, StandsAt, world_of}
+use Rattle.seats.specs.Setup.{Setup, IsPartAfter, world_of}
 use Rattle.seats.proofs.Traces.{begins_self, stands_here}
 use Rattle.machine.specs.Worlds.{World}
 use Rattle.bytecode.specs.Code.{Configuration}
@@ -143,7 +143,7 @@ module _ (key : Setup) where
                 floor = f.floor;
                 lock = ap (λ (s : Setup). (world_of s rule.trace).lock) f.setup ∙ ap (λ (w : World Configuration). w.lock) (sym rule.is_trace.world);
                 seen = f.seen;
-                stands = subst (λ (s : Setup). StandsAt s rule.trace p.number p.part p.heard) (sym f.setup) (stands_here key rule.trace rule.world rule.heard p.number p.part p.heard rule.is_trace f.part f.answers);
+                stands = subst (λ (s : Setup). IsPartAfter s rule.trace p.number p.part p.heard) (sym f.setup) (stands_here key rule.trace rule.world rule.heard p.number p.part p.heard rule.is_trace f.part f.answers);
               }),
         ),
       )

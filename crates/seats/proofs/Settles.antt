@@ -12,7 +12,7 @@ use Rattle.bytecode.specs.Code.{Configuration, effect}
 use Rattle.machine.specs.Answered.{after_local_steps}
 use Rattle.machine.specs.Worlds.{Part, World}
 use Rattle.machine.proofs.steps.Worlds.{get-set_other, get-set_same}
-use Rattle.seats.specs.Setup.{Begins, IsTraceOf, Setup, StandsAt}
+use Rattle.seats.specs.Setup.{IsPrefix, IsTraceOf, Setup, IsPartAfter}
 use Rattle.seats.specs.Views.{Among, ViewPart, Views, parts_in}
 use Rattle.seats.specs.Rule.{Fits, IsRuled, SeatView, Settled, SettledAs, SitsAfter}
 use Rattle.seats.proofs.Keeps.{apart, at_most_one}
@@ -44,10 +44,10 @@ module _ (key : Setup) (words : List ℕ) (views : Views) (rule : IsRuled key wo
   there : IsTraceOf key longer after rule.heard
   there = traces.pauses key k rule.trace p.number p.part now p.heard rule.world.lock rule.world.words rule.world.parts rule.heard rule.is_trace mine.part mine.answers pause
 
-  begins : Begins rule.trace longer
+  begins : IsPrefix rule.trace longer
   begins = (replicate k p.number, refl)
 
-  stands : StandsAt key longer p.number now p.heard
+  stands : IsPartAfter key longer p.number now p.heard
   stands = stands_here key longer after rule.heard p.number now p.heard there (get-set_same rule.world.parts p.number now p.part mine.part) mine.answers
 
   once : (number : ℕ) → parts_in number views ≤ 1
@@ -98,7 +98,7 @@ module _ (key : Setup) (words : List ℕ) (views : Views) (rule : IsRuled key wo
     steps = longer;
     leaves = refl;
     seen = begins_on p.seen rule.trace longer mine.seen begins;
-    stands = subst (λ (s : Setup). StandsAt s longer p.number now p.heard) (sym same) stands;
+    stands = subst (λ (s : Setup). IsPartAfter s longer p.number now p.heard) (sym same) stands;
   }
 
   pub settled : p.setup ≡ key → (me : SeatView) → me.0 ≡ p ∷ [] → (all : ℕ) → p.made + k ≡ all → Settled all me (u ∷ [], me.1)

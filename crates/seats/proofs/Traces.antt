@@ -17,12 +17,12 @@ use Rattle.machine.proofs.answers.Answering.{after_step, hears, if_some, local_i
 use Rattle.machine.proofs.answers.Quiet.{local_part}
 use Rattle.machine.proofs.answers.Traces.{answered}
 use Rattle.machine.proofs.steps.Worlds.{get-set_same}
-use Rattle.seats.specs.Setup.{AreSteps, Begins, IsPart, IsTraceOf, IsWorldOf, Setup, StandsAt, heard_by, world_of}
+use Rattle.seats.specs.Setup.{AreMade, IsPrefix, IsPart, IsTraceOf, IsWorldOf, Setup, IsPartAfter, heard_by, world_of}
 
-pub begins_self : (ts : List ℕ) → Begins ts ts
+pub begins_self : (ts : List ℕ) → IsPrefix ts ts
 begins_self ts = ([], sym (append-nil ts))
 
-pub begins_on : (ts us vs : List ℕ) → Begins ts us → Begins us vs → Begins ts vs
+pub begins_on : (ts us vs : List ℕ) → IsPrefix ts us → IsPrefix us vs → IsPrefix ts vs
 begins_on ts us vs f g = (f.0 ++ g.0, g.1 ∙ ap (λ (l : List ℕ). l ++ g.0) f.1 ∙ append_assoc ts f.0 g.0)
 
 -- (these three stand in machine/proofs/answers/Traces, where they are private)
@@ -47,17 +47,17 @@ module _ (key : Setup) where
   unheard = replicate key.threads []
 
   -- the answers of a trace
-  pub answered_by : (ts : List ℕ) → AreSteps key ts → IsWorldOf key (world_of key ts) (heard_by key ts)
+  pub answered_by : (ts : List ℕ) → AreMade key ts → IsWorldOf key (world_of key ts) (heard_by key ts)
   answered_by ts on = answered (effect key.code) (beginning key.code) (initial_of key.code) key.threads ts on
 
   pub world_is : (ts : List ℕ) (w : World Configuration) (heard : List (List Heard)) → IsTraceOf key ts w heard → IsWorldOf key w heard
   world_is ts w heard g = subst (λ (z : World Configuration × List (List Heard)). IsWorldOf key z.0 z.1) (λ i. (sym g.world i, sym g.answers i)) (answered_by ts g.steps)
 
-  pub is_part : (ts : List ℕ) (number : ℕ) (p : Part Configuration) (hs : List Heard) → StandsAt key ts number p hs → IsPart key number p hs
+  pub is_part : (ts : List ℕ) (number : ℕ) (p : Part Configuration) (hs : List Heard) → IsPartAfter key ts number p hs → IsPart key number p hs
   is_part ts number p hs s = record { world = world_of key ts; heard = heard_by key ts; answered = answered_by ts s.steps; part = s.part; answers = s.answers }
 
   -- where the trace leads, a thread stands after it
-  pub stands_here : (ts : List ℕ) (w : World Configuration) (heard : List (List Heard)) (number : ℕ) (p : Part Configuration) (hs : List Heard) → IsTraceOf key ts w heard → slice_get w.parts number ≡ Some p → slice_get heard number ≡ Some hs → StandsAt key ts number p hs
+  pub stands_here : (ts : List ℕ) (w : World Configuration) (heard : List (List Heard)) (number : ℕ) (p : Part Configuration) (hs : List Heard) → IsTraceOf key ts w heard → slice_get w.parts number ≡ Some p → slice_get heard number ≡ Some hs → IsPartAfter key ts number p hs
   stands_here ts w heard number p hs g here said = record {
     steps = g.steps;
     part = ap (λ (v : World Configuration). slice_get v.parts number) (sym g.world) ∙ here;
@@ -105,7 +105,7 @@ module _ (key : Setup) where
       subst (λ ps. IsTraceOf key ((ts ++ replicate k t) ++ t ∷ []) (record { lock = lock_after w.lock x; words = words_after w.words x; parts = ps }) (set heard t (hs ++ record { access = x; answer = answer w.lock w.words x } ∷ []))) (set-set w.parts t now _)
       (subst (λ (l : List Heard). IsTraceOf key ((ts ++ replicate k t) ++ t ∷ []) (record { lock = lock_after w.lock x; words = words_after w.words x; parts = set (set w.parts t now) t (part_after w.words now (step_with (effect key.code) now.thread (answer w.lock w.words x))) }) (set heard t (hs ++ l))) (hears x (answer w.lock w.words x) far) m)
 
-  pub turns_begin : (ts : List ℕ) (k t : ℕ) → Begins ts ((ts ++ replicate k t) ++ t ∷ [])
+  pub turns_begin : (ts : List ℕ) (k t : ℕ) → IsPrefix ts ((ts ++ replicate k t) ++ t ∷ [])
   turns_begin ts k t = (replicate k t ++ t ∷ [], append_assoc ts (replicate k t) (t ∷ []))
 
 -- the number of local steps before an access is determined

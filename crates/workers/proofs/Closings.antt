@@ -22,7 +22,7 @@ use Rattle.bytecode.specs.Sequential.{meaning}
 use Rattle.bytecode.specs.Valid.{bounds_of}
 use Rattle.bytecode.proofs.Fits.{fits_cells}
 use Rattle.seats.proofs.Codes.{initial_fits}
-use Rattle.seats.specs.Setup.{Begins, IsTraceOf, IsWorldOf, Setup}
+use Rattle.seats.specs.Setup.{IsPrefix, IsTraceOf, IsWorldOf, Setup}
 use Rattle.seats.proofs.Traces.{begins_on, begins_self, world_is}
 use Rattle.seats.proofs.Traces as traces
 use Rattle.seats.proofs.InTime.{keeps_time}
@@ -99,7 +99,7 @@ module _ {A : Type 0} (z : TableId) (key : Setup) where
       pub parts : List (Part Configuration)
       pub trace : List ℕ
       pub reached : IsTraceOf key trace (record w { parts = parts }) heard
-      pub longer : Begins ts trace
+      pub longer : IsPrefix ts trace
       pub there : AreThere z key (record w { parts = parts }) heard ws all
       pub others : (n : ℕ) → parts_of n (parts_back ws) ≡ 0 → slice_get parts n ≡ slice_get w.parts n
 
@@ -133,7 +133,7 @@ module _ {A : Type 0} (z : TableId) (key : Setup) where
               get-set_other rest.parts p.number n works.now ne ∙ rest.others n (omega arith);
         }
 
-  have_seen : (ts trace : List ℕ) (w : World Configuration) (heard : List (List Heard)) → Begins ts trace → (ws : List (Worker A)) (all : AreWorkersOf z key ws) → ((p : ViewPart) → Among p (parts_back ws) → Fits key ts w heard p) → HaveSeen z key trace ws all
+  have_seen : (ts trace : List ℕ) (w : World Configuration) (heard : List (List Heard)) → IsPrefix ts trace → (ws : List (Worker A)) (all : AreWorkersOf z key ws) → ((p : ViewPart) → Among p (parts_back ws) → Fits key ts w heard p) → HaveSeen z key trace ws all
   have_seen ts trace w heard longer [] all fits = tt
   have_seen ts trace w heard longer (x ∷ xs) all fits =
       let works = all.0.1 in

@@ -5,13 +5,13 @@ use Rattle.machine.specs.Answered.{after_local_steps}
 use Rattle.machine.specs.Worlds.{Part}
 use Rattle.seats.proofs.Traces.{begins_on}
 use Rattle.machine.specs.Threads.{Thread}
-use Rattle.seats.specs.Setup.{Begins, Setup, StandsAt}
+use Rattle.seats.specs.Setup.{IsPrefix, Setup, IsPartAfter}
 use Rattle.seats.specs.Views.{ViewPart, with_floor}
 use Rattle.seats.specs.Rule.{MayBeFloor, MeetsBoth, SeatView, Settled, SitsAfter}
 use Rattle.workers.specs.Works.{MeetsAt, Works, settled}
 use Rattle.seats.proofs.Parts.{none_since}
 
-works_at : (key : Setup) (number : ℕ) (th : Thread Configuration) (steps accesses n : ℕ) (ts : List ℕ) (m w : SeatView) (works : Works key number th steps accesses m) → w ≡ (with_floor n ts works.part ∷ [], []) → StandsAt works.part.setup ts works.part.number works.part.part works.part.heard → (is : Works key number th steps accesses w) × (is.part ≡ with_floor n ts works.part) × (is.now ≡ works.now)
+works_at : (key : Setup) (number : ℕ) (th : Thread Configuration) (steps accesses n : ℕ) (ts : List ℕ) (m w : SeatView) (works : Works key number th steps accesses m) → w ≡ (with_floor n ts works.part ∷ [], []) → IsPartAfter works.part.setup ts works.part.number works.part.part works.part.heard → (is : Works key number th steps accesses w) × (is.part ≡ with_floor n ts works.part) × (is.now ≡ works.now)
 works_at key number th steps accesses n ts m w works e there = (
   record {
     part = with_floor n ts works.part;
@@ -29,7 +29,7 @@ works_at key number th steps accesses n ts m w works e there = (
     fewer = works.fewer;
     made = works.made;
     since = none_since n works.part.heard;
-    stands = subst (λ (z : Setup × ℕ). StandsAt z.0 ts z.1 works.part.part works.part.heard) (λ i. (works.setup i, works.number_is i)) there;
+    stands = subst (λ (z : Setup × ℕ). IsPartAfter z.0 ts z.1 works.part.part works.part.heard) (λ i. (works.setup i, works.number_is i)) there;
   },
   refl,
   refl,
@@ -37,7 +37,7 @@ works_at key number th steps accesses n ts m w works e there = (
 
 -- the thread's last local steps are brought into the list
 settle_at : (key : Setup) (number : ℕ) (th : Thread Configuration) (steps accesses : ℕ) (m w : SeatView) (works : Works key number th steps accesses m) → Settled steps m w
-    → (is : Works key number th steps accesses w) × (s : List ℕ) × (is.part ≡ record works.part { part = works.now; seen = s; made = works.part.made + works.pauses }) × (is.now ≡ works.now) × Begins works.part.seen s
+    → (is : Works key number th steps accesses w) × (s : List ℕ) × (is.part ≡ record works.part { part = works.now; seen = s; made = works.part.made + works.pauses }) × (is.now ≡ works.now) × IsPrefix works.part.seen s
 settle_at key number th steps accesses m w works done =
     let pause : after_local_steps (effect works.part.setup.code) works.pauses works.part.part ≡ Some works.now = subst (λ (s : Setup). after_local_steps (effect s.code) works.pauses works.part.part ≡ Some works.now) (sym works.setup) works.paused_to in
     let did = done.1 works.part works.pauses works.now (ap (λ (x : SeatView). x.0) works.sits) pause works.made in
@@ -58,7 +58,7 @@ settle_at key number th steps accesses m w works done =
         fewer = works.fewer;
         made = (let f = works.made in omega (arith, f));
         since = works.since;
-        stands = subst (λ (z : Setup × ℕ). StandsAt z.0 did.steps z.1 works.now works.part.heard) (λ i. (works.setup i, works.number_is i)) did.stands;
+        stands = subst (λ (z : Setup × ℕ). IsPartAfter z.0 did.steps z.1 works.now works.part.heard) (λ i. (works.setup i, works.number_is i)) did.stands;
       },
       did.steps,
       refl,
@@ -70,7 +70,7 @@ pub sits_after : (key : Setup) (number : ℕ) (th : Thread Configuration) (steps
 sits_after key number th steps accesses m works = (works.part, works.pauses, works.now, works.sits, works.setup, works.paused_to, works.made)
 
 -- a floor of the settled part is one of the part
-from_before : (n : ℕ) (ts s : List ℕ) (p : ViewPart) (now : Part Configuration) (all : ℕ) → Begins p.seen s → MayBeFloor n ts (record p { part = now; seen = s; made = all }) → MayBeFloor n ts (settled p now all)
+from_before : (n : ℕ) (ts s : List ℕ) (p : ViewPart) (now : Part Configuration) (all : ℕ) → IsPrefix p.seen s → MayBeFloor n ts (record p { part = now; seen = s; made = all }) → MayBeFloor n ts (settled p now all)
 from_before n ts s p now all b f = record { locks = f.locks; below = f.below; floor = f.floor; lock = f.lock; seen = begins_on p.seen s ts b f.seen; stands = f.stands }
 
 module _ (n : ℕ) (m o m1 o1 m' o' : SeatView) (met : MeetsBoth n m1 o1 m' o') (key : Setup) (number number' : ℕ) (th th' : Thread Configuration) (steps steps' accesses accesses' : ℕ)

@@ -21,7 +21,7 @@ use Rattle.bytecode.specs.Initial.{initial_of}
 use Rattle.bytecode.specs.Valid.{bounds_of, cells_of}
 use Rattle.bytecode.proofs.Fits.{fits_cells}
 use Rattle.seats.proofs.Codes.{count_bounds, initial_fits}
-use Rattle.seats.specs.Setup.{Setup, IsPart, StandsAt}
+use Rattle.seats.specs.Setup.{Setup, IsPart, IsPartAfter}
 use Rattle.seats.proofs.Traces.{is_part}
 use Rattle.seats.specs.Rule.{IsMakeable, IsNext, IsSeatStep, SeatView, Sits, Took, TookAs, more_heard, reply}
 use Rattle.machine.specs.States.{IsWordOf}
@@ -150,8 +150,8 @@ module _ (key : Setup) (number : ℕ) (th : Thread Configuration) (steps accesse
             fewer = (let f = works.fewer in omega arith);
             made = (let f = works.made in omega arith);
             since = one.since;
-            stands = subst (λ (k : ℕ). StandsAt key one.steps k q (more_heard works.part.heard x a)) works.number_is
-                (subst (λ (s : Setup). StandsAt s one.steps works.part.number (part_after one.words works.now (step_with (effect s.code) works.now.thread a)) (more_heard works.part.heard x a)) same one.stands);
+            stands = subst (λ (k : ℕ). IsPartAfter key one.steps k q (more_heard works.part.heard x a)) works.number_is
+                (subst (λ (s : Setup). IsPartAfter s one.steps works.part.number (part_after one.words works.now (step_with (effect s.code) works.now.thread a)) (more_heard works.part.heard x a)) same one.stands);
           },
           record {
             count = 1;
