@@ -67,7 +67,11 @@ def measure(words, folder, log):
     log.write(f"$ {' '.join(words)}\n")
     log.flush()
     process = subprocess.Popen(words, cwd=folder, stdin=subprocess.DEVNULL, stdout=log, stderr=subprocess.STDOUT)
-    _, status, used = os.wait4(process.pid, 0)
+    try:
+        _, status, used = os.wait4(process.pid, 0)
+    except BaseException:
+        process.kill()
+        raise
     process.returncode = os.waitstatus_to_exitcode(status) if hasattr(os, "waitstatus_to_exitcode") else status
     return process.returncode, used.ru_utime + used.ru_stime, used.ru_maxrss / 1024
 

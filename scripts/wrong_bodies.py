@@ -4,24 +4,52 @@
   scripts/wrong_bodies.py            tries all of them, crate by crate
   scripts/wrong_bodies.py CRATE..    tries those of these crates
   scripts/wrong_bodies.py --read     tries none, and fails where an edit's `old:` text does not stand once in its file;
-                                     those of must-fail/ are read too, since the gate passes with an edit that
-                                     cannot be applied
+                                     those of must-fail/ are read too, as the gate would find it out only at its end
 
-An edit has the form of those of a crate's must-fail/, which the gate tries. Here they are tried by `rt must-fail` too,
-in a copy of the crate and of those below it. What was proved of the crates below, in their out/ folders, is used; the
-crate itself is proved from nothing with its first edit. Ends in status 1 where one is not refused.
+An edit has the form of those of a crate's must-fail/, which the gate tries. Here it is made in a copy of the crate's
+files, over the libraries that lie in the out/ folders of the crates below; `rt lib` builds those that do not. Where
+a crate has one or two to try, each is tried by a check of the functions alone that it changes (`rattle check --only`),
+and of the whole crate where these are still proved. A crate that has more is proved once as it is, over what its own
+out/incremental has, and each is tried over that.
+
+All of it runs at the lowest priority. A verdict is printed as it comes, with its seconds of processor, and kept in
+out/wrong_bodies.json under a sum of the toolchain, of the crate's files, of those below it and of the edit: what was
+tried with the same is not tried again, without that file all is. At the end all are told by name. Ends in status 1
+where one is not refused; one that is refused for a name alone, since a proof file cites what it takes away, shows
+nothing of its promise, and one at a limit of the prover little.
 """
 
 import glob
+import hashlib
+import json
 import os
+import re
 import shutil
+import signal
 import subprocess
 import sys
 import tempfile
 
-from gate_cost import TOP, below, libraries
+from gate_cost import TOP, below, libraries, measure
+from quick_build import kit
 
 EDITS = f"{TOP}/wrong_bodies"
+KEPT = f"{TOP}/out/wrong_bodies.json"
+PARTS = ("src", "specs", "proofs")
+REFUSED, BY_NAME, AT_LIMIT = "refused", "refused for a name alone", "refused at a limit of the prover"
+PASSES = "still proved"
+UNREAD, UNCOMPILED, UNKNOWN = "cannot be applied", "does not compile", "not tried"
+SHORT = 2
+IMPL = re.compile(r"(?:unsafe )?impl(?:<[^{]*?>)?\s+(?:(\w+)(?:<.*?>)?\s+for\s+)?&?(?:mut )?(\w+)")
+# A line of the prover, by the file that it speaks of; `at` names the declaration that it refuses, if it could read it.
+SAID = re.compile(r"(?:note: )?(?:\./)?(?P<file>\S+?):\d+:\d+: (?P<error>error: )?(?P<at>`[^`]*`: )?(?P<why>.*)")
+NAMES_ALONE = re.compile(r"has no field|is not in scope|has no `|was not admitted|which was rejected")
+LIMIT = re.compile(r"antt ran out of (stack|the (steps|memory) that the check of one declaration may)|step limit \(")
+NO_TEXT = re.compile(r"is not in scope|has no field|is no name|operand is missing|expected the end|cannot continue")
+
+
+class NotApplied(Exception):
+    """Why an edit cannot be applied."""
 
 
 def edits_of(crate):
@@ -40,41 +68,238 @@ def read(path):
         return file.read()
 
 
-def why_unread(crate, edit):
-    """Why an edit cannot be applied, if so."""
-    texts, path, old = {}, None, None
+def name_of(edit):
+    return os.path.relpath(edit, EDITS).removesuffix(".edit")
+
+
+def edited(crate, edit):
+    """The texts of the files that an edit changes, by their paths in the crate, and the functions in which it does."""
+    texts, functions, path, old = {}, [], None, None
     for line in read(edit).splitlines():
         word, _, rest = line.partition(":")
         rest = rest.removeprefix(" ")
         if word == "file":
-            path = f"{TOP}/crates/{crate}/{rest}"
+            path = rest
+            if not os.path.isfile(f"{TOP}/crates/{crate}/{path}"):
+                raise NotApplied(f"there is no crates/{crate}/{path}")
         elif word == "old":
             old = rest
         elif word == "new":
-            text = texts.get(path) or read(path)
+            text = texts.get(path) or read(f"{TOP}/crates/{crate}/{path}")
             if text.count(old) != 1:
-                return f"its old text stands {text.count(old)} times in {os.path.relpath(path, TOP)}"
+                raise NotApplied(f"its old text stands {text.count(old)} times in crates/{crate}/{path}")
+            functions.append(function_at(path, text, text.index(old)))
             texts[path] = text.replace(old, rest)
-    return None if texts else "it changes nothing"
+    if not texts:
+        raise NotApplied("it changes nothing")
+    return texts, functions
 
 
-def tried(crate):
-    """Tries the edits of a crate in a copy; gives the status."""
-    with tempfile.TemporaryDirectory(prefix="wrong-bodies-") as room:
-        here = f"{room}/crates/{crate}"
-        needed = below(crate, libraries())
-        for it in needed:
-            shutil.copytree(f"{TOP}/crates/{it}", f"{room}/crates/{it}", ignore=shutil.ignore_patterns("incremental"))
-        shutil.copytree(f"{TOP}/crates/{crate}", here, ignore=shutil.ignore_patterns("out", "must-fail"))
-        shutil.copytree(f"{EDITS}/{crate}", f"{here}/must-fail")
-        shutil.copy2(f"{TOP}/HANDLES", room)
-        with open(f"{room}/crates.txt", "w", encoding="utf-8") as to:
-            to.writelines(
-                it + "\n"
-                for it in read(f"{TOP}/crates.txt").splitlines()
-                if it.partition(":")[0].strip() in [*needed, crate]
-            )
-        return subprocess.run(["rt", "must-fail", crate], cwd=room, stdin=subprocess.DEVNULL).returncode
+def function_at(path, text, at):
+    """The function in which a place of a file stands, as `rattle check --only` wants it, if it stands in one."""
+    module = [it for it in path.removesuffix(".rt").split("/")[1:] if it not in ("lib", "main", "mod")]
+    of, function = [], None
+    for line in text[: text.find("\n", at)].split("\n"):
+        if line.startswith("}"):
+            of, function = [], None
+        elif impl := IMPL.match(line):
+            of = [impl[2] + (impl[1] or "")]
+        elif found := re.match(r"[^/]*\bfn (\w+)", line):
+            function = "::".join([*module, *of, found[1]])
+    return function
+
+
+def why_unread(crate, edit):
+    """Why an edit cannot be applied, if so."""
+    try:
+        edited(crate, edit)
+    except NotApplied as why:
+        return str(why)
+    return None
+
+
+def sums(crates, named):
+    """Of each crate a sum of the toolchain, of its files and of those of the crates below it."""
+    kit_id = read(f"{kit()}/KIT-ID")
+    rows = {row.partition(":")[0].strip(): row for row in read(f"{TOP}/crates.txt").splitlines()}
+    own = {}
+    for crate in {it for crate in crates for it in [crate, *below(crate, named)]}:
+        made = hashlib.sha256(f"{kit_id} {rows[crate]}".encode())
+        for part in PARTS:
+            for path in sorted(glob.glob(f"{TOP}/crates/{crate}/{part}/**/*", recursive=True)):
+                if os.path.isfile(path):
+                    made.update(f"{os.path.relpath(path, TOP)}\0{read(path)}\0".encode())
+        own[crate] = made.hexdigest()
+    return {crate: " ".join(own[it] for it in [*below(crate, named), crate]) for crate in crates}
+
+
+def check(crate, texts, named, *more):
+    """Checks a copy of the crate with these texts in place of its own; gives the status, the lines and the seconds."""
+    toolchain, top = kit(), f"{TOP}/crates"
+    room = tempfile.TemporaryDirectory(prefix="wrong-body-")
+    with room as room, open(f"{room}/said", "w+", errors="replace") as said:
+        for part in filter(lambda it: os.path.isdir(f"{top}/{crate}/{it}"), PARTS):
+            shutil.copytree(f"{top}/{crate}/{part}", f"{room}/{part}")
+        for path, text in texts.items():
+            with open(f"{room}/{path}", "w", encoding="utf-8") as file:
+                file.write(text)
+        root = "src/main.rt" if os.path.isfile(f"{room}/src/main.rt") else "src/lib.rt"
+        words = [f"{toolchain}/bin/rattle", "check", "--crate-name", crate, root, "--links", f"{crate}=", "--jobs", "1"]
+        for it in ["std", *read_row(crate)]:
+            words += ["--extern", f"{it}={f'{top}/{it}/out/rlib' if it in named else f'{toolchain}/rlibs'}/{it}.rlib"]
+        for folder in [f"{toolchain}/rlibs", *[f"{top}/{it}/out/rlib" for it in below(crate, named)]]:
+            words += ["-L", f"dependency={folder}"]
+        words += ["--antt-project", f"{toolchain}/rattle/logic/antt-project.json"]
+        words += ["--logic-built", f"{toolchain}/logic_built", *more]
+        status, seconds, _ = measure(words, room, said)
+        said.seek(0)
+        return status, said.read().rstrip("\n").split("\n")[1:], seconds
+
+
+def read_row(crate):
+    """What crates.txt names for a crate, libraries of the toolchain too."""
+    row = next(it for it in read(f"{TOP}/crates.txt").splitlines() if it.partition(":")[0].strip() == crate)
+    return row.partition("#")[0].partition(":")[2].split()
+
+
+def verdict(status, lines, texts):
+    """What a check of an edited crate came to, and what it said first."""
+    said = [it for it in map(SAID.match, lines) if it]
+    for it in said:
+        is_text = it["error"] and (it["file"] in texts or it["file"].startswith(("src/", "specs/")))
+        if status == 1 and is_text and (not it["at"] or NO_TEXT.search(re.sub("`[^`]*`", "", it["why"]))):
+            return UNCOMPILED, it[0]
+    if status == 0:
+        return PASSES, ""
+    if status == 1 and re.match(r"logic=not-proved|only=\d+ proved=", lines[-1]):
+        meant = [it for it in said if not it["file"].startswith("proofs/") or not NAMES_ALONE.search(it["why"])]
+        # (a line of the code says it in words)
+        first = sorted(meant or said, key=lambda it: not it["file"].startswith("src/"))
+        return REFUSED if meant or not said else BY_NAME, first[0][0] if first else ""
+    if status == 3 and any(LIMIT.search(it) for it in lines):
+        return AT_LIMIT, said[0][0] if said else lines[-1]
+    wrong = [it for it in lines if re.search(r"\berror\[[\w-]+\]", it)]
+    if wrong and status == 1:
+        return UNCOMPILED, wrong[0]
+    return UNKNOWN, f"its check ended in status {status}: {lines[-1]}"
+
+
+def tried_alone(crate, texts, functions, named):
+    """Tries an edit by the functions that it changes, and by the whole crate where that tells nothing."""
+    seconds = 0.0
+    if None not in functions:
+        status, lines, seconds = check(crate, texts, named, *[it for name in functions for it in ("--only", name)])
+        came = verdict(status, lines, texts)
+        if came[0] not in (PASSES, UNKNOWN):
+            return *came, seconds
+    status, lines, more = check(crate, texts, named)
+    return *verdict(status, lines, texts), seconds + more
+
+
+def linked(folder, to):
+    """Copies what a check keeps, by links where these can be made: a check replaces such a file, and changes none."""
+
+    def copy(one, other):
+        try:
+            os.link(one, other)
+        except OSError:
+            shutil.copy2(one, other)
+
+    shutil.copytree(folder, to, copy_function=copy)
+
+
+def tried(crate, edits, named, room):
+    """Tries edits of a crate; gives of each its name, what it came to, why, and the seconds of processor."""
+    can = {}
+    for edit in edits:
+        try:
+            can[edit] = edited(crate, edit)
+        except NotApplied as why:
+            yield edit, UNREAD, str(why), 0.0
+    if 0 < len(can) <= SHORT:
+        for edit, (texts, functions) in can.items():
+            yield edit, *tried_alone(crate, texts, functions, named)
+    elif can:
+        kept, base = f"{TOP}/crates/{crate}/out/incremental", f"{room}/{crate}"
+        linked(kept, base) if os.path.isdir(kept) else os.mkdir(base)
+        status, lines, seconds = check(crate, {}, named, "--incremental", base)
+        print(f"{crate}, as it is: {'proved' if status == 0 else 'NOT PROVED'}, {seconds:.0f} s", flush=True)
+        for edit, (texts, _) in can.items():
+            if status:
+                yield edit, UNKNOWN, f"the crate is not proved as it is: {lines[-1]}", 0.0
+                continue
+            linked(base, f"{room}/edited")
+            status_of, lines, seconds = check(crate, texts, named, "--incremental", f"{room}/edited")
+            shutil.rmtree(f"{room}/edited")
+            yield edit, *verdict(status_of, lines, texts), seconds
+        shutil.rmtree(base)
+
+
+def build_below(crate, named, built):
+    """Builds the libraries below a crate where they do not lie in out/; says whether all are there."""
+    for it in below(crate, named):
+        if it not in built:
+            words = ["rt", "lib", "--jobs", "1"]
+            how = {"cwd": f"{TOP}/crates/{it}", "stdin": subprocess.DEVNULL, "capture_output": True, "text": True}
+            ran = subprocess.run(words, check=False, **how)
+            if ran.returncode:
+                print(f"{it}, below {crate}, is not proved:\n{ran.stdout[-2000:]}{ran.stderr}", flush=True)
+                return False
+            built.add(it)
+    return True
+
+
+def keep(kept):
+    os.makedirs(os.path.dirname(KEPT), exist_ok=True)
+    with open(f"{KEPT}.new", "w", encoding="utf-8") as file:
+        json.dump(kept, file, indent=0)
+    os.replace(f"{KEPT}.new", KEPT)
+
+
+def tell(edit, what, why, when):
+    print(f"{name_of(edit)}: {what}, {when}{why and ': '}{why[:200]}", flush=True)
+
+
+def try_all(crates):
+    """Tries the edits of crates, tells of each and of all, and gives the status."""
+    os.nice(19)
+    signal.signal(signal.SIGTERM, lambda *_: sys.exit("ended by a signal; what was tried is kept"))
+    named, built, came = libraries(), set(), {}
+    kept = json.loads(read(KEPT)) if os.path.isfile(KEPT) else {}
+    of_crate = sums(crates, named)
+    for crate in crates:
+        keys = {it: hashlib.sha256(f"{of_crate[crate]} {it} {read(it)}".encode()).hexdigest() for it in edits_of(crate)}
+        new = [it for it, key in keys.items() if key not in kept]
+        came.update({it: kept[key][0] for it, key in keys.items() if key in kept})
+        if len(keys) > len(new):
+            print(f"{crate}: {len(keys) - len(new)} of {len(keys)} were tried before with the same files", flush=True)
+        for it in (it for it, key in keys.items() if key in kept and kept[key][0] != REFUSED):
+            tell(it, *kept[keys[it]], "tried before")
+        if new and not build_below(crate, named, built):
+            came.update(dict.fromkeys(new, UNKNOWN))
+            continue
+        with tempfile.TemporaryDirectory(prefix="wrong-bodies-") as room:
+            for edit, what, why, seconds in tried(crate, new, named, room):
+                came[edit] = what
+                tell(edit, what, why, f"{seconds:.0f} s")
+                if what != UNKNOWN:
+                    kept[keys[edit]] = [what, why]
+                    keep(kept)
+    return told(came)
+
+
+def told(came):
+    """Tells what all came to, by name, the refused ones first; gives the status."""
+    print()
+    for what in (REFUSED, BY_NAME, AT_LIMIT, PASSES, UNREAD, UNCOMPILED, UNKNOWN):
+        names = {}
+        for edit in (it for it in came if came[it] == what):
+            crate, name = name_of(edit).split("/")
+            names.setdefault(crate, []).append(name)
+        if names:
+            print(f"{what}: {sum(map(len, names.values()))}")
+            print("".join(f"  {crate}: {', '.join(of)}\n" for crate, of in names.items()), end="")
+    return 1 if {*came.values()} - {REFUSED, BY_NAME, AT_LIMIT} else 0
 
 
 def main(words):
@@ -87,7 +312,7 @@ def main(words):
     unknown = [it for it in words if it not in crates]
     if unknown:
         sys.exit(f"wrong_bodies/ has none of {', '.join(unknown)}")
-    return max([tried(it) for it in words or crates])
+    return try_all(words or crates)
 
 
 if __name__ == "__main__":
