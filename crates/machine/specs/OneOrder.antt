@@ -1,6 +1,7 @@
--- All attempts in one order: the transactions that took effect, and between them the attempts that were dropped. So
--- what is said of live and dropped attempts is opacity (Guerraoui and Kapałka, PPoPP 2008).
-use Rattle.std.specs.Prelude.{◌≡◌, ◌⊎◌, ℕ, false, List, [], ◌∷◌, ◌++◌, Option, None, Some}
+-- All attempts in one order: the transactions that took effect, and between them the attempts that were dropped and
+-- those that have not ended. So what is said of live and dropped attempts is opacity (Guerraoui and Kapałka, PPoPP
+-- 2008).
+use Rattle.std.specs.Prelude.{◌≡◌, ◌⊎◌, ℕ, suc, false, List, [], ◌∷◌, ◌++◌, Option, None, Some}
 use Rattle.std.specs.List.{slice_get}
 use Rattle.syntax.specs.Behaviours.{IsChained, IsSubsequence, Memory}
 use Rattle.bytecode.specs.Effects.{Effect}
@@ -64,11 +65,46 @@ pub record MayDropNow {C : Type 0} (m0 : Memory) (t : ℕ) (p : Part C) (a : Att
   pub in_time : StandsAfter (record { thread = t; item = idle_record p.base a }) seen all
   pub chained : IsChained m0 (run_of (insert (record { thread = t; item = idle_record p.base a }) all))
 
+-- an attempt of thread t, if it has one, put into the order as if it was dropped now
+abbrev pub insert_open : {C : Type 0} → ℕ → Memory → Option (Attempt C) → List Entry → List Entry
+insert_open t base None es = es
+insert_open t base (Some a) es = insert (record { thread = t; item = idle_record base a }) es
+
+-- the attempts of all these threads, of which the first has number t
+abbrev pub insert_live : {C : Type 0} → ℕ → List (Part C) → List Entry → List Entry
+insert_live t [] es = es
+insert_live t (p ∷ ps) es = insert_live (suc t) ps (insert_open t p.base p.thread.attempt es)
+
+-- all attempts, those that have not ended too
+abbrev pub with_live : {C : Type 0} → (C → Effect C) → (ℕ → C) → Memory → ℕ → List ℕ → List Entry
+with_live code init m0 threads ts =
+    insert_live 0 (world_after code init m0 threads ts).parts (attempts_after code init m0 threads ts)
+
+-- the entry stands in the list, behind all of these, as often as they are there
+pub record IsBehind (e : Entry) (seen all : List Entry) : Type 0 where
+  pub before : List Entry
+  pub after : List Entry
+  pub place : all ≡ before ++ e ∷ after
+  pub earlier : IsSubsequence seen before
+
+-- All attempts that have not ended are put into the order at once, as if each was dropped now. It is an order still:
+-- those that have ended stand in it as before, each finds what the one before it left, and each that has not ended
+-- stands behind all that had ended when it loaded its first snapshot.
+pub record MayAllDropNow {C : Type 0} (code : C → Effect C) (init : ℕ → C) (m0 : Memory) (threads : ℕ) (ts : List ℕ)
+    : Type 0 where
+  pub effective : WithIdle (merge_after code init m0 threads ts) (with_live code init m0 threads ts)
+  pub ended : IsSubsequence (attempts_after code init m0 threads ts) (with_live code init m0 threads ts)
+  pub chained : IsChained m0 (run_of (with_live code init m0 threads ts))
+  pub in_time : (t : ℕ) (p : Part C) (a : Attempt C) →
+      slice_get (world_after code init m0 threads ts).parts t ≡ Some p → p.thread.attempt ≡ Some a →
+      IsBehind (record { thread = t; item = idle_record p.base a }) (ended_before code init m0 threads ts t)
+      (with_live code init m0 threads ts)
+
 -- One order of all attempts that have ended. Those that took effect are the run in it; each finds what the one before
 -- it left, and a dropped one leaves that too. Each attempt is where its code's meaning comes on the memory that it
 -- finds there, whether it takes effect or will be dropped. An attempt that ends in the next step stands after all that
--- had ended when it loaded its first snapshot; and so would one that has not ended yet. More steps put further attempts
--- in, and move none.
+-- had ended when it loaded its first snapshot; and so would one that has not ended yet, or all of these at once. More
+-- steps put further attempts in, and move none.
 pub record IsInOneOrder {C : Type 0} (code : C → Effect C) (init : ℕ → C) (m0 : Memory) (threads : ℕ) (ts : List ℕ)
     : Type 0 where
   pub effective : WithIdle (merge_after code init m0 threads ts) (attempts_after code init m0 threads ts)
@@ -83,5 +119,6 @@ pub record IsInOneOrder {C : Type 0} (code : C → Effect C) (init : ℕ → C) 
   pub live : (t : ℕ) (p : Part C) (a : Attempt C) →
       slice_get (world_after code init m0 threads ts).parts t ≡ Some p → p.thread.attempt ≡ Some a →
       MayDropNow m0 t p a (ended_before code init m0 threads ts t) (attempts_after code init m0 threads ts)
+  pub together : MayAllDropNow code init m0 threads ts
   pub extended : (us : List ℕ) →
       IsSubsequence (attempts_after code init m0 threads ts) (attempts_after code init m0 threads (ts ++ us))

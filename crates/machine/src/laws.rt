@@ -57,9 +57,8 @@ pub fn opaque<C>()
 /// in which every thread stands, and all that a thread has begun since ts, where it had no attempt then, stands behind
 /// all that had taken effect by then. The same for every program that the code means.
 ///
-/// Of threads of the program that run at one time the order of these lists is not known, so this is not said of them:
-/// only that what one of them begins after a meeting stands behind all that both had done
-/// (`attempts_begin_past_their_floor`).
+/// Threads of the program that run at one time make one such list, of which each has seen a beginning when it last made
+/// an access. So this is said of them too, with what a thread has seen as ts, and as us what was done since.
 pub fn strictly_serializable<C>()
     ensures code { (code : C → Effect C) (init : ℕ → C) (bounds : List ℕ) (m0 : Memory) (threads : ℕ)
         (ts us : List ℕ) → FitsCells code bounds → IsMemory bounds m0 →
@@ -80,12 +79,12 @@ pub fn attempts_compute<C>()
 
 /// All attempts stand in one order, the dropped ones too: those that took effect are the run in it, and each of the
 /// others leaves what it found. Each attempt finds what the one before it left, and it is where its code's meaning
-/// comes on that memory. It stands after all that had ended when it began, and so would one that has not ended yet; and
-/// more steps put further attempts in, and move none. So the order of attempts is the order of time, wherever one had
-/// ended when another began.
+/// comes on that memory. It stands after all that had ended when it began, and so would those that have not ended yet,
+/// one of them or all at once; and more steps put further attempts in, and move none. So the order of attempts is the
+/// order of time, wherever one had ended when another began.
 ///
-/// Of threads of the program that run at one time, this holds of some list of steps that makes what they did, and not
-/// of the order in time in which they made it.
+/// Threads of the program that run at one time make one such list. In it a thread's local steps stand where its next
+/// access does, so this is the order in time of accesses.
 pub fn attempts_stand_in_one_order<C>()
     ensures { (code : C → Effect C) (init : ℕ → C) (bounds : List ℕ) (m0 : Memory) (threads : ℕ) (steps : List ℕ) →
         FitsCells code bounds → IsMemory bounds m0 →

@@ -10,15 +10,15 @@ use Rattle.machine.specs.Worlds.{Part, World, new_parts, new_world, run, step, s
 use Rattle.machine.proofs.runs.Explained.{part_at}
 
 module _ {C : Type 0} (code : C → Effect C) where
-  run-append : (ts us : List ℕ) (w : World C) → run code (ts ++ us) w ≡ run code us (run code ts w)
+  pub run-append : (ts us : List ℕ) (w : World C) → run code (ts ++ us) w ≡ run code us (run code ts w)
   run-append [] us w = refl
   run-append (t ∷ ts) us w = run-append ts us (step code w t)
 
-  heard-append : (ts us : List ℕ) (w : World C) (heard : List (List Heard)) → heard_run code (ts ++ us) w heard ≡ heard_run code us (run code ts w) (heard_run code ts w heard)
+  pub heard-append : (ts us : List ℕ) (w : World C) (heard : List (List Heard)) → heard_run code (ts ++ us) w heard ≡ heard_run code us (run code ts w) (heard_run code ts w heard)
   heard-append [] us w heard = refl
   heard-append (t ∷ ts) us w heard = heard-append ts us (step code w t) (heard_of code w heard t (slice_get w.parts t) (slice_get heard t))
 
-  runs-append : (ts us : List ℕ) (w : World C) → RunsOn code ts w → RunsOn code us (run code ts w) → RunsOn code (ts ++ us) w
+  pub runs-append : (ts us : List ℕ) (w : World C) → RunsOn code ts w → RunsOn code us (run code ts w) → RunsOn code (ts ++ us) w
   runs-append [] us w f g = g
   runs-append (t ∷ ts) us w f g = (f.0, runs-append ts us (step code w t) f.1 g)
 

@@ -1,5 +1,5 @@
 -- All attempts in one order.
-use Rattle.std.proofs.Common.{◌≡◌, ◌≤◌, ◌*◌, ℕ, Bool, true, false, List, [], ◌∷◌, ◌++◌, Option, None, Some, refl, sym, ◌∙◌, ap, subst, slice_get, arith}
+use Rattle.std.proofs.Common.{◌≡◌, ◌≤◌, ◌*◌, ◌+◌, inl, inr, ℕ, zero, suc, Bool, true, false, cond, leb, List, [], ◌∷◌, ◌++◌, Option, None, Some, refl, sym, ◌∙◌, ap, subst, slice_get, arith}
 use Rattle.std.specs.List.{AllByRecursion}
 use Rattle.syntax.specs.Behaviours.{IsMemory, IsSubsequence}
 use Rattle.bytecode.specs.Effects.{Effect, FitsCells}
@@ -7,7 +7,7 @@ use Rattle.norec_core.specs.Attempts.{Attempt, Completed}
 use Rattle.machine.specs.Computes.{ComputesOn}
 use Rattle.machine.specs.inner.Invariant.{History, Invariant, Moves, Now, RecordOk}
 use Rattle.machine.specs.Merges.{Entry, IsMerge, IsSorted, insert, insert_made, key, key_of, made_of, stable_merge}
-use Rattle.machine.specs.OneOrder.{IsInOneOrder, MayDropNow, WithIdle, attempts_merge, end_record, ended_before, ended_by, ended_in, idle_record}
+use Rattle.machine.specs.OneOrder.{IsBehind, IsInOneOrder, MayDropNow, WithIdle, attempts_merge, end_record, ended_before, ended_by, ended_in, idle_record, insert_live, insert_open}
 use Rattle.machine.specs.Serializable.{StandsAfter, attempt_of, merge_after, world_after}
 use Rattle.machine.specs.Threads.{Next, access, step_with}
 use Rattle.machine.specs.Worlds.{Part, Record, World, with_record, answer, new_world, part_after, record_of, step_record, run, step, step_of}
@@ -15,7 +15,7 @@ use Rattle.machine.proofs.merges.Follow.{chained}
 use Rattle.machine.proofs.merges.Idle.{both_insert, follows_all, idle_from_first, idle_insert}
 use Rattle.machine.proofs.merges.Insert.{insert_all, insert_sorted}
 use Rattle.machine.proofs.merges.Merge.{EntryOk, Follows}
-use Rattle.machine.proofs.merges.Within.{placed, within_self}
+use Rattle.machine.proofs.merges.Within.{placed, within_insert, within_self}
 use Rattle.machine.proofs.parts.Frame.{each_frame}
 use Rattle.machine.proofs.parts.Part.{moves_refl}
 use Rattle.machine.proofs.runs.Drops.{last_of}
@@ -39,6 +39,79 @@ same_snapshot : {C : Type 0} (base : List ℕ) (a : Attempt C) (x : Record) (j :
 same_snapshot base a x (Some y) o g e = let r : record_of base y ≡ x = cc in ap (λ (z : Record). z.snapshot) (sym r) ∙ g
 same_snapshot base a x None None g e = let r : idle_record base a ≡ x = cc in ap (λ (z : Record). z.snapshot) (sym r)
 same_snapshot base a x None (Some b) g e = absurd (cc)
+
+past : (f : Entry) (seen bs : List Entry) → IsSubsequence seen bs → IsSubsequence seen (f ∷ bs)
+past f [] bs i = tt
+past f (x ∷ xs) bs i = inr i
+
+under : (g : Entry) (seen gs bs : List Entry) → ((s : List Entry) → IsSubsequence s gs → IsSubsequence s bs) → IsSubsequence seen (g ∷ gs) → IsSubsequence seen (g ∷ bs)
+under g [] gs bs f i = tt
+under g (x ∷ xs) gs bs f (inl r) = inl (r.0, f xs r.1)
+under g (x ∷ xs) gs bs f (inr r) = inr (f (x ∷ xs) r)
+
+-- where an entry stands once another one is put in
+abbrev Moved : Entry → List Entry → List Entry → Type 0
+Moved e before all = (b : List Entry) × (a : List Entry) × (all ≡ b ++ e ∷ a) × ((s : List Entry) → IsSubsequence s before → IsSubsequence s b)
+
+moved : (f e : Entry) (before after : List Entry) → Moved e before (insert f (before ++ e ∷ after))
+moved f e [] after = at (leb (key e) (key f))
+  where
+    at : (c : Bool) → Moved e [] (cond c (e ∷ insert f after) (f ∷ e ∷ after))
+    at true = ([], insert f after, refl, λ s i. i)
+    at false = (f ∷ [], after, refl, λ s i. past f s [] i)
+moved f e (g ∷ gs) after = at (leb (key g) (key f)) (moved f e gs after)
+  where
+    at : (c : Bool) → Moved e gs (insert f (gs ++ e ∷ after)) → Moved e (g ∷ gs) (cond c (g ∷ insert f (gs ++ e ∷ after)) (f ∷ g ∷ (gs ++ e ∷ after)))
+    at true r = (g ∷ r.0, r.1, ap (λ l. g ∷ l) r.2, λ s i. under g s gs r.0 r.3 i)
+    at false r = (f ∷ g ∷ gs, after, refl, λ s i. past f s (g ∷ gs) i)
+
+behind_insert : (f e : Entry) (seen all : List Entry) → IsBehind e seen all → IsBehind e seen (insert f all)
+behind_insert f e seen all b = let r = moved f e b.before b.after in record {
+  before = r.0;
+  after = r.1;
+  place = ap (insert f) b.place ∙ r.2;
+  earlier = r.3 seen b.earlier;
+}
+
+-- the attempts of all threads, put in at once
+module _ {C : Type 0} where
+  within_open : (t : ℕ) (base : List ℕ) (o : Option (Attempt C)) (seen all : List Entry) → IsSubsequence seen all → IsSubsequence seen (insert_open t base o all)
+  within_open t base None seen all i = i
+  within_open t base (Some a) seen all i = within_insert (record { thread = t; item = idle_record base a }) seen all i
+
+  within_live : (n : ℕ) (ps : List (Part C)) (seen all : List Entry) → IsSubsequence seen all → IsSubsequence seen (insert_live n ps all)
+  within_live n [] seen all i = i
+  within_live n (p ∷ ps) seen all i = within_live (suc n) ps seen (insert_open n p.base p.thread.attempt all) (within_open n p.base p.thread.attempt seen all i)
+
+  behind_open : (t : ℕ) (base : List ℕ) (o : Option (Attempt C)) (e : Entry) (seen all : List Entry) → IsBehind e seen all → IsBehind e seen (insert_open t base o all)
+  behind_open t base None e seen all b = b
+  behind_open t base (Some a) e seen all b = behind_insert (record { thread = t; item = idle_record base a }) e seen all b
+
+  behind_live : (n : ℕ) (ps : List (Part C)) (e : Entry) (seen all : List Entry) → IsBehind e seen all → IsBehind e seen (insert_live n ps all)
+  behind_live n [] e seen all b = b
+  behind_live n (p ∷ ps) e seen all b = behind_live (suc n) ps e seen (insert_open n p.base p.thread.attempt all) (behind_open n p.base p.thread.attempt e seen all b)
+
+  abbrev IsDropOk : History → ℕ → Part C → Type 0
+  IsDropOk h t p = (a : Attempt C) → p.thread.attempt ≡ Some a → RecordOk h t (idle_record p.base a)
+
+  module _ (h : History) (es : List Entry) where
+    good_open : (t : ℕ) (base : List ℕ) (o : Option (Attempt C)) (all : List Entry) → ((a : Attempt C) → o ≡ Some a → RecordOk h t (idle_record base a)) → Good h es all → Good h es (insert_open t base o all)
+    good_open t base None all ok good = good
+    good_open t base (Some a) all ok good = record {
+      between = idle_insert (record { thread = t; item = idle_record base a }) es all (refl, refl) good.between;
+      sorted = insert_sorted 0 (record { thread = t; item = idle_record base a }) all (omega arith) good.sorted;
+      ok = insert_all (EntryOk h) (record { thread = t; item = idle_record base a }) all (ok a refl) good.ok;
+    }
+
+    first_ok : (n : ℕ) (p : Part C) (ps : List (Part C)) → ((t : ℕ) (q : Part C) → slice_get (p ∷ ps) t ≡ Some q → IsDropOk h (n + t) q) → IsDropOk h n p
+    first_ok n p ps ok = let e : n + 0 ≡ n = omega arith in subst (λ (k : ℕ). IsDropOk h k p) e (ok 0 p refl)
+
+    rest_ok : (n : ℕ) (p : Part C) (ps : List (Part C)) → ((t : ℕ) (q : Part C) → slice_get (p ∷ ps) t ≡ Some q → IsDropOk h (n + t) q) → (t : ℕ) (q : Part C) → slice_get ps t ≡ Some q → IsDropOk h (suc n + t) q
+    rest_ok n p ps ok t q at = let e : n + suc t ≡ suc n + t = omega arith in subst (λ (k : ℕ). IsDropOk h k q) e (ok (suc t) q at)
+
+    good_live : (n : ℕ) (ps : List (Part C)) (all : List Entry) → ((t : ℕ) (q : Part C) → slice_get ps t ≡ Some q → IsDropOk h (n + t) q) → Good h es all → Good h es (insert_live n ps all)
+    good_live n [] all ok good = good
+    good_live n (p ∷ ps) all ok good = good_live (suc n) ps (insert_open n p.base p.thread.attempt all) (rest_ok n p ps ok) (good_open n p.base p.thread.attempt all (first_ok n p ps ok) good)
 
 module _ {C : Type 0} (code : C → Effect C) (init : ℕ → C) (bounds : List ℕ) (m0 : List ℕ) (is_memory : IsMemory bounds m0) (fits : FitsCells code bounds) where
   attempted-append : (ts us : List ℕ) (w : World C) (es : List Entry) → attempts_merge code (ts ++ us) w es ≡ attempts_merge code us (run code ts w) (attempts_merge code ts w es)
@@ -151,6 +224,23 @@ module _ {C : Type 0} (code : C → Effect C) (init : ℕ → C) (bounds : List 
       let up = snap_key x.snapshot x.took_lock in
       placed (record { thread = t; item = x }) 0 all seen sorted in_all (all_map (λ f. key f ≤ 2 * a.first) (λ f. key f ≤ key_of x.snapshot x.took_lock) seen (λ f le. omega (arith, le, since, is, up)) low)
 
+  -- where an attempt stands once those of all threads are put in
+  live_behind : (h : History) (es : List Entry) (n : ℕ) (ps : List (Part C)) (all : List Entry) (t : ℕ) (p : Part C) (a : Attempt C) (seen : List Entry) → ((u : ℕ) (q : Part C) → slice_get ps u ≡ Some q → IsDropOk h (n + u) q) → Good h es all → IsSubsequence seen all → slice_get ps t ≡ Some p → p.thread.attempt ≡ Some a → a.first ≤ a.snapshot → AllByRecursion (λ (f : Entry). key f ≤ 2 * a.first) seen → IsBehind (record { thread = n + t; item = idle_record p.base a }) seen (insert_live n ps all)
+  live_behind h es n [] all t p a seen ok good in_all at has since low = absurd (cc)
+  live_behind h es n (q ∷ ps) all zero p a seen ok good in_all at has since low =
+      let same : q ≡ p = cc in
+      let e : n ≡ n + 0 = omega arith in
+      let s = put n a (idle_record p.base a) all seen good.sorted in_all since refl low in
+      let here : IsBehind (record { thread = n; item = idle_record p.base a }) seen (insert (record { thread = n; item = idle_record p.base a }) all) = record { before = s.before; after = s.after; place = s.is; earlier = s.all } in
+      let put_open : IsBehind (record { thread = n; item = idle_record p.base a }) seen (insert_open n q.base q.thread.attempt all) = subst (λ (z : Part C). IsBehind (record { thread = n; item = idle_record p.base a }) seen (insert_open n z.base z.thread.attempt all)) (sym same)
+      (subst (λ (o : Option (Attempt C)). IsBehind (record { thread = n; item = idle_record p.base a }) seen (insert_open n p.base o all)) (sym has) here) in
+      subst (λ (k : ℕ). IsBehind (record { thread = k; item = idle_record p.base a }) seen (insert_live n (q ∷ ps) all)) e
+      (behind_live (suc n) ps (record { thread = n; item = idle_record p.base a }) seen (insert_open n q.base q.thread.attempt all) put_open)
+  live_behind h es n (q ∷ ps) all (suc t) p a seen ok good in_all at has since low =
+      let e : suc n + t ≡ n + suc t = omega arith in
+      subst (λ (k : ℕ). IsBehind (record { thread = k; item = idle_record p.base a }) seen (insert_live n (q ∷ ps) all)) e
+      (live_behind h es (suc n) ps (insert_open n q.base q.thread.attempt all) t p a seen (rest_ok h es n q ps ok) (good_open h es n q.base q.thread.attempt all (first_ok h es n q ps ok) good) (within_open n q.base q.thread.attempt seen all in_all) at has since low)
+
   pub one_order : (threads : ℕ) (ts : List ℕ) → IsInOneOrder code init m0 threads ts
   one_order threads ts =
       let g = after threads ts 0 in
@@ -161,6 +251,12 @@ module _ {C : Type 0} (code : C → Effect C) (init : ℕ → C) (bounds : List 
         computes = computing;
         in_time = timed;
         live = living;
+        together = record {
+          effective = (all_good 0).between;
+          ended = within_live 0 (world_after code init m0 threads ts).parts _ _ (within_self _);
+          chained = chained g.h 0 m0 _ g.h.top (sym g.invariant.first) (chain (world_after code init m0 threads ts) g.h _ _ g.invariant merge (all_good 0)) (all_good 0).ok;
+          in_time = live_in_time;
+        };
         extended = λ us. subst (λ l. IsSubsequence (attempts_merge code ts (new_world init m0 threads) []) l) (sym (attempted-append ts us (new_world init m0 threads) [])) (within_attempted _ us (world_after code init m0 threads ts) _ (within_self _));
       }
     where
@@ -185,6 +281,25 @@ module _ {C : Type 0} (code : C → Effect C) (init : ℕ → C) (bounds : List 
               by (Some a) o' ea l g j'' now =
                   let gd = after threads ts t in
                   put t a x _ _ gd.good.sorted gd.among now.steady.since (same_snapshot p.base a x n.completed o' g.1 j'') l
+
+      drop_ok : (v t : ℕ) (p : Part C) → slice_get (world_after code init m0 threads ts).parts t ≡ Some p → IsDropOk (after threads ts v).h (0 + t) p
+      drop_ok v t p at a has =
+          let g = after threads ts v in
+          let e : t ≡ 0 + t = omega arith in
+          let now = subst (λ o. Now code bounds g.h t (init t) p.records p.base p.thread o) has (g.invariant.parts t p at).now in
+          subst (λ (k : ℕ). RecordOk g.h k (idle_record p.base a)) e (idle_ok g.h g.h t p a now (moves_refl t g.h))
+
+      all_good : (v : ℕ) → Good (after threads ts v).h (merge_after code init m0 threads ts) (insert_live 0 (world_after code init m0 threads ts).parts (attempts_merge code ts (new_world init m0 threads) []))
+      all_good v = good_live (after threads ts v).h _ 0 (world_after code init m0 threads ts).parts _ (drop_ok v) (after threads ts v).good
+
+      live_in_time : (t : ℕ) (p : Part C) (a : Attempt C) → slice_get (world_after code init m0 threads ts).parts t ≡ Some p → p.thread.attempt ≡ Some a → IsBehind (record { thread = t; item = idle_record p.base a }) (ended_before code init m0 threads ts t) (insert_live 0 (world_after code init m0 threads ts).parts (attempts_merge code ts (new_world init m0 threads) []))
+      live_in_time t p a at has =
+          let g = after threads ts t in
+          let e : 0 + t ≡ t = omega arith in
+          let now = subst (λ o. Now code bounds g.h t (init t) p.records p.base p.thread o) has (g.invariant.parts t p at).now in
+          let low : LowFor (Some a) (ended_before code init m0 threads ts t) = subst (λ o. LowFor o (ended_before code init m0 threads ts t)) (ap attempt_of at ∙ has) g.low in
+          subst (λ (k : ℕ). IsBehind (record { thread = k; item = idle_record p.base a }) (ended_before code init m0 threads ts t) (insert_live 0 (world_after code init m0 threads ts).parts (attempts_merge code ts (new_world init m0 threads) []))) e
+          (live_behind g.h _ 0 (world_after code init m0 threads ts).parts _ t p a _ (drop_ok t) g.good g.among at has now.steady.since low)
 
       living : (t : ℕ) (p : Part C) (a : Attempt C) → slice_get (world_after code init m0 threads ts).parts t ≡ Some p → p.thread.attempt ≡ Some a → MayDropNow m0 t p a (ended_before code init m0 threads ts t) (attempts_merge code ts (new_world init m0 threads) [])
       living t p a e has =
