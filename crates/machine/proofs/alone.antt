@@ -14,3 +14,7 @@ pub mod Transaction
 pub mod Beside
 -- in a reached world a thread without an attempt gets on alone
 pub mod Calm
+-- a thread alone with an attempt open, whose snapshot may be below the lock
+pub mod Behind
+-- in a reached world a thread with an attempt open drops it once, or goes on
+pub mod Ends

@@ -18,6 +18,8 @@ pub mod OneOrder
 pub mod Drops
 -- a thread that steps alone
 pub mod Alone
+-- what a code means inside a transaction, by an attempt's logs
+pub mod Open
 -- a thread that runs alone beside others
 pub mod Solo
 -- how many accesses an undisturbed transaction makes, by what its code means

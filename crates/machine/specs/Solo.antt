@@ -1,6 +1,6 @@
 -- A thread that runs alone beside others, which stand still wherever they are.
 use Rattle.std.specs.Prelude.{◌≡◌, ◌≢◌, ◌⊎◌, ◌<◌, ◌+◌, ◌-◌, ◌%◌, ◌^◌, ℕ, true, false, List, [], ◌∷◌, None, Some, length}
-use Rattle.std.specs.Prelude.{replicate, slice_set}
+use Rattle.std.specs.Prelude.{◌≤◌, if◌then◌else◌, replicate, slice_set}
 use Rattle.std.specs.List.{slice_get}
 use Rattle.syntax.specs.Behaviours.{Memory}
 use Rattle.syntax.specs.Orders.{last_left}
@@ -8,9 +8,11 @@ use Rattle.syntax.specs.declared.numbers.Status.{Status}
 use Rattle.syntax.specs.declared.numbers.Status.TheVariants.{Running}
 use Rattle.bytecode.specs.Effects.{Effect}
 use Rattle.bytecode.specs.Sequential.{Sequential, outside, steps}
+use Rattle.norec_core.specs.Attempts.{Attempt}
 use Rattle.machine.specs.Threads.{Thread}
 use Rattle.machine.specs.Worlds.{Part, World, Reached, run}
 use Rattle.machine.specs.Drops.{drops}
+use Rattle.machine.specs.Open.{inside, inside_of}
 
 -- a thread outside transactions
 abbrev pub outside_thread : {C : Type 0} → C → List ℕ → Status → Thread C
@@ -71,3 +73,59 @@ abbrev pub StaysReached : {C : Type 0} → (C → Effect C) → (ℕ → C) → 
 StaysReached {C} code init m0 =
     (threads : ℕ) (w : World C) (ts : List ℕ) → Reached code init m0 threads w → (run code ts w).lock < 2 ^ 64 - 1 →
     Reached code init m0 threads (run code ts w)
+
+-- a meaning from where attempt a of thread p stands on, in a transaction that found these words; no other memory is
+-- there to find
+abbrev pub meaning_within : {C : Type 0} → (C → Effect C) → World C → Part C → Attempt C → ℕ → Sequential C
+meaning_within code w p a n =
+    steps code n (inside p.thread.configuration (inside_of code w.words a.saved a.writes a.inner a.kept) [] []
+    p.thread.text)
+
+-- some number of steps of thread t alone drop its attempt, once: it stands at its begin, and nothing else has changed
+pub record DropsOnce {C : Type 0} (code : C → Effect C) (w : World C) (t : ℕ) (p : Part C)
+    (a : Attempt C) : Type 0 where
+  pub steps : ℕ
+  pub part : Part C
+  pub world : run code (replicate steps t) w ≡ record w { parts = slice_set w.parts t part }
+  pub thread : part.thread ≡ outside_thread a.saved p.thread.text Running
+  pub once : drops code t (replicate steps t) w ≡ 1
+
+-- some number of steps of thread t alone leave it inside its attempt, where its meaning is; no other part is another
+-- one
+pub record StaysInside {C : Type 0} (code : C → Effect C) (w : World C) (t : ℕ) (r : Sequential C) : Type 0 where
+  pub steps : ℕ
+  pub part : Part C
+  pub attempt : Attempt C
+  -- the lock is taken, or free as it was
+  pub world : run code (replicate steps t) w ≡ record {
+    lock = if attempt.kept then w.lock + 1 else w.lock;
+    words = w.words;
+    parts = slice_set w.parts t part;
+  }
+  pub in_attempt : part.thread.attempt ≡ Some attempt
+  pub configuration : part.thread.configuration ≡ r.configuration
+  pub text : part.thread.text ≡ r.text
+  pub inside : r.inside ≡ Some (inside_of code w.words attempt.saved attempt.writes attempt.inner attempt.kept)
+  pub undropped : drops code t (replicate steps t) w ≡ 0
+
+-- some number of steps of thread t alone end its transaction as its meaning does, and go on as this outside
+pub record EndsAs {C : Type 0} (code : C → Effect C) (w : World C) (t : ℕ) (r : Sequential C) : Type 0 where
+  pub over : r.inside ≡ None
+  pub goes : GoesAs code w t r
+
+-- thread t alone does what its meaning does from its attempt on, for n instructions of this or more
+pub record GoesOnAsMeant {C : Type 0} (code : C → Effect C) (w : World C) (t : ℕ) (p : Part C) (a : Attempt C)
+    (n : ℕ) : Type 0 where
+  pub instructions : ℕ
+  pub enough : n ≤ instructions
+  pub comes : StaysInside code w t (meaning_within code w p a instructions)
+      ⊎ EndsAs code w t (meaning_within code w p a instructions)
+
+-- In every reached world whose lock is free, a thread that has an attempt open, alone, drops it once, or goes on with
+-- it as its meaning does, however far: it commits or cancels it, or traps, where this does, and else is inside it for
+-- ever.
+abbrev pub AttemptEnds : {C : Type 0} → (C → Effect C) → (ℕ → C) → Memory → Type 0
+AttemptEnds {C} code init m0 =
+    (threads : ℕ) (w : World C) (t : ℕ) (p : Part C) (a : Attempt C) (n : ℕ) → Reached code init m0 threads w →
+    w.lock % 2 ≡ 0 → slice_get w.parts t ≡ Some p → p.thread.attempt ≡ Some a →
+    DropsOnce code w t p a ⊎ GoesOnAsMeant code w t p a n

@@ -18,7 +18,7 @@ ghost use Rattle.machine.specs.Merges.{Entry};
 ghost use Rattle.machine.specs.Serializable.{world_after, IsOpaque, HasChanged, HoldersGoOn};
 ghost use Rattle.machine.specs.Strict.{IsStrictlySerializable, RecordsAreLater};
 ghost use Rattle.machine.specs.Alone.{ReachesEnd};
-ghost use Rattle.machine.specs.Solo.{RunsAlone, SoloProgress, StaysReached};
+ghost use Rattle.machine.specs.Solo.{AttemptEnds, RunsAlone, SoloProgress, StaysReached};
 ghost use Rattle.machine.specs.Computes.{AttemptsCompute};
 ghost use Rattle.machine.specs.OneOrder.{IsInOneOrder};
 ghost use Rattle.machine.specs.Drops.{DropsAreBounded, DropsComeAfterTakings};
@@ -120,9 +120,13 @@ pub fn drops_are_bounded<C>()
 /// Beside other threads, wherever these stand still (in the midst of an attempt too): while the lock is free, a thread
 /// outside transactions that steps alone does what its meaning does on these words, up to where this ends, traps or
 /// wants one more memory. No attempt is dropped on the way, the other threads and what they have are left as they are,
-/// and the lock is then free again (`RunsAlone`). In a reached world whose lock is not near its last value no step of it
-/// stops (`SoloProgress`): this is obstruction freedom of a thread that has no attempt, while nobody has the lock.
-/// Nothing is said here of a thread with an attempt open, nor while another thread has the lock, for which it waits.
+/// and the lock is then free again (`RunsAlone`). In a reached world whose lock is not near its last value no step of
+/// it stops (`SoloProgress`): steps from a reached world that end below that value stop nowhere (`StaysReached`).
+///
+/// A thread that has an attempt open in a reached world whose lock is free, and steps alone, drops it, once, or goes on
+/// as its meaning does for as many instructions as one likes (`AttemptEnds`): it ends its transaction where that does.
+/// Together this is obstruction freedom while nobody has the lock. While another thread has it nothing is said: a
+/// thread waits for it.
 pub fn alone<C>()
     ensures code { (code : C → Effect C) (init : ℕ → C) (bounds : List ℕ) (m0 : Memory) (run : List Step) (n : ℕ) →
         FitsCells code bounds → IsMemory bounds m0 →
@@ -133,6 +137,8 @@ pub fn alone<C>()
     ensures beside { (code : C → Effect C) (bounds : List ℕ) → FitsCells code bounds → RunsAlone code bounds }
     ensures progress { (code : C → Effect C) (init : ℕ → C) (bounds : List ℕ) (m0 : Memory) →
         FitsCells code bounds → IsMemory bounds m0 → SoloProgress code init m0 }
+    ensures attempts { (code : C → Effect C) (init : ℕ → C) (bounds : List ℕ) (m0 : Memory) →
+        FitsCells code bounds → IsMemory bounds m0 → AttemptEnds code init m0 }
     ensures reached { (code : C → Effect C) (init : ℕ → C) (bounds : List ℕ) (m0 : Memory) →
         FitsCells code bounds → IsMemory bounds m0 → StaysReached code init m0 }
 {}

@@ -24,11 +24,13 @@ module _ {C : Type 0} (code : C → Effect C) where
     pub text : List ℕ
     pub status : Status
     pub wants : Bool
+    -- what wants a memory is at an outermost begin
+    pub begins : wants ≡ true → (status ≡ Running) × ((e : C) × (d : C) × (code c ≡ Begin e d))
     pub reach : Reach code s (out_solo lock words c text status)
     pub meaning : r ≡ found_all c lefts text status wants
 
   ahead : (s q : Solo C) (r : Sequential C) (lock : ℕ) (words : List ℕ) (lefts : List Memory) → Reach code s q → There r q lock words lefts → There r s lock words lefts
-  ahead s q r lock words lefts g t = record { c = t.c; text = t.text; status = t.status; wants = t.wants; reach = then code s q _ g t.reach; meaning = t.meaning }
+  ahead s q r lock words lefts g t = record { c = t.c; text = t.text; status = t.status; wants = t.wants; begins = t.begins; reach = then code s q _ g t.reach; meaning = t.meaning }
 
   stays_wanting : (n : ℕ) (c : C) (lefts : List Memory) (text : List ℕ) (s : Status) → steps code n (found_all c lefts text s true) ≡ found_all c lefts text s true
   stays_wanting zero c lefts text s = refl
@@ -40,7 +42,7 @@ module _ {C : Type 0} (code : C → Effect C) where
 
     out_by : (n : ℕ) → ((c : C) (text : List ℕ) (status : Status) → From n c text status) → (c : C) (text : List ℕ) (x : Effect C) → code c ≡ x
         → There (steps code n (outside_step (outside c [] lefts text Running) x)) (out_solo lock words c text Running) lock words lefts
-    out_by n on c text (Begin e d) ex = record { c = c; text = text; status = Running; wants = true; reach = (0, refl); meaning = stays_wanting n c lefts text Running }
+    out_by n on c text (Begin e d) ex = record { c = c; text = text; status = Running; wants = true; begins = λ w. (refl, (e, d, ex)); reach = (0, refl); meaning = stays_wanting n c lefts text Running }
     out_by n on c text (Pure e) ex = ahead _ (out_solo lock words e text Running) _ _ _ _ (once code _ _ (Pure e) ex refl) (on e text Running)
     out_by n on c text (Print piece e) ex = ahead _ (out_solo lock words e (text ++ piece) Running) _ _ _ _ (once code _ _ (Print piece e) ex refl) (on e (text ++ piece) Running)
     out_by n on c text (Irrevocable e) ex = ahead _ (out_solo lock words e text Running) _ _ _ _ (once code _ _ (Irrevocable e) ex refl) (on e text Running)
@@ -50,7 +52,7 @@ module _ {C : Type 0} (code : C → Effect C) where
 
     -- the steps after the transaction
     pub after : (n : ℕ) (c : C) (text : List ℕ) (status : Status) → From n c text status
-    after zero c text status = record { c = c; text = text; status = status; wants = false; reach = (0, refl); meaning = refl }
+    after zero c text status = record { c = c; text = text; status = status; wants = false; begins = λ w. absurd (false≢true w); reach = (0, refl); meaning = refl }
     after (suc n) c text Running = out_by n (after n) c text (code c) refl
     after (suc n) c text HasEnded = after n c text HasEnded
     after (suc n) c text (HasTrapped cause) = after n c text (HasTrapped cause)
@@ -64,7 +66,7 @@ module _ {C : Type 0} (code : C → Effect C) where
       pub sized : length left ≡ length bounds
       pub there : There r s lock left (lefts ++ left ∷ [])
 
-    ahead_left : (from : ℕ) (s q : Solo C) (r : Sequential C) (lefts : List Memory) → Reach code s q → Left from r q lefts → Left from r s lefts
+    pub ahead_left : (from : ℕ) (s q : Solo C) (r : Sequential C) (lefts : List Memory) → Reach code s q → Left from r q lefts → Left from r s lefts
     ahead_left from s q r lefts g l = record { left = l.left; lock = l.lock; moved = l.moved; sized = l.sized; there = ahead s q r l.lock l.left (lefts ++ l.left ∷ []) g l.there }
 
     -- the machine comes to where the meaning is: still inside, or outside again
@@ -110,7 +112,7 @@ module _ {C : Type 0} (code : C → Effect C) where
     within zero = λ from r s words lefts i. inl (s, (0, refl), i)
     within (suc n) = in_goes_on n (within n)
 
-    not_yet : (false ≡ true) ⊎ (Running ≢ Running) → ⊥
+    pub not_yet : (false ≡ true) ⊎ (Running ≢ Running) → ⊥
     not_yet (inl e) = false≢true e
     not_yet (inr ne) = ne refl
 
@@ -133,7 +135,7 @@ module _ {C : Type 0} (code : C → Effect C) where
 
     module _ (lock : ℕ) (words : List ℕ) (even : lock % 2 ≡ 0) (sized : length words ≡ length bounds) where
       -- an outermost begin finds these words
-      begins : (n : ℕ) (c : C) (text : List ℕ) (e d : C) → code c ≡ Begin e d
+      pub begins : (n : ℕ) (c : C) (text : List ℕ) (e d : C) → code c ≡ Begin e d
           → Follows lock (steps code n (outside_step (outside c (words ∷ []) [] text Running) (Begin e d))) (out_solo lock words c text Running) words []
       begins n c text e d ex =
           let s : Solo C = in_solo lock words e text (at_attempt c lock lock [] [] [] false AtOperation) in

@@ -161,7 +161,7 @@ module _ {C : Type 0} (code : C → Effect C) (init : ℕ → C) (bounds : List 
 
 -- each world that steps which do not stop lead to is that of some list of steps
 module _ {C : Type 0} (code : C → Effect C) where
-  run-append : (ts us : List ℕ) (w : World C) → run code (ts ++ us) w ≡ run code us (run code ts w)
+  pub run-append : (ts us : List ℕ) (w : World C) → run code (ts ++ us) w ≡ run code us (run code ts w)
   run-append [] us w = refl
   run-append (t ∷ ts) us w = run-append ts us (step code w t)
 

@@ -9,7 +9,7 @@ use Rattle.syntax.specs.declared.numbers.Status.TheVariants.{Running}
 use Rattle.syntax.specs.Behaviours.{Memory, IsMemory}
 use Rattle.bytecode.specs.Effects.{Effect, after_cancel}
 use Rattle.bytecode.specs.Effects.Effect.{Read, Begin, Commit, Irrevocable}
-use Rattle.bytecode.specs.Sequential.{InnerTransaction, OpenTransaction, Sequential, outside, start, steps}
+use Rattle.bytecode.specs.Sequential.{outside, start, steps}
 use Rattle.norec_core.specs.declared.step.Phase.{Phase}
 use Rattle.norec_core.specs.declared.step.Phase.TheVariants.{AtOperation, ReadsLock, ValidatesTime, ValidatesEntry}
 use Rattle.norec_core.specs.declared.step.Phase.TheVariants.{Stores}
@@ -17,6 +17,7 @@ use Rattle.norec_core.specs.Attempts.{Attempt, Checkpoint}
 use Rattle.machine.specs.Threads.{Thread}
 use Rattle.machine.specs.Worlds.{Record, Part, World}
 use Rattle.machine.specs.Explained.{has_lock, stored_of}
+pub use Rattle.machine.specs.Open.{inside, inner_of, inners_of, inside_of}
 
 -- What has been committed: top is the lock value after the last commit, mem the memory at each even lock value up to
 -- top, owner the thread that committed from there, holder the thread that has the lock, and stored the pairs that
@@ -88,17 +89,6 @@ founds_in xs = map (λ (x : Record). x.found) xs
 abbrev pub lefts_in : List Record → List Memory
 lefts_in xs = map (λ (x : Record). x.left) xs
 
-abbrev pub inside : {C : Type 0} → C → OpenTransaction C → List Memory → List Memory → List ℕ → Sequential C
-inside c i founds lefts text = record {
-  configuration = c;
-  inside = Some i;
-  founds = founds;
-  lefts = lefts;
-  text = text;
-  status = Running;
-  wants = false;
-}
-
 -- the memories that an attempt may have found: those that agree with its read log, and while the lock is kept its base
 pub record MayHaveFound (reads : List (ℕ × ℕ)) (kept : Bool) (base m : Memory) : Type 0 where
   pub agrees : Agrees m reads
@@ -138,22 +128,6 @@ Validates (Irrevocable c) = Unit {0}
 Validates _ = ⊥
 
 module _ {C : Type 0} (code : C → Effect C) where
-  abbrev pub inner_of : Memory → Checkpoint C → InnerTransaction C
-  inner_of m k = record { cancelled = after_cancel (code k.saved) k.saved; mem = overlay m k.writes }
-
-  abbrev pub inners_of : Memory → List (Checkpoint C) → List (InnerTransaction C)
-  inners_of m ks = map (inner_of m) ks
-
-  -- the code meaning's thread inside a transaction that found m
-  abbrev pub inside_of : Memory → C → List (ℕ × ℕ) → List (Checkpoint C) → Bool → OpenTransaction C
-  inside_of m saved writes inner kept = record {
-    cancelled = after_cancel (code saved) saved;
-    found = m;
-    mem = overlay m writes;
-    inner = inners_of m inner;
-    kept = kept;
-  }
-
   -- after these transactions the thread's meaning is in c, outside transactions, whatever memories come next
   abbrev pub ComesTo : C → List Record → C → List ℕ → Status → Type 0
   ComesTo c0 xs c text status =
@@ -165,8 +139,8 @@ module _ {C : Type 0} (code : C → Effect C) where
   Reaches bounds base c1 text1 c a text =
       (n : ℕ) × ((m : Memory) (founds lefts : List Memory) → length m ≡ length bounds →
       MayHaveFound a.reads a.kept base m →
-      steps code n (inside c1 (inside_of m a.saved [] [] false) founds lefts text1)
-      ≡ inside c (inside_of m a.saved a.writes a.inner a.kept) founds lefts text)
+      steps code n (inside c1 (inside_of code m a.saved [] [] false) founds lefts text1)
+      ≡ inside c (inside_of code m a.saved a.writes a.inner a.kept) founds lefts text)
 
   -- the attempt's begin
   pub record Begun (bounds : List ℕ) (h : History) (c0 : C) (xs : List Record) (c : C) (a : Attempt C)
