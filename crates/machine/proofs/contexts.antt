@@ -28,3 +28,5 @@ pub mod Left
 pub mod Validating
 -- where no store and no comparison comes next
 pub mod Nexts
+-- which steps may want memory
+pub mod Wanting

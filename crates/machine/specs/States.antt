@@ -1,11 +1,11 @@
 -- A thread as its contracts see it.
-use Rattle.std.specs.Prelude.{◌≡◌, ◌<◌, ◌≤◌, ℕ, Bool, false, List, [], Option, None, Some, IsSomeAnd, length}
+use Rattle.std.specs.Prelude.{◌≡◌, ◌<◌, ◌≤◌, ℕ, Bool, false, List, [], Option, None, Some, IfSome, IsSomeAnd, length}
 use Rattle.std.specs.Prelude.{slice_index}
 use Rattle.syntax.specs.declared.numbers.Status.{Status}
 use Rattle.syntax.specs.declared.numbers.Status.TheVariants.{Running}
 use Rattle.nesting.specs.Begins.{Saved}
 use Rattle.bytecode.specs.Effects.{Effect}
-use Rattle.bytecode.specs.Effects.Effect.{Begin, Print}
+use Rattle.bytecode.specs.Effects.Effect.{Begin, Print, Pure, Read, Write}
 use Rattle.bytecode.specs.Beginning.{beginning}
 use Rattle.bytecode.specs.Code.{Code, Configuration, bounds_of, effect}
 use Rattle.frames.specs.Open.{saved_in}
@@ -21,16 +21,17 @@ use Rattle.norec_core.specs.declared.step.Answer.{Answer}
 use Rattle.norec_core.specs.declared.step.Answer.TheVariants.{Value}
 use Rattle.norec_core.specs.Attempts.{Attempt}
 use Rattle.norec_core.specs.Accesses.{stops}
-use Rattle.norec_core.specs.Cores.{CommitsLocally, ComparesWith, IsComparing, IsStoring, IsWaiting}
+use Rattle.norec_core.specs.Cores.{CommitsLocally, ComparesWith, IsComparing, IsStoring, IsWaiting, MayLog}
 use Rattle.machine.specs.Explained.{has_lock}
 use Rattle.machine.specs.Threads.{Next, Thread, op_of, access, step_with}
 
 -- what was made ready for a step: the operation that the core was asked for, what a begin then saves, and the
--- room for a read's entry, for a call and for a print
+-- room for an entry of the read log, a pair of the write log, a call and a print
 pub record Ready : Type 0 where
   pub asked : Option Op
   pub saved : Saved
   pub read_room : ℕ
+  pub write_room : ℕ
   pub call_room : ℕ
   pub text_room : ℕ
 
@@ -66,6 +67,21 @@ pub record IsReady (code : Code) (th : Thread Configuration) (r : Ready) : Type 
 pub record IsPrepared (code : Code) (s : ThreadState) : Type 0 where
   pub access : s.prepared ≡ Some (access (effect code) s.thread)
   pub ready : s.thread.status ≡ Running → IsReady code s.thread s.ready
+
+-- An instruction with this effect may want memory: a begin, and otherwise one that adds to what there is no room in. That
+-- is a log for a read or a write, which add nothing while the attempt is under validation; the text for a print (of an
+-- empty piece nothing is said); the frames for a call, the one that works in registers and frames and wants room.
+abbrev pub WantsRoom : {S : Type 0} → Code → Configuration → Ready → Option (Attempt S) → Effect Configuration → Type 0
+WantsRoom code c r o (Begin d e) = Unit {0}
+WantsRoom code c r o (Read cell k) = (r.read_room ≡ 0) × IfSome o (λ a. MayLog a.phase)
+WantsRoom code c r o (Write cell v d) = (r.write_room ≡ 0) × IfSome o (λ a. MayLog a.phase)
+WantsRoom code c r o (Print piece d) = 0 < length piece → r.text_room < length piece
+WantsRoom code c r o (Pure d) = HasRoom code (record { configuration = c; room = r.call_room }) → ⊥
+WantsRoom code c r o _ = ⊥
+
+-- the thread's next step may want memory
+abbrev pub MayWantMemory : Code → Thread Configuration → Ready → Type 0
+MayWantMemory code th r = WantsRoom code th.configuration r th.attempt (effect code th.configuration)
 
 -- where the thread runs, this is what stands at its place to be done
 abbrev pub StandsAt : Code → ThreadState → Doing → Type 0

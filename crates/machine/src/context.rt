@@ -1,6 +1,6 @@
 //! A thread as code keeps it: its frames, its core, and what it has printed.
 
-ghost use Rattle.std.specs.Prelude.{◌≡◌, ◌<◌, ◌≤◌, ◌^◌, ◌↔◌, ◌++◌, ◌+◌, ℕ, true, false, None, Some, IsSomeAnd};
+ghost use Rattle.std.specs.Prelude.{◌≡◌, ◌<◌, ◌≤◌, ◌^◌, ◌↔◌, ◌++◌, ◌+◌, ◌-◌, ℕ, true, false, None, Some, IsSomeAnd};
 ghost use Rattle.std.specs.Prelude.{if◌then◌else◌, IfNone, IfOk, IfSome, OnOk, OnErr, length, string_bytes, string_len};
 ghost use Rattle.std.specs.Prelude.{string_capacity};
 ghost use Rattle.syntax.specs.declared.numbers.Status.TheVariants.{Running};
@@ -18,10 +18,10 @@ ghost use Rattle.machine.specs.Threads.{with_value};
 ghost use Rattle.norec_core.specs.Cores.{CommitsLocally, IsStoring};
 ghost use Rattle.norec_core.specs.Phases.{core_access};
 ghost use Rattle.machine.specs.Standing.{begins_of};
-ghost use Rattle.machine.specs.States.{IsLeft, IsReady, IsWordOf};
+ghost use Rattle.machine.specs.States.{IsLeft, IsReady, IsWordOf, MayWantMemory};
 ghost use Rattle.machine.specs.inner.Inside.{LeadsTo, MayAdvance};
 ghost use Rattle.machine.specs.inner.Contexts.{context_of, ready, machine_thread, AreWithin, IsContextOf};
-ghost use Rattle.machine.specs.inner.Contexts.{RunsInContext, MayGoBack, Makes};
+ghost use Rattle.machine.specs.inner.Contexts.{RunsInContext, MayGoBack, Makes, LacksRoom};
 ghost use Rattle.machine.specs.inner.Contexts.{Advances, back_by, back_done, event_by, event_done, op_by, op_asked};
 
 use crate::event::Event;
@@ -244,7 +244,7 @@ fn print<A: Allocator + Copy, B: Allocator>(
     }
 }
 
-/// Makes room for what a step of the thread's own may add.
+/// Makes room for what a step of the thread's own may add. The error comes only where there is none.
 #[inline(never)]
 fn make_room<A: Allocator + Copy, B: Allocator>(
     frames: &mut Frames<A>,
@@ -259,11 +259,16 @@ fn make_room<A: Allocator + Copy, B: Allocator>(
     ensures call { OnOk result (IsCall code.now frames.old.configuration → HasRoom code.now frames.new) }
     ensures print { OnOk result (string_len text.new + length (piece_of code.now doing) ≤ string_capacity text.new) }
     ensures more { (frames.old.room ≤ frames.new.room) × (string_capacity text.old ≤ string_capacity text.new) }
+    ensures full { OnErr result (LacksRoom code.now frames.old.configuration frames.old.room
+        (string_capacity text.old - string_len text.old) (effect code.now frames.old.configuration)) }
 {
-    prepare_piece(text, code, doing)?;
     match doing {
-        Doing::Traps(_) => Ok(()),
-        _ => frames.prepare_call(code),
+        Doing::Local => frames.prepare_call(code),
+        Doing::Call => frames.prepare_call(code),
+        Doing::Return(_) => frames.prepare_call(code),
+        Doing::PrintText(_) => prepare_piece(text, code, doing),
+        Doing::PrintNumber(_) => prepare_piece(text, code, doing),
+        _ => Ok(()),
     }
 }
 
@@ -483,6 +488,8 @@ impl<A: Allocator + Copy> ThreadContext<A> {
             → IsReady code.now (machine_thread (context_of self.old)) (ready self.new)) }
         ensures used_up { (result ≡ Err Stop.SequenceUsedUp)
             ↔ (stops (access (effect code.now) (machine_thread (context_of self.old))) ≡ true) }
+        ensures full { result ≡ Err Stop.OutOfMemory
+            → MayWantMemory code.now (machine_thread (context_of self.old)) (ready self.old) }
     {
         match self.asks(doing) {
             Some(op) => self.core.prepare(

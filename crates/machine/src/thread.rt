@@ -12,7 +12,8 @@ ghost use Rattle.norec_core.specs.Phases.{entry_access};
 ghost use Rattle.machine.specs.Threads.{access, step_with as told_spec};
 ghost use Rattle.machine.specs.Standing.{IsThreadOf};
 ghost use Rattle.machine.specs.Loads.{counted_thread};
-ghost use Rattle.machine.specs.States.{BeginsNext, ComparesEntry, ComparesNext, IsLeft, IsPrepared, IsWordOf, StandsAt};
+ghost use Rattle.machine.specs.States.{BeginsNext, ComparesEntry, ComparesNext, IsLeft, IsPrepared, IsWordOf};
+ghost use Rattle.machine.specs.States.{MayWantMemory, StandsAt};
 ghost use Rattle.machine.specs.States.{StandsStill, StoresNext, SwapsNext, WaitsNext, first_thread, thread_has_lock};
 ghost use Rattle.machine.specs.inner.Contexts.{cost_if};
 
@@ -164,6 +165,7 @@ impl<A: Allocator + Copy> Thread<A> {
             × (IsPrepared code.now self.old → IsPrepared code.now self.new)) }
         ensures used_up { (result ≡ Err Stop.SequenceUsedUp)
             ↔ (stops (access (effect code.now) self.old.thread) ≡ true) }
+        ensures full { result ≡ Err Stop.OutOfMemory → MayWantMemory code.now self.old.thread self.old.ready }
     {
         let doing = self.doing(code);
         self.prepare_at(code, doing)
@@ -190,7 +192,9 @@ impl<A: Allocator + Copy> Thread<A> {
     /// that is over makes local steps that change nothing.
     ///
     /// An error comes only where the thread runs, and leaves it as it was, with what was prepared before: `OutOfMemory`
-    /// where room was refused, `SequenceUsedUp` where the step would swap the lock from its last even value.
+    /// where room was refused that a begin, a read, a write, a call or a print wants (`MayWantMemory`), and so at no step
+    /// of validation, no store and no release; `SequenceUsedUp` where the step would swap the lock from its last even
+    /// value.
     #[inline(always)]
     pub fn prepare_at<B: Allocator>(&mut self, code: &Code<B>, doing: Doing) -> Result<Access, Stop>
         requires of { IsThreadOf code.now self.old.thread }
@@ -203,6 +207,7 @@ impl<A: Allocator + Copy> Thread<A> {
             × (IsPrepared code.now self.old → IsPrepared code.now self.new)) }
         ensures used_up { (result ≡ Err Stop.SequenceUsedUp)
             ↔ (stops (access (effect code.now) self.old.thread) ≡ true) }
+        ensures full { result ≡ Err Stop.OutOfMemory → MayWantMemory code.now self.old.thread self.old.ready }
     {
         match self.context.status {
             Status::Running => match self.context.prepare(code, doing) {

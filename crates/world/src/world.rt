@@ -112,8 +112,8 @@ impl<A: Allocator + Copy> World<A> {
     /// Makes the next step of thread t, and says what happened in it. A thread that is over makes steps that change
     /// nothing but the list of steps.
     ///
-    /// An error leaves the world as it was: `OutOfMemory` where a growth was refused, `SequenceUsedUp` where the step
-    /// would swap the lock from its last even value.
+    /// An error leaves the world as it was: `OutOfMemory` where a growth was refused, which may be at any step, since the
+    /// list of steps grows with each; `SequenceUsedUp` where the step would swap the lock from its last even value.
     pub fn step(&mut self, t: u32) -> Result<Event, Stop>
         requires { t < self.old.threads }
         ensures ok { OnOk result (self.new ≡ further self.old (t ∷ [])) }

@@ -1,6 +1,6 @@
 -- What the calls of a thread owe, from what is known of it.
 use Rattle.std.proofs.Common.{◌≡◌, ◌<◌, ◌^◌, ℕ, suc, Bool, true, false, List, Option, None, Some, Result, Ok, Err, refl, sym, ◌∙◌, ap, subst, length}
-use Rattle.std.specs.Prelude.{IfOk, IsSomeAnd, OnOk, is_some}
+use Rattle.std.specs.Prelude.{IfOk, OnOk, is_some}
 use Rattle.syntax.specs.declared.numbers.Status.{Status}
 use Rattle.syntax.specs.declared.numbers.Status.TheVariants.{Running, Ended as HasEnded, Trapped as HasTrapped}
 use Rattle.syntax.specs.declared.numbers.Trap.{Trap}

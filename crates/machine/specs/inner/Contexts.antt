@@ -6,11 +6,12 @@ use Rattle.syntax.specs.declared.numbers.Status.{Status}
 use Rattle.syntax.specs.declared.numbers.Status.TheVariants.{Running, Ended as HasEnded, Trapped as HasTrapped}
 use Rattle.nesting.specs.Begins.{Saved}
 use Rattle.bytecode.specs.Effects.{Effect}
-use Rattle.bytecode.specs.Effects.Effect.{Commit, Cancel, CancelOuter, Traps}
+use Rattle.bytecode.specs.Effects.Effect.{Commit, Cancel, CancelOuter, Print, Pure, Traps}
 use Rattle.bytecode.specs.Code.{Code, Configuration, effect}
 use Rattle.frames.specs.declared.doing.Doing.{Doing}
 use Rattle.frames.specs.declared.doing.Doing.TheVariants as doing
 use Rattle.frames.specs.Open.{MayStand, IsConfigurationOf, CanRestore, begin_configuration}
+use Rattle.frames.specs.Stack.{HasRoom}
 use Rattle.norec_core.specs.declared.step.Access.{Access}
 use Rattle.norec_core.specs.Accesses.{cost}
 use Rattle.norec_core.specs.declared.step.Op.{Op}
@@ -50,9 +51,16 @@ ready t = record {
   asked = t.core.asked;
   saved = t.core.saved;
   read_room = t.core.read_room;
+  write_room = t.core.write_room;
   call_room = t.frames.room;
   text_room = string_capacity t.text - string_len t.text;
 }
+
+-- there is no room for what an instruction with this effect adds by itself: a call a frame, a print its piece
+abbrev pub LacksRoom : Code → Configuration → (calls text : ℕ) → Effect Configuration → Type 0
+LacksRoom code c calls text (Print piece d) = 0 < length piece → text < length piece
+LacksRoom code c calls text (Pure d) = HasRoom code (record { configuration = c; room = calls }) → ⊥
+LacksRoom code c calls text _ = ⊥
 
 -- what was prepared costs so many accesses
 abbrev pub cost_if : Option Access → ℕ

@@ -5,7 +5,8 @@ use Rattle.norec_core.specs.declared.step.Stop.{Stop}
 use Rattle.nesting.specs.Begins.{Saved}
 use Rattle.frames.specs.Open.{saved_in}
 use Rattle.machine.proofs.contexts.Calls.{ok_access, used_up_at, saved_same, ready_operation, access_operation}
-use Rattle.machine.specs.inner.Contexts.{context_of}
+use Rattle.machine.proofs.contexts.Wanting.{operation_wants}
+use Rattle.machine.specs.inner.Contexts.{context_of, ready}
 use Rattle.machine.proofs.context.ThreadContext.prepare.Goals as goal
 
 on_ok : (r : Result Access Stop) (s t u : Saved) → t ≡ u → OnOk r (s ≡ t) → OnOk r (s ≡ u)
@@ -28,3 +29,8 @@ pub returns-in-Some-clause-used_up : goal.returns-in-Some-clause-used_up
 returns-in-Some-clause-used_up g c =
     let k = context_of {A = g.row.A.Denot} c.args.self.now in
     used_up_at c.prepare.result _ _ (access_operation c.args.code.now k c.requires.running c.args.doing c.in-Some.op c.requires.tells (sym c.in-Some.ensures)) c.prepare.ensures.used_up
+
+pub returns-in-Some-clause-full : goal.returns-in-Some-clause-full
+returns-in-Some-clause-full g c = λ e.
+    let k = context_of {A = g.row.A.Denot} c.args.self.now in
+    operation_wants c.args.code.now k.configuration (ready {A = g.row.A.Denot} c.args.self.now) k.core.attempt k.trapping c.args.doing c.in-Some.op c.requires.tells (sym c.in-Some.ensures) (c.prepare.ensures.full e)
