@@ -1,0 +1,84 @@
+#!/usr/bin/env python3
+"""Runs all tests in minutes, WITHOUT PROVING ANYTHING.
+
+    scripts/quick_tests.py [--jobs N] [CRATE..]
+
+The tests of each crate that has some, or of those that are named, are compiled with all that they call by `rt try
+--test`, which puts checks into the code (of bounds, of sums that wrap, of freed memory), and run. Where code breaks a
+contract, no proof says so here, but a test that fails or a check that stops one: `.ci/run` proves.
+
+As many crates as --jobs says are tried side by side: as there are processors, at most four. Each holds up to 2 GB. A
+line tells what came of a crate's tests as they end, and the seconds of processor that they took; what a crate printed
+whose tests failed, or were not all run, follows. Ends in status 1 where there is such a crate. Nothing is written but a
+folder that is removed.
+"""
+
+import argparse
+import os
+import re
+import resource
+import subprocess
+import sys
+import tempfile
+import time
+from concurrent.futures import ThreadPoolExecutor, as_completed
+
+from gate_cost import TOP, has_tests, libraries, measure
+from quick_build import copy_sources, kit, make_links
+
+RESULT = re.compile(r"^test result: (ok\. )?.*$", re.M)
+# On the clock, for the tests of one crate once they are compiled: other work may be going on.
+SECONDS = "3600"
+
+
+def size_of(crate):
+    """How many bytes the sources of a crate have."""
+    walked = os.walk(f"{TOP}/crates/{crate}/src")
+    return sum(os.path.getsize(f"{at}/{name}") for at, _, names in walked for name in names)
+
+
+def tried(crate, work):
+    """Tries a crate's tests: whether all passed, their result, the seconds of processor, and all that was printed."""
+    with open(f"{work}/{crate}", "w+", encoding="utf-8", errors="replace") as said:
+        words = [f"{work}/kit/bin/rt", "try", "--test", "--seconds", SECONDS]
+        status, seconds, _ = measure(words, f"{work}/sources/crates/{crate}", said)
+        said.seek(0)
+        text = said.read()
+    result = RESULT.search(text)
+    return status == 0 and result and result[1], result[0] if result else "not run", seconds, text
+
+
+def main():
+    words = argparse.ArgumentParser(description=__doc__, formatter_class=argparse.RawDescriptionHelpFormatter)
+    words.add_argument("--jobs", type=int, default=min(4, os.cpu_count() or 1))
+    words.add_argument("crates", nargs="*", metavar="CRATE")
+    given = words.parse_args()
+    # (those with the longest sources first, as they take longest)
+    known = sorted((it for it in libraries() if has_tests(f"{TOP}/crates/{it}")), key=size_of, reverse=True)
+    if unknown := [it for it in given.crates if it not in known]:
+        sys.exit(f"no crate with tests: {', '.join(unknown)}; these are: {', '.join(known)}")
+    failed, begun = [], time.monotonic()
+    with tempfile.TemporaryDirectory(prefix="txc-quick-tests-") as work, ThreadPoolExecutor(given.jobs) as pool:
+        copy_sources(f"{work}/sources")
+        make_links(kit(), f"{work}/kit")
+        runs = {pool.submit(tried, it, work): it for it in given.crates or known}
+        try:
+            for run in as_completed(runs):
+                passed, result, seconds, text = run.result()
+                print(f"{runs[run]}: {result} ({seconds:.0f} s of processor)", flush=True)
+                if not passed:
+                    failed.append(runs[run])
+                    print(text, flush=True)
+        except KeyboardInterrupt:
+            # (what is running got the signal too)
+            pool.shutdown(cancel_futures=True)
+            raise
+    used = resource.getrusage(resource.RUSAGE_CHILDREN)
+    seconds, minutes = used.ru_utime + used.ru_stime, (time.monotonic() - begun) / 60
+    print(f"{len(runs)} crates, {seconds:.0f} s of processor, {minutes:.1f} minutes on the clock; nothing was proved")
+    if failed:
+        sys.exit(f"not all tests passed: {', '.join(sorted(failed))}")
+
+
+if __name__ == "__main__":
+    main()
