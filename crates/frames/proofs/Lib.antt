@@ -22,6 +22,8 @@ mod CallWords
 mod Telling
 -- the frames in one list of registers
 mod Laying
+-- words that tell frames apart
+pub mod Wording
 -- the moves, as the frames lie
 mod Moves
 
