@@ -1,13 +1,13 @@
 -- An order of pairs by cell: what it tells of them, and what each change leaves.
-use Rattle.std.proofs.Common.{◌≡◌, ◌≢◌, ◌<◌, ◌≤◌, ◌+◌, ◌-◌, ◌/◌, ◌^◌, ◌==◌, ℕ, zero, suc, List, [], ◌∷◌, ◌++◌, Option, None, Some, Ok, Err, ◌⊎◌, inl, inr, refl, sym, ◌∙◌, ap, length, get_or, set, min, max, arith, eq-eqb}
+use Rattle.std.proofs.Common.{◌≡◌, ◌≢◌, ◌<◌, ◌≤◌, ◌+◌, ◌-◌, ◌/◌, ◌^◌, ◌==◌, ℕ, zero, suc, List, [], ◌∷◌, ◌++◌, Option, None, Some, Result, Ok, Err, ◌⊎◌, inl, inr, refl, sym, ◌∙◌, ap, subst, length, get_or, set, min, max, arith, eq-eqb}
 use Rattle.std.specs.List.{position, insert, remove}
 use Rattle.std.proofs.lemmas.Bool.{le-ltb, lt-ltb, ne_eqb, cases_eq, cases_lt, cases_order}
-use Rattle.std.proofs.lemmas.List.{get_or-set_same, get_or_append_left, get_or_push, length_push, set-set, set-get_or}
-use Rattle.std.proofs.lemmas.List.Edits.{length-insert, get_or-insert_below, get_or-insert_at, get_or-insert_above, length-remove, get_or-remove_below, get_or-remove_above}
+use Rattle.std.proofs.lemmas.List.{get_or-set_same, get_or-set_other, get_or_append_left, get_or_push, length_push, set-set, set-get_or}
+use Rattle.std.proofs.lemmas.List.Edits.{length-insert, get_or-insert_below, get_or-insert_at, get_or-insert_above, insert_end, length-remove, get_or-remove_below, get_or-remove_above}
 use Rattle.std.proofs.lemmas.List.Sums.{position_or_len_is}
 use Rattle.std.proofs.Math.Nat.{pow-suc}
 use Rattle.write_log.specs.Overlay.{Lacks, IsDistinct}
-use Rattle.write_log.specs.inner.Order.{IsPlace, IsFound, IsRising, IsOrderOf, AreBetween, IsAbove, IsSearched, AreWithin}
+use Rattle.write_log.specs.inner.Order.{IsPlace, IsFound, IsRising, IsOrderOf, AreOrdered, by_cell, with_entry, IsNumbered, AreBetween, IsAbove, IsSearched, IsIndexed}
 use Rattle.write_log.proofs.Indices.{lacks_all, lacks_at}
 
 -- ---- searching
@@ -48,35 +48,47 @@ gap_first order (suc j) up lt =
     omega (arith, r, s)
 
 -- before so many, all are below a cell, and from so many on above it
-pub below_few : (order : List (ℕ × ℕ)) (least greatest a j : ℕ) → IsRising order → AreWithin least greatest order → j < length order - ((greatest - a) + 1) → (get_or order j (0, 0)).0 < a
-below_few order least greatest a j up b lt =
+pub below_few : (order : List (ℕ × ℕ)) (least above a j : ℕ) → IsRising order → AreBetween least above order → j < length order - (above - a) → (get_or order j (0, 0)).0 < a
+below_few order least above a j up b lt =
     let k = length order - 1 - j in
     let e : j + k ≡ length order - 1 = omega arith in
     let r = gap order j k up (omega arith) in
     let s = (b (j + k) (omega arith)).1 in
     omega (arith, r, s, e)
 
-pub above_few : (order : List (ℕ × ℕ)) (least greatest a j : ℕ) → IsRising order → AreWithin least greatest order → (a - least) + 1 ≤ j → j < length order → a < (get_or order j (0, 0)).0
-above_few order least greatest a j up b le lt =
+pub above_few : (order : List (ℕ × ℕ)) (least above a j : ℕ) → IsRising order → AreBetween least above order → (a - least) + 1 ≤ j → j < length order → a < (get_or order j (0, 0)).0
+above_few order least above a j up b le lt =
     let r = gap_first order j up lt in
     let s = (b 0 (omega arith)).0 in
     omega (arith, r, s)
 
 -- as many as there are lie between the bounds
-pub spread : (order : List (ℕ × ℕ)) (least greatest : ℕ) → IsRising order → AreWithin least greatest order → 0 < length order → least + (length order - 1) ≤ greatest
-spread order least greatest up b some =
+pub spread : (order : List (ℕ × ℕ)) (least above : ℕ) → IsRising order → AreBetween least above order → 0 < length order → least + (length order - 1) < above
+spread order least above up b some =
     let r = gap_first order (length order - 1) up (omega arith) in
     let s = (b 0 some).0 in
     let t = (b (length order - 1) (omega arith)).1 in
     omega (arith, r, s, t)
 
 -- what is left to be halved begins before it ends
-pub starts : (order : List (ℕ × ℕ)) (least greatest a : ℕ) → IsRising order → AreWithin least greatest order → length order - ((greatest - a) + 1) ≤ min (length order) ((a - least) + 1)
-starts order least greatest a up b = at (cases_lt 0 (length order))
+pub starts : (order : List (ℕ × ℕ)) (least above a : ℕ) → IsRising order → AreBetween least above order → length order - (above - a) ≤ min (length order) ((a - least) + 1)
+starts order least above a up b = at (cases_lt 0 (length order))
   where
-    at : (0 < length order) ⊎ (length order ≤ 0) → length order - ((greatest - a) + 1) ≤ min (length order) ((a - least) + 1)
-    at (inl some) = let s = spread order least greatest up b some in omega (arith, s)
+    at : (0 < length order) ⊎ (length order ≤ 0) → length order - (above - a) ≤ min (length order) ((a - least) + 1)
+    at (inl some) = let s = spread order least above up b some in omega (arith, s)
     at (inr none) = omega arith
+
+-- where there are as many as numbers between the bounds, each number has its place
+pub dense : (order : List (ℕ × ℕ)) (least above a : ℕ) → IsRising order → AreBetween least above order → least ≤ a → a < above → above - least ≤ length order → IsSearched a order (Ok (a - least))
+dense order least above a up b lo hi many =
+    let k = a - least in
+    let m = length order - 1 - k in
+    let e : k + m ≡ length order - 1 = omega arith in
+    let r = gap_first order k up (omega arith) in
+    let s = (b 0 (omega arith)).0 in
+    let t = gap order k m up (omega arith) in
+    let u = (b (k + m) (omega arith)).1 in
+    (omega arith, omega (arith, r, s, t, u, e))
 
 -- ---- what an order tells of its pairs
 
@@ -123,17 +135,98 @@ missing a ps order k o h = lacks_all a ps (λ i l e.
     at j l p (inr b) = let r = h.2 j b l in omega arith
 
 -- a cell outside the bounds
-pub outside : (a least greatest : ℕ) (ps : List (ℕ × ℕ)) → AreBetween least greatest ps → (a < least) ⊎ (greatest < a) → Lacks a ps
-outside a least greatest ps b out = lacks_all a ps (λ i l e. at i (b i l) e out)
+pub outside : (a least above : ℕ) (ps : List (ℕ × ℕ)) → AreBetween least above ps → (a < least) ⊎ (above ≤ a) → Lacks a ps
+outside a least above ps b out = lacks_all a ps (λ i l e. at i (b i l) e out)
   where
-    at : (i : ℕ) → (least ≤ (get_or ps i (0, 0)).0) × ((get_or ps i (0, 0)).0 ≤ greatest) → (get_or ps i (0, 0)).0 ≡ a → (a < least) ⊎ (greatest < a) → ⊥
+    at : (i : ℕ) → (least ≤ (get_or ps i (0, 0)).0) × ((get_or ps i (0, 0)).0 < above) → (get_or ps i (0, 0)).0 ≡ a → (a < least) ⊎ (above ≤ a) → ⊥
     at i h e (inl l) = omega arith
     at i h e (inr l) = omega arith
 
--- one above them would be inserted at the end
-pub above_all : (a : ℕ) (ps order : List (ℕ × ℕ)) → IsOrderOf ps order → IsAbove a ps → IsSearched a order (Err (length order))
-above_all a ps order o over =
-    (omega arith, (λ j l. let p = o.here j l in let q = over (get_or order j (0, 0)).1 p.0 in omega (arith, p.1)), (λ j le l. absurd (omega arith)))
+-- one above them
+pub above_lacks : (a : ℕ) (ps : List (ℕ × ℕ)) → IsAbove a ps → Lacks a ps
+above_lacks a ps over = lacks_all a ps (λ i l e. let r = over i l in absurd (omega (arith, r, e)))
+
+-- ---- the pairs where no order is kept, since their cells rise
+
+-- where they are searched themselves
+pub missing_rising : (a : ℕ) (ps : List (ℕ × ℕ)) (k : ℕ) → IsSearched a ps (Err k) → Lacks a ps
+missing_rising a ps k h = lacks_all a ps (λ i l e. at i l e (cases_lt i k))
+  where
+    at : (i : ℕ) → i < length ps → (get_or ps i (0, 0)).0 ≡ a → (i < k) ⊎ (k ≤ i) → ⊥
+    at i l e (inl b) = let r = h.1 i b in omega (arith, r, e)
+    at i l e (inr b) = let r = h.2 i b l in omega (arith, r, e)
+
+rising-distinct : (ps : List (ℕ × ℕ)) → IsRising ps → IsDistinct ps
+rising-distinct ps up = distinct_from_apart ps (λ i j l m e. let r = up i j l m in absurd (omega (arith, r, e)))
+
+-- the order that is made of them
+pub numbered-order : (ps order : List (ℕ × ℕ)) → IsRising ps → IsNumbered ps order → IsOrderOf ps order
+numbered-order ps order up n = record {
+  rising = λ i j l m.
+      let r = up i j l (omega (arith, m, n.0)) in
+      let e = ap (λ y. y.0) (n.1 i (omega (arith, l, m, n.0))) in
+      let f = ap (λ y. y.0) (n.1 j (omega (arith, m, n.0))) in
+      omega (arith, r, e, f);
+  length_is = n.0;
+  here = λ k l. let e = n.1 k (omega (arith, l, n.0)) in rw e (omega (arith, l, n.0), refl);
+  there = λ i l. (i, omega (arith, l, n.0), ap (λ y. y.1) (n.1 i l));
+}
+
+pub numbered-searched : (a : ℕ) (ps order : List (ℕ × ℕ)) (k : ℕ) → IsNumbered ps order → IsSearched a ps (Err k) → IsSearched a order (Err k)
+numbered-searched a ps order k n h = (
+  omega (arith, h.0, n.0),
+  (λ j l. let e = ap (λ y. y.0) (n.1 j (omega (arith, l, h.0))) in let r = h.1 j l in omega (arith, r, e)),
+  (λ j le l. let e = ap (λ y. y.0) (n.1 j (omega (arith, l, n.0))) in let r = h.2 j le (omega (arith, l, n.0)) in omega (arith, r, e)),
+)
+
+-- ---- with an order or without one
+
+pub kept : (ps order : List (ℕ × ℕ)) → 0 < length order → AreOrdered ps order → IsOrderOf ps order
+kept ps [] some o = absurd (omega arith)
+kept ps (e ∷ es) some o = o
+
+pub kept-by_cell : (ps order : List (ℕ × ℕ)) → 0 < length order → by_cell ps order ≡ order
+kept-by_cell ps [] some = absurd (omega arith)
+kept-by_cell ps (e ∷ es) some = refl
+
+pub none-rising : (ps order : List (ℕ × ℕ)) → length order ≡ 0 → AreOrdered ps order → IsRising ps
+none-rising ps [] none o = o
+none-rising ps (e ∷ es) none o = absurd (omega arith)
+
+pub none-by_cell : (ps order : List (ℕ × ℕ)) → length order ≡ 0 → by_cell ps order ≡ ps
+none-by_cell ps [] none = refl
+none-by_cell ps (e ∷ es) none = absurd (omega arith)
+
+pub ordered : (ps order : List (ℕ × ℕ)) → IsOrderOf ps order → AreOrdered ps order
+ordered ps [] o = let e = o.length_is in λ i j l m. absurd (omega (arith, e, m))
+ordered ps (e ∷ es) o = o
+
+pub ordered-length : (ps order : List (ℕ × ℕ)) → AreOrdered ps order → length order ≤ length ps
+ordered-length ps [] o = omega arith
+ordered-length ps (e ∷ es) o = let r = o.length_is in omega (arith, r)
+
+pub ordered-distinct : (ps order : List (ℕ × ℕ)) → AreOrdered ps order → IsDistinct ps
+ordered-distinct ps [] o = rising-distinct ps o
+ordered-distinct ps (e ∷ es) o = order-distinct ps (e ∷ es) o
+
+pub order-rising : (ps order : List (ℕ × ℕ)) → AreOrdered ps order → IsRising order
+order-rising ps [] o = λ i j l m. absurd (omega arith)
+order-rising ps (e ∷ es) o = o.rising
+
+pub order-between : (ps order : List (ℕ × ℕ)) (least above : ℕ) → AreOrdered ps order → AreBetween least above ps → AreBetween least above order
+order-between ps [] least above o b = λ k l. absurd (omega arith)
+order-between ps (e ∷ es) least above o b = λ k l.
+    let p = o.here k l in
+    let h = b (get_or (e ∷ es) k (0, 0)).1 p.0 in
+    (omega (arith, h.0, p.1), omega (arith, h.1, p.1))
+
+pub indexed-rising : (a : ℕ) (ps order : List (ℕ × ℕ)) (r : Result ℕ ℕ) → length order ≡ 0 → IsSearched a ps r → IsIndexed a ps order r
+indexed-rising a ps order (Ok k) none h = h
+indexed-rising a ps order (Err k) none h = subst (λ xs. IsSearched a xs (Err k)) (sym (none-by_cell ps order none)) h
+
+pub indexed-missing : (a : ℕ) (ps order : List (ℕ × ℕ)) (k : ℕ) → AreOrdered ps order → IsIndexed a ps order (Err k) → Lacks a ps
+indexed-missing a ps [] k o h = missing_rising a ps k h
+indexed-missing a ps (e ∷ es) k o h = missing a ps (e ∷ es) k o h
 
 -- the index that was found is the first, since no other has the cell
 before_place : (a : ℕ) (ps : List (ℕ × ℕ)) (i k : ℕ) → IsDistinct ps → IsPlace a ps i → k < i → (get_or ps k (0, 0)).0 ≢ a
@@ -159,10 +252,10 @@ replaced_back a v w ps i h e =
     rw (get_or-set_same ps i (a, v) (0, 0) h.0, set-set) (ap (set ps i) f ∙ set-get_or ps i (0, 0))
 
 -- a pair added
-pub between-added : (a v least greatest : ℕ) (ps : List (ℕ × ℕ)) → AreBetween least greatest ps → AreBetween (min least a) (max greatest a) (ps ++ (a, v) ∷ [])
-between-added a v least greatest ps b i l = at (cases_lt i (length ps))
+pub between-added : (a v least top : ℕ) (ps : List (ℕ × ℕ)) → AreBetween least top ps → AreBetween (min least a) (max top (a + 1)) (ps ++ (a, v) ∷ [])
+between-added a v least top ps b i l = at (cases_lt i (length ps))
   where
-    at : (i < length ps) ⊎ (length ps ≤ i) → (min least a ≤ (get_or (ps ++ (a, v) ∷ []) i (0, 0)).0) × ((get_or (ps ++ (a, v) ∷ []) i (0, 0)).0 ≤ max greatest a)
+    at : (i < length ps) ⊎ (length ps ≤ i) → (min least a ≤ (get_or (ps ++ (a, v) ∷ []) i (0, 0)).0) × ((get_or (ps ++ (a, v) ∷ []) i (0, 0)).0 < max top (a + 1))
     at (inl m) = let h = b i m in rw (get_or_append_left ps ((a, v) ∷ []) (0, 0) i m) (omega arith, omega arith)
     at (inr m) = rw (get_or_push ps (a, v) (0, 0) i (omega (arith, length_push ps (a, v)))) (omega arith, omega arith)
 
@@ -277,8 +370,8 @@ order-removed p ps order k o h = record {
         let f : (m - 1) + 1 ≡ m = omega arith in
         (m - 1, omega (arith, length-remove order k h.0), ap (λ y. y.1) (get_or-remove_above order k (0, 0) (m - 1) (omega arith) h.0) ∙ ap (λ x. (get_or order x (0, 0)).1) f ∙ e)
 
-pub between-removed : (p : ℕ × ℕ) (least greatest : ℕ) (ps : List (ℕ × ℕ)) → AreBetween least greatest (ps ++ p ∷ []) → AreBetween least greatest ps
-between-removed p least greatest ps b i l =
+pub between-removed : (p : ℕ × ℕ) (least top : ℕ) (ps : List (ℕ × ℕ)) → AreBetween least top (ps ++ p ∷ []) → AreBetween least top ps
+between-removed p least top ps b i l =
     let h = b i (omega (arith, length_push ps p)) in
     let e = ap (λ y. y.0) (get_or_append_left ps (p ∷ []) (0, 0) i l) in
     (omega arith, omega arith)
@@ -288,6 +381,60 @@ pub last_found : (p : ℕ × ℕ) (ps order : List (ℕ × ℕ)) (k : ℕ) → I
 last_found p ps order k o h =
     lacks_at p.0 (ps ++ p ∷ []) (length ps) (missing p.0 (ps ++ p ∷ []) order k o h) (omega (arith, length_push ps p)) (ap (λ y. y.0) (get_or_push ps p (0, 0) (length ps) refl))
 
+-- the same without an order
+rising-popped : (p : ℕ × ℕ) (ps : List (ℕ × ℕ)) → IsRising (ps ++ p ∷ []) → IsRising ps
+rising-popped p ps up i j l m =
+    let r = up i j l (omega (arith, m, length_push ps p)) in
+    let e = ap (λ y. y.0) (get_or_append_left ps (p ∷ []) (0, 0) i (omega (arith, l, m))) in
+    let f = ap (λ y. y.0) (get_or_append_left ps (p ∷ []) (0, 0) j m) in
+    omega (arith, r, e, f)
+
+pub ordered-popped : (p : ℕ × ℕ) (ps order : List (ℕ × ℕ)) (k : ℕ) → AreOrdered (ps ++ p ∷ []) order → IsSearched p.0 order (Err k) → AreOrdered ps order
+ordered-popped p ps [] k o h = rising-popped p ps o
+ordered-popped p ps (e ∷ es) k o h = absurd (last_found p ps (e ∷ es) k o h)
+
 -- a pair added above all others
-pub between-above : (a v least greatest : ℕ) (ps : List (ℕ × ℕ)) → IsAbove a ps → AreBetween least greatest ps → AreBetween (min least a) a (ps ++ (a, v) ∷ [])
-between-above a v least greatest ps over b i l = let h = between-added a v least a ps (λ j m. ((b j m).0, omega (arith, over j m))) i l in (h.0, omega (arith, h.1))
+rising-pushed : (a v : ℕ) (ps : List (ℕ × ℕ)) → IsAbove a ps → IsRising ps → IsRising (ps ++ (a, v) ∷ [])
+rising-pushed a v ps over up =
+    subst IsRising (insert_end ps (a, v)) (rising-added a v ps (length ps) up (omega arith, over, (λ j le l. absurd (omega arith))))
+
+above_all : (a : ℕ) (ps order : List (ℕ × ℕ)) → IsOrderOf ps order → IsAbove a ps → IsSearched a order (Err (length order))
+above_all a ps order o over =
+    (omega arith, (λ j l. let p = o.here j l in let q = over (get_or order j (0, 0)).1 p.0 in omega (arith, p.1)), (λ j le l. absurd (omega arith)))
+
+pub ordered-above : (a v : ℕ) (ps order : List (ℕ × ℕ)) → IsAbove a ps → AreOrdered ps order → AreOrdered (ps ++ (a, v) ∷ []) (with_entry order (a, length ps))
+ordered-above a v ps [] over o = rising-pushed a v ps over o
+ordered-above a v ps (e ∷ es) over o =
+    subst (IsOrderOf (ps ++ (a, v) ∷ [])) (insert_end (e ∷ es) (a, length ps)) (order-added a v ps (e ∷ es) (length (e ∷ es)) o (above_all a ps (e ∷ es) o over))
+
+pub between-above : (a v least top : ℕ) (ps : List (ℕ × ℕ)) → IsAbove a ps → AreBetween least top ps → AreBetween (min least a) (a + 1) (ps ++ (a, v) ∷ [])
+between-above a v least top ps over b i l =
+    let h = between-added a v least (a + 1) ps (λ j m. ((b j m).0, let r = over j m in omega (arith, r))) i l in
+    (h.0, omega (arith, h.1))
+
+-- other words for the same cells
+pub ordered-same : (ps qs order : List (ℕ × ℕ)) → length qs ≡ length ps → ((i : ℕ) → (get_or qs i (0, 0)).0 ≡ (get_or ps i (0, 0)).0) → AreOrdered ps order → AreOrdered qs order
+ordered-same ps qs [] long same o = λ i j l m.
+    let r = o i j l (omega (arith, m, long)) in
+    let e = same i in
+    let f = same j in
+    omega (arith, r, e, f)
+ordered-same ps qs (e ∷ es) long same o = record {
+  rising = o.rising;
+  length_is = o.length_is ∙ sym long;
+  here = λ k l. let p = o.here k l in (omega (arith, p.0, long), same (get_or (e ∷ es) k (0, 0)).1 ∙ p.1);
+  there = λ i l. o.there i (omega (arith, l, long));
+}
+
+pub between-same : (ps qs : List (ℕ × ℕ)) (least top : ℕ) → length qs ≡ length ps → ((i : ℕ) → (get_or qs i (0, 0)).0 ≡ (get_or ps i (0, 0)).0) → AreBetween least top ps → AreBetween least top qs
+between-same ps qs least top long same b i l =
+    let h = b i (omega (arith, l, long)) in
+    let e = same i in
+    (omega (arith, h.0, e), omega (arith, h.1, e))
+
+pub cells-set : (ps : List (ℕ × ℕ)) (i : ℕ) (p : ℕ × ℕ) → IsPlace p.0 ps i → (j : ℕ) → (get_or (set ps i p) j (0, 0)).0 ≡ (get_or ps j (0, 0)).0
+cells-set ps i p h j = at (cases_eq j i)
+  where
+    at : (j ≡ i) ⊎ (j ≢ i) → (get_or (set ps i p) j (0, 0)).0 ≡ (get_or ps j (0, 0)).0
+    at (inl e) = rw (e, get_or-set_same ps i p (0, 0) h.0) (sym h.1)
+    at (inr ne) = ap (λ y. y.0) (get_or-set_other ps i j p (0, 0) ne)

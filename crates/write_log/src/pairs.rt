@@ -1,10 +1,11 @@
-//! The pairs of a write log in order of first write, with their order by cell.
+//! The pairs of a write log in order of first write, and by cell.
 
-ghost use Rattle.std.specs.Prelude.{◌≡◌, true, false, ◌+◌, ◌<◌, ◌≤◌, ◌^◌, [], OnOk, OnErr, length, vec_len};
-ghost use Rattle.std.specs.Prelude.{vec_capacity};
+ghost use Rattle.std.specs.Prelude.{◌≡◌, true, false, ◌+◌, ◌<◌, ◌≤◌, ◌^◌, [], ◌++◌, ◌∷◌, OnOk, OnErr, length};
+ghost use Rattle.std.specs.Prelude.{ℕ, Err, vec_len, vec_capacity};
 ghost use Rattle.std.specs.List.{slice_get, insert};
 ghost use Rattle.write_log.specs.Overlay.{with_write, IsDistinct};
-ghost use Rattle.write_log.specs.inner.Order.{IsAbove, IsRising, IsSearched, IsFound, IsWithinDigits, AreWithin};
+ghost use Rattle.write_log.specs.inner.Order.{IsAbove, IsRising, IsSearched, IsFound, IsWithinDigits, AreBetween};
+ghost use Rattle.write_log.specs.inner.Order.{AreOrdered, IsOrderOf, IsIndexed, by_cell, IsNumbered, with_entry};
 ghost use Rattle.write_log.specs.inner.Journal.{undone, CanUndo};
 
 use crate::looks::Looks;
@@ -20,49 +21,53 @@ pub enum Change {
     Replaced(usize, u64),
 }
 
-/// Each cell with its word, in order of first write, and beside them (cell, index) by cell. All cells lie
-/// between `least` and `greatest`, which stay where pairs are taken back.
+/// Each cell with its word, in order of first write. While the cells rise, this is their order by cell too; else
+/// (cell, index) of each stands beside it by cell. No cell lies below `least`, nor from `above` on, and both stay where
+/// pairs are taken back.
 #[derive(Drop)]
 pub struct Pairs<A: Allocator> {
     list: Vec<(u32, u64), A>,
-    order: Vec<(u32, usize), A>,
+    order: Vec<(u32, u64), A>,
     least: u32,
-    greatest: u32,
+    above: u64,
+    /// For how many pairs there is room, in the list and in an order.
+    most: usize,
 }
 
 impl<A: Allocator> Model for Pairs<A> {
-    ghost use Rattle.std.specs.Prelude.{◌-◌, min, vec_len, vec_capacity};
-    ghost use Rattle.write_log.specs.inner.Order.{Listed, IsOrderOf, AreBetween};
+    ghost use Rattle.std.specs.Prelude.{◌-◌, ◌≤◌, vec_len, vec_capacity};
+    ghost use Rattle.write_log.specs.inner.Order.{Listed, AreOrdered, AreBetween};
 
     ghost Value = { Listed };
 
     ghost view = { λ a. record {
       pairs = a.list.items;
-      room = min (vec_capacity a.list - vec_len a.list) (vec_capacity a.order - vec_len a.order);
+      room = a.most - vec_len a.list;
     } };
 
-    ghost invariant = { λ a. IsOrderOf a.list.items a.order.items × AreBetween a.least a.greatest a.list.items };
+    ghost invariant = { λ a. AreOrdered a.list.items a.order.items × AreBetween a.least a.above a.list.items
+        × (a.most ≤ vec_capacity a.list) × (a.most ≤ vec_capacity a.order) };
 }
 
-/// Where the order has a cell, or where it would be inserted. All its cells lie between these bounds.
+/// Where an order has a cell, or where it would be inserted. No cell of it lies below `least`, nor from `above` on.
 #[inline(never)]
 fn search<L: Ledger>(
-    order: &[(u32, usize)],
+    order: &[(u32, u64)],
     least: u32,
-    greatest: u32,
+    above: u64,
     cell: u32,
     looks: &mut Looks<L>,
 ) -> Result<usize, usize>
     requires rising { IsRising order.now }
-    requires between { AreWithin least greatest order.now }
+    requires between { AreBetween least above order.now }
     ensures found { IsSearched cell order.now result }
     ensures looks { IsWithinDigits (length order.now) looks.old looks.new }
 {
-    // The cells rise, so at most `cell - least` of them lie below this one, and at most `greatest - cell`
-    // above it. Where they lie close together, little is left to be halved: nothing where none is left out.
+    // The cells rise, so at most `cell - least` of them lie below this one, and fewer than `above - cell`
+    // above it. Where they lie close together, little is left to be halved.
     let below = cell.saturating_sub(least) as usize;
-    let above = greatest.saturating_sub(cell) as usize;
-    let mut from = order.len().saturating_sub(above + 1);
+    let rest = above.saturating_sub(u64::from(cell)) as usize;
+    let mut from = order.len().saturating_sub(rest);
     let mut to = order.len().min(below + 1);
     while from < to {
         let middle = from + (to - from) / 2;
@@ -75,35 +80,135 @@ fn search<L: Ledger>(
     Err(from)
 }
 
-/// Searches as `search` does, with a ledger of its own for the looks.
-fn search_uncounted<L: Ledger>(
-    order: &[(u32, usize)],
+/// Where an order has a cell, or where it would be inserted. Nothing is searched outside of these bounds, nor where each
+/// cell between them has its entry.
+#[inline(always)]
+fn seek<L: Ledger>(
+    order: &[(u32, u64)],
     least: u32,
-    greatest: u32,
+    above: u64,
+    cell: u32,
+    looks: &mut Looks<L>,
+) -> Result<usize, usize>
+    requires rising { IsRising order.now }
+    requires between { AreBetween least above order.now }
+    ensures found { IsSearched cell order.now result }
+    ensures looks { IsWithinDigits (length order.now) looks.old looks.new }
+{
+    if cell < least {
+        return Err(0);
+    }
+    if above <= u64::from(cell) {
+        return Err(order.len());
+    }
+    if above - u64::from(least) <= order.len() as u64 {
+        return Ok((cell - least) as usize);
+    }
+    search(order, least, above, cell, looks)
+}
+
+/// The index of a cell's pair, or where the cell would be inserted by cell.
+#[inline(always)]
+fn index_of<L: Ledger>(
+    list: &[(u32, u64)],
+    order: &[(u32, u64)],
+    least: u32,
+    above: u64,
+    cell: u32,
+    looks: &mut Looks<L>,
+) -> Result<usize, usize>
+    requires ordered { AreOrdered list.now order.now }
+    requires between { AreBetween least above list.now }
+    ensures found { IsIndexed cell list.now order.now result }
+    ensures looks { IsWithinDigits (length list.now) looks.old looks.new }
+{
+    if order.is_empty() {
+        return seek(list, least, above, cell, looks);
+    }
+    match seek(order, least, above, cell, looks) {
+        Ok(at) => Ok(order[at].1 as usize),
+        Err(at) => Err(at),
+    }
+}
+
+/// Finds as `index_of` does, with a ledger of its own for the looks.
+#[inline(always)]
+fn index_uncounted<L: Ledger>(
+    list: &[(u32, u64)],
+    order: &[(u32, u64)],
+    least: u32,
+    above: u64,
     cell: u32,
     blank: Blank,
 ) -> Result<usize, usize>
     requires name { blank.name ≡ L.name }
     requires parts { blank.parts ≡ L.parts }
     requires some { 0 < blank.parts }
-    requires rising { IsRising order.now }
-    requires between { AreWithin least greatest order.now }
-    ensures { IsSearched cell order.now result }
+    requires ordered { AreOrdered list.now order.now }
+    requires between { AreBetween least above list.now }
+    ensures { IsIndexed cell list.now order.now result }
 {
-    search(order, least, greatest, cell, &mut Looks::<L>::new(blank))
+    index_of(list, order, least, above, cell, &mut Looks::<L>::new(blank))
 }
 
-/// Searches as `search` does, where nobody counts the looks.
-fn slot_of(order: &[(u32, usize)], least: u32, greatest: u32, cell: u32) -> Result<usize, usize>
-    requires rising { IsRising order.now }
-    requires between { AreWithin least greatest order.now }
-    ensures { IsSearched cell order.now result }
+/// Finds as `index_of` does, where nobody counts the looks.
+#[inline(always)]
+fn slot_of(
+    list: &[(u32, u64)],
+    order: &[(u32, u64)],
+    least: u32,
+    above: u64,
+    cell: u32,
+) -> Result<usize, usize>
+    requires ordered { AreOrdered list.now order.now }
+    requires between { AreBetween least above list.now }
+    ensures { IsIndexed cell list.now order.now result }
 {
-    search_uncounted::<Brand>(order, least, greatest, cell, Blank::new(1))
+    index_uncounted::<Brand>(list, order, least, above, cell, Blank::new(1))
+}
+
+/// Adds an entry at the end of an order, where one is kept.
+#[inline(always)]
+fn push_entry<A: Allocator>(order: &mut Vec<(u32, u64), A>, cell: u32, index: usize)
+    requires room { vec_len order.old < vec_capacity order.old }
+    ensures items { order.new.items ≡ with_entry order.old.items (cell, index) }
+    ensures capacity { vec_capacity order.new ≡ vec_capacity order.old }
+{
+    if !order.is_empty() {
+        order.push_reserved((cell, index as u64));
+    }
+}
+
+/// Makes the order of a list whose cells rise.
+#[inline(never)]
+fn make_order<A: Allocator>(list: &[(u32, u64)], order: &mut Vec<(u32, u64), A>)
+    requires empty { order.old.items ≡ [] }
+    requires room { length list.now ≤ vec_capacity order.old }
+    ensures numbered { IsNumbered list.now order.new.items }
+    ensures capacity { vec_capacity order.new ≡ vec_capacity order.old }
+{
+    while order.len() < list.len() {
+        let index = order.len();
+        order.push_reserved((list[index].0, index as u64));
+    }
+}
+
+/// Makes the order, if none is kept.
+fn keep_order<A: Allocator>(list: &[(u32, u64)], order: &mut Vec<(u32, u64), A>)
+    requires ordered { AreOrdered list.now order.old.items }
+    requires room { length list.now ≤ vec_capacity order.old }
+    ensures order { IsOrderOf list.now order.new.items }
+    ensures same { (cell at : ℕ) → IsSearched cell (by_cell list.now order.old.items) (Err at) →
+        IsSearched cell order.new.items (Err at) }
+    ensures capacity { vec_capacity order.new ≡ vec_capacity order.old }
+{
+    if order.is_empty() {
+        make_order(list, order);
+    }
 }
 
 /// Inserts an entry where there is room.
-fn insert_reserved<A: Allocator>(order: &mut Vec<(u32, usize), A>, at: usize, entry: (u32, usize))
+fn insert_reserved<A: Allocator>(order: &mut Vec<(u32, u64), A>, at: usize, entry: (u32, u64))
     requires within { at ≤ vec_len order.old }
     requires room { vec_len order.old < vec_capacity order.old }
     ensures items { order.new.items ≡ insert order.old.items at entry }
@@ -132,6 +237,20 @@ pub fn reserve_one<T, A: Allocator>(list: &mut Vec<T, A>) -> Result<(), AllocErr
     list.reserve(1)
 }
 
+/// Makes room for so many items in all.
+fn reserve_for<T, A: Allocator>(list: &mut Vec<T, A>, length: usize) -> Result<(), AllocError>
+    requires { vec_len list.old ≤ length }
+    ensures items { list.new.items ≡ list.old.items }
+    ensures room { vec_capacity list.old ≤ vec_capacity list.new }
+    ensures ok { OnOk result (length ≤ vec_capacity list.new) }
+    ensures full { OnErr result (vec_capacity list.old < length) }
+{
+    if length <= list.capacity() {
+        return Ok(());
+    }
+    list.reserve(length - list.len())
+}
+
 impl<A: Allocator + Copy> Pairs<A> {
     /// No pairs. It takes no memory yet.
     pub fn new(alloc: A) -> Pairs<A>
@@ -141,7 +260,8 @@ impl<A: Allocator + Copy> Pairs<A> {
             list: Vec::new(alloc),
             order: Vec::new(alloc),
             least: u32::MAX,
-            greatest: 0,
+            above: 0,
+            most: 0,
         }
     }
 
@@ -154,7 +274,9 @@ impl<A: Allocator + Copy> Pairs<A> {
         ensures full { OnErr result (self.old.room ≡ 0) }
     {
         reserve_one(&mut self.list)?;
-        reserve_one(&mut self.order)
+        reserve_for(&mut self.order, self.list.len() + 1)?;
+        self.most = self.list.capacity().min(self.order.capacity());
+        Ok(())
     }
 
     /// Whether there is room for one more pair.
@@ -163,7 +285,7 @@ impl<A: Allocator + Copy> Pairs<A> {
         ensures room { result ≡ true → 0 < self.now.room }
         ensures none { result ≡ false → self.now.room ≡ 0 }
     {
-        self.list.len() < self.list.capacity() && self.order.len() < self.order.capacity()
+        self.list.len() < self.most
     }
 
     /// The index of a cell's pair, if any. Outside of all cells it is a test, and no call.
@@ -173,17 +295,18 @@ impl<A: Allocator + Copy> Pairs<A> {
         ensures looks { IsWithinDigits (length self.now.pairs) looks.old looks.new }
         ensures distinct { IsDistinct self.now.pairs }
     {
-        if cell < self.least || self.greatest < cell {
+        if cell < self.least || self.above <= u64::from(cell) {
             return None;
         }
-        match search(
+        match index_of(
+            self.list.as_slice(),
             self.order.as_slice(),
             self.least,
-            self.greatest,
+            self.above,
             cell,
             looks,
         ) {
-            Ok(at) => Some(self.order[at].1),
+            Ok(index) => Some(index),
             Err(_) => None,
         }
     }
@@ -193,7 +316,7 @@ impl<A: Allocator + Copy> Pairs<A> {
     fn is_above(&self, cell: u32) -> bool
         ensures { result ≡ true → IsAbove cell self.now.pairs }
     {
-        self.list.is_empty() || self.greatest < cell
+        self.above <= u64::from(cell)
     }
 
     /// Writes a word to a cell, and answers what that changed. A cell above all others needs no search.
@@ -206,10 +329,10 @@ impl<A: Allocator + Copy> Pairs<A> {
         ensures room { self.old.room ≤ self.new.room + 1 }
     {
         if self.is_above(cell) {
-            self.order.push_reserved((cell, self.list.len()));
+            push_entry(&mut self.order, cell, self.list.len());
             self.list.push_reserved((cell, word));
             self.least = self.least.min(cell);
-            self.greatest = cell;
+            self.above = u64::from(cell) + 1;
             return Change::Added;
         }
         self.put_among(cell, word)
@@ -224,18 +347,24 @@ impl<A: Allocator + Copy> Pairs<A> {
         ensures can_undo { CanUndo result self.new.pairs }
         ensures room { self.old.room ≤ self.new.room + 1 }
     {
-        match slot_of(self.order.as_slice(), self.least, self.greatest, cell) {
-            Ok(at) => {
-                let index = self.order[at].1;
+        match slot_of(
+            self.list.as_slice(),
+            self.order.as_slice(),
+            self.least,
+            self.above,
+            cell,
+        ) {
+            Ok(index) => {
                 let before = self.list[index].1;
                 self.list[index] = (cell, word);
                 Change::Replaced(index, before)
             }
             Err(at) => {
-                insert_reserved(&mut self.order, at, (cell, self.list.len()));
+                keep_order(self.list.as_slice(), &mut self.order);
+                insert_reserved(&mut self.order, at, (cell, self.list.len() as u64));
                 self.list.push_reserved((cell, word));
                 self.least = self.least.min(cell);
-                self.greatest = self.greatest.max(cell);
+                self.above = self.above.max(u64::from(cell) + 1);
                 Change::Added
             }
         }
@@ -250,7 +379,8 @@ impl<A: Allocator + Copy> Pairs<A> {
         match change {
             Change::Added => {
                 let (cell, _) = self.list.take_last();
-                if let Ok(at) = slot_of(self.order.as_slice(), self.least, self.greatest, cell) {
+                // An order rises, so it is its own order.
+                if let Ok(at) = slot_of(self.order.as_slice(), &[], self.least, self.above, cell) {
                     self.order.remove(at);
                 }
             }
@@ -285,6 +415,6 @@ impl<A: Allocator + Copy> Pairs<A> {
         self.list.clear();
         self.order.clear();
         self.least = u32::MAX;
-        self.greatest = 0;
+        self.above = 0;
     }
 }

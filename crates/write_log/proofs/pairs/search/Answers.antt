@@ -38,12 +38,12 @@ pub loop-from-init : goal.loop-from-init
 loop-from-init g c =
     let order = c.args.order.now in
     let least = c.args.least in
-    let greatest = c.args.greatest in
+    let above = c.args.above in
     let a = c.args.cell in
     record {
-      rises = (let s = starts order least greatest a c.requires.rising c.requires.between in omega (arith, s));
+      rises = (let s = starts order least above a c.requires.rising c.requires.between in omega (arith, s));
       within = omega arith;
-      below = λ j lt. below_few order least greatest a j c.requires.rising c.requires.between (omega arith);
-      above = λ j le lt. above_few order least greatest a j c.requires.rising c.requires.between (omega arith) lt;
+      below = λ j lt. below_few order least above a j c.requires.rising c.requires.between (omega arith);
+      above = λ j le lt. above_few order least above a j c.requires.rising c.requires.between (omega arith) lt;
       looks = λ digits lt. (digits, omega arith, omega arith);
     }

@@ -1,49 +1,57 @@
-use Rattle.std.proofs.Common.{Ok, Err, subst, ℕ, ◌≡◌, ◌≤◌, ◌+◌, ◌-◌, min, arith}
-use Rattle.write_log.specs.inner.Order.{IsSearched, IsOrderOf, AreBetween}
-use Rattle.write_log.proofs.Order.{order-removed, between-removed, last_found}
+use Rattle.std.proofs.Common.{◌<◌, ℕ, Ok, Err, sym, ap, subst, length, set, arith}
+use Rattle.std.proofs.lemmas.List.{get_or_read}
+use Rattle.std.proofs.Math.ListN.{length-set}
+use Rattle.write_log.specs.inner.Journal.{CanUndo}
+use Rattle.write_log.specs.inner.Order.{Listed, IsSearched, AreOrdered, AreBetween}
+use Rattle.write_log.proofs.Order.{kept, ordered, order-removed, order-rising, order-between, ordered-popped, between-removed, ordered-same, between-same, cells-set}
 use Rattle.write_log.proofs.pairs.Pairs.undo.Goals as goal
+
+pub slot_of-requires-clause-ordered : goal.slot_of-requires-clause-ordered
+slot_of-requires-clause-ordered g c = rw c.as_slice.ensures.value (order-rising c.self.inside.list.items c.self.inside.order.items c.self.invariant.0)
+
+pub slot_of-requires-clause-between : goal.slot_of-requires-clause-between
+slot_of-requires-clause-between g c = rw c.as_slice.ensures.value (order-between c.self.inside.list.items c.self.inside.order.items c.self.inside.least c.self.inside.above c.self.invariant.0 c.self.invariant.1)
 
 pub invariant_of-self : goal.invariant_of-self
 invariant_of-self g c =
     let order = c.self.inside.order.items in
     let ps = c.take_last-cell.new.self.items in
     let p = c.take_last-cell.result in
-    let was = subst (λ xs. IsOrderOf xs order) c.take_last-cell.ensures.items c.self.invariant.0 in
-    let bounds = subst (AreBetween c.self.inside.least c.self.inside.greatest) c.take_last-cell.ensures.items c.self.invariant.1 in
+    let was = subst (λ xs. AreOrdered xs order) c.take_last-cell.ensures.items c.self.invariant.0 in
+    let bounds = subst (AreBetween c.self.inside.least c.self.inside.above) c.take_last-cell.ensures.items c.self.invariant.1 in
     let searched = subst (λ xs. IsSearched p.0 xs (Ok c.in-Ok.at)) c.as_slice.ensures.value c.in-Ok.ensures in
-    rw c.remove.ensures.items (order-removed p ps order c.in-Ok.at was searched, between-removed p c.self.inside.least c.self.inside.greatest ps bounds)
+    let whole = kept _ order (omega (arith, searched.0)) was in (
+      rw c.remove.ensures.items (ordered _ _ (order-removed p ps order c.in-Ok.at whole searched)),
+      between-removed p c.self.inside.least c.self.inside.above ps bounds,
+      omega (arith, c.self.invariant.2, c.take_last-cell.ensures.capacity),
+      omega (arith, c.self.invariant.3, c.remove.ensures.capacity),
+    )
 
 pub invariant_of-self-in_default : goal.invariant_of-self-in_default
 invariant_of-self-in_default g c =
     let order = c.self.inside.order.items in
     let ps = c.take_last-cell.new.self.items in
     let p = c.take_last-cell.result in
-    let was = subst (λ xs. IsOrderOf xs order) c.take_last-cell.ensures.items c.self.invariant.0 in
-    let searched = subst (λ xs. IsSearched p.0 xs (Err c.in_default.field-0)) c.as_slice.ensures.value c.in_default.ensures in
-    absurd (last_found p ps order c.in_default.field-0 was searched)
+    let was = subst (λ xs. AreOrdered xs order) c.take_last-cell.ensures.items c.self.invariant.0 in
+    let bounds = subst (AreBetween c.self.inside.least c.self.inside.above) c.take_last-cell.ensures.items c.self.invariant.1 in
+    let searched = subst (λ xs. IsSearched p.0 xs (Err c.in_default.field-0)) c.as_slice.ensures.value c.in_default.ensures in (
+      ordered-popped p ps order c.in_default.field-0 was searched,
+      between-removed p c.self.inside.least c.self.inside.above ps bounds,
+      omega (arith, c.self.invariant.2, c.take_last-cell.ensures.capacity),
+      c.self.invariant.3,
+    )
 
-more-room : {c l c' l' : ℕ} → c' ≡ c → l' ≤ l → c - l ≤ c' - l'
-more-room same less = omega (arith, same, less)
-
-less-by-one : {l l' : ℕ} → l' + 1 ≡ l → l' ≤ l
-less-by-one e = omega (arith, e)
-
-both-rooms : {p q p' q' : ℕ} → p ≤ p' → q ≤ q' → min p q ≤ min p' q'
-both-rooms a b = omega (arith, a, b)
-
-same-room : {q : ℕ} → q ≤ q
-same-room = omega arith
-
-pub returns-in-Ok-clause-room : goal.returns-in-Ok-clause-room
-returns-in-Ok-clause-room g c =
-    rw (← c.self.view_is)
-    (both-rooms (more-room c.take_last-cell.ensures.capacity (less-by-one c.take_last-cell.ensures.len))
-    (more-room c.remove.ensures.capacity (less-by-one c.remove.ensures.len)))
-
-pub returns-in_default-clause-room : goal.returns-in_default-clause-room
-returns-in_default-clause-room g c =
-    rw (← c.self.view_is)
-    (both-rooms (more-room c.take_last-cell.ensures.capacity (less-by-one c.take_last-cell.ensures.len)) same-room)
-
-pub returns-in-Replaced-clause-room : goal.returns-in-Replaced-clause-room
-returns-in-Replaced-clause-room g c = rw (← c.self.view_is) same-room
+pub invariant_of-self-in-Replaced : goal.invariant_of-self-in-Replaced
+invariant_of-self-in-Replaced g c =
+    let ps = c.self.inside.list.items in
+    let i = c.in-Replaced.index in
+    let p : ℕ × ℕ = (c.index_mut.result.now.0, c.in-Replaced.word) in
+    let within = subst (λ (v : Listed). i < length v.pairs) (sym c.self.view_is) (subst (λ change. CanUndo change c.args.self.now.pairs) c.in-Replaced.is c.requires) in
+    let was = get_or_read ps i c.index_mut.result.now within c.index_mut.ensures.value (0, 0) in
+    let long = length-set ps i p in
+    let same = cells-set ps i p (within, sym (ap (λ y. y.0) was)) in (
+      ordered-same ps (set ps i p) c.self.inside.order.items long same c.self.invariant.0,
+      between-same ps (set ps i p) c.self.inside.least c.self.inside.above long same c.self.invariant.1,
+      c.self.invariant.2,
+      c.self.invariant.3,
+    )
