@@ -133,33 +133,34 @@ def sums(crates, named):
     return {crate: " ".join(own[it] for it in [*below(crate, named), crate]) for crate in crates}
 
 
+def words_of(crate, root, named):
+    """How a crate is checked over what the out/ folders of those below it have."""
+    toolchain, folder = kit(), lambda it: f"{TOP}/crates/{it}/out/rlib"
+    words = [f"{toolchain}/bin/rattle", "check", "--crate-name", crate, root, "--links", f"{crate}=", "--jobs", "1"]
+    row = next(it for it in read(f"{TOP}/crates.txt").splitlines() if it.partition(":")[0].strip() == crate)
+    for it in ["std", *row.partition("#")[0].partition(":")[2].split()]:
+        words += ["--extern", f"{it}={folder(it) if it in named else f'{toolchain}/rlibs'}/{it}.rlib"]
+    for it in [f"{toolchain}/rlibs", *map(folder, below(crate, named))]:
+        words += ["-L", f"dependency={it}"]
+    words += ["--antt-project", f"{toolchain}/rattle/logic/antt-project.json"]
+    return [*words, "--logic-built", f"{toolchain}/logic_built"]
+
+
 def check(crate, texts, named, *more):
     """Checks a copy of the crate with these texts in place of its own; gives the status, the lines and the seconds."""
-    toolchain, top = kit(), f"{TOP}/crates"
-    room = tempfile.TemporaryDirectory(prefix="wrong-body-")
-    with room as room, open(f"{room}/said", "w+", errors="replace") as said:
-        for part in filter(lambda it: os.path.isdir(f"{top}/{crate}/{it}"), PARTS):
-            shutil.copytree(f"{top}/{crate}/{part}", f"{room}/{part}")
+    with tempfile.TemporaryDirectory(prefix="wrong-body-") as room:
+        for part in PARTS:
+            if os.path.isdir(f"{TOP}/crates/{crate}/{part}"):
+                shutil.copytree(f"{TOP}/crates/{crate}/{part}", f"{room}/{part}")
         for path, text in texts.items():
             with open(f"{room}/{path}", "w", encoding="utf-8") as file:
                 file.write(text)
         root = "src/main.rt" if os.path.isfile(f"{room}/src/main.rt") else "src/lib.rt"
-        words = [f"{toolchain}/bin/rattle", "check", "--crate-name", crate, root, "--links", f"{crate}=", "--jobs", "1"]
-        for it in ["std", *read_row(crate)]:
-            words += ["--extern", f"{it}={f'{top}/{it}/out/rlib' if it in named else f'{toolchain}/rlibs'}/{it}.rlib"]
-        for folder in [f"{toolchain}/rlibs", *[f"{top}/{it}/out/rlib" for it in below(crate, named)]]:
-            words += ["-L", f"dependency={folder}"]
-        words += ["--antt-project", f"{toolchain}/rattle/logic/antt-project.json"]
-        words += ["--logic-built", f"{toolchain}/logic_built", *more]
-        status, seconds, _ = measure(words, room, said)
-        said.seek(0)
-        return status, said.read().rstrip("\n").split("\n")[1:], seconds
-
-
-def read_row(crate):
-    """What crates.txt names for a crate, libraries of the toolchain too."""
-    row = next(it for it in read(f"{TOP}/crates.txt").splitlines() if it.partition(":")[0].strip() == crate)
-    return row.partition("#")[0].partition(":")[2].split()
+        with open(f"{room}/said", "w+", encoding="utf-8", errors="replace") as said:
+            status, seconds, _ = measure([*words_of(crate, root, named), *more], room, said)
+            said.seek(0)
+            # (the first line is the command)
+            return status, said.read().rstrip("\n").split("\n")[1:], seconds
 
 
 def verdict(status, lines, texts):
