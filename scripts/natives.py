@@ -1,0 +1,147 @@
+#!/usr/bin/env python3
+"""Holds native programs (scripts/native.py) against the source. Of each program drawn by chance, with sequentially
+consistent accesses and with acquire and release, runs with one thread to four have to be certified: the report has to
+be, byte for byte, what `txc source` prints for the order of transactions that the run wrote down. And runs of native
+programs with a fault planted must not all be certified: validation that passes over a changed word, a lock that is not
+looked at behind a read, a release before the stores, an `unsigned` sum that does not wrap.
+
+    scripts/natives.py [PROGRAMS [TXC]]
+
+PROGRAMS is how many are drawn, 1,000 if it is not given. TXC is the program, crates/txc/out/txc if it is not given,
+which `cd crates/txc && rt run -- --version` builds; the one of scripts/quick_build.py will do. Left out, and counted,
+are runs that stop, whose order is too long for a command line, or whose source uses up its ticks.
+"""
+
+import collections
+import os
+import shutil
+import subprocess
+import sys
+import tempfile
+
+import native
+from programs import WEIGHTS, Program, text_of
+
+# What a word of the command line may have.
+LONGEST = 131_000
+RUNS = 10
+# Money goes from account to account, and their sum is looked at before each transfer, and in it.
+CONTENDED = """int account[512];
+unsigned wrong;
+int sum(void) {
+    int sum = 0;
+    for (int k = 0; k < 512; k++) sum += account[k];
+    return sum;
+}
+void worker(int self) {
+    int lost = 0;
+    for (int i = 0; i < 200; i++) {
+        if (__transaction_atomic (sum()) != 0) lost++;
+        __transaction_atomic {
+            if (sum() != 0) wrong++;
+            account[(97 * self + 31 * i) & 511] -= 1;
+            account[(59 * self + 83 * i) & 511] += 1;
+        }
+    }
+    printf("%d sums lost", lost);
+}
+"""
+WRAPS = """int x;
+void worker(int self) {
+    unsigned u = 4294967295u;
+    unsigned v = u + (unsigned)self + 1u;
+    if (v != (unsigned)self) { printf("%d", 1); }
+    __transaction_atomic { x = (v >> 31) > 0u; }
+}
+"""
+# A fault: a program that shows it, a header, and what stands there in place of what.
+FAULTS = {
+    "validation passes over a changed word": (
+        CONTENDED,
+        "machine.h",
+        "                return DROPPED;\n        FENCE(acquire);",
+        "                continue;\n        FENCE(acquire);",
+    ),
+    "the lock is not looked at behind a read": (
+        CONTENDED,
+        "machine.h",
+        "if (SELDOM(atomic_load_explicit(&lock, LOAD_BEHIND) != t->snapshot)) {",
+        "if (0) {",
+    ),
+    "the lock is released before the stores": (
+        CONTENDED,
+        "machine.h",
+        "    FENCE(release);\n",
+        "    atomic_store_explicit(&lock, t->snapshot + 2, STORE);\n",
+    ),
+    "an unsigned sum does not wrap": (
+        WRAPS,
+        "operators.h",
+        "*to = U(U(a) + U(b));",
+        "*to = (uint64_t)U(a) + U(b);",
+    ),
+}
+
+
+def is_certified(program, exe, threads):
+    """Whether a run is that of its order, and why it is left out, if it is."""
+    with tempfile.NamedTemporaryFile("r") as order:
+        ran = subprocess.run([exe, "--threads", str(threads), "--order-file", order.name], capture_output=True)
+        if ran.returncode not in (0, 3):
+            return None, f"status {ran.returncode}"
+        turns = order.read().strip()
+    if len(turns) > LONGEST:
+        return None, "a long order"
+    words = [native.txc(), "source", program, "--threads", str(threads), "--order", turns, "--ticks", "1000000"]
+    source = subprocess.run(words, capture_output=True)
+    if b": spent" in source.stdout:
+        return None, "spent ticks"
+    return (ran.stdout, ran.returncode) == (source.stdout, source.returncode), None
+
+
+def hold(seed, room, came):
+    """Holds runs of the program of a seed."""
+    program = f"{room}/program.c"
+    native.write(program, text_of(Program(seed, 4, WEIGHTS).items()))
+    for is_weak in (False, True):
+        native.compiled(native.text_of(program), f"{room}/program", is_weak=is_weak)
+        for threads in (1, 2, 3, 4):
+            certified, why = is_certified(program, f"{room}/program", threads)
+            came["certified" if certified else f"left out ({why})" if certified is None else "not certified"] += 1
+            if certified is False:
+                shutil.copy(program, f"/tmp/natives-{seed}.c")
+                print(f"seed {seed}, {threads} threads{', weak' * is_weak}: NOT CERTIFIED: /tmp/natives-{seed}.c")
+
+
+def refused(name, room):
+    """How many runs of a program with a fault planted are not certified."""
+    text, header, old, new = FAULTS[name]
+    headers = f"{room}/headers"
+    shutil.copytree(native.HEADERS, headers, dirs_exist_ok=True)
+    right = native.read(f"{headers}/{header}")
+    if right.count(old) != 1:
+        sys.exit(f"{header} has no place for the fault that {name}")
+    native.write(f"{headers}/{header}", right.replace(old, new))
+    native.write(f"{room}/fault.c", text)
+    native.compiled(native.text_of(f"{room}/fault.c"), f"{room}/fault", headers=headers)
+    return sum(is_certified(f"{room}/fault.c", f"{room}/fault", 4)[0] is False for _ in range(RUNS))
+
+
+def main():
+    count = int(sys.argv[1]) if len(sys.argv) > 1 else 1000
+    os.environ["TXC"] = os.path.abspath(sys.argv[2]) if len(sys.argv) > 2 else f"{native.TOP}/crates/txc/out/txc"
+    came = collections.Counter()
+    with tempfile.TemporaryDirectory(prefix="natives-") as room:
+        for seed in range(1, count + 1):
+            hold(seed, room, came)
+        print(f"{count} programs: {', '.join(f'{many} runs {what}' for what, many in came.most_common())}")
+        unseen = []
+        for name in FAULTS:
+            many = refused(name, room)
+            print(f"{name}: {many} of {RUNS} runs not certified")
+            unseen += [name] * (many == 0)
+    return 1 if unseen or came["not certified"] else 0
+
+
+if __name__ == "__main__":
+    sys.exit(main())
