@@ -1,6 +1,5 @@
 -- What the list of steps that the rule keeps says of order in time, from the machine's laws.
-use Rattle.std.proofs.Common.{◌≡◌, ◌≤◌, ◌^◌, ℕ, List, ◌++◌, sym, ap, subst}
-use Rattle.syntax.specs.Behaviours.{Behaviour, Means}
+use Rattle.std.proofs.Common.{ℕ, List, ◌++◌, sym, subst}
 use Rattle.bytecode.specs.Code.{Configuration, effect}
 use Rattle.bytecode.specs.Beginning.{beginning}
 use Rattle.bytecode.specs.Initial.{initial_of}

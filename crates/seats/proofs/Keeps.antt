@@ -28,8 +28,8 @@ use Rattle.bytecode.specs.Valid.{bounds_of}
 use Rattle.bytecode.proofs.Fits.{fits_cells}
 use Rattle.machine.proofs.answers.Hearing.{answer_fits}
 use Rattle.seats.proofs.Codes.{initial_fits, word_fits}
-use Rattle.seats.specs.Setup.{IsPrefix, IsTraceOf, IsWorldOf, Setup, IsPartAfter}
-use Rattle.seats.proofs.Traces.{begins_on, begins_self, counted_once, stands_here, turns_begin, world_is}
+use Rattle.seats.specs.Setup.{IsPartAfter, IsPrefix, IsTraceOf, Setup}
+use Rattle.seats.proofs.Traces.{begins_on, begins_self, counted_once, ruled_world, stands_here, turns_begin}
 use Rattle.seats.proofs.Traces as traces
 use Rattle.seats.specs.Views.{Among, ViewPart, Views, parts_in, parts_of}
 use Rattle.seats.specs.Rule.{Fits, IsRuled, SeatView, Sits, Took, TookAs, more_heard, reply}
@@ -78,13 +78,13 @@ module _ (key : Setup) where
 
     grows : rule.world.lock ≤ lock_after rule.world.lock x
     grows =
-        let r = pauses (effect key.code) (beginning key.code) (initial_of key.code) key.threads k p.number p.part now p.heard w.lock w.words w.parts rule.heard rule.answered mine.part mine.answers pause in
+        let r = pauses (effect key.code) (beginning key.code) (initial_of key.code) key.threads k p.number p.part now p.heard w.lock w.words w.parts rule.heard (ruled_world key words views rule) mine.part mine.answers pause in
         subst (λ (y : Access). rule.world.lock ≤ lock_after rule.world.lock y) is
         (lock_grows (effect key.code) (beginning key.code) (bounds_of key.code) (initial_of key.code) (initial_fits key.code) (fits_cells key.code rule.valid) key.threads _ rule.heard r p.number now (get-set_same w.parts p.number now p.part mine.part))
 
     names_cell : AccessFits (length (bounds_of key.code)) x
     names_cell =
-        let r = pauses (effect key.code) (beginning key.code) (initial_of key.code) key.threads k p.number p.part now p.heard w.lock w.words w.parts rule.heard rule.answered mine.part mine.answers pause in
+        let r = pauses (effect key.code) (beginning key.code) (initial_of key.code) key.threads k p.number p.part now p.heard w.lock w.words w.parts rule.heard (ruled_world key words views rule) mine.part mine.answers pause in
         subst (AccessFits (length (bounds_of key.code))) is
         (within (effect key.code) (beginning key.code) (bounds_of key.code) (initial_of key.code) (initial_fits key.code) (fits_cells key.code rule.valid) key.threads _ rule.heard r p.number now (get-set_same w.parts p.number now p.part mine.part))
 
@@ -138,7 +138,6 @@ module _ (key : Setup) where
       words_are = refl;
       valid = rule.valid;
       is_trace = turned;
-      answered = world_is key made after heard_after turned;
       once = λ number. let c = parts_in-set number views id (p ∷ []) (u ∷ []) at in (omega arith) ∙ rule.once number;
       fits = fits_after;
     }
@@ -150,7 +149,7 @@ module _ (key : Setup) where
       leaves = ap (λ (s : Setup). record p { part = part_after rule.world.words now (step_with (effect s.code) now.thread a); heard = more_heard p.heard x a; seen = made; made = p.made + suc k } ∷ []) (sym same);
       answers = answer_fits x rule.world.lock rule.world.words;
       word = subst (λ (s : Setup). IsWordOf s.code x a) (sym same)
-          (word_fits key.code x rule.world.lock rule.world.words names_cell (memory (effect key.code) (beginning key.code) (bounds_of key.code) (initial_of key.code) (initial_fits key.code) (fits_cells key.code rule.valid) key.threads rule.world rule.heard rule.answered));
+          (word_fits key.code x rule.world.lock rule.world.words names_cell (memory (effect key.code) (beginning key.code) (bounds_of key.code) (initial_of key.code) (initial_fits key.code) (fits_cells key.code rule.valid) key.threads rule.world rule.heard (ruled_world key words views rule)));
       since = since_after;
       seen = begins_on p.seen rule.trace made mine.seen longer;
       stands = subst (λ (s : Setup). IsPartAfter s made p.number (part_after rule.world.words now (step_with (effect s.code) now.thread a)) (more_heard p.heard x a)) (sym same) stands_after;

@@ -10,7 +10,7 @@ use Rattle.bytecode.specs.Valid.{bounds_of}
 use Rattle.bytecode.proofs.Fits.{fits_cells}
 use Rattle.seats.proofs.Codes.{initial_fits}
 use Rattle.seats.specs.Setup.{Setup, IsPartAfter, world_of}
-use Rattle.seats.proofs.Traces.{begins_self, stands_here}
+use Rattle.seats.proofs.Traces.{begins_self, ruled_world, stands_here}
 use Rattle.machine.specs.Worlds.{World}
 use Rattle.bytecode.specs.Code.{Configuration}
 use Rattle.seats.specs.Views.{Among, ViewPart, all_floored, first_of, with_floor, parts_of, without_first}
@@ -45,7 +45,6 @@ module _ (key : Setup) where
     heard = rule.heard;
     valid = rule.valid;
     words_are = rule.words_are;
-    answered = rule.answered;
     once = λ n.
         let a = parts_in-append n (set s.views id left) (right ∷ []) in
         let b = parts_in-set n s.views id v left at in
@@ -80,7 +79,6 @@ module _ (key : Setup) where
         heard = rule.heard;
         valid = rule.valid;
         words_are = rule.words_are;
-        answered = rule.answered;
         once = λ n.
             let a = parts_in-set n s.views id v (v ++ w) at in
             let b = parts_in-set n (set s.views id (v ++ w)) other w [] there in
@@ -119,7 +117,6 @@ module _ (key : Setup) where
           heard = rule.heard;
           valid = rule.valid;
           words_are = set-get_or s.words 0 0 ∙ rule.words_are;
-          answered = rule.answered;
           once = λ number. let a = parts_in-set number s.views id me.0 (all_floored n rule.trace me.0) at in let b = same_counts number n rule.trace me.0 in (omega arith) ∙ rule.once number;
           fits = λ seat view q e a. ⊎_elim
               (λ (h : (seat ≡ id) × (all_floored n rule.trace me.0 ≡ view)).
@@ -135,8 +132,8 @@ module _ (key : Setup) where
           refl,
           λ p a.
               let f = rule.fits id me.0 p at a in
-              let ok = answers_ok (effect key.code) (beginning key.code) (bounds_of key.code) (initial_of key.code) (initial_fits key.code) (fits_cells key.code rule.valid) key.threads rule.world rule.heard rule.answered p.number p.part p.heard f.part f.answers in
-              let below = numbers_below (effect key.code) (beginning key.code) (bounds_of key.code) (initial_of key.code) (initial_fits key.code) (fits_cells key.code rule.valid) key.threads rule.world rule.heard rule.answered p.number p.part f.part in
+              let ok = answers_ok (effect key.code) (beginning key.code) (bounds_of key.code) (initial_of key.code) (initial_fits key.code) (fits_cells key.code rule.valid) key.threads rule.world rule.heard (ruled_world key s.words s.views rule) p.number p.part p.heard f.part f.answers in
+              let below = numbers_below (effect key.code) (beginning key.code) (bounds_of key.code) (initial_of key.code) (initial_fits key.code) (fits_cells key.code rule.valid) key.threads rule.world rule.heard (ruled_world key s.words s.views rule) p.number p.part f.part in
               subst (λ (l : ℕ). MayBeFloor l rule.trace p) (sym is) (record {
                 locks = ok.bounded;
                 below = below;

@@ -4,7 +4,7 @@ use Rattle.std.specs.Prelude.{if◌then◌else◌, nat_lt}
 use Rattle.std.proofs.lemmas.Bool.Decides.{eqb_tells, leb_tells}
 use mathlib.Core.Option.{some, some-ne-none, some-injective}
 use lib.ListN.{get_elem?}
-use Rattle.machine.specs.Answered.{Answered, Heard}
+use Rattle.machine.specs.Answered.{Heard}
 use Rattle.bytecode.specs.Code.{Configuration}
 use Rattle.machine.specs.Worlds.{new_part, new_parts, new_world}
 use Rattle.bytecode.specs.Valid.{IsValid}
@@ -97,7 +97,6 @@ module _ (key : Setup) where
     heard = replicate key.threads [];
     words_are = e;
     valid = valid;
-    answered = Answered.new;
     once = λ number. (let c : parts_of number (first_view key) + 0 ≡ parts_of number (first_view key) = omega arith in c) ∙ counts number;
     fits = one;
   }

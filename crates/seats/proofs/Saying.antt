@@ -17,6 +17,7 @@ use Rattle.bytecode.specs.Initial.{initial_of}
 use Rattle.bytecode.specs.Valid.{IsValid, bounds_of}
 use Rattle.bytecode.proofs.Fits.{fits_cells}
 use Rattle.seats.proofs.Codes.{initial_fits}
+use Rattle.seats.proofs.Traces.{ruled_world}
 use Rattle.seats.specs.Setup.{IsWorldOf, Setup}
 use Rattle.seats.specs.Views.{Among, ViewPart, Views, parts_in, parts_of}
 use Rattle.seats.specs.Rule.{IsRuled}
@@ -69,11 +70,11 @@ module _ (key : Setup) (w : World Configuration) (heard : List (List Heard)) (va
       }
 
 pub says : (key : Setup) (words : List ℕ) (views : Views) (rule : IsRuled key words views) → RuleSays key words views rule
-says key words views rule = (runs_say key rule.world rule.heard rule.valid rule.answered, drops_say key rule.world rule.heard rule.valid rule.answered, seen, each)
+says key words views rule = (runs_say key rule.world rule.heard rule.valid (ruled_world key words views rule), drops_say key rule.world rule.heard rule.valid (ruled_world key words views rule), seen, each)
   where
     seen : AllAreSeen rule.world views
     seen t p e =
-        let r = runs (effect key.code) (beginning key.code) (bounds_of key.code) (initial_of key.code) (initial_fits key.code) (fits_cells key.code rule.valid) key.threads rule.world rule.heard rule.answered in
+        let r = runs (effect key.code) (beginning key.code) (bounds_of key.code) (initial_of key.code) (initial_fits key.code) (fits_cells key.code rule.valid) key.threads rule.world rule.heard (ruled_world key words views rule) in
         let count = (r.2 r.0 r.1).count in
         let below = slice_get_within rule.world.parts t p e in
         let one = rule.once t in
@@ -87,8 +88,8 @@ says key words views rule = (runs_say key rule.world rule.heard rule.valid rule.
     each seat view p at a =
         let f = rule.fits seat view p at a in
         record {
-          answers = answers_ok (effect key.code) (beginning key.code) (bounds_of key.code) (initial_of key.code) (initial_fits key.code) (fits_cells key.code rule.valid) key.threads rule.world rule.heard rule.answered p.number p.part p.heard f.part f.answers;
-          below = numbers_below (effect key.code) (beginning key.code) (bounds_of key.code) (initial_of key.code) (initial_fits key.code) (fits_cells key.code rule.valid) key.threads rule.world rule.heard rule.answered p.number p.part f.part;
+          answers = answers_ok (effect key.code) (beginning key.code) (bounds_of key.code) (initial_of key.code) (initial_fits key.code) (fits_cells key.code rule.valid) key.threads rule.world rule.heard (ruled_world key words views rule) p.number p.part p.heard f.part f.answers;
+          below = numbers_below (effect key.code) (beginning key.code) (bounds_of key.code) (initial_of key.code) (initial_fits key.code) (fits_cells key.code rule.valid) key.threads rule.world rule.heard (ruled_world key words views rule) p.number p.part f.part;
           floor = f.floor;
           since = f.since;
         }

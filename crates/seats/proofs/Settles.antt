@@ -1,5 +1,5 @@
 -- A seat brings its thread's last local steps into the list.
-use Rattle.std.proofs.Common.{◌≡◌, ◌≢◌, ℕ, ◌+◌, ◌==◌, Bool, true, false, List, [], ◌∷◌, ◌++◌, get_or, replicate, set, refl, sym, ap, ◌∙◌, subst, Some, arith, ◌⊎◌, ◌≤◌, inl, inr, ⊎_elim}
+use Rattle.std.proofs.Common.{◌≡◌, ◌≢◌, ℕ, ◌+◌, ◌==◌, true, false, List, [], ◌∷◌, ◌++◌, get_or, replicate, set, refl, sym, ap, ◌∙◌, subst, Some, arith, ◌⊎◌, ◌≤◌, inl, inr, ⊎_elim}
 use Rattle.std.specs.Prelude.{nat_lt}
 use Rattle.std.proofs.lemmas.Bool.Decides.{eqb_tells}
 use Rattle.std.proofs.lemmas.List.{set-get_or}
@@ -12,12 +12,12 @@ use Rattle.bytecode.specs.Code.{Configuration, effect}
 use Rattle.machine.specs.Answered.{after_local_steps}
 use Rattle.machine.specs.Worlds.{Part, World}
 use Rattle.machine.proofs.steps.Worlds.{get-set_other, get-set_same}
-use Rattle.seats.specs.Setup.{IsPrefix, IsTraceOf, Setup, IsPartAfter}
+use Rattle.seats.specs.Setup.{IsPartAfter, IsPrefix, IsTraceOf, Setup}
 use Rattle.seats.specs.Views.{Among, ViewPart, Views, parts_in}
 use Rattle.seats.specs.Rule.{Fits, IsRuled, SeatView, Settled, SettledAs, SitsAfter}
 use Rattle.seats.proofs.Keeps.{apart, at_most_one}
 use Rattle.seats.proofs.Parts.{among_one, parts_in-set}
-use Rattle.seats.proofs.Traces.{begins_on, begins_self, stands_here, world_is}
+use Rattle.seats.proofs.Traces.{begins_on, begins_self, stands_here}
 use Rattle.seats.proofs.Traces as traces
 
 -- a swap of a value for itself leaves the word
@@ -88,7 +88,6 @@ module _ (key : Setup) (words : List ℕ) (views : Views) (rule : IsRuled key wo
     words_are = rule.words_are;
     valid = rule.valid;
     is_trace = there;
-    answered = world_is key longer after rule.heard there;
     once = λ number. let c = parts_in-set number views id (p ∷ []) (u ∷ []) at in (omega arith) ∙ rule.once number;
     fits = fits_after;
   }

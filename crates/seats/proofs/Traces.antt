@@ -1,5 +1,5 @@
 -- Lists of steps with what each thread was answered, by the steps of one thread.
-use Rattle.std.proofs.Common.{◌≡◌, ℕ, zero, suc, Bool, true, false, List, [], ◌∷◌, ◌++◌, Option, Some, None, append-nil, append_assoc, true≢false, replicate, set, set-set, slice_get, refl, sym, ap, ◌∙◌, subst}
+use Rattle.std.proofs.Common.{◌≡◌, ℕ, zero, suc, true, false, List, [], ◌∷◌, ◌++◌, Some, append-nil, append_assoc, true≢false, replicate, set, set-set, slice_get, refl, sym, ap, ◌∙◌, subst}
 use Rattle.norec_core.specs.declared.step.Access.{Access}
 use Rattle.norec_core.specs.declared.step.Access.TheVariants.{Local}
 use Rattle.norec_core.specs.declared.step.Answer.TheVariants.{Done}
@@ -8,15 +8,16 @@ use Rattle.bytecode.specs.Code.{Configuration, effect}
 use Rattle.bytecode.specs.Effects.{Effect}
 use Rattle.bytecode.specs.Beginning.{beginning}
 use Rattle.bytecode.specs.Initial.{initial_of}
-use Rattle.machine.specs.Answered.{Answered, Heard, after_local_steps, hearing, is_local, local_step}
-use Rattle.machine.specs.Serializable.{world_after}
-use Rattle.machine.specs.Traces.{DoesNotStop, RunsOn, heard_of, heard_run}
+use Rattle.machine.specs.Answered.{Heard, after_local_steps, hearing, is_local, local_step}
+use Rattle.machine.specs.Traces.{DoesNotStop, heard_of}
 use Rattle.machine.specs.Threads.{access, step_with}
-use Rattle.machine.specs.Worlds.{Part, World, answer, lock_after, new_world, part_after, run, step, step_of, words_after}
+use Rattle.machine.specs.Worlds.{Part, World, answer, lock_after, new_world, part_after, step, step_of, words_after}
 use Rattle.machine.proofs.answers.Answering.{after_step, hears, if_some, local_is, set_same}
 use Rattle.machine.proofs.answers.Quiet.{local_part}
-use Rattle.machine.proofs.answers.Traces.{answered}
+use Rattle.machine.proofs.answers.Traces.{answered, heard-append, run-append, runs-append}
 use Rattle.machine.proofs.steps.Worlds.{get-set_same}
+use Rattle.seats.specs.Rule.{IsRuled}
+use Rattle.seats.specs.Views.{Views}
 use Rattle.seats.specs.Setup.{AreMade, IsPrefix, IsPart, IsTraceOf, IsWorldOf, Setup, IsPartAfter, heard_by, world_of}
 
 pub begins_self : (ts : List ℕ) → IsPrefix ts ts
@@ -24,20 +25,6 @@ begins_self ts = ([], sym (append-nil ts))
 
 pub begins_on : (ts us vs : List ℕ) → IsPrefix ts us → IsPrefix us vs → IsPrefix ts vs
 begins_on ts us vs f g = (f.0 ++ g.0, g.1 ∙ ap (λ (l : List ℕ). l ++ g.0) f.1 ∙ append_assoc ts f.0 g.0)
-
--- (these three stand in machine/proofs/answers/Traces, where they are private)
-module _ (code : Configuration → Effect Configuration) where
-  run-append : (ts us : List ℕ) (w : World Configuration) → run code (ts ++ us) w ≡ run code us (run code ts w)
-  run-append [] us w = refl
-  run-append (t ∷ ts) us w = run-append ts us (step code w t)
-
-  heard-append : (ts us : List ℕ) (w : World Configuration) (heard : List (List Heard)) → heard_run code (ts ++ us) w heard ≡ heard_run code us (run code ts w) (heard_run code ts w heard)
-  heard-append [] us w heard = refl
-  heard-append (t ∷ ts) us w heard = heard-append ts us (step code w t) (heard_of code w heard t (slice_get w.parts t) (slice_get heard t))
-
-  runs-append : (ts us : List ℕ) (w : World Configuration) → RunsOn code ts w → RunsOn code us (run code ts w) → RunsOn code (ts ++ us) w
-  runs-append [] us w f g = g
-  runs-append (t ∷ ts) us w f g = (f.0, runs-append ts us (step code w t) f.1 g)
 
 module _ (key : Setup) where
   abbrev new : World Configuration
@@ -52,6 +39,10 @@ module _ (key : Setup) where
 
   pub world_is : (ts : List ℕ) (w : World Configuration) (heard : List (List Heard)) → IsTraceOf key ts w heard → IsWorldOf key w heard
   world_is ts w heard g = subst (λ (z : World Configuration × List (List Heard)). IsWorldOf key z.0 z.1) (λ i. (sym g.world i, sym g.answers i)) (answered_by ts g.steps)
+
+  -- the rule's world
+  pub ruled_world : (words : List ℕ) (views : Views) (rule : IsRuled key words views) → IsWorldOf key rule.world rule.heard
+  ruled_world words views rule = world_is rule.trace rule.world rule.heard rule.is_trace
 
   pub is_part : (ts : List ℕ) (number : ℕ) (p : Part Configuration) (hs : List Heard) → IsPartAfter key ts number p hs → IsPart key number p hs
   is_part ts number p hs s = record { world = world_of key ts; heard = heard_by key ts; answered = answered_by ts s.steps; part = s.part; answers = s.answers }

@@ -530,8 +530,14 @@ impl<A: Allocator + Copy> Worker<A> {
     }
 
     /// From now on neither thread is answered a lock value below what either was answered so far, nor one that is not
-    /// above the number of a transaction of either that took the lock. So what one of them begins later stands in every
-    /// run after what both have done. It loads the lock for each of the two.
+    /// above the number of a transaction of either that took the lock.
+    ///
+    /// Both have then seen the same steps of all threads, in the order in which they were made, among them all that
+    /// either of the two has made or seen. So what one of them begins later stands behind all that had taken effect in
+    /// these steps, whoever made them and also where it stored nothing, in the order of all that takes effect until the
+    /// hall is closed (`what_is_begun_after_a_meeting_stands_behind`). An attempt that is open now is not placed by it.
+    ///
+    /// It loads the lock for each of the two, and before that swaps the lock for itself, if at all, once for each.
     pub fn meet(&mut self, hall: &Hall<A>, other: &mut Worker<A>)
         requires mine { IsWorkerOf (table_of hall.now) (setup_of hall.now) self.old }
         requires theirs { IsWorkerOf (table_of hall.now) (setup_of hall.now) other.old }

@@ -29,7 +29,9 @@ fn in_order_with_a_meeting() -> &'static [Turn] {
     &TURNS
 }
 
-/// Whether worker 1 reads what worker 0 wrote.
+/// Whether worker 1 reads what worker 0 wrote. Where the two have met before, its text follows from contracts: what it
+/// begins then stands behind worker 0's transaction (`workers::laws::what_is_begun_after_a_meeting_stands_behind`).
+/// Without a meeting no contract says that it does.
 fn reads_it(alloc: Global, turns: &[Turn]) -> bool {
     match open_hall(alloc, looks(), 2) {
         Ok((hall, mut workers)) => {
