@@ -1,0 +1,6 @@
+-- a turn is steps of its thread alone
+pub mod Turns
+-- orders of turns are lists of steps
+pub mod Ordering
+-- orders of the source are orders of turns
+pub mod Sourced
