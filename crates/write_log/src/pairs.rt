@@ -1,11 +1,12 @@
 //! The pairs of a write log in order of first write, and by cell.
 
-ghost use Rattle.std.specs.Prelude.{◌≡◌, true, false, ◌+◌, ◌<◌, ◌≤◌, ◌^◌, [], ◌++◌, ◌∷◌, OnOk, OnErr, length};
+ghost use Rattle.std.specs.Prelude.{◌≡◌, true, false, ◌+◌, ◌<◌, ◌≤◌, ◌^◌, [], OnOk, OnErr, IfSome, length};
 ghost use Rattle.std.specs.Prelude.{ℕ, Err, vec_len, vec_capacity};
 ghost use Rattle.std.specs.List.{slice_get, insert};
 ghost use Rattle.write_log.specs.Overlay.{with_write, IsDistinct};
-ghost use Rattle.write_log.specs.inner.Order.{IsAbove, IsRising, IsSearched, IsFound, IsWithinDigits, AreBetween};
-ghost use Rattle.write_log.specs.inner.Order.{AreOrdered, IsOrderOf, IsIndexed, by_cell, IsNumbered, with_entry};
+ghost use Rattle.write_log.specs.inner.Order.{IsAbove, IsRising, IsSearched, IsFound, IsPlace, IsWithinDigits};
+ghost use Rattle.write_log.specs.inner.Order.{AreOrdered, AreBetween, IsOrderOf, IsIndexed, by_cell, IsNumbered};
+ghost use Rattle.write_log.specs.inner.Order.{with_entry};
 ghost use Rattle.write_log.specs.inner.Journal.{undone, CanUndo};
 
 use crate::looks::Looks;
@@ -165,6 +166,28 @@ fn slot_of(
     ensures { IsIndexed cell list.now order.now result }
 {
     index_uncounted::<Brand>(list, order, least, above, cell, Blank::new(1))
+}
+
+/// The index of a cell's pair where all cells between the bounds are written and rise, so that nothing is called.
+#[inline(always)]
+fn dense_index(
+    list: &[(u32, u64)],
+    order: &[(u32, u64)],
+    least: u32,
+    above: u64,
+    cell: u32,
+) -> Option<usize>
+    requires ordered { AreOrdered list.now order.now }
+    requires between { AreBetween least above list.now }
+    ensures { IfSome result (λ index. IsPlace cell list.now index) }
+{
+    if !order.is_empty() || cell < least || above <= u64::from(cell) {
+        return None;
+    }
+    if above - u64::from(least) > list.len() as u64 {
+        return None;
+    }
+    Some((cell - least) as usize)
 }
 
 /// Adds an entry at the end of an order, where one is kept.
@@ -347,6 +370,41 @@ impl<A: Allocator + Copy> Pairs<A> {
         ensures can_undo { CanUndo result self.new.pairs }
         ensures room { self.old.room ≤ self.new.room + 1 }
     {
+        match dense_index(
+            self.list.as_slice(),
+            self.order.as_slice(),
+            self.least,
+            self.above,
+            cell,
+        ) {
+            Some(index) => self.replace(index, cell, word),
+            None => self.put_searched(cell, word),
+        }
+    }
+
+    /// Writes a word to the cell of the pair at an index.
+    #[inline(always)]
+    fn replace(&mut self, index: usize, cell: u32, word: u64) -> Change
+        requires { IsPlace cell self.old.pairs index }
+        ensures pairs { self.new.pairs ≡ with_write cell word self.old.pairs }
+        ensures undone { undone result self.new.pairs ≡ self.old.pairs }
+        ensures can_undo { CanUndo result self.new.pairs }
+        ensures room { self.new.room ≡ self.old.room }
+    {
+        let before = self.list[index].1;
+        self.list[index] = (cell, word);
+        Change::Replaced(index, before)
+    }
+
+    /// Writes a word to a cell that is searched.
+    #[inline(never)]
+    fn put_searched(&mut self, cell: u32, word: u64) -> Change
+        requires { 0 < self.old.room }
+        ensures pairs { self.new.pairs ≡ with_write cell word self.old.pairs }
+        ensures undone { undone result self.new.pairs ≡ self.old.pairs }
+        ensures can_undo { CanUndo result self.new.pairs }
+        ensures room { self.old.room ≤ self.new.room + 1 }
+    {
         match slot_of(
             self.list.as_slice(),
             self.order.as_slice(),
@@ -354,11 +412,7 @@ impl<A: Allocator + Copy> Pairs<A> {
             self.above,
             cell,
         ) {
-            Ok(index) => {
-                let before = self.list[index].1;
-                self.list[index] = (cell, word);
-                Change::Replaced(index, before)
-            }
+            Ok(index) => self.replace(index, cell, word),
             Err(at) => {
                 keep_order(self.list.as_slice(), &mut self.order);
                 insert_reserved(&mut self.order, at, (cell, self.list.len() as u64));
