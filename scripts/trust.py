@@ -41,6 +41,9 @@ PROMISES = (
     ("`serve`: all of these", "AnswersRequest WritesFor IsRefused"),
 )
 
+# What of them is said by the source, with the code that `listing` prints and that means it; the rest speaks of the machine.
+BY_SOURCE = "SaysAccepted PrintsListing PrintsReport RunsInSomeOrder PrintsOutcomes IsRefused"
+
 
 @functools.lru_cache(maxsize=None)
 def read(path):
@@ -385,9 +388,9 @@ def home(it):
     return it[0].split("/")[1]
 
 
-def row(first, begin):
-    """A row of a table: the lines that these lead to."""
-    believed = reached(begin)
+def row(first, begin, known=frozenset()):
+    """A row of a table: the lines that these lead to, but for those that are known."""
+    believed = reached(begin) - known
     definitions, rust = lines_in(believed)
     return f"| {first} | {definitions:,} | {rust:,} | {len({file for file, _ in believed})} |"
 
@@ -399,6 +402,9 @@ def promise_table():
     ]
     for title, names in PROMISES:
         out.append(row(f"{title} | {', '.join(f'`{it}`' for it in names.split())}", promised(names)))
+    by_source = ", ".join(f"`{it}`" for it in BY_SOURCE.split())
+    out.append(row(f"of these, what is said by the source | {by_source}", promised(BY_SOURCE)))
+    out.append(row("what is said besides, by the machine | the others", promised(PROMISES[-1][1]), reached(promised(BY_SOURCE))))
     return out + [""]
 
 
