@@ -45,7 +45,7 @@ def tried(crate, work):
         said.seek(0)
         text = said.read()
     result = RESULT.search(text)
-    return status == 0 and result and result[1], result[0] if result else "not run", seconds, text
+    return status == 0 and result and result[1], result[0] if result else f"ended in status {status}", seconds, text
 
 
 def main():
