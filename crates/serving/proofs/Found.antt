@@ -12,7 +12,7 @@ use Rattle.bytecode.specs.Code.{Configuration, effect}
 use Rattle.bytecode.proofs.Tables.{some_same}
 use Rattle.machine.specs.Answered.{Heard, StepsHearing}
 use Rattle.machine.specs.States.{first_thread}
-use Rattle.machine.specs.Threads.{Thread, access}
+use Rattle.machine.specs.Threads.{Thread}
 use Rattle.machine.specs.Worlds.{Part, World}
 use Rattle.seats.specs.Setup.{Setup}
 use Rattle.workers.specs.Closing.{AreThere, HasWorkerFor, NoWorker, finished_back}
@@ -37,7 +37,7 @@ module _ (z : TableId) (key : Setup) (w : World Configuration) (heard : List (Li
   abbrev pub IsEnding : ℕ → Ending → Type 0
   IsEnding all e = (part : Part Configuration) × (slice_get w.parts n ≡ Some part) × (steps : ℕ) × (answers : List Heard)
       × StepsHearing (effect key.code) (first_thread key.code n) steps answers part.thread
-      × EndsBy e.stopped (access (effect key.code) part.thread) part.thread.status all steps
+      × EndsBy e.stopped key.code part.thread all steps
 
   none_here : NoWorker {A = Global} [] n
   none_here k x e = absurd (some-ne-none x (sym e))
@@ -103,7 +103,7 @@ module _ (z : TableId) (key : Setup) (w : World Configuration) (heard : List (Li
               works.part.heard,
               subst (λ (k : ℕ). StepsHearing (effect key.code) (first_thread key.code k) x.steps works.part.heard works.now.thread) same
                   (subst (λ t. StepsHearing (effect key.code) (first_thread key.code x.number) x.steps works.part.heard t) (sym works.thread_is) works.replays),
-              subst (λ t. EndsBy e.stopped (access (effect key.code) t) t.status all x.steps) (sym works.thread_is) ended.0.1,
+              subst (λ t. EndsBy e.stopped key.code t all x.steps) (sym works.thread_is) ended.0.1,
             ),
           )
       by false is rest = later is rest

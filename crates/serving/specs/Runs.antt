@@ -13,7 +13,6 @@ use Rattle.norec_core.specs.declared.step.Stop.{Stop}
 use Rattle.norec_core.specs.declared.step.Stop.TheVariants as stop
 use Rattle.machine.specs.Answered.{Heard, StepsHearing}
 use Rattle.machine.specs.States.{first_thread}
-use Rattle.machine.specs.Threads.{access}
 use Rattle.machine.specs.Worlds.{Part, World}
 use Rattle.workers.specs.Driving.{EndsBy, Ran}
 use Rattle.workers.specs.Seen.{finished_number, finished_thread}
@@ -74,8 +73,8 @@ run_shown p threads r = record {
 }
 
 -- What a report shows of the thread of this number: its text and its end in the world that the run led to. So many
--- steps of its own have led it there. What stopped its loop is why no further step was made; where nothing did, it is
--- over, or all steps of its budget are made.
+-- steps of its own, no more than its budget, have led it there. What stopped its loop is why no further step was made;
+-- where nothing did, it is over, or all steps of its budget are made.
 pub record IsConcurrentThread (code : Code) (w : World Configuration) (budget n : ℕ)
     (shown : ThreadShown) : Type 0 where
   pub part : Part Configuration
@@ -84,7 +83,7 @@ pub record IsConcurrentThread (code : Code) (w : World Configuration) (budget n 
   pub answers : List Heard
   pub makes : StepsHearing (effect code) (first_thread code n) steps answers part.thread
   pub stopped : Option Stop
-  pub because : EndsBy stopped (access (effect code) part.thread) part.thread.status budget steps
+  pub because : EndsBy stopped code part.thread budget steps
   pub shows : shown ≡ record { end = end_of_run part.thread.status stopped; text = part.thread.text }
 
 -- what a report shows of so many threads of this code at once, each with so many steps at most: their run is one of the

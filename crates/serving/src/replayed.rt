@@ -1,6 +1,6 @@
 //! Replaying steps of the threads of a source's text.
 
-ghost use Rattle.std.specs.Prelude.{◌≡◌, ◌<◌, ◌⊎◌, Err, IfOk, map, string_bytes};
+ghost use Rattle.std.specs.Prelude.{◌≡◌, ◌<◌, ◌⊎◌, ◌↔◌, Err, IfOk, map, string_bytes};
 ghost use Rattle.syntax.specs.Views.{program_of};
 ghost use Rattle.report.specs.Views.{printed_of, thread_of};
 ghost use Rattle.world.specs.Reports.{threads_of};
@@ -30,7 +30,8 @@ pub struct Replayed<A: Allocator = Global> {
 }
 
 /// Makes the steps that lines name, with so many threads of a program's code. What it promises is of code that means
-/// the program and has its globals.
+/// the program and has its globals. A fault is `WrongThreads` exactly where the number is not 1 to 64, and else
+/// `OutOfMemory`.
 pub fn replay_code<A: Allocator + Copy>(
     alloc: A,
     compiled: &Compiled<A>,
@@ -40,7 +41,7 @@ pub fn replay_code<A: Allocator + Copy>(
     ensures ok { IfOk result (λ r. IsCodeOf (program_of compiled.now.accepted.safe.typed.unit) compiled.now.code
         → IsReplayOf (program_of compiled.now.accepted.safe.typed.unit) compiled.now.code threads lines.now r.made.items
         r.stop (printed_of r.printed)) }
-    ensures wrong { result ≡ Err WorldFault.WrongThreads → (threads ≡ 0) ⊎ (64 < threads) }
+    ensures wrong { (result ≡ Err WorldFault.WrongThreads) ↔ ((threads ≡ 0) ⊎ (64 < threads)) }
 {
     let report = replay(alloc, &compiled.code, threads, lines)?;
     match shown_after_replay(alloc, unit_of(&compiled.accepted), report) {

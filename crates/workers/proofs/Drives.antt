@@ -9,7 +9,8 @@ use Rattle.workers.specs.declared.run.Driven.{Driven}
 use Rattle.workers.specs.declared.run.Ending.{Ending}
 use Rattle.workers.specs.declared.run.OfHall.{OfHall}
 use Rattle.workers.specs.Workers.{AreWorkersFrom, AreWorkersOf, IsWorkerOf}
-use Rattle.workers.specs.Driving.{AllPromise, AreDrivenOf, AreEnded, AreFresh, IsEndOfLoop}
+use Rattle.workers.specs.Driving.{AreEnded, IsEndOfLoop}
+use Rattle.workers.specs.inner.Driving.{AllPromise, AreDrivenOf, AreFresh}
 
 module _ {A : Type 0} (z : TableId) (key : Setup) where
   pub without_last : (xs : List (Worker A)) (w : Worker A) → AreWorkersOf z key (xs ++ w ∷ []) → AreWorkersOf z key xs × IsWorkerOf z key w

@@ -10,7 +10,8 @@ use Rattle.seats.specs.Setup.{Setup}
 use Rattle.workers.specs.declared.worker.Worker.{Worker}
 use Rattle.seats.specs.Views.{ViewPart}
 use Rattle.workers.specs.Works.{Grows, GoesOnFrom}
-use Rattle.workers.specs.Workers.{CanStep, IsWorkerAt, StepsBy, StepsOn}
+use Rattle.workers.specs.Workers.{IsWorkerAt, StepsOn}
+use Rattle.workers.specs.inner.Stepping.{CanStep, StepsBy}
 
 begins_on : {A : Type 0} (xs ys zs : List A) → Grows xs ys → Grows ys zs → Grows xs zs
 begins_on xs ys zs g h = (g.0 ++ h.0, h.1 ∙ ap (λ l. l ++ h.0) g.1 ∙ append_assoc xs g.0 h.0)

@@ -26,3 +26,5 @@ pub mod Loading
 pub mod Waiting
 -- what is begun after a meeting stands behind all that had taken effect by then
 pub mod Behind
+-- why a step was not made
+pub mod Stopping

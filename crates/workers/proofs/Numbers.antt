@@ -5,7 +5,7 @@ use Rattle.seats.specs.Setup.{Setup}
 use Rattle.workers.specs.declared.worker.Worker.{Worker}
 use Rattle.workers.specs.Workers.{AreWorkersFrom}
 use Rattle.workers.specs.Closing.{AllHere, HasWorkerFor}
-use Rattle.workers.specs.Driving.{HasNumber}
+use Rattle.workers.specs.inner.Driving.{HasNumber}
 use Rattle.workers.specs.Seen.{worker_number}
 
 module _ {A : Type 0} (f : A → ℕ) where

@@ -17,7 +17,8 @@ use Rattle.workers.specs.declared.run.RunMemory.TheVariants.{LockHeld, Words}
 use Rattle.workers.specs.declared.run.RunReport.{RunReport}
 use Rattle.workers.specs.Workers.{AreWorkersOf}
 use Rattle.workers.specs.Closing.{AllHere, Closes, Holds, NoneHolds}
-use Rattle.workers.specs.Driving.{AreEnded, IsMemoryOf, Ran, TellsMemory}
+use Rattle.workers.specs.Driving.{AreEnded, IsMemoryOf, Ran}
+use Rattle.workers.specs.inner.Driving.{TellsMemory}
 use Rattle.workers.proofs.Closings.{index_below}
 
 module _ {A : Type 0} where

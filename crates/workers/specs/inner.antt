@@ -1,2 +1,6 @@
 -- a seat that loads for the reads of its thread
 pub mod Seated
+-- steps of a worker that are not yet counted
+pub mod Stepping
+-- loops of workers on the way
+pub mod Driving

@@ -6,9 +6,10 @@ ghost use Rattle.bytecode.specs.Valid.{bounds_of};
 ghost use Rattle.seats.specs.Saying.{code_does};
 ghost use Rattle.workers.specs.Seen.{setup_of, table_of, worker_number};
 ghost use Rattle.workers.specs.Workers.{IsWorkerOf, AreWorkersOf, StepsOn};
-ghost use Rattle.workers.specs.Driving.{AreDrivenOf, AreFresh, AreEnded, AllPromise, IsEndOfLoop, HasNumber};
-ghost use Rattle.workers.specs.Driving.{IsRunRefused};
-ghost use Rattle.workers.specs.Driving.{IsWorkerCount, Ran, TellsMemory, run_number, driven_number, handle_number};
+ghost use Rattle.workers.specs.Opening.{IsWorkerCount};
+ghost use Rattle.workers.specs.Driving.{AreEnded, IsEndOfLoop, IsRunRefused, Ran, run_number};
+ghost use Rattle.workers.specs.inner.Driving.{AreDrivenOf, AreFresh, AllPromise, HasNumber};
+ghost use Rattle.workers.specs.inner.Driving.{TellsMemory, driven_number, handle_number};
 
 use crate::close::{Finished, Outcome, gather, holder};
 use crate::hall::Hall;

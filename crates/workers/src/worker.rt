@@ -11,6 +11,7 @@ ghost use Rattle.machine.specs.States.{ComparesEntry, ComparesNext, StandsAt, St
 ghost use Rattle.seats.specs.Setup.{Setup};
 ghost use Rattle.workers.specs.Seen.{accesses_of, setup_of, state_of, steps_of, table_of, tally_of, thread_of};
 ghost use Rattle.workers.specs.Seen.{worker_number};
+ghost use Rattle.workers.specs.Workers.{IsStatusOf};
 ghost use Rattle.workers.specs.Works.{StopsAt};
 
 use crate::hall::Hall;
@@ -67,7 +68,8 @@ fn back_off() {
 }
 
 impl<A: Allocator + Copy> Worker<A> {
-    ghost use Rattle.workers.specs.Workers.{CanStep, IsWorkerOf, StepsBy, StandsOn, StepsOn, FloorsAt, Reports};
+    ghost use Rattle.workers.specs.Workers.{IsWorkerOf, StandsOn, StepsOn, FloorsAt, Reports};
+    ghost use Rattle.workers.specs.inner.Stepping.{CanStep, StepsBy};
 
     // Steps are counted where `step` and `run` end, and not by what they call.
 
@@ -505,7 +507,8 @@ impl<A: Allocator + Copy> Worker<A> {
     ///
     /// A stop, `OutOfMemory` where the memory that a step wants was refused and `SequenceUsedUp` where the lock has no
     /// value left, comes only where the thread runs still and has made fewer steps than the budget. It leaves all
-    /// earlier steps, and the same call may go on from there.
+    /// earlier steps, and the same call may go on from there. Memory is wanted by a begin, a read, a write, a call or a
+    /// print, and by no step of validation, no store and no release.
     ///
     /// After it there is a run of every program that the code means in which the thread stands as it is then, local
     /// steps since its last access and commits without a write among them, and in which its earlier transactions come
@@ -563,8 +566,19 @@ impl<A: Allocator + Copy> Worker<A> {
         self.number
     }
 
+    /// How the worker is: `Budget` wherever its thread is neither ended nor trapped, also before its first `run`.
+    pub fn status(&self) -> Status
+        ensures { IsStatusOf result (thread_of self.now).status }
+    {
+        match self.thread_status() {
+            ThreadStatus::Running => Status::Budget,
+            ThreadStatus::Ended => Status::Ended,
+            ThreadStatus::Trapped(cause) => Status::Trapped(cause),
+        }
+    }
+
     /// Whether the worker's thread runs, has ended or has trapped.
-    pub fn status(&self) -> ThreadStatus
+    pub fn thread_status(&self) -> ThreadStatus
         ensures { result ≡ (thread_of self.now).status }
     {
         self.thread.status()

@@ -111,7 +111,7 @@ fn run<A: Allocator + Copy>(
     Some(worker.run(hall, budget))
 }
 
-/// Whether a worker's run ends so, and it then has made so many steps and accesses.
+/// Whether a worker's run ends so, and it then is so too and has made so many steps and accesses.
 fn is_run<A: Allocator + Copy>(
     hall: &Hall<A>,
     worker: &mut Worker<A>,
@@ -125,7 +125,10 @@ fn is_run<A: Allocator + Copy>(
 {
     match run(hall, worker, budget) {
         Some(Ok(found)) => {
-            found == status && worker.steps() == steps && worker.accesses() == accesses
+            found == status
+                && worker.status() == status
+                && worker.steps() == steps
+                && worker.accesses() == accesses
         }
         _ => false,
     }

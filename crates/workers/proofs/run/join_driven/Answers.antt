@@ -1,7 +1,8 @@
 use Rattle.std.proofs.Common.{ℕ, sym, subst}
 use Rattle.workers.specs.declared.hall.Hall.{Hall}
 use Rattle.workers.specs.Workers.{IsWorkerOf}
-use Rattle.workers.specs.Driving.{AllPromise, AreDrivenOf, IsEndOfLoop, HasNumber, driven_number, handle_number}
+use Rattle.workers.specs.Driving.{IsEndOfLoop}
+use Rattle.workers.specs.inner.Driving.{AllPromise, AreDrivenOf, HasNumber, driven_number, handle_number}
 use Rattle.workers.proofs.Drives.{driven_more, promised_without}
 use Rattle.workers.proofs.Numbers.{moved}
 use Rattle.workers.proofs.run.join_driven.Goals as goal

@@ -2,7 +2,8 @@ use Rattle.std.proofs.Common.{refl, sym, subst, List}
 use Rattle.workers.specs.declared.run.Ending.{Ending}
 use Rattle.workers.specs.declared.worker.Worker.{Worker}
 use Rattle.workers.specs.Workers.{AreWorkersOf}
-use Rattle.workers.specs.Driving.{AreDrivenOf, AreEnded, HasNumber, driven_number}
+use Rattle.workers.specs.Driving.{AreEnded}
+use Rattle.workers.specs.inner.Driving.{AreDrivenOf, HasNumber, driven_number}
 use Rattle.workers.specs.Seen.{worker_number}
 use Rattle.workers.proofs.Drives.{driven_without, ended_more, with_last}
 use Rattle.workers.proofs.Numbers.{moved}

@@ -1,6 +1,6 @@
 use Rattle.std.proofs.Common.{◌-◌, ℕ, Option, refl, subst, arith}
 use Rattle.std.specs.Prelude.{IfNone}
-use Rattle.workers.specs.Workers.{StepsBy}
+use Rattle.workers.specs.inner.Stepping.{StepsBy}
 use Rattle.workers.proofs.Going.{by_more, by_none, can_after, can_fewer}
 use Rattle.workers.proofs.worker.Worker.begin.Goals as goal
 

@@ -1,5 +1,5 @@
 use Rattle.std.proofs.Common.{◌-◌}
-use Rattle.workers.specs.Workers.{CanStep, StepsBy}
+use Rattle.workers.specs.inner.Stepping.{CanStep, StepsBy}
 use Rattle.machine.specs.States.{ComparesNext, StandsStill}
 use Rattle.workers.proofs.worker.Worker.compare.Given as goal
 

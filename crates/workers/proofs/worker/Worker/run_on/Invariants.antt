@@ -1,5 +1,5 @@
 use Rattle.std.proofs.Common.{◌≤◌, ◌-◌}
-use Rattle.workers.specs.Workers.{CanStep, StepsBy}
+use Rattle.workers.specs.inner.Stepping.{CanStep, StepsBy}
 use Rattle.workers.proofs.worker.Worker.run_on.Given as goal
 
 abbrev pub invariant-turns : goal.invariant-turns

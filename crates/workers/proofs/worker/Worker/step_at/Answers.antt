@@ -1,7 +1,9 @@
-use Rattle.std.proofs.Common.{◌+◌, ◌∙◌, refl, ap}
+use Rattle.std.proofs.Common.{◌+◌, ◌∙◌, Err, refl, sym, ap, subst}
 use Rattle.norec_core.specs.Accesses.{cost}
-use Rattle.bytecode.specs.Code.{effect}
-use Rattle.machine.specs.Threads.{access}
+use Rattle.bytecode.specs.Code.{Configuration, effect}
+use Rattle.machine.specs.Threads.{Thread, access}
+use Rattle.workers.specs.Works.{StopsAt}
+use Rattle.workers.proofs.Stopping.{stops_at}
 use Rattle.workers.proofs.Going.{by_same}
 use Rattle.workers.proofs.Turns.{answer_ready, not_stepped, ready_makeable, ready_next, room_for, stepped}
 use Rattle.workers.proofs.worker.Worker.step_at.Goals as goal
@@ -42,3 +44,9 @@ returns-clause-ok g c = (
       c.make-answer.result c.make-answer.new.seat.me c.make-answer.ensures.made c.in-Ok.ensures.access.1 c.told_at-told.new.self.thread c.told_at-told.ensures.thread c.told_at-told.ensures.of c.told_at-told.new.self.accesses (c.told_at-told.ensures.accesses ∙ ap (λ n. n + cost (access (effect c.args.code.now) c.prepare_at.new.self.thread)) c.prepare_at.ensures.accesses) in
       ((c.make-answer.ensures.seat.0 ∙ was.0, r.0), r.1),
 )
+
+pub returns-in-Err-clause-stop : goal.returns-in-Err-clause-stop
+returns-in-Err-clause-stop g c =
+    let th = c.args.self.now.thread in
+    subst (λ (t : Thread Configuration). StopsAt c.args.code.now t c.in-Err.stop) (sym c.prepare_at.ensures.thread)
+    (stops_at c.args.code.now th.thread th.ready c.in-Err.stop c.in-Err.ensures.err.0 (λ e. c.in-Err.ensures.full (ap Err e)) (λ e. c.in-Err.ensures.used_up.0 (ap Err e)))

@@ -1,6 +1,6 @@
 use Rattle.std.proofs.Common.{◌-◌}
 use Rattle.frames.specs.declared.doing.Doing.TheVariants as doing
-use Rattle.workers.specs.Workers.{CanStep, StepsBy}
+use Rattle.workers.specs.inner.Stepping.{CanStep, StepsBy}
 use Rattle.machine.specs.States.{StandsAt}
 use Rattle.workers.proofs.worker.Worker.store_all.Given as goal
 
