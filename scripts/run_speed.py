@@ -1,6 +1,7 @@
 #!/usr/bin/env python3
 """Measures `txc run` against Lua, on work of one thread, and against GCC's transactional memory, with one and four
-threads; and how long the longest replays, many turns of a source and all outcomes of small programs take.
+threads; what four threads that share no data take beside one; and how long the longest replays, many turns of a source
+and all outcomes of small programs take.
 
     scripts/run_speed.py [ROUNDS]
 
@@ -18,6 +19,14 @@ PEERS = os.path.join(TOP, 'scripts', 'workloads')
 TXC = os.path.join(TOP, 'crates', 'txc', 'out', 'txc')
 LUA = ['primes', 'fib', 'compute']
 STEPS = 1048576
+# Programs whose threads share no data, each with what a thread prints.
+OWN = {'primes': '17984', 'fib': '196418', 'compute': '1026814725', 'sum': '842'}
+# By how many letters their names are made longer. The sizes of what is allocated hang on it, and so, which threads'
+# words would come to lie in one line of the processor's memory.
+LONGER = [0, 5, 14, 40]
+# So many times as long as one thread are four of them to take at most.
+GOAL = 1.1
+KEPT = 'break else for if int long printf return unsigned void worker'.split()
 SHARED = ['counter', 'bank', 'hashset', 'longread', 'disjoint', 'list', 'sieve']
 
 
@@ -43,8 +52,8 @@ def is_right(name, report, threads):
     """Whether a report of txc says what the workload must leave."""
     if any(f'== thread {t}: ended' not in report for t in range(threads)):
         return False
-    if name in LUA:
-        return {'primes': '17984', 'fib': '196418', 'compute': '1026814725'}[name] in report
+    if name in OWN:
+        return report.count(OWN[name] + '\n') == threads
     left = values(report)
     if name == 'counter':
         return left['x'] == [500000 * threads]
@@ -102,6 +111,42 @@ def table(title, names, peer, rounds, threads, peer_side):
     sums = {side: sum(figures[name, side] for name in names) for side in ('txc', peer)}
     for name, of in [(n, {s: figures[n, s] for s in ('txc', peer)}) for n in names] + [('together', sums)]:
         print(f'| {name} | {1000 * of["txc"]:.1f} | {1000 * of[peer]:.1f} | {of["txc"] / of[peer]:.2f} |')
+
+
+def renamed(source, letters):
+    """A source whose names are longer by so many letters."""
+    def longer(found):
+        word = found[0]
+        return word + letters * 'x' if word[0].isalpha() and word not in KEPT else word
+    return re.sub(r'"[^"]*"|//[^\n]*|\d\w*|[A-Za-z_]\w*', longer, source)
+
+
+def apart(rounds):
+    """Prints how long four threads that share no data take beside one, by names of several lengths: the median on the
+    clock and, which other work of the machine disturbs less, the least processor time of a thread."""
+    print('\nNo shared data: a program on one thread and on four\n')
+    print('| Workload | Letters more in names | One, ms | Four, ms | Four / one | Four / one by processor time |')
+    print('|---|---|---|---|---|---|')
+    most = [0.0, 0.0]
+    with tempfile.TemporaryDirectory() as place:
+        text = os.path.join(place, 'own.c')
+        for name, letters in [(n, more) for n in OWN for more in LONGER]:
+            with open(os.path.join(PROGRAMS, name + '.c'), encoding='utf-8') as file:
+                source = renamed(file.read(), letters)
+            with open(text, 'w', encoding='utf-8') as file:
+                file.write(source)
+            clocks, cpus = {1: [], 4: []}, {1: [], 4: []}
+            for threads in [1, 4] * rounds:
+                cpu, clock, _, wrote = run([TXC, 'run', text, '--threads', str(threads)], {})
+                if not is_right(name, wrote, threads):
+                    sys.exit(f'txc run of {name} with {threads} threads printed something else:\n{wrote[:500]}')
+                clocks[threads].append(clock)
+                cpus[threads].append(cpu / threads)
+            one, four = (statistics.median(clocks[threads]) for threads in (1, 4))
+            ratios = [four / one, min(cpus[4]) / min(cpus[1])]
+            most = [max(both) for both in zip(most, ratios)]
+            print(f'| {name} | {letters} | {1000 * one:.1f} | {1000 * four:.1f} | {ratios[0]:.2f} | {ratios[1]:.2f} |')
+    print(f'\nAt most {most[0]:.2f} times as long, {most[1]:.2f} by processor time; {GOAL} is the goal.')
 
 
 def replays(rounds):
@@ -203,6 +248,7 @@ def main():
         )
     else:
         print('lua5.4 is not installed: primes, fib and compute are left out')
+    apart(rounds)
     replays(rounds)
     turns(rounds)
     outcomes(rounds)
