@@ -2,14 +2,15 @@
 
 ghost use Rattle.std.specs.Prelude.{◌≡◌, ◌<◌, ◌≤◌, ◌^◌, ◌↔◌, ◌++◌, ◌+◌, ◌-◌, ℕ, true, false, None, Some, IsSomeAnd};
 ghost use Rattle.std.specs.Prelude.{if◌then◌else◌, IfNone, IfOk, IfSome, OnOk, OnErr, length, string_bytes, string_len};
-ghost use Rattle.std.specs.Prelude.{string_capacity};
+ghost use Rattle.std.specs.Prelude.{slice_get, string_capacity};
 ghost use Rattle.syntax.specs.declared.numbers.Status.TheVariants.{Running};
 ghost use Rattle.bytecode.specs.Effects.{Effect, after_cancel};
 ghost use Rattle.bytecode.specs.Code.{effect, onward};
 ghost use Rattle.bytecode.specs.Valid.{IsValid};
+ghost use Rattle.local_steps.specs.Local.{MayEnd};
 ghost use Rattle.frames.specs.Open.{IsConfigurationOf, CanRestore, begin_configuration, saved_in};
 ghost use Rattle.frames.specs.Stack.{HasRoom};
-ghost use Rattle.frames.specs.Doings.{IsCall, IsDoingAt, piece_of};
+ghost use Rattle.frames.specs.Doings.{IsCall, IsDoingAt, IsPauseAt, piece_of};
 ghost use Rattle.norec_core.specs.Accesses.{IsAnswerTo, stops};
 ghost use Rattle.norec_core.specs.declared.step.Answer.{Answer as Reply};
 ghost use Rattle.norec_core.specs.declared.step.Answer.TheVariants.{Value};
@@ -29,6 +30,7 @@ use crate::inside::Inside;
 use crate::loads::Loads;
 use bytecode::Code;
 use frames::{Doing, Frames, prepare_piece, push_piece};
+use local_steps::Pause;
 use norec_core::{Access, Answer, Core, Op, Outcome, Stop};
 use std::alloc::{AllocError, Allocator};
 use syntax::numbers::Status;
@@ -309,25 +311,48 @@ fn enter<A: Allocator + Copy, B: Allocator>(
     }
 }
 
-/// Makes the call or the return that stands here: whether it did. It does not where no room is given.
+/// Makes the call that stands here: whether it did. It does not where no room is given.
+#[inline(always)]
+fn call<A: Allocator + Copy, B: Allocator>(
+    frames: &mut Frames<A>,
+    code: &Code<B>,
+    pause: Pause,
+) -> bool
+    requires of { IsConfigurationOf code.now frames.old.configuration }
+    requires pauses { IsPauseAt code.now frames.old.configuration pause }
+    ensures passed { result ≡ true → effect code.now frames.old.configuration ≡ Effect.Pure frames.new.configuration }
+    ensures still { result ≡ false → frames.new.configuration ≡ frames.old.configuration }
+{
+    if frames.enter(code) {
+        return true;
+    }
+    let doing = frames.doing_at_pause(code, pause);
+    enter(frames, code, doing)
+}
+
+/// Makes the call or the return that stands here: whether it did. It does not where no room is given, or no caller is.
 #[inline(always)]
 fn change_frames<A: Allocator + Copy, B: Allocator>(
     frames: &mut Frames<A>,
     code: &Code<B>,
-    doing: Doing,
+    pause: Pause,
 ) -> bool
     requires of { IsConfigurationOf code.now frames.old.configuration }
-    requires tells { IsDoingAt code.now frames.old.configuration doing }
+    requires pauses { IsPauseAt code.now frames.old.configuration pause }
     ensures passed { result ≡ true → effect code.now frames.old.configuration ≡ Effect.Pure frames.new.configuration }
     ensures still { result ≡ false → frames.new.configuration ≡ frames.old.configuration }
-    ensures returns { (word : ℕ) → result ≡ false → doing ≡ Doing.Return word → ⊥ }
+    ensures returns { (word : ℕ) → result ≡ false → pause ≡ Pause.Return word
+        → length frames.new.configuration.frames ≡ 0 }
 {
-    match doing {
-        Doing::Return(word) => {
+    match pause {
+        Pause::Return(word) => {
+            if !frames.has_caller() {
+                return false;
+            }
             frames.give_back(code, word);
             true
         }
-        Doing::Call => frames.enter(code) || enter(frames, code, doing),
+        Pause::Call => call(frames, code, pause),
         _ => false,
     }
 }
@@ -371,24 +396,27 @@ impl<A: Allocator + Copy> ThreadContext<A> {
     /// Makes the step that stands here, where it is a call or a return, or a commit that makes no access: whether it
     /// did.
     #[inline(always)]
-    fn pass<B: Allocator>(&mut self, code: &Code<B>, doing: Doing) -> bool
+    fn pass<B: Allocator>(&mut self, code: &Code<B>, pause: Pause) -> bool
         requires valid { IsValid code.now }
         requires running { self.old.status ≡ Running }
         requires runs { RunsInContext code.now (context_of self.old) }
-        requires tells { IsDoingAt code.now self.old.frames.configuration doing }
+        requires pauses { IsPauseAt code.now self.old.frames.configuration pause }
         ensures advances { Advances code.now (context_of self.old) (if result then 1 else 0) (context_of self.new) }
         ensures running { self.new.status ≡ Running }
         ensures still { result ≡ false → self.new.frames.configuration ≡ self.old.frames.configuration }
-        ensures left { result ≡ false → (doing ≡ Doing.Local → ⊥) → IsLeft self.new.core.attempt doing }
+        ensures commits { result ≡ false → pause ≡ Pause.Commit
+            → IsSomeAnd self.new.core.attempt (λ a. CommitsLocally a) → ⊥ }
+        ensures returns { (word : ℕ) → result ≡ false → pause ≡ Pause.Return word
+            → length self.new.frames.configuration.frames ≡ 0 }
     {
-        match doing {
-            Doing::Commit => self.commit(code),
-            _ => change_frames(&mut self.frames, code, doing),
+        match pause {
+            Pause::Commit => self.commit(code),
+            _ => change_frames(&mut self.frames, code, pause),
         }
     }
 
     /// Steps in the frames, and accesses between them, at most so many: how many they were, and where they are fewer
-    /// what is to be done then.
+    /// what they tell of the instruction that stands there.
     #[inline(always)]
     fn advance_frames<B: Allocator, L: Loads>(
         &mut self,
@@ -396,7 +424,7 @@ impl<A: Allocator + Copy> ThreadContext<A> {
         loads: &mut L,
         accesses: &mut u64,
         most: u64,
-    ) -> (u64, Option<Doing>)
+    ) -> (u64, Option<Pause>)
         requires valid { IsValid code.now }
         requires running { self.old.status ≡ Running }
         requires runs { RunsInContext code.now (context_of self.old) }
@@ -410,9 +438,11 @@ impl<A: Allocator + Copy> ThreadContext<A> {
         ensures within { AreWithin self.new.frames.configuration (begins_of self.new.core.attempt) }
         ensures count { result.0 ≤ most }
         ensures all { IfNone result.1 (result.0 ≡ most) }
-        ensures tells { IfSome result.1 (λ doing. (result.0 < most)
-            × IsDoingAt code.now self.new.frames.configuration doing) }
-        ensures ends { IfSome result.1 (λ doing. doing ≡ Doing.Local → ⊥) }
+        ensures pauses { IfSome result.1 (λ pause. (result.0 < most)
+            × IsPauseAt code.now self.new.frames.configuration pause) }
+        ensures ends { result.0 < most
+            → MayEnd (slice_get code.now.instructions self.new.frames.configuration.place)
+            (effect code.now self.new.frames.configuration) }
     {
         let mut inside = Inside {
             core: &mut self.core,
@@ -454,12 +484,12 @@ impl<A: Allocator + Copy> ThreadContext<A> {
         'passes: while left > 0 {
             let (steps, paused) = self.advance_frames(code, loads, accesses, left);
             left -= steps;
-            let Some(doing) = paused else {
+            let Some(pause) = paused else {
                 return (most, None);
             };
             loads.goes_on();
-            if !self.pass(code, doing) {
-                return (most - left, Some(doing));
+            if !self.pass(code, pause) {
+                return (most - left, Some(self.frames.doing_at_pause(code, pause)));
             }
             left -= 1;
         }

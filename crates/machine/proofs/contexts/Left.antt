@@ -1,13 +1,15 @@
 -- What a thread leaves undone where it makes steps by itself.
-use Rattle.std.proofs.Common.{◌≡◌, ◌<◌, ℕ, Bool, true, false, List, [], ◌∷◌, Option, None, Some, refl, sym, subst}
+use Rattle.std.proofs.Common.{◌≡◌, ℕ, Bool, true, false, List, [], ◌∷◌, length, Option, None, Some, refl, subst, arith}
 use Rattle.std.specs.Prelude.{IfSome, IsSomeAnd, map, slice_get}
 use Rattle.nesting.specs.Begins.{Saved}
 use Rattle.bytecode.specs.Effects.{Effect}
 use Rattle.bytecode.specs.Effects.Effect.{Pure}
 use Rattle.bytecode.specs.Code.{Code, Configuration, Instr, effect}
+use Rattle.local_steps.specs.declared.step.Pause.{Pause}
+use Rattle.local_steps.specs.declared.step.Pause.TheVariants as pause
 use Rattle.local_steps.specs.Local.{MayEnd}
 use Rattle.frames.specs.Open.{begin_configuration}
-use Rattle.frames.specs.Doings.{IsLocalStep, IsDoingAt}
+use Rattle.frames.specs.Doings.{IsLocalStep, IsDoingAt, IsToldAs}
 use Rattle.frames.specs.declared.doing.Doing.{Doing}
 use Rattle.frames.specs.declared.doing.Doing.TheVariants as doing
 use Rattle.norec_core.specs.declared.step.Access.TheVariants.{Local}
@@ -24,20 +26,13 @@ ends_at code c m t =
     let f : MayEnd (Some t.0) (Pure t.1) = subst (λ (x : Effect Configuration). MayEnd (Some t.0) x) t.4 (subst (λ (o : Option Instr). MayEnd o (effect code c)) t.2 m) in
     let z : false ≡ true = f t.3 in cc
 
-pub not_local : (code : Code) (c : Configuration) (n m : ℕ) (o : Option Doing) → IfSome o (λ x. (n < m) × IsDoingAt code c x) → (n < m → MayEnd (slice_get code.instructions c.place) (effect code c)) → IfSome o (λ x. x ≡ doing.Local → ⊥)
-not_local code c n m None t e = tt
-not_local code c n m (Some x) t e = λ h. ends_at code c (e t.0) (subst (IsDoingAt code c) h t.1)
-
--- nothing else is left of a commit
-pub left_commit : (o p : Option (Attempt Saved)) (x : Doing) → x ≡ doing.Commit → p ≡ o → (IsSomeAnd o (λ a. CommitsLocally a) → ⊥) → IsLeft p x
-left_commit o p x e s h = subst (IsLeft p) (sym e) (λ z. h (subst (λ (y : Option (Attempt Saved)). IsSomeAnd y (λ a. CommitsLocally a)) s z))
-
--- and where the step is no commit, of a return
-pub left_other : (o : Option (Attempt Saved)) (x : Doing) → (x ≡ doing.Commit → ⊥) → ((w : ℕ) → x ≡ doing.Return w → ⊥) → (x ≡ doing.Local → ⊥) → IsLeft o x
-left_other o doing.Local a b d = d refl
-left_other o (doing.Return w) a b d = b w refl
-left_other o doing.Commit a b d = absurd (a refl)
-left_other o x a b d = tt
+-- nor a commit that is made at once, nor a return to a caller
+pub left_told : (code : Code) (c : Configuration) (o : Option (Attempt Saved)) (x : Doing) (why : Pause) → IsDoingAt code c x → IsToldAs x why → MayEnd (slice_get code.instructions c.place) (effect code c)
+    → (why ≡ pause.Commit → IsSomeAnd o (λ a. CommitsLocally a) → ⊥) → ((w : ℕ) → why ≡ pause.Return w → length c.frames ≡ 0) → IsLeft o x
+left_told code c o doing.Local why is told ends commits returns = ends_at code c ends is
+left_told code c o (doing.Return w) why is told ends commits returns = let none = returns w told in let some = is.1 in absurd (omega (arith, none, some))
+left_told code c o doing.Commit why is told ends commits returns = commits told
+left_told code c o x why is told ends commits returns = tt
 
 -- the machine's attempt shows the same
 module _ (c : Configuration) where

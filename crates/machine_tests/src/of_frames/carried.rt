@@ -99,7 +99,10 @@ fn go_once<A: Allocator + Copy>(frames: &mut Frames<A>, code: &Code<A>) -> (u64,
     code.note_valid();
     let (made, paused) = frames.advance(code, &mut NoAccess, 1000);
     match paused {
-        Some(doing) => (made, pass(frames, code, doing)),
+        Some(pause) => {
+            let doing = frames.doing_at_pause(code, pause);
+            (made, pass(frames, code, doing))
+        }
         None => (made, false),
     }
 }

@@ -3,7 +3,6 @@ use Rattle.machine.specs.Standing.{begins_of}
 use Rattle.machine.specs.inner.Inside.{MayAdvance}
 use Rattle.machine.specs.inner.Contexts.{PlainContext, RunsInContext, context_of, machine_thread}
 use Rattle.machine.proofs.contexts.Inside.{leads_as, runs_at}
-use Rattle.machine.proofs.contexts.Left.{not_local}
 use Rattle.machine.proofs.context.ThreadContext.advance_frames.Goals as goal
 
 pub advance-requires-clause-of : goal.advance-requires-clause-of
@@ -38,6 +37,3 @@ pub returns-clause-within : goal.returns-clause-within
 returns-clause-within g c =
     let k = context_of {A = g.row.A.Denot} c.args.self.now in
     (c.advance.ensures.leads.4 k.text c.requires.valid (subst (RunsInContext c.args.code.now) (runs_at k c.requires.running) c.requires.runs)).within
-
-pub returns-clause-ends : goal.returns-clause-ends
-returns-clause-ends g c = not_local c.args.code.now c.advance.new.self.configuration c.advance.result.0 c.args.most c.advance.result.1 c.advance.ensures.tells c.advance.ensures.ends
