@@ -36,9 +36,10 @@ PROMISES = (
     ("`txc replay --print-schedule`", "PrintsSchedule lines_of_seed"),
     ("`txc check`", "SaysAccepted"),
     ("`txc listing`", "PrintsListing"),
-    ("a refusal (status 1)", "IsRefused"),
+    ("a refusal by `check`, `source`, `outcomes` (status 1)", "IsRefused"),
+    ("a refusal where code is made (status 1)", "HasNoCode"),
     ("what is written, whatever the status", "WritesFor"),
-    ("`serve`: all of these", "AnswersRequest WritesFor IsRefused"),
+    ("`serve`: all of these", "AnswersRequest WritesFor IsRequestRefused"),
 )
 
 # What of them is said by the source, with the code that `listing` prints and that means it; the rest speaks of the machine.
@@ -404,7 +405,7 @@ def promise_table():
         out.append(row(f"{title} | {', '.join(f'`{it}`' for it in names.split())}", promised(names)))
     by_source = ", ".join(f"`{it}`" for it in BY_SOURCE.split())
     out.append(row(f"of these, what is said by the source | {by_source}", promised(BY_SOURCE)))
-    out.append(row("what is said besides, by the machine | the others", promised(PROMISES[-1][1]), reached(promised(BY_SOURCE))))
+    out.append(row("what is said besides, by limits of code and by the machine | the others", promised(PROMISES[-1][1]), reached(promised(BY_SOURCE))))
     return out + [""]
 
 

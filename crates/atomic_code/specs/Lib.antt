@@ -4,5 +4,7 @@ pub mod Threads
 pub mod Carried
 -- what is seen of a whole thread
 pub mod Whole
+-- threads that rest, as they are kept
+pub mod Resting
 -- what only private functions and proofs speak of
 pub mod inner

@@ -1,5 +1,6 @@
 //! What is told of words that other C has, and txc's has not.
 
+use crate::tokens::{is_punctuator, kind_at, kind_before};
 use lex::token::{Keyword, Kind, Punctuator, Token};
 
 /// What is told of a reserved word of C that has no place in txc's.
@@ -41,6 +42,7 @@ fn is_like_a_type(name: &str) -> bool {
     matches!(
         name,
         "bool"
+            | "_Bool"
             | "size_t"
             | "int8_t"
             | "int16_t"
@@ -53,46 +55,129 @@ fn is_like_a_type(name: &str) -> bool {
     )
 }
 
-/// What is told of an unexpected token, by the token and the one before it.
-pub(crate) fn of_token(
-    before: Option<&Token<'_>>,
-    token: &Token<'_>,
-    word: &[u8],
-) -> Option<&'static str> {
-    match token.kind {
-        Kind::Reserved => return Some(of_reserved(word)),
-        Kind::Keyword(Keyword::Long) => return Some(LONG),
-        Kind::Name(name) if is_like_a_type(name) => return Some(TYPES),
-        Kind::StringLiteral(_) => return Some("a string stands in printf alone"),
-        Kind::Punctuator(Punctuator::And) => return Some("there are no pointers"),
-        Kind::Punctuator(Punctuator::Assign) => return Some(
+/// Whether a name is a word with which other languages begin a declaration.
+fn begins_elsewhere(name: &str) -> bool {
+    matches!(
+        name,
+        "fn" | "def" | "func" | "function" | "let" | "var" | "class"
+    )
+}
+
+/// What is told of an unexpected punctuator, whatever stands before it.
+fn of_punctuator(punctuator: Punctuator) -> Option<&'static str> {
+    match punctuator {
+        Punctuator::And | Punctuator::Star => Some("there are no pointers"),
+        Punctuator::Comma => Some("there is no comma operator"),
+        Punctuator::Increment | Punctuator::Decrement => Some(
+            "++ and -- are statements of their own, and have no value: write one before or behind",
+        ),
+        Punctuator::Assign
+        | Punctuator::AddAssign
+        | Punctuator::SubtractAssign
+        | Punctuator::MultiplyAssign
+        | Punctuator::DivideAssign
+        | Punctuator::RemainderAssign => Some(
             "an assignment is a statement, and has no value: == compares",
         ),
-        Kind::Punctuator(Punctuator::Comma) => return Some("there is no comma operator"),
-        _ => {}
-    }
-    match (before.map(|it| it.kind), token.kind) {
-        (Some(Kind::Punctuator(Punctuator::Minus)), Kind::Punctuator(Punctuator::Greater)) => {
-            Some("there are no pointers, and no structs")
-        }
-        (
-            Some(Kind::Keyword(Keyword::Int | Keyword::Unsigned | Keyword::Long | Keyword::Void)),
-            Kind::Punctuator(Punctuator::Star),
-        ) => { Some("there are no pointers") }
-        (
-            Some(Kind::Keyword(Keyword::Long)),
-            Kind::Keyword(Keyword::Int | Keyword::Unsigned | Keyword::Signed),
-        ) => Some(LONG),
-        (Some(Kind::Name(_)), Kind::Punctuator(Punctuator::OpenBracket)) => Some(
-            "arrays are global alone",
-        ),
-        (Some(Kind::Name(name)), _) if is_like_a_transaction(name) => Some(TRANSACTIONS),
-        (Some(Kind::Name(name)), _) if is_like_a_type(name) => Some(TYPES),
         _ => None,
     }
 }
 
+/// What is told of an unexpected token, whatever stands before it.
+fn of_kind(kind: Kind<'_>, word: &[u8]) -> Option<&'static str> {
+    match kind {
+        Kind::Reserved => Some(of_reserved(word)),
+        Kind::Keyword(Keyword::Long) => Some(LONG),
+        Kind::Name(name) if is_like_a_type(name) => Some(TYPES),
+        Kind::Name(name) if begins_elsewhere(name) => Some(DECLARATIONS),
+        Kind::StringLiteral(_) => Some("a string stands in printf alone"),
+        Kind::Punctuator(punctuator) => of_punctuator(punctuator),
+        _ => None,
+    }
+}
+
+/// What is told of an unexpected bracket behind a token, and of one behind a bracket.
+fn of_bracket(before: Kind<'_>, kind: Kind<'_>) -> Option<&'static str> {
+    match (before, kind) {
+        (Kind::Name(_), Kind::Punctuator(Punctuator::OpenBracket)) => Some(
+            "arrays are global alone",
+        ),
+        (Kind::Punctuator(Punctuator::CloseBracket), Kind::Punctuator(Punctuator::OpenBracket)) =>
+            Some("an array has one dimension: a[6] in place of a[2][3], and a[i * 3 + j]"),
+        (
+            Kind::Punctuator(Punctuator::OpenBracket),
+            Kind::Punctuator(Punctuator::CloseBracket) | Kind::Name(_),
+        ) => Some("an array's length is a number"),
+        _ => None,
+    }
+}
+
+/// What is told of an unexpected token behind another one.
+fn of_pair(before: Kind<'_>, kind: Kind<'_>) -> Option<&'static str> {
+    match (before, kind) {
+        (Kind::Punctuator(Punctuator::Minus), Kind::Punctuator(Punctuator::Greater)) => Some(
+            "there are no pointers, and no structs",
+        ),
+        (
+            Kind::Keyword(Keyword::Long),
+            Kind::Keyword(Keyword::Int | Keyword::Unsigned | Keyword::Signed),
+        ) => Some(LONG),
+        (Kind::Keyword(Keyword::Long), Kind::Name(_)) => Some("write long long"),
+        (
+            Kind::Constant(..),
+            Kind::Punctuator(
+                Punctuator::Plus
+                | Punctuator::Minus
+                | Punctuator::Star
+                | Punctuator::Slash
+                | Punctuator::Percent
+                | Punctuator::ShiftLeft
+                | Punctuator::Or,
+            ),
+        ) => Some("a number alone stands here: write what it comes to"),
+        (Kind::Name(name), _) if is_like_a_transaction(name) => Some(TRANSACTIONS),
+        (Kind::Name(name), _) if is_like_a_type(name) => Some(TYPES),
+        (Kind::Name(name), _) if begins_elsewhere(name) => Some(DECLARATIONS),
+        (Kind::Punctuator(Punctuator::OpenParen), Kind::Name(_)) => Some(
+            "a parameter has a type, as in int f(int a)",
+        ),
+        _ => of_bracket(before, kind),
+    }
+}
+
+/// Whether the token of a number is the first word of an attribute's list: `__attribute__((` or `[[` stands before it.
+fn is_attribute(tokens: &[Token<'_>], number: usize) -> bool {
+    let before = |by: usize| match number.checked_sub(by) {
+        Some(other) => kind_at(tokens, other),
+        None => None,
+    };
+    let is_open = is_punctuator(before(1), Punctuator::OpenParen)
+        && is_punctuator(before(2), Punctuator::OpenParen)
+        && matches!(before(3), Some(Kind::Keyword(Keyword::Attribute)));
+    is_open
+        || is_punctuator(before(1), Punctuator::OpenBracket)
+            && is_punctuator(before(2), Punctuator::OpenBracket)
+}
+
+/// What is told of an unexpected token, that of a number, by its word and by what stands before it.
+pub(crate) fn of_token(tokens: &[Token<'_>], number: usize, word: &[u8]) -> Option<&'static str> {
+    let kind = kind_at(tokens, number)?;
+    if is_attribute(tokens, number) {
+        return Some(
+            "the attributes are transaction_safe and transaction_unsafe of a function, and outer of a transaction",
+        );
+    }
+    if let Some(before) = kind_before(tokens, number) {
+        if let Some(words) = of_pair(before, kind) {
+            return Some(words);
+        }
+    }
+    of_kind(kind, word)
+}
+
 const TYPES: &str = "the types are int, unsigned and long long";
+
+const DECLARATIONS: &str = "declarations are as in C: int x = 1; and int f(int a) { .. }";
 
 const LONG: &str = "long stands in long long alone, which is signed";
 
@@ -126,30 +211,43 @@ pub(crate) fn of_name(name: &str) -> Option<&'static str> {
     }
 }
 
-/// What is told of a character that begins no token.
-pub(crate) fn of_character(byte: u8) -> Option<&'static str> {
-    match byte {
-        b'\'' => Some("there are no character constants: write the number"),
-        b'.' => Some("there are no floating constants, and no structs"),
-        b'l' | b'L' | b'u' | b'U' => Some("a constant's suffix is u or ll"),
-        _ => None,
-    }
-}
-
 /// What is told beside a fault of this number, whatever stands at its place.
 pub(crate) fn of_number(number: u32) -> Option<&'static str> {
     match number {
         2 => Some("the greatest number is 9223372036854775807, and with u behind it 4294967295"),
-        6 => Some("there are no macros: #include lines alone are passed over"),
-        27 => Some(
-            "%d stands for an int, %u for an unsigned and %lld for a long long, one argument each; there is no other",
+        3 => Some("a comment that begins with /* ends with */"),
+        5 => Some("a source has at most 1,048,576 bytes"),
+        6 => Some(
+            "there are no macros: #include lines alone are passed over; write the number, or a global",
         ),
+        11 => Some("a program is at most 100 deep"),
+        24 => Some("on the left of an assignment stands a variable or an element of an array"),
+        25 => Some(
+            "an array has 1 to 4096 cells and no more values than cells; all globals together have at most 4096",
+        ),
+        26 => Some("a loop of the same function stands round it"),
+        29 => Some("it is declared, and no definition follows"),
+        41 => Some("a relaxed transaction can't be undone, so it stands in no atomic one"),
+        42 => Some(
+            "a cancel stands in the text of the __transaction_atomic that it undoes, and not in a function called there",
+        ),
+        43 => Some(
+            "it prints, begins a relaxed transaction or is marked unsafe, itself or by its calls",
+        ),
+        44 => Some("an outer transaction is the outermost one: no atomic one is round it"),
+        45 => Some("an outer cancel stands in the text of a __transaction_atomic [[outer]]"),
         50 => Some(
             "write __transaction_atomic { .. } round it, or __transaction_atomic ( .. ) round an expression",
         ),
+        51 => Some("write __transaction_atomic { .. } round the call"),
+        62 => Some("a function has at most 16 transactions inside one another"),
         _ => None,
     }
 }
+
+/// What is told of conversions and of arguments of other types.
+pub(crate) const CONVERSIONS: &str =
+    "%d stands for an int, %u for an unsigned and %lld for a long long, one argument each; there is no other";
 
 /// What is told of a word that may not stand in an atomic transaction.
 pub(crate) fn of_unsafe(word: &[u8]) -> &'static str {

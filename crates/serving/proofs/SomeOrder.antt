@@ -188,7 +188,6 @@ module _ (more_ticks : MoreTicks) (goes_on : GoesOn) (never_more : NeverMoreLeft
         in_order = record {
           source = r.compiled.source;
           spelled = r.compiled.spelled;
-          accepted = r.compiled.accepted;
           run = subst (IsOrderOf r.compiled.source.program threads o.0 o.1) (no_events shown s.1) o.2;
         };
       }
@@ -206,7 +205,7 @@ module _ (more_ticks : MoreTicks) (goes_on : GoesOn) (never_more : NeverMoreLeft
       record {
         ticks = o.0;
         order = o.1;
-        in_order = record { source = c.source; spelled = c.spelled; accepted = c.accepted; run = o.2 };
+        in_order = record { source = c.source; spelled = c.spelled; run = o.2 };
       }
 
   pub replays_leave_orders : laws.ReplaysLeaveOrders

@@ -1,12 +1,14 @@
--- Why the accepted program of a text has no code, by the code that is picked for it.
+-- Why the program of a text has no code: it is not accepted, or the code that is picked for it passes a limit.
 use Rattle.std.specs.Prelude.{ℕ, List}
 use Rattle.syntax.specs.Grammar.{ParsedSource}
 use Rattle.separation.specs.Touching.{IsAccepted}
 use Rattle.lower.specs.Faults.{IsLowerFaultOf}
 use Rattle.lower.specs.declared.fault.LowerFault.{LowerFault}
 use Rattle.serving.specs.declared.run.SourceFault.{SourceFault}
+use Rattle.serving.specs.declared.run.SourceFault.TheVariants.{OutOfMemory, Lex, Parse, IllTyped, Unsafe, NotSeparate}
 use Rattle.serving.specs.declared.run.SourceFault.TheVariants.{NoCode}
 use Rattle.serving.specs.Checks.{IsSourceOf}
+use Rattle.serving.specs.Refusals.{IsFaultOfSource, IsFaulty}
 
 -- the code that is picked for the accepted program of a text passes a limit
 pub record PassesLimit (text : List ℕ) (fault : LowerFault) : Type 0 where
@@ -15,7 +17,16 @@ pub record PassesLimit (text : List ℕ) (fault : LowerFault) : Type 0 where
   pub accepted : ∥ IsAccepted source.program ∥₁
   pub because : IsLowerFaultOf source.program fault
 
--- what a fault of code says of a text; other faults say nothing here
-abbrev pub PassesLimitIf : List ℕ → SourceFault → Type 0
-PassesLimitIf text (NoCode fault) = PassesLimit text fault
-PassesLimitIf text _ = Unit {0}
+-- what a fault says of a text of which code is made
+abbrev pub IsFaultOfText : List ℕ → SourceFault → Type 0
+IsFaultOfText text (NoCode fault) = PassesLimit text fault
+IsFaultOfText text OutOfMemory = Unit {0}
+IsFaultOfText text (Lex fault) = IsFaultOfSource text (Lex fault)
+IsFaultOfText text (Parse fault) = IsFaultOfSource text (Parse fault)
+IsFaultOfText text (IllTyped fault) = IsFaultOfSource text (IllTyped fault)
+IsFaultOfText text (Unsafe fault) = IsFaultOfSource text (Unsafe fault)
+IsFaultOfText text (NotSeparate fault) = IsFaultOfSource text (NotSeparate fault)
+
+-- the program of a text is not accepted, or it has no code, for a reason that stands somewhere in the text
+abbrev pub HasNoCode : List ℕ → Type 0
+HasNoCode text = IsFaulty IsFaultOfText text
