@@ -9,14 +9,20 @@ transactions gives.
 GCC builds the program at each level, with a harness (scripts/workloads/against.c) that calls `worker` in T threads N
 times over, each time from the globals' first values. Each build is run with each of libitm's methods. What is allowed
 is asked of `txc source`, order by order; a program that traps in one is left out, since C says nothing of it. A wrong
-outcome is told with the allowed one that differs from it in the fewest words, and the order that gives that.
+outcome is told with the allowed one that differs from it in the fewest words, and the order that gives that. The last
+line tells how many runs were made in all: of a build with one method at most N, and with T threads no more than there
+are in 12 seconds, unless --fresh is given.
+
+--cc names another compiler that takes GCC's words, and --library a library in place of libitm that serves GCC's ABI of
+transactions. --report writes a C file for each program that is wrong, which stands by itself, with a `main` that tells
+the wrong outcome (scripts/gcc_reports.py).
 
 --generate makes programs by chance and shrinks each that has a wrong outcome. --guide runs what docs/GUIDE.md shows of
 this script: where one thread runs, GCC 12.2.0 has to give what stands there; with more threads chance decides, and what
 comes is only printed.
 
-Exit status: 1 where something is wrong, 2 where a program is left out or gcc, libitm or txc is not there. txc is $TXC,
-or the program that `rt run` or scripts/quick_build.py makes, or `txc` on the path.
+Exit status: 1 where something is wrong, 2 where a program is left out, words are of no use, or the compiler, its library
+or txc is not there. txc is $TXC, or the program that `rt run` or scripts/quick_build.py makes, or `txc` on the path.
 """
 
 import argparse
@@ -31,6 +37,7 @@ import sys
 import tempfile
 import time
 
+from gcc_reports import memory_code, report_commands, report_file
 from orders import LeftOut, Orders, report_of
 from programs import WEIGHTS, Program, shrunk, text_of
 
@@ -40,6 +47,7 @@ SHOWN = re.compile(r"^```\n\$ scripts/against_gcc\.py ([^\n]*)\n(.*?)^```$", re.
 VERSION = "12.2.0"
 LEVELS = "O0,O1,O2,O3"
 METHODS = "default,serialirr,serialirr_onwrite,serial,gl_wt,ml_wt"
+LEVEL = re.compile(r"O([0-3sgz]?|fast)")
 # Before the program's text, so that its prints are kept, and a pause is no unsafe call.
 BEFORE = """int against_print(const char *, ...);
 __attribute__((transaction_pure)) void against_pause(void);
@@ -49,16 +57,23 @@ __attribute__((transaction_pure)) void against_pause(void);
 TRANSACTION = re.compile(r"(__transaction_(?:atomic|relaxed)(?:\s*\[\[outer\]\])?\s*\{)")
 GLOBAL = re.compile(r"((?:signed\s+)?long\s+long(?:\s+int)?|unsigned int|signed int|unsigned|signed|int)\b(.*)$", re.S)
 DECLARATOR = re.compile(r"\s*(\w+)\s*(?:\[\s*(\w+?)(?:[uU]|ll|LL)?\s*\])?")
-# How a number of each type is printed.
-FORMS = {"int": "%d", "unsigned": "%u", "long long": "%lld"}
 
 # A wrong outcome: a report, what the build said, or what became of the run; in how many of the runs.
 Wrong = collections.namedtuple("Wrong", "level method what count runs")
+# What came of a program: its wrong outcomes, its orders, and how many runs were made.
+Judged = collections.namedtuple("Judged", "found orders runs")
+
+
+class Unusable(Exception):
+    """Why nothing can be judged."""
 
 
 def read(path):
-    with open(path, encoding="utf-8") as file:
-        return file.read()
+    try:
+        with open(path, encoding="utf-8") as file:
+            return file.read()
+    except (OSError, UnicodeDecodeError) as why:
+        raise Unusable(f"cannot read {path}: {getattr(why, 'strerror', None) or 'it is not UTF-8'}") from why
 
 
 def write(path, text):
@@ -72,7 +87,7 @@ def txc():
     for it in found:
         if it and os.path.isfile(it):
             return it
-    raise LeftOut("there is no txc: scripts/quick_build.py makes one")
+    raise Unusable("there is no txc: scripts/quick_build.py makes one")
 
 
 # ---- what GCC makes of a program -------------------------------------------------------------------------------------
@@ -101,50 +116,59 @@ def globals_of(text):
                 yield name, kind, size(length) if length else None
 
 
-def memory_code(text):
-    """The functions of the harness that know the program's globals."""
-    declared, saved, reset, shown = [], [], [], []
-    for name, kind, length in globals_of(text):
-        bounds, form = "" if length is None else f"[{length}]", FORMS[kind]
-        declared.append(f"extern {kind} {name}{bounds};\nstatic {kind} first_{name}{bounds};")
-        saved.append(f"memcpy(&first_{name}, &{name}, sizeof {name});")
-        reset.append(f"memcpy(&{name}, &first_{name}, sizeof {name});")
-        if length is None:
-            shown.append(f'printf("{name} = {form}\\n", {name});')
-        else:
-            values = f'for (int i = 0; i < {length}; i++) printf(" {form}", {name}[i]);'
-            shown.append(f'printf("{name} ="); {values} putchar(10);')
-    functions = zip(("save", "reset", "show"), (saved, reset, shown))
-    bodies = [f"void against_{name}(void)\n{{\n" + "\n".join(lines) + "\n}" for name, lines in functions]
-    return "\n".join(["#include <stdio.h>", "#include <string.h>", *declared, *bodies]) + "\n"
+def gcc(asked, folder, *words):
+    how = {"cwd": folder, "capture_output": True, "text": True, "errors": "replace"}
+    return subprocess.run([*shlex.split(asked.cc), *words], check=False, **how)
 
 
-def gcc(folder, *words):
-    return subprocess.run(["gcc", *words], cwd=folder, capture_output=True, text=True, check=False)
+def version_of(asked):
+    """The version that the compiler tells, and its first line on itself."""
+    try:
+        version = gcc(asked, None, "-dumpfullversion").stdout.strip()
+        return version, gcc(asked, None, "--version").stdout.partition("\n")[0]
+    except OSError as why:
+        raise Unusable(f"cannot run {asked.cc}: {why.strerror}") from why
+
+
+def link_words(asked):
+    """The words that link the library."""
+    if not asked.library:
+        return ["-litm"]
+    library = os.path.abspath(asked.library)
+    if not os.path.isfile(library):
+        raise Unusable(f"cannot read {asked.library}: there is no such file")
+    return [library, f"-Wl,-rpath,{os.path.dirname(library)}"]
+
+
+def with_pauses(text):
+    """A program's text that waits by chance where it has marks, or where its transactions begin."""
+    pauses = text.replace("/*pause*/", "against_pause();")
+    return pauses if pauses != text else TRANSACTION.sub(r"\1 against_pause();", text)
 
 
 class Builds:
     """A program built at each level, in a folder."""
 
     def __init__(self, folder, text, asked):
-        self.folder, self.flags, self.threads = folder, shlex.split(asked.flags), asked.threads
-        self.runs, self.is_fresh = asked.runs or (2 if asked.threads == 1 else 2000), asked.fresh
-        if asked.pauses:
-            has_marks = "/*pause*/" in text
-            text = text.replace("/*pause*/", "against_pause();")
-            text = text if has_marks else TRANSACTION.sub(r"\1 against_pause();", text)
+        self.folder, self.flags, self.threads, self.asked = folder, shlex.split(asked.flags), asked.threads, asked
+        self.runs, self.is_fresh, self.made = asked.runs or (2 if asked.threads == 1 else 2000), asked.fresh, 0
+        text = with_pauses(text) if asked.pauses else text
         write(f"{folder}/program.c", BEFORE + text)
-        write(f"{folder}/memory.c", memory_code(text))
+        write(f"{folder}/memory.c", memory_code(globals_of(text)))
         harness = f"{TOP}/scripts/workloads/against.c"
-        built = gcc(folder, "-O1", "-w", "-pthread", "-c", harness, "memory.c")
+        built = gcc(asked, folder, "-O1", "-w", "-pthread", "-c", harness, "memory.c")
         if built.returncode:
-            raise LeftOut(f"gcc does not build the harness: {built.stderr[:400]}")
+            raise Unusable(f"{asked.cc} does not build the harness: {built.stderr[:400]}")
 
     def at(self, level):
         """The program of a level, or what GCC said."""
         words = ["-std=gnu11", "-w", "-fgnu-tm", "-pthread", f"-{level}", *self.flags]
-        built = gcc(self.folder, *words, "program.c", "against.o", "memory.o", "-litm", "-o", level)
+        built = gcc(self.asked, self.folder, *words, "-c", "program.c", "-o", f"{level}.o")
         if built.returncode == 0:
+            objects, library = [f"{level}.o", "against.o", "memory.o"], link_words(self.asked)
+            linked = gcc(self.asked, self.folder, "-pthread", *self.flags, *objects, *library, "-o", level)
+            if linked.returncode:
+                raise Unusable(f"{self.asked.cc} does not link the program: {linked.stderr.strip()[:400]}")
             return f"{self.folder}/{level}", None
         errors = [it for it in built.stderr.splitlines() if "error" in it]
         return None, (errors or [built.stderr.strip()])[0][:200]
@@ -160,7 +184,10 @@ class Builds:
             done = subprocess.run(words, **how)
         except subprocess.TimeoutExpired:
             return collections.Counter(), "it does not end within 60 seconds"
+        if "Unknown TM method" in done.stderr:
+            raise Unusable(f"the library has no method {method}")
         counted = collections.Counter(map(report_of, done.stdout.split("== over\n")[:-1]))
+        self.made += sum(counted.values())
         if done.returncode == 0:
             return counted, None
         said = done.stderr.strip().splitlines()[-1:]
@@ -169,7 +196,7 @@ class Builds:
 
 
 def judged(text, asked, first_only=False):
-    """The wrong outcomes of a program's text, and its orders."""
+    """What comes of a program's text. With `first_only` it stops where something is wrong."""
     found = []
     with tempfile.TemporaryDirectory() as folder:
         file = f"{folder}/source.c"
@@ -184,7 +211,7 @@ def judged(text, asked, first_only=False):
         for level in asked.levels.split(","):
             program, error = builds.at(level)
             if error:
-                found.append(Wrong(level, None, f"gcc does not build it: {error}", 1, 1))
+                found.append(Wrong(level, None, f"{asked.cc} does not build it: {error}", 1, 1))
             for method in asked.methods.split(",") if program else []:
                 counted, ended = builds.outcomes(program, method)
                 runs = sum(counted.values())
@@ -192,10 +219,10 @@ def judged(text, asked, first_only=False):
                 if ended and not (asked.no_deaths and "SIG" in ended):
                     found.append(Wrong(level, method, ended, 1, 1))
                 if found and first_only:
-                    return found, orders
+                    return Judged(found, orders, builds.made)
         if found:
             orders.look_at_all()
-    return found, orders
+    return Judged(found, orders, builds.made)
 
 
 # ---- what is told ----------------------------------------------------------------------------------------------------
@@ -229,8 +256,9 @@ def where(wrongs, methods):
             yield f"-{level}, " + ", ".join(f"{it.method}: {it.count} of {counted_as(it.runs, 'run')}" for it in its)
 
 
-def told(found, orders, asked):
+def told(it, asked):
     """What is told of a program, line by line."""
+    found, orders, runs = it
     by_what = collections.defaultdict(list)
     for it in found:
         by_what[it.what].append(it)
@@ -248,14 +276,33 @@ def told(found, orders, asked):
             yield from shown(report)
     allowed = counted_as(len(orders.found), "outcome")
     known = f"{allowed} allowed" if orders.is_complete else f"{allowed} met, and allowed"
-    yield f"{known}; {len(by_what)} wrong"
+    yield f"{known}; {len(by_what)} wrong in {counted_as(runs, 'run')}"
+
+
+def keep_report(name, text, it, asked):
+    """Writes the report of a program that is wrong, and runs it once."""
+    if not asked.report or not it.found:
+        return
+    os.makedirs(asked.report, exist_ok=True)
+    text, variables = with_pauses(text) if asked.pauses else text, list(globals_of(text))
+    write(f"{asked.report}/{name}.c", report_file(f"{name}.c", text, it, list(told(it, asked)), asked, variables))
+    build, run = report_commands(f"{name}.c", it.found[0], asked)
+    with tempfile.TemporaryDirectory() as folder:
+        shutil.copy(f"{asked.report}/{name}.c", folder)
+        how = {"cwd": folder, "shell": True, "capture_output": True, "text": True, "errors": "replace"}
+        built = subprocess.run(build, check=False, **how)
+        done = built if built.returncode else subprocess.run(run, check=False, **how)
+    shows = "it tells the wrong outcome" if done.returncode else "it did not meet a wrong outcome when it was run"
+    print(f"{asked.report}/{name}.c is the report: {shows}")
 
 
 def judge_file(file, asked):
     """Tells what a file's program does under GCC. Gives the exit status."""
-    found, orders = judged(read(file), asked)
-    print("\n".join(told(found, orders, asked)))
-    return 1 if found else 0
+    text = read(file)
+    it = judged(text, asked)
+    print("\n".join(told(it, asked)))
+    keep_report(os.path.splitext(os.path.basename(file))[0], text, it, asked)
+    return 1 if it.found else 0
 
 
 def is_still_wrong(first, asked, end):
@@ -266,7 +313,7 @@ def is_still_wrong(first, asked, end):
         if time.monotonic() > end:
             raise TimeoutError
         try:
-            found, _ = judged(text, asked, first_only=True)
+            found = judged(text, asked, first_only=True).found
         except LeftOut:
             return False
         return any(isinstance(it.what, str) == isinstance(first.what, str) for it in found)
@@ -279,22 +326,25 @@ def judge_by_chance(asked):
     weights = {name: int(value) for name, _, value in (it.partition("=") for it in asked.weights.split(",") if it)}
     if not set(weights) <= set(WEIGHTS):
         sys.exit(f"--weights has {', '.join(WEIGHTS)}")
-    left_out = wrong = 0
+    left_out = wrong = runs = 0
     for seed in range(asked.generate, asked.generate + asked.count):
         items = Program(seed, asked.threads, weights).items()
         try:
-            found, _ = judged(text_of(items), asked, first_only=True)
-            if found:
-                items = shrunk(items, is_still_wrong(found[0], asked, time.monotonic() + asked.seconds))
-                text, wrong = text_of(items), wrong + 1
-                print(f"seed {seed}", text, *told(*judged(text, asked), asked), sep="\n", flush=True)
+            it = judged(text_of(items), asked, first_only=True)
+            runs += it.runs
+            if it.found:
+                items = shrunk(items, is_still_wrong(it.found[0], asked, time.monotonic() + asked.seconds))
+                text, wrong, name = text_of(items), wrong + 1, f"seed{seed}_threads{asked.threads}"
+                it = judged(text, asked)
+                print(f"seed {seed}", text, *told(it, asked), sep="\n", flush=True)
                 if asked.keep:
                     os.makedirs(asked.keep, exist_ok=True)
-                    write(f"{asked.keep}/seed{seed}_threads{asked.threads}.c", text)
+                    write(f"{asked.keep}/{name}.c", text)
+                keep_report(name, text, it, asked)
         except LeftOut as why:
             left_out += 1
             print(f"seed {seed} is left out: {why}", file=sys.stderr)
-    print(f"{counted_as(asked.count, 'program')}, {left_out} left out, {wrong} wrong")
+    print(f"{counted_as(asked.count, 'program')}, {left_out} left out, {wrong} wrong in {counted_as(runs, 'run')}")
     return 1 if wrong else 0
 
 
@@ -303,8 +353,7 @@ def hold_guide(version):
     differs = 0
     for line, text in SHOWN.findall(read(GUIDE)):
         asked = words(shlex.split(line))
-        found, orders = judged(read(f"{TOP}/{asked.file}"), asked)
-        came = "".join(f"{it}\n" for it in told(found, orders, asked))
+        came = "".join(f"{it}\n" for it in told(judged(read(f"{TOP}/{asked.file}"), asked), asked))
         if asked.threads > 1 or version != VERSION:
             print(f"$ {line}\n{came}", end="")
         elif came != text:
@@ -317,16 +366,25 @@ def hold_guide(version):
 
 def words(given=None):
     """The words of the command line."""
-    parser = argparse.ArgumentParser(description=__doc__, formatter_class=argparse.RawDescriptionHelpFormatter)
+    parser = argparse.ArgumentParser(
+        usage="against_gcc.py (FILE | --generate SEED | --guide) [OPTION..]",
+        description=__doc__,
+        formatter_class=argparse.RawDescriptionHelpFormatter,
+    )
     what = parser.add_mutually_exclusive_group(required=True)
     what.add_argument("file", nargs="?", metavar="FILE")
     what.add_argument("--generate", type=int, metavar="SEED", help="judges a program made by chance")
     what.add_argument("--guide", action="store_true", help="runs what docs/GUIDE.md shows")
-    parser.add_argument("--threads", type=int, default=1, metavar="T", help="1 if not given")
+    parser.add_argument("--threads", type=int, default=1, metavar="T", help="1 to 64, and 1 if not given")
     parser.add_argument("--runs", type=int, metavar="N", help="2 of one thread and 2000 of more, if not given")
+    parser.add_argument("--cc", default="gcc", help="the compiler, with words of its own if there are any")
+    parser.add_argument("--library", metavar="FILE", help="a shared or static library in place of libitm")
     parser.add_argument("--levels", default=LEVELS, help=f"{LEVELS} if not given")
-    parser.add_argument("--methods", default=METHODS, help=f"of libitm: {METHODS} if not given")
-    parser.add_argument("--flags", default="", help="more words for gcc, in one")
+    parser.add_argument(
+        "--methods", help=f"of libitm: {METHODS} if not given; of another library what it has, and default if not given"
+    )
+    parser.add_argument("--flags", default="", help="more words for the compiler, in one")
+    parser.add_argument("--report", metavar="FOLDER", help="writes a C file there for each program that is wrong")
     parser.add_argument(
         "--pauses", action="store_true", help="waits by chance at /*pause*/, or where transactions begin"
     )
@@ -339,24 +397,34 @@ def words(given=None):
         "--seconds", type=int, default=60, metavar="N", help="for shrinking one program, 60 if not given"
     )
     parser.add_argument("--keep", metavar="FOLDER", help="writes each shrunk program there")
-    return parser.parse_args(given)
+    asked = parser.parse_args(given)
+    if not 1 <= asked.threads <= 64:
+        parser.error("--threads is 1 to 64")
+    if min(asked.count, asked.seconds, 1 if asked.runs is None else asked.runs) < 1:
+        parser.error("--runs, --count and --seconds are 1 and more")
+    if other := [it for it in asked.levels.split(",") if not LEVEL.fullmatch(it)]:
+        parser.error(f"there is no level {other[0]}: the levels are O0, O1, O2, O3, Os, Og, Oz and Ofast")
+    known = METHODS.split(",") + ["htm"]
+    asked.methods = asked.methods or ("default" if asked.library else METHODS)
+    if other := [it for it in asked.methods.split(",") if it not in known]:
+        if not asked.library or not other[0]:
+            parser.error(f"libitm has no method {other[0]}: its methods are {', '.join(known)}")
+    return asked
 
 
 def main():
     asked = words()
     try:
-        if not shutil.which("gcc"):
-            raise LeftOut("gcc is not installed")
-        version = subprocess.run(
-            ["gcc", "-dumpfullversion"], capture_output=True, text=True, check=False
-        ).stdout.strip()
-        print(f"GCC {version}", file=sys.stderr)
+        version, asked.compiler = version_of(asked)
+        print(asked.compiler, file=sys.stderr)
         if asked.guide:
             return hold_guide(version)
         return judge_file(asked.file, asked) if asked.file else judge_by_chance(asked)
     except LeftOut as why:
         print(f"left out: {why}")
-        return 2
+    except (Unusable, OSError) as why:
+        print(f"against_gcc.py: {why}", file=sys.stderr)
+    return 2
 
 
 if __name__ == "__main__":
