@@ -1,0 +1,226 @@
+#!/usr/bin/env python3
+"""Holds the manual page and the completions in share/ to the command line of txc, as crates/command/src/line.rt has it.
+
+    scripts/command_line.py [--write]
+
+With `--write` it writes them: share/txc.1, and what bash, zsh and fish complete. Without, it fails where one differs.
+scripts/install.sh puts them where these look for them.
+"""
+
+import collections
+import os
+import re
+import sys
+
+TOP = os.path.dirname(os.path.dirname(os.path.abspath(__file__)))
+LINE, READ = f"{TOP}/crates/command/src/line.rt", f"{TOP}/crates/command/src/read.rt"
+COMMANDS = f"{TOP}/docs/COMMANDS.md"
+FUNCTION = re.compile(r"^(?:pub )?fn (\w+).*?^\{\n(.*?)^\}", re.M | re.S)
+TEXT = r'"((?:[^"\\]|\\.)*)"'
+CALL = re.compile(
+    rf"\b(?:text\(\s*alloc,\s*{TEXT},\s*{TEXT},\s*{TEXT}|flag\(\s*alloc,\s*{TEXT},\s*{TEXT}"
+    rf'|Arg::new\(alloc, "([A-Z]+)"\)|\.help\({TEXT}|(?:of_file|command_of)\(\s*alloc,\s*{TEXT},\s*{TEXT},\s*{TEXT}|(\w+)\(alloc)'
+)
+ADDED = re.compile(r"with_command\(.*\b(\w+)\(alloc\)\);?$", re.M)
+STATUS = re.compile(r"^\| (\d) \| (.*) \|$", re.M)
+
+Option = collections.namedtuple("Option", "name value help")
+# `takes` is the name of its first word, or None.
+Command = collections.namedtuple("Command", "name about example takes options")
+
+# What stands behind an option in place of a word of one's own: a file, or one of some words.
+FILES, CHOICES = {"schedule"}, {"format": ["short"]}
+HELP = Option("help", None, "Prints help")
+VERSION = Option("version", None, "Prints which txc it is")
+
+
+def read(path):
+    with open(path, encoding="utf-8") as file:
+        return file.read()
+
+
+def plain(text):
+    """What a text of the code says."""
+    return text.replace("\\n", "\n").replace('\\"', '"').replace("\\\\", "\\")
+
+
+def commands_of(source):
+    """The program's command, and each other one."""
+    bodies = dict(FUNCTION.findall(source))
+
+    def command(function):
+        """What the function makes, with what those that it calls make."""
+        name = about = example = takes = None
+        options = []
+        for found in CALL.finditer(bodies[function]):
+            option, value, help_, flag, of_flag, first, _, called, said, shown, other = found.groups()
+            if option:
+                options.append(Option(option, value, plain(help_)))
+            elif flag:
+                options.append(Option(flag, None, plain(of_flag)))
+            elif first:
+                takes = first
+            elif called:
+                name, about, example = called, plain(said), plain(shown)
+                if found[0].startswith("of_file"):
+                    takes, options = "FILE", [*command("of_file").options, *options]
+            elif other in bodies:
+                made = command(other)
+                name, about, example = made.name or name, made.about or about, made.example or example
+                takes, options = made.takes or takes, [*options, *made.options]
+        return Command(name, about, example, takes, options)
+
+    return command("commandless"), [command(it) for it in ADDED.findall(bodies["program"])]
+
+
+def words_of(command):
+    """The options of a command, as they are written."""
+    return " ".join(f"--{it.name}" for it in [*command.options, HELP])
+
+
+def bash_text(_, commands):
+    """What bash reads."""
+    with_value = [it for command in commands for it in command.options if it.value]
+    free = sorted({f"--{it.name}" for it in with_value} - {f"--{it}" for it in [*FILES, *CHOICES]})
+    named = " ".join(it.name for it in commands)
+    cases = "".join(f"                    {it.name}) words='{words_of(it)}' ;;\n" for it in commands)
+    choices = "".join(f"        --{name}) words='{' '.join(its)}' ;;\n" for name, its in CHOICES.items())
+    return f"""\
+_txc() {{
+    local word=${{COMP_WORDS[COMP_CWORD]}} words=
+    case ${{COMP_WORDS[COMP_CWORD - 1]}} in
+{choices}        --{" | --".join(FILES)}) ;;
+        {" | ".join(free)}) return ;;
+        *)
+            if ((COMP_CWORD == 1)); then
+                words='{named} --help --version'
+            elif [[ $word == -* ]]; then
+                case ${{COMP_WORDS[1]}} in
+{cases}                esac
+            fi ;;
+    esac
+    if [[ $words ]]; then
+        mapfile -t COMPREPLY < <(compgen -W "$words" -- "$word")
+    elif [[ ${{COMP_WORDS[1]}} != explain ]]; then
+        compopt -o filenames
+        mapfile -t COMPREPLY < <(compgen -f -- "$word")
+    fi
+}}
+complete -F _txc txc
+"""
+
+
+def quoted(text):
+    """A word in quotation marks of a shell."""
+    return "'" + text.replace("'", "'\\''") + "'"
+
+
+def zsh_option(option):
+    told = option.help.replace("\\", "\\\\").replace("[", "\\[").replace("]", "\\]")
+    action = "_files" if option.name in FILES else f"({' '.join(CHOICES.get(option.name, []))})"
+    behind = f":{option.value}:{'' if action == '()' else action}" if option.value else ""
+    return quoted(f"--{option.name}[{told}]{behind}")
+
+
+def zsh_text(_, commands):
+    """What zsh reads."""
+    described = "".join(f"                {quoted(f'{it.name}:{it.about}')}\n" for it in commands)
+    cases = []
+    for it in commands:
+        words = [zsh_option(option) for option in [*it.options, HELP]]
+        words.append(quoted("1:FILE:_files") if it.takes == "FILE" else quoted(f"1:{it.takes}:"))
+        cases.append(f"                {it.name}) _arguments " + " \\\n                    ".join(words) + " ;;\n")
+    return f"""\
+#compdef txc
+_txc() {{
+    local line state
+    _arguments -C {zsh_option(HELP)} {zsh_option(VERSION)} '1:command:->command' '*::word:->words'
+    case $state in
+        command)
+            local -a commands=(
+{described}            )
+            _describe command commands ;;
+        words)
+            case $line[1] in
+{"".join(cases)}            esac ;;
+    esac
+}}
+_txc "$@"
+"""
+
+
+def fish_text(_, commands):
+    """What fish reads."""
+    lines = ["complete -c txc -f"]
+    for option in (HELP, VERSION):
+        lines.append(f"complete -c txc -n __fish_use_subcommand -l {option.name} -d {quoted(option.help)}")
+    for it in commands:
+        lines.append(f"complete -c txc -n __fish_use_subcommand -a {it.name} -d {quoted(it.about)}")
+        seen = f"complete -c txc -n '__fish_seen_subcommand_from {it.name}'"
+        lines += [f"{seen} -F"] * (it.takes == "FILE")
+        for option in [*it.options, HELP]:
+            takes = " -r -F" if option.name in FILES else " -x" if option.value else ""
+            takes += f" -a {quoted(' '.join(CHOICES[option.name]))}" if option.name in CHOICES else ""
+            lines.append(f"{seen} -l {option.name}{takes} -d {quoted(option.help)}")
+    return "\n".join(lines) + "\n"
+
+
+def roff(text):
+    """A text of a manual page."""
+    text = text.replace("\\", "\\e").replace("-", "\\-").replace("`", "").replace("\n", "\n.br\n")
+    return re.sub(r"^([.'])", r"\\&\1", text, flags=re.M).replace("\n\\&.br\n", "\n.br\n")
+
+
+def man_text(program, commands):
+    """The manual page."""
+    version = re.search(r'const VERSION: &str = "([^"]*)"', read(LINE))[1]
+    pages = read(COMMANDS)
+    synopses = [it.replace("\\|", "|") for it in re.findall(r"^\| `(txc [^`]*)` \|", pages, re.M)]
+    lines = [f'.TH TXC 1 "" "txc {version}"', ".SH NAME", f"txc \\- {roff(program.about[0].lower() + program.about[1:])}"]
+    lines.append(".SH SYNOPSIS")
+    lines += [f"{roff(it)}\n.br" for it in synopses]
+    lines += ["txc \\-\\-help, txc COMMAND \\-\\-help, txc \\-\\-version", ".SH COMMANDS"]
+    for it in commands:
+        lines += [f".SS {it.name}", f"{roff(it.about)}."]
+        for option in it.options:
+            value = f" \\fI{option.value}\\fR" if option.value else ""
+            lines += [".TP", f"\\fB\\-\\-{roff(option.name)}\\fR{value}", roff(option.help)]
+        example = it.example.partition("\n")[2].strip()
+        lines += [".PP", f"Example: {roff(example)}"]
+    lines += [".SH EXIT STATUS"]
+    for status, when in STATUS.findall(pages):
+        lines += [".TP", f"\\fB{status}\\fR", roff(when)]
+    lines += [".SH FILES", "A source, or a schedule, named \\- is standard input. It is not both."]
+    return "\n".join(lines) + "\n"
+
+
+FORMS = {
+    "txc.1": ('.\\" Written by scripts/command_line.py.\n', man_text),
+    "txc.bash": ("# Completes the words of txc. Written by scripts/command_line.py.\n", bash_text),
+    "_txc": ("# Completes the words of txc. Written by scripts/command_line.py.\n", zsh_text),
+    "txc.fish": ("# Completes the words of txc. Written by scripts/command_line.py.\n", fish_text),
+}
+
+
+def main():
+    if sys.argv[1:] not in ([], ["--write"]):
+        sys.exit(__doc__)
+    program, commands = commands_of(read(LINE))
+    differs = False
+    for name, (head, form) in FORMS.items():
+        text = form(program, commands)
+        first, _, rest = text.partition("\n")
+        text = f"{first}\n{head}{rest}" if name == "_txc" else head + text
+        path = f"{TOP}/share/{name}"
+        if sys.argv[1:]:
+            os.makedirs(os.path.dirname(path), exist_ok=True)
+            with open(path, "w", encoding="utf-8") as file:
+                file.write(text)
+        elif not os.path.exists(path) or read(path) != text:
+            differs = True
+            print(f"share/{name} is not what crates/command/src/line.rt has: scripts/command_line.py --write")
+    sys.exit(differs)
+
+
+if __name__ == "__main__":
+    main()

@@ -1,0 +1,30 @@
+# Completes the words of txc. Written by scripts/command_line.py.
+_txc() {
+    local word=${COMP_WORDS[COMP_CWORD]} words=
+    case ${COMP_WORDS[COMP_CWORD - 1]} in
+        --format) words='short' ;;
+        --schedule) ;;
+        --budget | --limit | --order | --seed | --steps | --threads | --ticks) return ;;
+        *)
+            if ((COMP_CWORD == 1)); then
+                words='check listing run replay source outcomes explain --help --version'
+            elif [[ $word == -* ]]; then
+                case ${COMP_WORDS[1]} in
+                    check) words='--verbose --format --help' ;;
+                    listing) words='--verbose --format --help' ;;
+                    run) words='--verbose --format --threads --budget --counts --help' ;;
+                    replay) words='--verbose --format --threads --schedule --seed --steps --timeline --picture --print-schedule --help' ;;
+                    source) words='--verbose --format --threads --order --ticks --help' ;;
+                    outcomes) words='--verbose --format --threads --ticks --limit --help' ;;
+                    explain) words='--help' ;;
+                esac
+            fi ;;
+    esac
+    if [[ $words ]]; then
+        mapfile -t COMPREPLY < <(compgen -W "$words" -- "$word")
+    elif [[ ${COMP_WORDS[1]} != explain ]]; then
+        compopt -o filenames
+        mapfile -t COMPREPLY < <(compgen -f -- "$word")
+    fi
+}
+complete -F _txc txc
