@@ -10,7 +10,17 @@ type Example = (&'static str, &'static [u8], &'static [u8]);
 
 /// The rows stand in a function, so that no proof but its own looks at them.
 fn examples() -> &'static [Example] {
-    static ROWS: [Example; 29] = [
+    static ROWS: [Example; 33] = [
+        (
+            "examples/audit.c",
+            b"// Thread 0 moves 50 in two transactions. Thread 1 counts the money, and can find that 50 are missing.\nint checking = 120, savings = 40;\n\nvoid worker(int self) {\n    int total;\n    if (self == 0) {\n        __transaction_atomic { checking = checking - 50; }\n        __transaction_atomic { savings = savings + 50; }\n    } else {\n        __transaction_atomic { total = checking + savings; }\n        printf(\"%d\\n\", total);\n    }\n}\n",
+            b"== thread 0: ended\n== memory\nchecking = 70\nsavings = 90\n",
+        ),
+        (
+            "examples/audit_mended.c",
+            b"// Thread 0 moves 50 in one transaction. Thread 1 counts the money, and finds all of it.\nint checking = 120, savings = 40;\n\nvoid worker(int self) {\n    int total;\n    if (self == 0) {\n        __transaction_atomic {\n            checking = checking - 50;\n            savings = savings + 50;\n        }\n    } else {\n        __transaction_atomic { total = checking + savings; }\n        printf(\"%d\\n\", total);\n    }\n}\n",
+            b"== thread 0: ended\n== memory\nchecking = 70\nsavings = 90\n",
+        ),
         (
             "examples/booking.c",
             b"// A cancel of an inner transaction undoes the inner one alone: who finds no seat in the train takes one in the bus, and what the\n// outer transaction wrote before stays. Each thread books twice.\nint train = 1, bus = 9, asked, by_train, by_bus;\n\nvoid worker(int self) {\n    int i;\n    for (i = 0; i < 2; i++) {\n        __transaction_atomic {\n            int seated = 0;\n            asked = asked + 1;\n            __transaction_atomic {\n                train = train - 1;\n                by_train = by_train + 1;\n                if (train < 0) __transaction_cancel;\n                seated = 1;\n            }\n            if (!seated) {\n                bus = bus - 1;\n                by_bus = by_bus + 1;\n            }\n        }\n    }\n}\n",
@@ -65,6 +75,16 @@ fn examples() -> &'static [Example] {
             "examples/receipt.c",
             b"// Printing can't be undone, so it stands in a relaxed transaction: from its first piece on no other thread can change what is\n// shared, and the numbers on the receipt are those of one moment.\nint sold, left = 10;\n\nvoid worker(int self) {\n    __transaction_relaxed {\n        sold = sold + 1;\n        left = left - 1;\n        printf(\"ticket %d, %d left\\n\", sold, left);\n    }\n}\n",
             b"== thread 0: ended\nticket 1, 9 left\n== memory\nsold = 1\nleft = 9\n",
+        ),
+        (
+            "examples/seats.c",
+            b"// One seat and two buyers. Each looks first and buys then, in two transactions: the seat can be sold twice.\nint seats = 1, sold;\n\nvoid worker(int self) {\n    int free;\n    __transaction_atomic { free = seats > 0; }\n    if (free) {\n        __transaction_atomic {\n            seats = seats - 1;\n            sold = sold + 1;\n        }\n    }\n}\n",
+            b"== thread 0: ended\n== memory\nseats = 0\nsold = 1\n",
+        ),
+        (
+            "examples/seats_mended.c",
+            b"// One seat and two buyers, each of whom looks and buys in one transaction: the seat is sold once.\nint seats = 1, sold;\n\nvoid worker(int self) {\n    __transaction_atomic {\n        if (seats > 0) {\n            seats = seats - 1;\n            sold = sold + 1;\n        }\n    }\n}\n",
+            b"== thread 0: ended\n== memory\nseats = 0\nsold = 1\n",
         ),
         (
             "examples/sum.c",
@@ -187,7 +207,7 @@ fn examples_print_what_they_should(rt: HostRuntime) {
 type Transcript = (&'static str, &'static [u8], &'static [u8], &'static [u8]);
 
 fn transcripts() -> &'static [Transcript] {
-    static ROWS: [Transcript; 41] = [
+    static ROWS: [Transcript; 45] = [
         (
             "txc check examples/queue.c",
             b"// A bounded queue: one transaction puts or takes, and a cancel undoes what does not fit.\nint slots[4], head, count, refused;\n\nint put(int value) {\n    int done = 0;\n    __transaction_atomic {\n        slots[(head + count) % 4] = value;\n        count++;\n        if (count > 4) __transaction_cancel;\n        done = 1;\n    }\n    return done;\n}\n\nvoid worker(int self) {\n    int i;\n    for (i = 1; i <= 6; i++) {\n        if (!put(i * i)) {\n            __transaction_atomic { refused++; }\n        }\n    }\n    __transaction_relaxed {\n        printf(\"%d waiting, %d refused\\n\", count, refused);\n        while (count > 0) {\n            printf(\"%d \", slots[head]);\n            head = (head + 1) % 4;\n            count--;\n        }\n    }\n    printf(\"\\n\");\n}\n",
@@ -249,6 +269,18 @@ fn transcripts() -> &'static [Transcript] {
             b"function worker registers 4\n0 const r1 #0\n1 begin >6\n2 rd r2 @0\n3 const r3 #1\n4 add.s r2 r2 r3\n5 commit\n6 const r3 #2\n7 mul.s r1 r2 r3\n8 irrevocable\n9 print.s r1\n10 print.t #0\n11 ret\ntext 0 \"\\n\"\n",
         ),
         (
+            "txc outcomes examples/audit.c --threads 2",
+            b"// Thread 0 moves 50 in two transactions. Thread 1 counts the money, and can find that 50 are missing.\nint checking = 120, savings = 40;\n\nvoid worker(int self) {\n    int total;\n    if (self == 0) {\n        __transaction_atomic { checking = checking - 50; }\n        __transaction_atomic { savings = savings + 50; }\n    } else {\n        __transaction_atomic { total = checking + savings; }\n        printf(\"%d\\n\", total);\n    }\n}\n",
+            b"",
+            b"== outcome --order 0,0,1\n== thread 0: ended\n== thread 1: ended\n160\n== memory\nchecking = 70\nsavings = 90\n== outcome --order 0,1,0\n== thread 0: ended\n== thread 1: ended\n110\n== memory\nchecking = 70\nsavings = 90\n== outcomes: 2, orders: 3\n",
+        ),
+        (
+            "txc outcomes examples/audit_mended.c --threads 2",
+            b"// Thread 0 moves 50 in one transaction. Thread 1 counts the money, and finds all of it.\nint checking = 120, savings = 40;\n\nvoid worker(int self) {\n    int total;\n    if (self == 0) {\n        __transaction_atomic {\n            checking = checking - 50;\n            savings = savings + 50;\n        }\n    } else {\n        __transaction_atomic { total = checking + savings; }\n        printf(\"%d\\n\", total);\n    }\n}\n",
+            b"",
+            b"== outcome --order 0,1\n== thread 0: ended\n== thread 1: ended\n160\n== memory\nchecking = 70\nsavings = 90\n== outcomes: 1, orders: 2\n",
+        ),
+        (
             "txc outcomes examples/counter.c --threads 2",
             b"// Each thread adds one, three times. No addition is lost, whatever the threads do.\nint x;\n\nvoid worker(int self) {\n    int i;\n    for (i = 0; i < 3; i++) {\n        __transaction_atomic { x = x + 1; }\n    }\n}\n",
             b"",
@@ -259,6 +291,18 @@ fn transcripts() -> &'static [Transcript] {
             b"// Printing can't be undone, so it stands in a relaxed transaction: from its first piece on no other thread can change what is\n// shared, and the numbers on the receipt are those of one moment.\nint sold, left = 10;\n\nvoid worker(int self) {\n    __transaction_relaxed {\n        sold = sold + 1;\n        left = left - 1;\n        printf(\"ticket %d, %d left\\n\", sold, left);\n    }\n}\n",
             b"",
             b"== outcome --order 0,1\n== thread 0: ended\nticket 1, 9 left\n== thread 1: ended\nticket 2, 8 left\n== memory\nsold = 2\nleft = 8\n== outcome --order 1,0\n== thread 0: ended\nticket 2, 8 left\n== thread 1: ended\nticket 1, 9 left\n== memory\nsold = 2\nleft = 8\n== outcomes: 2, orders: 2\n",
+        ),
+        (
+            "txc outcomes examples/seats.c --threads 2",
+            b"// One seat and two buyers. Each looks first and buys then, in two transactions: the seat can be sold twice.\nint seats = 1, sold;\n\nvoid worker(int self) {\n    int free;\n    __transaction_atomic { free = seats > 0; }\n    if (free) {\n        __transaction_atomic {\n            seats = seats - 1;\n            sold = sold + 1;\n        }\n    }\n}\n",
+            b"",
+            b"== outcome --order 0,0,1\n== thread 0: ended\n== thread 1: ended\n== memory\nseats = 0\nsold = 1\n== outcome --order 0,1,0,1\n== thread 0: ended\n== thread 1: ended\n== memory\nseats = -1\nsold = 2\n== outcomes: 2, orders: 4\n",
+        ),
+        (
+            "txc outcomes examples/seats_mended.c --threads 2",
+            b"// One seat and two buyers, each of whom looks and buys in one transaction: the seat is sold once.\nint seats = 1, sold;\n\nvoid worker(int self) {\n    __transaction_atomic {\n        if (seats > 0) {\n            seats = seats - 1;\n            sold = sold + 1;\n        }\n    }\n}\n",
+            b"",
+            b"== outcome --order 0,1\n== thread 0: ended\n== thread 1: ended\n== memory\nseats = 0\nsold = 1\n== outcomes: 1, orders: 2\n",
         ),
         (
             "txc replay examples/booking.c --schedule examples/schedules/booking.txt",

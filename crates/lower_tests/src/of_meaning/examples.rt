@@ -10,7 +10,19 @@ use written_programs::accepted_of;
 type Row = (&'static str, u32, &'static str, &'static [u64]);
 
 fn examples() -> &'static [Row] {
-    static EXAMPLES: [Row; 14] = [
+    static EXAMPLES: [Row; 18] = [
+        (
+            "// Thread 0 moves 50 in two transactions. Thread 1 counts the money, and can find that 50 are missing.\nint checking = 120, savings = 40;\n\nvoid worker(int self) {\n    int total;\n    if (self == 0) {\n        __transaction_atomic { checking = checking - 50; }\n        __transaction_atomic { savings = savings + 50; }\n    } else {\n        __transaction_atomic { total = checking + savings; }\n        printf(\"%d\\n\", total);\n    }\n}\n",
+            0,
+            "",
+            &[70, 90],
+        ),
+        (
+            "// Thread 0 moves 50 in one transaction. Thread 1 counts the money, and finds all of it.\nint checking = 120, savings = 40;\n\nvoid worker(int self) {\n    int total;\n    if (self == 0) {\n        __transaction_atomic {\n            checking = checking - 50;\n            savings = savings + 50;\n        }\n    } else {\n        __transaction_atomic { total = checking + savings; }\n        printf(\"%d\\n\", total);\n    }\n}\n",
+            0,
+            "",
+            &[70, 90],
+        ),
         (
             "// A cancel of an inner transaction undoes the inner one alone: who finds no seat in the train takes one in the bus, and what the\n// outer transaction wrote before stays. Each thread books twice.\nint train = 1, bus = 9, asked, by_train, by_bus;\n\nvoid worker(int self) {\n    int i;\n    for (i = 0; i < 2; i++) {\n        __transaction_atomic {\n            int seated = 0;\n            asked = asked + 1;\n            __transaction_atomic {\n                train = train - 1;\n                by_train = by_train + 1;\n                if (train < 0) __transaction_cancel;\n                seated = 1;\n            }\n            if (!seated) {\n                bus = bus - 1;\n                by_bus = by_bus + 1;\n            }\n        }\n    }\n}\n",
             0,
@@ -76,6 +88,18 @@ fn examples() -> &'static [Row] {
             0,
             "ticket 1, 9 left\n",
             &[1, 9],
+        ),
+        (
+            "// One seat and two buyers. Each looks first and buys then, in two transactions: the seat can be sold twice.\nint seats = 1, sold;\n\nvoid worker(int self) {\n    int free;\n    __transaction_atomic { free = seats > 0; }\n    if (free) {\n        __transaction_atomic {\n            seats = seats - 1;\n            sold = sold + 1;\n        }\n    }\n}\n",
+            0,
+            "",
+            &[0, 1],
+        ),
+        (
+            "// One seat and two buyers, each of whom looks and buys in one transaction: the seat is sold once.\nint seats = 1, sold;\n\nvoid worker(int self) {\n    __transaction_atomic {\n        if (seats > 0) {\n            seats = seats - 1;\n            sold = sold + 1;\n        }\n    }\n}\n",
+            0,
+            "",
+            &[0, 1],
         ),
         (
             "int x = 5; void worker(int self) { int v = __transaction_atomic (x + 1) * 2; printf(\"%d\\n\", v); }\n",

@@ -1,0 +1,15 @@
+// Thread 0 moves 50 in one transaction. Thread 1 counts the money, and finds all of it.
+int checking = 120, savings = 40;
+
+void worker(int self) {
+    int total;
+    if (self == 0) {
+        __transaction_atomic {
+            checking = checking - 50;
+            savings = savings + 50;
+        }
+    } else {
+        __transaction_atomic { total = checking + savings; }
+        printf("%d\n", total);
+    }
+}

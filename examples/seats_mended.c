@@ -1,0 +1,11 @@
+// One seat and two buyers, each of whom looks and buys in one transaction: the seat is sold once.
+int seats = 1, sold;
+
+void worker(int self) {
+    __transaction_atomic {
+        if (seats > 0) {
+            seats = seats - 1;
+            sold = sold + 1;
+        }
+    }
+}
