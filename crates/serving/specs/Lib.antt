@@ -24,6 +24,8 @@ pub mod Pictures
 pub mod Refusals
 -- why a program has no code
 pub mod Limits
+-- what orders show is what the machine can come to
+pub mod Possible
 -- laws of reports
 pub mod Laws
 -- what is written for a request

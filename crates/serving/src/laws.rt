@@ -11,6 +11,7 @@ ghost use Rattle.bytecode.specs.Valid.{IsValid};
 ghost use Rattle.machine.specs.Serializable.{IsOpaque};
 ghost use Rattle.serving.specs.Codes.{IsCodeOf};
 ghost use Rattle.serving.specs.Laws.{OrdersAreListed, ReplaysAreOrders, ReplaysLeaveOrders, ConcurrentRunsAreOrders};
+ghost use Rattle.serving.specs.Possible.{OrdersAreReplays, OutcomesAreDone};
 
 use bytecode::laws::valid_code_fits_its_cells;
 use lex::laws::one_list_of_tokens;
@@ -56,3 +57,13 @@ pub fn orders_are_listed()
     one_tree();
     ticks_change_nothing();
 }
+
+/// What orders show, the machine can come to. Each order of the source in which no thread is spent is replayed by a
+/// schedule, if the steps that it takes are few enough for one: the report shows the order's globals, texts and ends,
+/// with `running` for a thread that waits, the lock is free, and no attempt is dropped. And each outcome that is
+/// listed, where in no order a thread's ticks are used up, is word for word the report of a world that steps which do
+/// not stop lead to. With `reports_are_orders` and `orders_are_listed` such a list is exact.
+pub fn orders_are_replays()
+    ensures replays { OrdersAreReplays }
+    ensures outcomes { OutcomesAreDone }
+{}
