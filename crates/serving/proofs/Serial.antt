@@ -49,7 +49,7 @@ use Rattle.report.specs.declared.printed.End.{End}
 use Rattle.report.specs.Printed.{ThreadShown, Printed}
 use Rattle.serving.specs.Replays.{IsReplayOf, end_after_replay, thread_found}
 use Rattle.serving.specs.Reports.{has_stopped, is_stopped}
-use Rattle.serving.specs.Runs.{RunsConcurrently, end_of_run, globals_left, held_by, thread_of_run, threads_of_run}
+use Rattle.serving.specs.Runs.{IsConcurrentRun, end_of_run, globals_left, held_by, thread_of_run, threads_of_run}
 use Rattle.serving.specs.Shows.{order_end, shown_globals, thread_shown}
 use Rattle.serving.specs.inner.Serial.{IsSerial}
 use Rattle.serving.proofs.Inside.{over_outside}
@@ -135,6 +135,11 @@ module _ (p : Program) (m0 : Memory) (run : List Step) (t : ℕ) (text : List �
       )
   over Running s is = absurd (is refl)
 
+-- a thread of the code stands in a run of the program, with the text that is shown
+stands_so : (p : Program) (code : Code) (run : List Step) (t : ℕ) (printed text : List ℕ) (status : Status) → initial_of code ≡ initial_memory p → printed ≡ text → Stands (thread p) (initial_of code) run t printed status → Stands (thread p) (initial_memory p) run t text status
+stands_so p code run t printed text status same is s =
+    subst (λ m. Stands (thread p) m run t text status) same (subst (λ x. Stands (thread p) (initial_of code) run t x status) is s)
+
 -- how a thread that is over is shown after a run of all threads
 over_in_run : (s : Status) (stopped : Option Stop) → is_stopped (end_of_run s stopped) ≡ false → (s ≢ Running) × (end_of_run s stopped ≡ end_after_replay (end_of s))
 over_in_run Running None still = absurd (cc)
@@ -207,48 +212,81 @@ globals_are p (LockHeld n) ws cells last is nobody words = let f : true ≡ fals
 
 -- ---- a run of all threads at once
 
-pub serial_run : (threads budget : ℕ) (text : List ℕ) (shown : Printed) (r : RunsConcurrently threads budget text shown) → has_stopped shown ≡ false →
-    IsSerial r.compiled.source.program threads shown × (shown.events ≡ None) × (shown.holder ≡ None)
-serial_run threads budget text shown r none =
-    let p : Program = r.compiled.source.program in
-    let ran = r.run.ran in
-    let w : World Configuration = ran.closes.world in
-    let es : List Entry = ran.closes.runs.entries in
-    let x = ran.program es ran.closes.runs.is_merge in
-    let same : initial_of r.code ≡ initial_memory p = ap initial_from r.compiled.compiled.globals in
-    let all : shown.threads ≡ threads_of_run r.run.report threads = ap (λ (s : Printed). s.threads) r.run.shows in
-    let none' : list_any (λ (t : ThreadShown). is_stopped t.end) (threads_of_run r.run.report threads) ≡ false = ap (list_any (λ (t : ThreadShown). is_stopped t.end)) (sym all) ∙ none in
-    let still : (t : ℕ) → t < threads → is_stopped (thread_of_run r.run.report t).end ≡ false = (λ t lt.
-    any_no (λ (t : ThreadShown). is_stopped t.end) (threads_of_run r.run.report threads) t (thread_of_run r.run.report t) none' (thread_at r.run.report threads t lt)) in
-    let over_at : (t : ℕ) (lt : t < threads) → ((r.run.each t lt).part.thread.status ≢ Running) × (end_of_run (r.run.each t lt).part.thread.status (r.run.each t lt).stopped ≡ end_after_replay (end_of (r.run.each t lt).part.thread.status)) = (λ t lt.
-    over_in_run _ _ (ap (λ (s : ThreadShown). is_stopped s.end) (sym (r.run.each t lt).shows) ∙ still t lt)) in
-    let over_there : (n : ℕ) (q : Part Configuration) → slice_get w.parts n ≡ Some q → q.thread.status ≢ Running = (λ n q here.
-    let count : length w.parts ≡ threads = x.count in
-    let within : n < length w.parts = slice_get_within w.parts n q here in
-    let lt : n < threads = omega (arith, count, within) in
-    let is : (r.run.each n lt).part ≡ q = same_some _ q (sym (r.run.each n lt).there ∙ here) in
-    subst (λ (y : Part Configuration). y.thread.status ≢ Running) is (over_at n lt).0) in
-    let free : NoneHolds ran.workers = nobody ran.table _ w ran.closes.heard ran.workers ran.are ran.closes.there over_there in
-    let counted : length shown.threads ≡ threads = ap length all ∙ length_all r.run.report threads in (
+-- where the words are reported no worker has the lock
+none_holds : (m : RunMemory) (ws : List (Worker Global)) (cells : List ℕ) → IsMemoryOf m ws cells → held_by m ≡ None → NoneHolds ws
+none_holds (Words v) ws cells is free = is.1
+none_holds (LockHeld n) ws cells is free = let f : Some n ≡ None = free in absurd (cc)
+
+module _ (p : Program) (code : Code) (threads budget : ℕ) (shown : Printed) (r : IsConcurrentRun p code threads budget shown) where
+  all_shown : shown.threads ≡ threads_of_run r.report threads
+  all_shown = ap (λ (s : Printed). s.threads) r.shows
+
+  counted : length shown.threads ≡ threads
+  counted = ap length all_shown ∙ length_all r.report threads
+
+  within : (t : ℕ) (this : ThreadShown) → slice_get shown.threads t ≡ Some this → t < threads
+  within t this at =
+      let lt : t < length shown.threads = slice_get_within shown.threads t this at in
+      let c : length shown.threads ≡ threads = counted in
+      omega (arith, c, lt)
+
+  -- what is shown of a thread is what the run reports of it
+  is_reported : (t : ℕ) (this : ThreadShown) → slice_get shown.threads t ≡ Some this → thread_of_run r.report t ≡ this
+  is_reported t this at = same_some _ this (sym (ap (λ ts. slice_get ts t) all_shown ∙ thread_at r.report threads t (within t this at)) ∙ at)
+
+  pub no_run_events : shown.events ≡ None
+  no_run_events = ap (λ (s : Printed). s.events) r.shows
+
+  -- where all threads are over, none has the lock
+  pub free_run : has_stopped shown ≡ false → shown.holder ≡ None
+  free_run none =
+      ap (λ (s : Printed). s.holder) r.shows
+      ∙ holder_is r.report.memory r.ran.workers r.ran.cells r.ran.memory (nobody r.ran.table _ w r.ran.closes.heard r.ran.workers r.ran.are r.ran.closes.there over_there)
+    where
+      w : World Configuration
+      w = r.ran.closes.world
+
+      still : (t : ℕ) → t < threads → is_stopped (thread_of_run r.report t).end ≡ false
+      still t lt = any_no (λ (s : ThreadShown). is_stopped s.end) (threads_of_run r.report threads) t (thread_of_run r.report t)
+          (ap (list_any (λ (s : ThreadShown). is_stopped s.end)) (sym all_shown) ∙ none) (thread_at r.report threads t lt)
+
+      over_there : (n : ℕ) (q : Part Configuration) → slice_get w.parts n ≡ Some q → q.thread.status ≢ Running
+      over_there n q here =
+          let count : length w.parts ≡ threads = (r.ran.program r.ran.closes.runs.entries r.ran.closes.runs.is_merge).count in
+          let inside : n < length w.parts = slice_get_within w.parts n q here in
+          let lt : n < threads = omega (arith, count, inside) in
+          let is : (r.each n lt).part ≡ q = same_some _ q (sym (r.each n lt).there ∙ here) in
+          let o = over_in_run _ _ (ap (λ (s : ThreadShown). is_stopped s.end) (sym (r.each n lt).shows) ∙ still n lt) in
+          subst (λ (y : Part Configuration). y.thread.status ≢ Running) is o.0
+
+  pub serial_run : code.globals ≡ globals p → shown.holder ≡ None → IsSerial p threads shown
+  serial_run compiled free =
+      let w : World Configuration = r.ran.closes.world in
+      let es : List Entry = r.ran.closes.runs.entries in
+      let x = r.ran.program es r.ran.closes.runs.is_merge in
+      let same : initial_of code ≡ initial_memory p = ap initial_from compiled in
+      let none : NoneHolds r.ran.workers = none_holds r.report.memory r.ran.workers r.ran.cells r.ran.memory (sym (ap (λ (s : Printed). s.holder) r.shows) ∙ free) in
       record {
         run = run_of es;
         is_run = subst (λ m. IsRun (thread p) threads m (run_of es)) same x.is_run;
         count = counted;
         each = λ t this at quiet.
-            let within : t < length shown.threads = slice_get_within shown.threads t this at in
-            let lt : t < threads = omega (arith, counted, within) in
-            let i = r.run.each t lt in
-            let is : thread_of_run r.run.report t ≡ this = same_some _ this (sym (ap (λ ts. slice_get ts t) all ∙ thread_at r.run.report threads t lt) ∙ at) in
-            let o = over p (initial_of r.code) (run_of es) t i.part.thread.text i.part.thread.status (x.standing t i.part i.there) (over_at t lt).0 in
-            (o.0, o.1, sym is ∙ i.shows ∙ ap (as_shown i.part.thread.text) (over_at t lt).1 ∙ o.2);
+            let i = r.each t (within t this at) in
+            let is : thread_of_run r.report t ≡ this = is_reported t this at in
+            let still = over_in_run _ _ (ap (λ (s : ThreadShown). is_stopped s.end) (sym i.shows ∙ is) ∙ quiet) in
+            let o = over p (initial_of code) (run_of es) t i.part.thread.text i.part.thread.status (x.standing t i.part i.there) still.0 in
+            (o.0, o.1, sym is ∙ i.shows ∙ ap (as_shown i.part.thread.text) still.1 ∙ o.2);
+        prints = λ t this at.
+            let i = r.each t (within t this at) in
+            let text : i.part.thread.text ≡ this.text = ap (λ (s : ThreadShown). s.text) (sym i.shows ∙ is_reported t this at) in (
+              i.part.thread.status,
+              stands_so p code (run_of es) t _ this.text _ same text (x.standing t i.part i.there),
+            );
         globals =
-            ap (λ (s : Printed). s.globals) r.run.shows
-            ∙ globals_are p r.run.report.memory ran.workers ran.cells (last_memory (initial_memory p) (run_of es)) ran.memory free
-            (sym ran.closes.cells_are ∙ free_words (initial_of r.code) w es (ran.closes.even ran.here free) x.held ∙ ap (λ m. last_memory m (run_of es)) same);
-      },
-      ap (λ (s : Printed). s.events) r.run.shows,
-      ap (λ (s : Printed). s.holder) r.run.shows ∙ holder_is r.run.report.memory ran.workers ran.cells ran.memory free,
-    )
+            ap (λ (s : Printed). s.globals) r.shows
+            ∙ globals_are p r.report.memory r.ran.workers r.ran.cells (last_memory (initial_memory p) (run_of es)) r.ran.memory none
+            (sym r.ran.closes.cells_are ∙ free_words (initial_of code) w es (r.ran.closes.even r.ran.here none) x.held ∙ ap (λ m. last_memory m (run_of es)) same);
+      }
 
 -- ---- a replay
 
@@ -290,6 +328,9 @@ serial_replay p code threads found made stopped shown compiled r free =
           let still = over_with r.stop q.2 q.0.thread.status (ap (λ (s : ThreadShown). is_stopped s.end) (sym q.3) ∙ quiet) in
           let o = over p (initial_of code) (run_of es) t q.0.thread.text q.0.thread.status (x.standing t q.0 q.1) still.0 in
           (o.0, o.1, q.3 ∙ ap (λ (e : WorldEnd). as_shown q.0.thread.text (end_after_replay e)) still.1 ∙ o.2);
+      prints = λ t this at.
+          let q = part_shown r.stop 0 w.parts t this (ap (λ ts. slice_get ts t) (sym all) ∙ at) in
+          (q.0.thread.status, stands_so p code (run_of es) t _ this.text _ same (sym (ap (λ (s : ThreadShown). s.text) q.3)) (x.standing t q.0 q.1));
       globals =
           ap (λ (s : Printed). s.globals) r.shows
           ∙ ap (shown_globals (globals p)) (free_words (initial_of code) w es holder.0 x.held ∙ ap (λ m. last_memory m (run_of es)) same);

@@ -20,7 +20,7 @@ use Rattle.serving.specs.Replays.{behind_events}
 use Rattle.serving.specs.Reports.{has_stopped, is_stopped}
 use Rattle.serving.specs.Shows.{order_end, shown_globals, thread_shown}
 use Rattle.serving.specs.inner.Serial.{IsSerial}
-use Rattle.serving.proofs.Serial.{any_no, free_replay, same_some, serial_replay, serial_run}
+use Rattle.serving.proofs.Serial.{any_no, free_replay, free_run, no_run_events, same_some, serial_replay, serial_run}
 
 -- ---- lists by their elements
 
@@ -154,6 +154,10 @@ module _ (more_ticks : MoreTicks) (goes_on : GoesOn) (never_more : NeverMoreLeft
               let c : length shown.threads ≡ threads = s.count in
               let lt : t < threads = omega (arith, c, within) in
               slice_get-map thread_shown o.threads t ∙ ap (option_map thread_shown) (i.each t lt) ∙ ap Some (sym ((n.1 t lt).1 this at quiet));
+          run = s.run;
+          is_run = s.is_run;
+          order_is = refl;
+          prints = s.prints;
         },
         i.count,
       )
@@ -180,8 +184,10 @@ module _ (more_ticks : MoreTicks) (goes_on : GoesOn) (never_more : NeverMoreLeft
 module _ (more_ticks : MoreTicks) (goes_on : GoesOn) (never_more : NeverMoreLeft) (runs_are_orders : RunsAreOrders) where
   pub runs_are_of_orders : laws.ConcurrentRunsAreOrders
   runs_are_of_orders threads budget text shown r none =
-      let s = serial_run threads budget text shown r none in
-      let o = an_order more_ticks goes_on never_more r.compiled.source.program threads shown s.0 runs_are_orders none s.2 in
+      let p : Program = r.compiled.source.program in
+      let free : shown.holder ≡ None = free_run p r.code threads budget shown r.run none in
+      let s = serial_run p r.code threads budget shown r.run r.compiled.compiled.globals free in
+      let o = an_order more_ticks goes_on never_more p threads shown s runs_are_orders none free in
       record {
         ticks = o.0;
         order = o.1;
@@ -189,12 +195,16 @@ module _ (more_ticks : MoreTicks) (goes_on : GoesOn) (never_more : NeverMoreLeft
           source = r.compiled.source;
           spelled = r.compiled.spelled;
           accepted = r.compiled.accepted;
-          run = subst (IsOrderOf r.compiled.source.program threads o.0 o.1) (no_events shown s.1) o.2;
+          run = subst (IsOrderOf p threads o.0 o.1) (no_events shown (no_run_events p r.code threads budget shown r.run)) o.2;
         };
       }
     where
       no_events : (shown : Printed) → shown.events ≡ None → behind_events shown ≡ shown
       no_events shown e = ap (λ (v : Option (List (ℕ × ℕ × Event))). record shown { events = v }) (sym e)
+
+  pub runs_leave_orders : laws.ConcurrentRunsLeaveOrders
+  runs_leave_orders p code threads budget shown compiled r free =
+      (some_order more_ticks goes_on never_more p threads shown (serial_run p code threads budget shown r compiled.globals free) runs_are_orders).0
 
   pub replays_are_of_orders : laws.ReplaysAreOrders
   replays_are_of_orders threads steps schedule text shown r none =

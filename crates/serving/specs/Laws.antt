@@ -11,7 +11,7 @@ use Rattle.serving.specs.Codes.{IsCodeOf}
 use Rattle.serving.specs.Reports.{has_stopped}
 use Rattle.serving.specs.Orders.{LeavesSomeOrder, RunsInSomeOrder}
 use Rattle.serving.specs.Outcomes.{AreAllOutcomes, reports}
-use Rattle.serving.specs.Runs.{RunsConcurrently}
+use Rattle.serving.specs.Runs.{IsConcurrentRun, RunsConcurrently}
 use Rattle.serving.specs.Replays.{IsReplayOf, Replays, behind_events}
 
 -- what a run of all threads shows, where each of them has ended or trapped, they show in some order
@@ -33,6 +33,12 @@ ReplaysLeaveOrders =
     (p : Program) (code : Code) (threads : ℕ) (found : List Line) (made : List ℕ) (stopped : Option WorldStop)
     (shown : Printed) → IsCodeOf p code → IsReplayOf p code threads found made stopped shown →
     shown.holder ≡ None → LeavesSomeOrder p threads shown
+
+-- a run of all threads at once that leaves the lock free, though threads may still run, leaves what some order leaves
+abbrev pub ConcurrentRunsLeaveOrders : Type 0
+ConcurrentRunsLeaveOrders =
+    (p : Program) (code : Code) (threads budget : ℕ) (shown : Printed) → IsCodeOf p code →
+    IsConcurrentRun p code threads budget shown → shown.holder ≡ None → LeavesSomeOrder p threads shown
 
 -- what threads show in some order, with some number of ticks, where each of them has ended or trapped, is among all
 -- outcomes

@@ -3,8 +3,10 @@ use Rattle.std.specs.Prelude.{◌≡◌, ℕ, List, map, Some, false}
 use Rattle.std.specs.List.{slice_get}
 use Rattle.syntax.specs.Tree.{Program}
 use Rattle.syntax.specs.Names.{globals, initial_memory}
+use Rattle.syntax.specs.declared.numbers.Status.{Status}
+use Rattle.syntax.specs.Behaviours.{Stands, Step}
 use Rattle.syntax.specs.Orders.{in_order}
-use Rattle.syntax.specs.Threads.{thread}
+use Rattle.syntax.specs.Threads.{IsSourceRun, thread}
 use Rattle.syntax.specs.Grammar.{ParsedSource}
 use Rattle.separation.specs.Touching.{IsAccepted}
 use Rattle.meaning.specs.InOrder.{NamesThreads}
@@ -33,7 +35,9 @@ pub record RunsInSomeOrder (count : ℕ) (text : List ℕ) (shown : Printed) : T
   pub in_order : RunsInOrder count ticks order text shown
 
 -- In some order, each with some number of ticks, so many threads leave the globals shown; and each thread that is shown
--- to have ended or trapped shows this there.
+-- to have ended or trapped shows this there. The order is that of a run of the source, and each thread, also one that
+-- still runs, has printed what the source's thread prints in that run with some number of ticks of its own, on the
+-- memories that it finds there, and on the last one where it is inside a transaction.
 pub record LeavesSomeOrder (p : Program) (count : ℕ) (shown : Printed) : Type 0 where
   pub ticks : ℕ
   pub order : List ℕ
@@ -42,3 +46,8 @@ pub record LeavesSomeOrder (p : Program) (count : ℕ) (shown : Printed) : Type 
       ≡ shown_globals (globals p) (in_order (thread p) (initial_memory p) count ticks order).memory
   pub each : (t : ℕ) (this : ThreadShown) → slice_get shown.threads t ≡ Some this → is_stopped this.end ≡ false →
       slice_get (map thread_shown (in_order (thread p) (initial_memory p) count ticks order).threads) t ≡ Some this
+  pub run : List Step
+  pub is_run : IsSourceRun p count run
+  pub order_is : order ≡ map (λ (s : Step). s.thread) run
+  pub prints : (t : ℕ) (this : ThreadShown) → slice_get shown.threads t ≡ Some this →
+      (status : Status) × Stands (thread p) (initial_memory p) run t this.text status

@@ -10,7 +10,8 @@ ghost use Rattle.bytecode.specs.Code.{Code as Plain, effect};
 ghost use Rattle.bytecode.specs.Valid.{IsValid};
 ghost use Rattle.machine.specs.Serializable.{IsOpaque};
 ghost use Rattle.serving.specs.Codes.{IsCodeOf};
-ghost use Rattle.serving.specs.Laws.{OrdersAreListed, ReplaysAreOrders, ReplaysLeaveOrders, ConcurrentRunsAreOrders};
+ghost use Rattle.serving.specs.Laws.{ConcurrentRunsAreOrders, ConcurrentRunsLeaveOrders, OrdersAreListed};
+ghost use Rattle.serving.specs.Laws.{ReplaysAreOrders, ReplaysLeaveOrders};
 ghost use Rattle.serving.specs.Possible.{OrdersAreReplays, OutcomesAreDone};
 
 use bytecode::laws::valid_code_fits_its_cells;
@@ -34,11 +35,13 @@ pub fn accepted_programs_are_opaque()
 
 /// What was printed is what an order prints. Where each thread has ended or trapped, a run of all threads at once shows
 /// just what the source's threads show in some order of whole transactions, with some number of ticks, and so does a
-/// replay behind its events. Where threads of a replay still run, but none has the lock, the globals are those that
-/// some order leaves, and each thread that has ended or trapped shows what it shows there.
+/// replay behind its events. Where threads of either still run, but none has the lock, the globals are those that
+/// some order leaves, each thread that has ended or trapped shows what it shows there, and one that still runs has
+/// printed what the source's thread prints in that order with some number of ticks of its own.
 pub fn reports_are_orders()
     ensures runs { ConcurrentRunsAreOrders }
     ensures replays { ReplaysAreOrders }
+    ensures runs_left { ConcurrentRunsLeaveOrders }
     ensures left { ReplaysLeaveOrders }
 {
     orders_show_runs();
