@@ -10,7 +10,7 @@ use written_programs::accepted_of;
 type Row = (&'static str, u32, &'static str, &'static [u64]);
 
 fn examples() -> &'static [Row] {
-    static EXAMPLES: [Row; 18] = [
+    static EXAMPLES: [Row; 19] = [
         (
             "// Thread 0 moves 50 in two transactions. Thread 1 counts the money, and can find that 50 are missing.\nint checking = 120, savings = 40;\n\nvoid worker(int self) {\n    int total;\n    if (self == 0) {\n        __transaction_atomic { checking = checking - 50; }\n        __transaction_atomic { savings = savings + 50; }\n    } else {\n        __transaction_atomic { total = checking + savings; }\n        printf(\"%d\\n\", total);\n    }\n}\n",
             0,
@@ -91,6 +91,12 @@ fn examples() -> &'static [Row] {
         ),
         (
             "// One seat and two buyers. Each looks first and buys then, in two transactions: the seat can be sold twice.\nint seats = 1, sold;\n\nvoid worker(int self) {\n    int free;\n    __transaction_atomic { free = seats > 0; }\n    if (free) {\n        __transaction_atomic {\n            seats = seats - 1;\n            sold = sold + 1;\n        }\n    }\n}\n",
+            0,
+            "",
+            &[0, 1],
+        ),
+        (
+            "// As seats.c, with what has to hold: where the seat is sold twice, a division by 0 ends the thread.\nint seats = 1, sold;\n\nvoid worker(int self) {\n    int free;\n    __transaction_atomic { free = seats > 0; }\n    if (free) {\n        __transaction_atomic {\n            seats = seats - 1;\n            sold = sold + 1;\n            free = 1 / (sold <= 1);\n        }\n    }\n}\n",
             0,
             "",
             &[0, 1],
