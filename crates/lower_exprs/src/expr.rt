@@ -1,27 +1,25 @@
 //! The instructions of expressions and conditions.
 
-ghost use Rattle.std.specs.Prelude.{◌≡◌, [], ◌∷◌, ◌++◌, ◌+◌, ◌≤◌, length, map, drop, pos, OnOk, IfOk, IfErr};
+ghost use Rattle.std.specs.Prelude.{◌≡◌, [], ◌∷◌, ◌++◌, ◌+◌, ◌≤◌, map, drop, pos, OnOk, IfOk};
 ghost use Rattle.syntax.specs.declared.tree.Expr as tree;
 ghost use Rattle.syntax.specs.Names as Names;
-ghost use Rattle.syntax.specs.Numbers.{word_of};
+ghost use Rattle.syntax.specs.Numbers.{word_of, operand_type as due_type};
 ghost use Rattle.syntax.specs.Views.{expr_of, exprs_of, global_of, parameter_of};
 ghost use Rattle.bytecode.specs.declared.instr.Instr.TheVariants as instr;
-ghost use Rattle.lower_spec.specs.Expressions.{argument_order, named_ones, nameless_ones};
-ghost use Rattle.selection.specs.Lists.{Lists as Plain, with_registers};
 ghost use Rattle.selection.specs.Conditions as conditions;
 ghost use Rattle.selection.specs.Expressions.{one, constant, variable, element, value_into, condition_value, call_code};
 ghost use Rattle.selection.specs.Expressions.{in_own_transaction, condition_of, taken_types, emit, as_type};
 ghost use Rattle.selection.specs.Expressions.{argument_value};
 ghost use Rattle.selection.specs.Expressions.{operand};
-ghost use Rattle.selection.specs.Expressions.{condition, both_conditions, conditional, types_of, emit_all};
-ghost use Rattle.lower_exprs.specs.Limits.{NeedsMore};
+ghost use Rattle.selection.specs.Expressions.{condition, both_conditions, conditional, emitted_type, types_of, emit_all};
 ghost use Rattle.lower_exprs.specs.Lists.{lists_of};
 ghost use Rattle.lower_exprs.specs.Fragments.{AddsValue, AddsTest, AddsValues};
-ghost use Rattle.lower_exprs.specs.inner.Stretches.{in_place, all_in_place, AddsFirst};
+ghost use Rattle.lower_exprs.specs.inner.Stretches.{in_place, AddsFirst};
 ghost use Rattle.global_tables.specs.Tables.{shared_in};
 ghost use Rattle.lower_exprs.specs.inner.Tables.{callee_in};
 ghost use Rattle.lower_exprs.specs.Views.{program_in, scope_in};
 
+use crate::call::put_call;
 use crate::cond::{opposite, zero_test};
 use crate::convert::{constant_in, converts, put_converted};
 use crate::draft::{keep, put_first, turn};
@@ -31,19 +29,19 @@ use crate::names::{Callee, callee_of, global};
 use crate::preloaded::{constant_of, constant_word, preloaded_constant};
 use crate::program::ProgramNames;
 use crate::put::{
-    above, after, put, put_answers, put_both, put_chosen, put_compared, put_complemented,
-    put_constant, put_in_transaction, put_into, put_negated, put_one, take,
+    above, after, put_answers, put_both, put_chosen, put_compared, put_complemented, put_constant,
+    put_in_transaction, put_into, put_negated, put_one, take,
 };
 use crate::scope::LocalRegisters;
 use crate::value_type::value_type;
-use bytecode::{Instr, MOST_REGISTERS};
+use bytecode::Instr;
 use global_tables::Shared;
 use lex::token::{Scalar, Span};
 use selection::draft::Draft;
 use selection::locations::{ConditionRegister, ValueRegister};
 use smallvec::SmallVec;
 use std::alloc::{AllocError, Allocator};
-use syntax::tree::{Expr, LogicalOp, Parameter, UnaryOp};
+use syntax::tree::{BinaryOp, Expr, LogicalOp, Parameter, UnaryOp};
 use syntax::types::{common_type, operand_type};
 
 /// A constant of the program.
@@ -131,137 +129,6 @@ fn put_read_at<A: Allocator + Copy>(
     Ok(put_one(code, instr, index.to, register, g.global.ty)?)
 }
 
-fn push<A: Allocator>(all: &mut Vec<u16, A>, r: u16) -> Result<(), AllocError>
-    ensures { OnOk result (all.new.items ≡ all.old.items ++ r ∷ []) }
-{
-    match all.push(r) {
-        Ok(()) => Ok(()),
-        Err(_) => Err(AllocError),
-    }
-}
-
-/// The registers of arguments for the parameters that have names.
-fn push_named<A: Allocator>(
-    all: &mut Vec<u16, A>,
-    parameters: &[Parameter<A>],
-    registers: &[u16],
-) -> Result<(), AllocError>
-    ensures { OnOk result (all.new.items ≡ all.old.items ++ named_ones (map parameter_of parameters.now)
-        registers.now) }
-{
-    'each: for i in 0..parameters.len() {
-        if i >= registers.len() {
-            return Ok(());
-        }
-        if parameters[i].name.is_some() {
-            push(all, registers[i])?;
-        }
-    }
-    Ok(())
-}
-
-/// The registers of arguments for the parameters that have no names.
-fn push_nameless<A: Allocator>(
-    all: &mut Vec<u16, A>,
-    parameters: &[Parameter<A>],
-    registers: &[u16],
-) -> Result<(), AllocError>
-    ensures { OnOk result (all.new.items ≡ all.old.items ++ nameless_ones (map parameter_of parameters.now)
-        registers.now) }
-{
-    'each: for i in 0..parameters.len() {
-        if i >= registers.len() {
-            return Ok(());
-        }
-        if parameters[i].name.is_some() {} else {
-            push(all, registers[i])?;
-        }
-    }
-    Ok(())
-}
-
-/// The registers of a call's arguments, as the called function numbers them; how many they are.
-fn push_arranged<A: Allocator>(
-    all: &mut Vec<u16, A>,
-    parameters: &[Parameter<A>],
-    registers: &[u16],
-) -> Result<usize, AllocError>
-    ensures items { OnOk result (all.new.items ≡ all.old.items ++ argument_order (map parameter_of parameters.now)
-        registers.now) }
-    ensures count { IfOk result (λ n. n ≡ length (argument_order (map parameter_of parameters.now) registers.now)) }
-{
-    let first = all.len();
-    push_named(all, parameters, registers)?;
-    push_nameless(all, parameters, registers)?;
-    Ok(all.len() - first)
-}
-
-/// Notes that so many registers are used.
-fn with_registers<A: Allocator>(lists: &mut Lists<A>, count: usize) -> Result<u16, Failure>
-    ensures lists { OnOk result (lists_of lists.new ≡ with_registers count (lists_of lists.old)) }
-    ensures count { IfOk result (λ n. n ≡ count) }
-    ensures fails { IfErr result (λ why. NeedsMore why (with_registers count (lists_of lists.old)).registers) }
-{
-    if count > MOST_REGISTERS as usize {
-        return Err(Failure::Registers);
-    }
-    if lists.registers < count as u32 {
-        lists.registers = count as u32;
-    }
-    Ok(count as u16)
-}
-
-/// Hands over the registers of a call's arguments: their index in the list of arguments, and their number.
-fn hand_over<A: Allocator>(
-    lists: &mut Lists<A>,
-    parameters: &[Parameter<A>],
-    registers: &[u16],
-) -> Result<(u32, u16), Failure>
-    ensures lists { let in_order = argument_order (map parameter_of parameters.now) registers.now in
-        let arguments = lists.old.arguments.items ++ in_order in
-        OnOk result (lists_of lists.new
-        ≡ with_registers (length in_order) (record (lists_of lists.old) { arguments = arguments })) }
-    ensures first { IfOk result (λ r. r.0 ≡ length lists.old.arguments.items) }
-    ensures count { IfOk result (λ r. r.1 ≡ length (argument_order (map parameter_of parameters.now) registers.now)) }
-    ensures fails { let n = length (argument_order (map parameter_of parameters.now) registers.now) in
-        IfErr result (λ why. NeedsMore why (with_registers n (lists_of lists.old)).registers) }
-{
-    let first = lists.arguments.len();
-    if first > u32::MAX as usize {
-        return Err(Failure::OutOfMemory);
-    }
-    let count = push_arranged(&mut lists.arguments, parameters, registers)?;
-    let count = with_registers(lists, count)?;
-    Ok((first as u32, count))
-}
-
-/// A call whose arguments are values.
-fn put_call<A: Allocator + Copy>(
-    lists: &mut Lists<A>,
-    code: &mut Vec<Instr, A>,
-    f: Callee<'_, A>,
-    registers: &[u16],
-    from: u32,
-    into: usize,
-) -> Result<ValueRegister, Failure>
-    ensures { AddsValue
-        (call_code (Some (callee_in f.entry)) (all_in_place registers.now from (lists_of lists.old)) from
-        into (lists_of lists.old)) code.old code.new lists.new result }
-{
-    if f.number > u32::MAX as usize {
-        return Err(Failure::OutOfMemory);
-    }
-    let (first, count) = hand_over(lists, f.parameters, registers)?;
-    let register = take(lists, into)?;
-    Ok(put_one(
-        code,
-        Instr::Call(register, count, f.number as u32, first),
-        from,
-        register,
-        f.ty,
-    )?)
-}
-
 /// One register more of a call's arguments. A list of at most four takes no memory.
 fn add_operand<A: Allocator>(
     registers: &mut SmallVec<u16, 4, &A>,
@@ -342,14 +209,22 @@ pub fn lower_expr<A: Allocator + Copy>(
             }
         },
         Expr::Binary(op, left, right, _) => {
-            let own = value_type(names, scope, left.get());
             let other = value_type(names, scope, right.get());
-            let ty = operand_type(*op, own, other);
-            let due = operand_type(*op, other, own);
-            let a = lower_as(names, scope, lists, code, left.get(), ty, from, free, free)?;
+            let a = lower_left(
+                names,
+                scope,
+                lists,
+                code,
+                *op,
+                left.get(),
+                other,
+                from,
+                free,
+            )?;
+            let due = operand_type(*op, other, a.ty);
             let later = above(free, a.register);
             let b = lower_operand(names, scope, lists, code, right.get(), due, a.to, later)?;
-            put_both(lists, code, *op, ty, a, b, into)
+            put_both(lists, code, *op, a.ty, a, b, into)
         }
         Expr::Logical(op, left, right, at) => {
             let mut test = Vec::new(names.alloc);
@@ -420,6 +295,37 @@ pub fn lower_as<A: Allocator + Copy>(
         None => {
             let a = lower_expr(names, scope, lists, code, e, from, into, free)?;
             put_converted(lists, code, a, a.ty, ty, into)
+        }
+    }
+}
+
+/// The left side of an operator in the type that is due beside a right side of type `other`. Its own type its register
+/// tells, so that a long sum is not walked again at each of its operators.
+#[cycle(lower_expr)]
+fn lower_left<A: Allocator + Copy>(
+    names: &ProgramNames<'_, A>,
+    scope: &LocalRegisters<'_, A>,
+    lists: &mut Lists<A>,
+    code: &mut Vec<Instr, A>,
+    op: BinaryOp,
+    e: &Expr<A>,
+    other: Scalar,
+    from: u32,
+    free: usize,
+) -> Result<ValueRegister, Failure>
+    ensures { let own = emitted_type (program_in names.now) (scope_in scope.now) (expr_of e.now) in
+        AddsValue (as_type (program_in names.now) (scope_in scope.now) (due_type op own other) (expr_of e.now) from free
+        free (lists_of lists.old)) code.old code.new lists.new result }
+{
+    match constant_of(e) {
+        Some((value, own)) => {
+            let due = operand_type(op, own, other);
+            put_constant(lists, code, constant_in(due, own, value), due, from, free)
+        }
+        None => {
+            let a = lower_expr(names, scope, lists, code, e, from, free, free)?;
+            let ty = operand_type(op, a.ty, other);
+            put_converted(lists, code, a, a.ty, ty, free)
         }
     }
 }

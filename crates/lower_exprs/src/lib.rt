@@ -5,6 +5,7 @@
 #![tactic(auto)]
 
 mod aim;
+mod call;
 mod cond;
 mod convert;
 pub mod draft;

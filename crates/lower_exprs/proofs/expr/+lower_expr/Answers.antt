@@ -4,7 +4,7 @@ use Rattle.syntax.specs.declared.tree.Expr as own_expr
 use Rattle.syntax.specs.declared.tree.Expr.{the_lemmas}
 use Rattle.syntax.proofs.tree.Expr.TheLaws.{the_size}
 use Rattle.syntax.specs.Names.{global_of, newest}
-use Rattle.syntax.specs.Numbers.{common}
+use Rattle.syntax.specs.Numbers.{common, operand_type as due_type}
 use Rattle.syntax.specs.Views.{name_of, parameter_of, expr_of, exprs_of}
 use Rattle.selection.specs.Names.{callee_of}
 use Rattle.selection.specs.Conditions.{zero_tested}
@@ -19,7 +19,7 @@ use Rattle.lower_exprs.specs.inner.Tables.{callee_in}
 use Rattle.lower_exprs.proofs.Adding.{same, in_turn, gathered, value_alone, stops, no_less}
 use Rattle.lower_exprs.proofs.Nodes.{variable_is, constant_is, call_is, element_is, parenthesized_is, cast_is, unary_is, binary_is, logical_is, conditional_is, in_transaction_is, value_there, test_there, value_test_there, due_constant, due_there, due_within, cast_test_there, cast_by_value}
 use Rattle.lower_exprs.proofs.Conditional.{into_behind, condition_within, second_within, one_is, two_is, chosen_there}
-use Rattle.lower_exprs.proofs.Operating.{left_within, right_within, left_there, right_there, whole_there}
+use Rattle.lower_exprs.proofs.Operating.{left_within, right_within, left_constant, left_converted, left_there, right_there, whole_there}
 use Rattle.lower_exprs.proofs.Within.{logical_within, arguments_within}
 use Rattle.lower_exprs.proofs.Rows.{type_there, no_type, next_value, first_within, no_more_values}
 use Rattle.lower_exprs.proofs.expr.+lower_expr.Goals as goal
@@ -391,30 +391,6 @@ pub lower_expr-returns-in-Cast : goal.lower_expr-returns-in-Cast
 lower_expr-returns-in-Cast g t c =
     value_there (program_in c.args.names.now) (scope_in c.args.scope.now) c.args.from c.args.into c.args.free (lists_of c.args.lists.now) (cast_is c.in-Cast.is c.get-in-Cast.ensures) c.lower_as.ensures
 
-pub lower_expr-returns-in_ok-b-in-Binary : goal.lower_expr-returns-in_ok-b-in-Binary
-lower_expr-returns-in_ok-b-in-Binary g t c =
-    let eo = c.value_type-own.ensures ∙ ap (λ x. emitted_type (program_in c.args.names.now) (scope_in c.args.scope.now) (expr_of x)) (c.get-in-Binary.ensures ∙ sym c.get-in-Binary-3.ensures) in
-    let et = c.value_type-other.ensures ∙ ap (λ x. emitted_type (program_in c.args.names.now) (scope_in c.args.scope.now) (expr_of x)) (c.get-in-Binary-2.ensures ∙ sym c.get-in-Binary-4.ensures) in
-    let a = left_there (program_in c.args.names.now) (scope_in c.args.scope.now) c.in-Binary.op (expr_of c.get-in-Binary-3.result.now) (expr_of c.get-in-Binary-4.result.now) c.in-Binary.field-3 c.args.from c.args.into c.args.free (lists_of c.args.lists.now) eo et c.operand_type-ty.ensures c.operand_type-due.ensures c.in_ok-a-in-Binary.ensures in
-    let b = right_there (program_in c.args.names.now) (scope_in c.args.scope.now) c.in-Binary.op (expr_of c.get-in-Binary-3.result.now) (expr_of c.get-in-Binary-4.result.now) c.in-Binary.field-3 c.args.from c.args.into c.args.free (lists_of c.args.lists.now) eo et c.operand_type-ty.ensures c.operand_type-due.ensures a c.above-later.ensures c.in_ok-b-in-Binary.ensures in
-    value_there (program_in c.args.names.now) (scope_in c.args.scope.now) c.args.from c.args.into c.args.free (lists_of c.args.lists.now) (binary_is c.in-Binary.is c.get-in-Binary-3.ensures c.get-in-Binary-4.ensures)
-    (whole_there (program_in c.args.names.now) (scope_in c.args.scope.now) c.in-Binary.op (expr_of c.get-in-Binary-3.result.now) (expr_of c.get-in-Binary-4.result.now) c.in-Binary.field-3 c.args.from c.args.into c.args.free (lists_of c.args.lists.now) eo et c.operand_type-ty.ensures c.operand_type-due.ensures a c.above-later.ensures b c.put_both.ensures)
-
-pub lower_expr-returns-in_err-b-in-Binary : goal.lower_expr-returns-in_err-b-in-Binary
-lower_expr-returns-in_err-b-in-Binary g t c =
-    let eo = c.value_type-own.ensures ∙ ap (λ x. emitted_type (program_in c.args.names.now) (scope_in c.args.scope.now) (expr_of x)) (c.get-in-Binary.ensures ∙ sym c.get-in-Binary-3.ensures) in
-    let et = c.value_type-other.ensures ∙ ap (λ x. emitted_type (program_in c.args.names.now) (scope_in c.args.scope.now) (expr_of x)) (c.get-in-Binary-2.ensures ∙ sym c.get-in-Binary-4.ensures) in
-    let a = left_there (program_in c.args.names.now) (scope_in c.args.scope.now) c.in-Binary.op (expr_of c.get-in-Binary-3.result.now) (expr_of c.get-in-Binary-4.result.now) c.in-Binary.field-3 c.args.from c.args.into c.args.free (lists_of c.args.lists.now) eo et c.operand_type-ty.ensures c.operand_type-due.ensures c.in_ok-a-in-Binary.ensures in
-    value_there (program_in c.args.names.now) (scope_in c.args.scope.now) c.args.from c.args.into c.args.free (lists_of c.args.lists.now) (binary_is c.in-Binary.is c.get-in-Binary-3.ensures c.get-in-Binary-4.ensures)
-    (stops (right_there (program_in c.args.names.now) (scope_in c.args.scope.now) c.in-Binary.op (expr_of c.get-in-Binary-3.result.now) (expr_of c.get-in-Binary-4.result.now) c.in-Binary.field-3 c.args.from c.args.into c.args.free (lists_of c.args.lists.now) eo et c.operand_type-ty.ensures c.operand_type-due.ensures a c.above-later.ensures c.lower_operand.ensures) c.in_err-b-in-Binary.was c.from_residual-in_err-b-in-Binary.ensures (right_within (program_in c.args.names.now) (scope_in c.args.scope.now) c.in-Binary.op (expr_of c.get-in-Binary-3.result.now) (expr_of c.get-in-Binary-4.result.now) c.in-Binary.field-3 c.args.from c.args.into c.args.free (lists_of c.args.lists.now)))
-
-pub lower_expr-returns-in_err-a-in-Binary : goal.lower_expr-returns-in_err-a-in-Binary
-lower_expr-returns-in_err-a-in-Binary g t c =
-    let eo = c.value_type-own.ensures ∙ ap (λ x. emitted_type (program_in c.args.names.now) (scope_in c.args.scope.now) (expr_of x)) (c.get-in-Binary.ensures ∙ sym c.get-in-Binary-3.ensures) in
-    let et = c.value_type-other.ensures in
-    value_there (program_in c.args.names.now) (scope_in c.args.scope.now) c.args.from c.args.into c.args.free (lists_of c.args.lists.now) (binary_is c.in-Binary.is c.get-in-Binary-3.ensures c.get-in-Binary-2.ensures)
-    (stops (left_there (program_in c.args.names.now) (scope_in c.args.scope.now) c.in-Binary.op (expr_of c.get-in-Binary-3.result.now) (expr_of c.get-in-Binary-2.result.now) c.in-Binary.field-3 c.args.from c.args.into c.args.free (lists_of c.args.lists.now) eo et c.operand_type-ty.ensures c.operand_type-due.ensures c.lower_as-in-Binary.ensures) c.in_err-a-in-Binary.was c.from_residual-in_err-a-in-Binary.ensures (left_within (program_in c.args.names.now) (scope_in c.args.scope.now) c.in-Binary.op (expr_of c.get-in-Binary-3.result.now) (expr_of c.get-in-Binary-2.result.now) c.in-Binary.field-3 c.args.from c.args.into c.args.free (lists_of c.args.lists.now)))
-
 pub lower_conditional-returns : goal.lower_conditional-returns
 lower_conditional-returns g t c =
     let ty = c.common_type-ty.ensures ∙ (λ j. common (c.value_type-own.ensures j) (c.value_type-another.ensures j)) in
@@ -442,18 +418,6 @@ pub lower_expr-lower_as-requires : goal.lower_expr-lower_as-requires
 lower_expr-lower_as-requires g t c κs within =
     let size = simp the_lemmas at (ap (the_size g.row.A g.A.Allocator g.A.laws) c.in-Cast.is) in
     let here = ap (the_size g.row.A g.A.Allocator g.A.laws) c.get-in-Cast.ensures in
-    (omega (arith, size, here, c.decreases), within)
-
-pub lower_expr-lower_as-requires-in-Binary : goal.lower_expr-lower_as-requires-in-Binary
-lower_expr-lower_as-requires-in-Binary g t c κs within =
-    let size = simp the_lemmas at (ap (the_size g.row.A g.A.Allocator g.A.laws) c.in-Binary.is) in
-    let here = ap (the_size g.row.A g.A.Allocator g.A.laws) c.get-in-Binary-3.ensures in
-    (omega (arith, size, here, c.decreases), within)
-
-pub lower_expr-lower_operand-requires : goal.lower_expr-lower_operand-requires
-lower_expr-lower_operand-requires g t c κs within =
-    let size = simp the_lemmas at (ap (the_size g.row.A g.A.Allocator g.A.laws) c.in-Binary.is) in
-    let here = ap (the_size g.row.A g.A.Allocator g.A.laws) c.get-in-Binary-4.ensures in
     (omega (arith, size, here, c.decreases), within)
 
 pub lower_as-returns-in-Some : goal.lower_as-returns-in-Some
@@ -539,3 +503,51 @@ lower_all-lower_argument-requires g t c κs within =
     let below = at_most size c.args.all.now c.each.one-index c.one-item.result c.each-test.true in
     let here = ap size c.one-item.is in
     (omega (arith, below, here, c.decreases), within)
+
+pub lower_expr-returns-in_ok-b-in-Binary : goal.lower_expr-returns-in_ok-b-in-Binary
+lower_expr-returns-in_ok-b-in-Binary g t c =
+    let et = c.value_type-other.ensures ∙ ap (λ x. emitted_type (program_in c.args.names.now) (scope_in c.args.scope.now) (expr_of x)) (c.get-in-Binary.ensures ∙ sym c.get-in-Binary-3.ensures) in
+    let a = left_there (program_in c.args.names.now) (scope_in c.args.scope.now) c.in-Binary.op (expr_of c.get-in-Binary-2.result.now) (expr_of c.get-in-Binary-3.result.now) c.in-Binary.field-3 c.args.from c.args.into c.args.free (lists_of c.args.lists.now) et c.in_ok-a-in-Binary.ensures in
+    let b = right_there (program_in c.args.names.now) (scope_in c.args.scope.now) c.in-Binary.op (expr_of c.get-in-Binary-2.result.now) (expr_of c.get-in-Binary-3.result.now) c.in-Binary.field-3 c.args.from c.args.into c.args.free (lists_of c.args.lists.now) et a c.above-later.ensures c.operand_type-due.ensures c.in_ok-b-in-Binary.ensures in
+    value_there (program_in c.args.names.now) (scope_in c.args.scope.now) c.args.from c.args.into c.args.free (lists_of c.args.lists.now) (binary_is c.in-Binary.is c.get-in-Binary-2.ensures c.get-in-Binary-3.ensures)
+    (whole_there (program_in c.args.names.now) (scope_in c.args.scope.now) c.in-Binary.op (expr_of c.get-in-Binary-2.result.now) (expr_of c.get-in-Binary-3.result.now) c.in-Binary.field-3 c.args.from c.args.into c.args.free (lists_of c.args.lists.now) et a c.above-later.ensures c.operand_type-due.ensures b c.put_both.ensures)
+
+pub lower_expr-returns-in_err-b-in-Binary : goal.lower_expr-returns-in_err-b-in-Binary
+lower_expr-returns-in_err-b-in-Binary g t c =
+    let et = c.value_type-other.ensures ∙ ap (λ x. emitted_type (program_in c.args.names.now) (scope_in c.args.scope.now) (expr_of x)) (c.get-in-Binary.ensures ∙ sym c.get-in-Binary-3.ensures) in
+    let a = left_there (program_in c.args.names.now) (scope_in c.args.scope.now) c.in-Binary.op (expr_of c.get-in-Binary-2.result.now) (expr_of c.get-in-Binary-3.result.now) c.in-Binary.field-3 c.args.from c.args.into c.args.free (lists_of c.args.lists.now) et c.in_ok-a-in-Binary.ensures in
+    value_there (program_in c.args.names.now) (scope_in c.args.scope.now) c.args.from c.args.into c.args.free (lists_of c.args.lists.now) (binary_is c.in-Binary.is c.get-in-Binary-2.ensures c.get-in-Binary-3.ensures)
+    (stops (right_there (program_in c.args.names.now) (scope_in c.args.scope.now) c.in-Binary.op (expr_of c.get-in-Binary-2.result.now) (expr_of c.get-in-Binary-3.result.now) c.in-Binary.field-3 c.args.from c.args.into c.args.free (lists_of c.args.lists.now) et a c.above-later.ensures c.operand_type-due.ensures c.lower_operand.ensures) c.in_err-b-in-Binary.was c.from_residual-in_err-b-in-Binary.ensures (right_within (program_in c.args.names.now) (scope_in c.args.scope.now) c.in-Binary.op (expr_of c.get-in-Binary-2.result.now) (expr_of c.get-in-Binary-3.result.now) c.in-Binary.field-3 c.args.from c.args.into c.args.free (lists_of c.args.lists.now)))
+
+pub lower_expr-returns-in_err-a-in-Binary : goal.lower_expr-returns-in_err-a-in-Binary
+lower_expr-returns-in_err-a-in-Binary g t c =
+    value_there (program_in c.args.names.now) (scope_in c.args.scope.now) c.args.from c.args.into c.args.free (lists_of c.args.lists.now) (binary_is c.in-Binary.is c.get-in-Binary-2.ensures c.get-in-Binary.ensures)
+    (stops (left_there (program_in c.args.names.now) (scope_in c.args.scope.now) c.in-Binary.op (expr_of c.get-in-Binary-2.result.now) (expr_of c.get-in-Binary.result.now) c.in-Binary.field-3 c.args.from c.args.into c.args.free (lists_of c.args.lists.now) c.value_type-other.ensures c.lower_left.ensures) c.in_err-a-in-Binary.was c.from_residual-in_err-a-in-Binary.ensures (left_within (program_in c.args.names.now) (scope_in c.args.scope.now) c.in-Binary.op (expr_of c.get-in-Binary-2.result.now) (expr_of c.get-in-Binary.result.now) c.in-Binary.field-3 c.args.from c.args.into c.args.free (lists_of c.args.lists.now)))
+
+pub lower_expr-lower_left-requires : goal.lower_expr-lower_left-requires
+lower_expr-lower_left-requires g t c κs within =
+    let size = simp the_lemmas at (ap (the_size g.row.A g.A.Allocator g.A.laws) c.in-Binary.is) in
+    let here = ap (the_size g.row.A g.A.Allocator g.A.laws) c.get-in-Binary-2.ensures in
+    (omega (arith, size, here, c.decreases), within)
+
+pub lower_expr-lower_operand-requires : goal.lower_expr-lower_operand-requires
+lower_expr-lower_operand-requires g t c κs within =
+    let size = simp the_lemmas at (ap (the_size g.row.A g.A.Allocator g.A.laws) c.in-Binary.is) in
+    let here = ap (the_size g.row.A g.A.Allocator g.A.laws) c.get-in-Binary-3.ensures in
+    (omega (arith, size, here, c.decreases), within)
+
+pub lower_left-returns-in-Some : goal.lower_left-returns-in-Some
+lower_left-returns-in-Some g t c =
+    left_constant (program_in c.args.names.now) (scope_in c.args.scope.now) c.args.op c.in-Some.own c.args.other (expr_of c.args.e.now) c.in-Some.value c.args.from c.args.free (lists_of c.args.lists.now) (sym c.in-Some.ensures) c.operand_type-due.ensures c.constant_in.ensures c.put_constant.ensures
+
+pub lower_left-returns-in_ok-a-in-None : goal.lower_left-returns-in_ok-a-in-None
+lower_left-returns-in_ok-a-in-None g t c =
+    left_converted (program_in c.args.names.now) (scope_in c.args.scope.now) c.args.op c.args.other (expr_of c.args.e.now) c.args.from c.args.free (lists_of c.args.lists.now) (sym c.constant_of.ensures ∙ c.in-None.is) c.in_ok-a-in-None.ensures c.operand_type-ty.ensures c.put_converted.ensures
+
+pub lower_left-returns-in_err-a-in-None : goal.lower_left-returns-in_err-a-in-None
+lower_left-returns-in_err-a-in-None g t c =
+    let due = due_type c.args.op (emitted_type (program_in c.args.names.now) (scope_in c.args.scope.now) (expr_of c.args.e.now)) c.args.other in
+    stops c.lower_expr.ensures c.in_err-a-in-None.was c.from_residual.ensures (due_within (program_in c.args.names.now) (scope_in c.args.scope.now) due (expr_of c.args.e.now) c.args.from c.args.free c.args.free (lists_of c.args.lists.now) (sym c.constant_of.ensures ∙ c.in-None.is))
+
+pub lower_left-lower_expr-requires : goal.lower_left-lower_expr-requires
+lower_left-lower_expr-requires g t c κs within = (omega (arith, c.decreases), within)

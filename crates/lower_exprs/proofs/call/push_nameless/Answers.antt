@@ -1,7 +1,7 @@
 use Rattle.std.proofs.Common.{is_some, refl, ap, sym, ◌∙◌, arith}
 use Rattle.lower_exprs.proofs.Handed.{nameless_taken, nameless_left, nameless_none}
-use Rattle.lower_exprs.proofs.expr.push_nameless.Goals as goal
-use Rattle.lower_exprs.proofs.expr.push_nameless.Goals.{then-is_some, else-is_some+in_ok-push}
+use Rattle.lower_exprs.proofs.call.push_nameless.Goals as goal
+use Rattle.lower_exprs.proofs.call.push_nameless.Goals.{then-is_some, else-is_some+in_ok-push}
 
 pub returns-then-i-registers : goal.returns-then-i-registers
 returns-then-i-registers g c = nameless_none c.args.parameters.now c.args.registers.now c.each.i c.each.all.items _ (omega (arith, c.if-i-registers.true)) c.each.invariant

@@ -1,7 +1,7 @@
 use Rattle.std.proofs.Common.{is_some, refl, ap, sym, ◌∙◌, arith}
 use Rattle.lower_exprs.proofs.Handed.{named_taken, named_left, named_none}
-use Rattle.lower_exprs.proofs.expr.push_named.Goals as goal
-use Rattle.lower_exprs.proofs.expr.push_named.Goals.{then-is_some+in_ok-push, else-is_some}
+use Rattle.lower_exprs.proofs.call.push_named.Goals as goal
+use Rattle.lower_exprs.proofs.call.push_named.Goals.{then-is_some+in_ok-push, else-is_some}
 
 pub returns-then-i-registers : goal.returns-then-i-registers
 returns-then-i-registers g c = named_none c.args.parameters.now c.args.registers.now c.each.i c.each.all.items _ (omega (arith, c.if-i-registers.true)) c.each.invariant
