@@ -1,12 +1,14 @@
 #!/usr/bin/env python3
-"""Prints how long txc takes for names that are meant to take long, beside others of the same length and number.
+"""Prints how long txc takes for names that are meant to take long, beside others of the same length and number, and for
+long sums.
 
     scripts/names_speed.py [ROUNDS]
 
 First `txc check` of a function with 31,000 locals, a source of 1 MiB: whose names all have one hash, where a hash
 multiplies eight bytes by eight with a constant and no key (behind such a beginning one factor is 0, whatever comes
 after), and as many others. txc's hash has a key that is made of all names of the source, so both are to take as long.
-Then `txc listing` of a function with 60,000 locals and 60,000 uses of one, the newest or the oldest. The program is
+Then `txc listing` of a function with 60,000 locals and 60,000 uses of one, the newest or the oldest, and of 1 MiB of
+sums, of 11 terms each and of 90, of globals, of locals and of constants. The program is
 crates/txc/out/txc, which `cd crates/txc && rt run -- --version` builds, or what TXC names; the figures are the least
 processor time of 5 rounds, where nothing is said.
 """
@@ -35,6 +37,12 @@ def uses_of(is_oldest):
     return f"void worker(int self){{int {names};{'z=z;' * 60000}}}\n"
 
 
+def sums_of(term, terms):
+    """A function of nearly 1 MiB that adds so many of these terms, again and again."""
+    one = f"g={'+'.join([term] * terms)};\n"
+    return f"int g;void worker(int self){{int v;__transaction_atomic{{\n{one * ((2**20 - 80) // len(one))}}}}}\n"
+
+
 def used(words):
     """The processor time of a command, in seconds."""
     child = subprocess.Popen(words, stdout=subprocess.DEVNULL)
@@ -52,6 +60,11 @@ def main():
         ("check", "31,000 others", locals_of(OTHERS)),
         ("listing", "60,000 locals, the newest used", uses_of(False)),
         ("listing", "60,000 locals, the oldest used", uses_of(True)),
+        *(
+            ("listing", f"sums of {terms} {what}", sums_of(term, terms))
+            for what, term in (("globals", "g"), ("locals", "v"), ("constants", "1"))
+            for terms in (11, 90)
+        ),
     ]
     with tempfile.TemporaryDirectory() as folder:
         for at, (command, says, text) in enumerate(sources):

@@ -268,6 +268,10 @@ def main():
             'One thread, processor time; libitm by its method ml_wt', SHARED, 'libitm', rounds, 1,
             peer(1, {'ITM_DEFAULT_METHOD': 'ml_wt'}),
         )
+        table(
+            'One thread, processor time; libitm by its default method, which runs the code of a transaction as it is',
+            SHARED, 'libitm', rounds, 1, peer(1, {}),
+        )
         table('Four threads, time on the clock; libitm by its default method', SHARED, 'libitm', rounds, 4, peer(4, {}))
 
 
