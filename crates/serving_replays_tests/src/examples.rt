@@ -235,7 +235,7 @@ fn transcripts() -> &'static [Transcript] {
             "txc check examples/refused/carts.c",
             b"int frames = 3;\n\nvoid worker(int self) {\n    __transaction_atomic {\n        frames = frames - 1;\n        if (frames < 0) __transaction_cancel [[outer]];\n    }\n}\n",
             b"",
-            b"txc: fault 45 at 6:25: outer cancel outside outer\n        if (frames < 0) __transaction_cancel [[outer]];\n                        ^^^^^^^^^^^^^^^^^^^^\ntxc explain 45 says more\n",
+            b"txc: fault 45 at 6:25: outer cancel outside outer\n        if (frames < 0) __transaction_cancel [[outer]];\n                        ^^^^^^^^^^^^^^^^^^^^\nan outer cancel stands in the text of a __transaction_atomic [[outer]]\ntxc explain 45 says more\n",
         ),
         (
             "txc check examples/refused/drain.c",
@@ -247,7 +247,7 @@ fn transcripts() -> &'static [Transcript] {
             "txc check examples/refused/fund.c",
             b"long long fund = 1234567890123;\n\nvoid worker(int self) {\n    long long part = __transaction_atomic (fund / 8);\n    printf(\"%d cents\\n\", part);\n}\n",
             b"",
-            b"txc: fault 27 at 5:26: bad format\n    printf(\"%d cents\\n\", part);\n                         ^^^^\n%d stands for an int, %u for an unsigned and %lld for a long long, one argument each; there is no other\ntxc explain 27 says more\n",
+            b"txc: fault 27 at 5:26: bad format\n    printf(\"%d cents\\n\", part);\n                         ^^^^\n%d prints it, and wants an int\n%d stands for an int, %u for an unsigned and %lld for a long long, one argument each; there is no other\ntxc explain 27 says more\n",
         ),
         (
             "txc check examples/refused/receipt.c",

@@ -40,7 +40,7 @@ fn rows() -> &'static [Row] {
         ),
         (
             "#define A 1\n",
-            "txc: fault 06 at 1:1: directive\n#define A 1\n^\nthere are no macros: #include lines alone are passed over\ntxc explain 06 says more\n",
+            "txc: fault 06 at 1:1: directive\n#define A 1\n^\nthere are no macros: #include lines alone are passed over; write the number, or a global\ntxc explain 06 says more\n",
         ),
         (
             "int count; void worker(int self) { __transaction_atomic { coumt = 1; } }",
@@ -48,11 +48,11 @@ fn rows() -> &'static [Row] {
         ),
         (
             "void worker(int self) { puts(\"a\"); }",
-            "txc: fault 10 at 1:30: unexpected token\nvoid worker(int self) { puts(\"a\"); }\n                             ^^^\na string stands in printf alone\nexpected ')' or an expression\ntxc explain 10 says more\n",
+            "txc: fault 10 at 1:30: unexpected token\nvoid worker(int self) { puts(\"a\"); }\n                             ^^^\na string stands first in printf, and nowhere else\nexpected ')' or an expression\ntxc explain 10 says more\n",
         ),
         (
             "static int x;",
-            "txc: fault 10 at 1:1: unexpected token\nstatic int x;\n^^^^^^\nthere is no such word here: leave it out\nexpected a declaration\ntxc explain 10 says more\n",
+            "txc: fault 10 at 1:1: unexpected token\nstatic int x;\n^^^^^^\nthere is no static: leave it out, or let a variable be global\nexpected a declaration\ntxc explain 10 says more\n",
         ),
         (
             "bool b;",
@@ -84,7 +84,7 @@ fn rows() -> &'static [Row] {
         ),
         (
             "void worker(int self) { printf(\"%x\", self); }",
-            "txc: fault 27 at 1:32: bad format\nvoid worker(int self) { printf(\"%x\", self); }\n                               ^^^^\n%d stands for an int, %u for an unsigned and %lld for a long long, one argument each; there is no other\ntxc explain 27 says more\n",
+            "txc: fault 27 at 1:32: bad format\nvoid worker(int self) { printf(\"%x\", self); }\n                               ^^^^\nthere is no conversion %x\n%d stands for an int, %u for an unsigned and %lld for a long long, one argument each; there is no other\ntxc explain 27 says more\n",
         ),
         (
             "int x; void worker(int self) { x = 1; }",
@@ -100,7 +100,7 @@ fn rows() -> &'static [Row] {
         ),
         (
             "void worker(void) { }",
-            "txc: fault 28 at 1:22: no worker\nvoid worker(void) { }\n                     ^\nthread T runs worker(T), written void worker(int self)\ntxc explain 28 says more\n",
+            "txc: fault 28 at 1:22: no worker\nvoid worker(void) { }\n                     ^\nthe function at 1:6 has another type\nthread T runs worker(T), written void worker(int self)\ntxc explain 28 says more\n",
         ),
         (
             "unsigned long long x;",

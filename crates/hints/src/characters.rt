@@ -1,0 +1,81 @@
+//! What is told of a character that begins no token, and of a string that is none.
+
+/// What is told of a letter or a digit right behind a constant, which ends in the byte before it.
+fn of_letter(before: u8, byte: u8) -> &'static str {
+    match (before, byte) {
+        (b'0', b'x' | b'X') => "hexadecimal digits stand behind 0x",
+        (b'0', b'b' | b'B') => "there are no binary constants: write them in decimal, or behind 0x",
+        (_, b'8' | b'9') => "a constant that begins with 0 is octal, and has no 8 or 9",
+        (_, b'e' | b'E' | b'f' | b'F') => "there are no floating constants",
+        (_, b'l' | b'L' | b'u' | b'U') => "a constant's suffix is u or ll",
+        (_, b'_' | b'\'') => "no character separates a constant's digits",
+        _ => "a constant's suffix is u or ll, and a name begins with a letter or _",
+    }
+}
+
+/// What is told of a byte of ASCII that begins no token.
+fn of_byte(byte: u8) -> Option<&'static str> {
+    match byte {
+        b'\'' => Some("there are no character constants: write the number"),
+        b'.' => Some("there are no floating constants, and no structs"),
+        b'\\' => Some("no line goes on behind a backslash, and an escape stands in a string alone"),
+        b'#' => Some("a directive stands alone on its line"),
+        b'@' | b'$' | b'`' => Some("no name and no operator has this character"),
+        0..=0x1f | 0x7f => Some("a control character: only white space may stand here"),
+        _ => None,
+    }
+}
+
+/// What is told of characters outside of ASCII, by their bytes in UTF-8: those that editors and word processors write.
+fn of_bytes(bytes: &[u8]) -> &'static str {
+    match bytes {
+        [0xef, 0xbb, 0xbf, ..] => "U+FEFF, a byte order mark: save the file without it",
+        [0xc2, 0xa0, ..] => "U+00A0, a no-break space: write a space",
+        [0xe2, 0x80, 0x98 | 0x99, ..] =>
+            "a quotation mark of a word processor, and there are no character constants",
+        [0xe2, 0x80, 0x9c | 0x9d, ..] =>
+            "a quotation mark of a word processor: a string stands between \" and \"",
+        [0xe2, 0x80, 0x93 | 0x94, ..] | [0xe2, 0x88, 0x92, ..] =>
+            "a dash of a word processor: minus is -",
+        [0xe2, 0x80, 0x8b, ..] => "U+200B, a space without width: take it out",
+        _ => "outside of comments a source has characters of ASCII alone",
+    }
+}
+
+/// What is told of a character at an offset, which begins no token.
+pub(crate) fn of_character(text: &[u8], offset: usize) -> Option<&'static str> {
+    let from = text.get(offset..text.len()).unwrap_or(b"");
+    let before = match offset.checked_sub(1) {
+        Some(at) => text.get(at).copied().unwrap_or(b' '),
+        None => b' ',
+    };
+    match from {
+        [0x80..=0xff, ..] => Some(of_bytes(from)),
+        [
+            letter @ (b'0'..=b'9' | b'A'..=b'Z' | b'a'..=b'z' | b'_'),
+            ..
+        ] => Some(of_letter(before, *letter)),
+        [b'\'', ..] if before >= b'0' && before <= b'9' => Some(of_letter(before, b'\'')),
+        [first, ..] => of_byte(*first),
+        [] => None,
+    }
+}
+
+/// What is told of a string that is none: the text from its quotation mark on.
+pub(crate) fn of_string(from: &[u8]) -> &'static str {
+    let mut is_escaped = false;
+    'bytes: for (at, byte) in from.iter().enumerate() {
+        if at > 0 {
+            match *byte {
+                b'\n' => return "a string ends on its line, with a quotation mark",
+                b'\\' if !is_escaped => is_escaped = true,
+                b'n' | b't' | b'"' | b'\\' if is_escaped => is_escaped = false,
+                _ if is_escaped => return "the escapes are \\n, \\t, \\\" and \\\\",
+                0..=0x1f | 0x7f..=0xff =>
+                    return "a string has characters of ASCII alone, and no control characters",
+                _ => {}
+            }
+        }
+    }
+    "a string ends on its line, with a quotation mark"
+}
