@@ -18,3 +18,5 @@ mod Growing
 mod Wholes
 -- inner transactions that are closed
 mod Closing
+-- threads that rest
+mod Resting

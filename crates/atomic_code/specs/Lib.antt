@@ -4,5 +4,7 @@ pub mod Threads
 pub mod Carried
 -- what is seen of a whole thread
 pub mod Whole
+-- threads that rest
+pub mod Resting
 -- what only private functions and proofs speak of
 pub mod inner

@@ -6,6 +6,8 @@ ghost use Rattle.bytecode.specs.Valid.{bounds_of};
 ghost use Rattle.atomic_code.specs.Threads.{IsAtomicThreadOf, first_thread};
 ghost use Rattle.atomic_code.specs.Carried.{BreaksOff, CarriesOn, end_by, memory_of};
 
+mod at_rest;
+
 use crate::context::{AtomicContext, Signal};
 use crate::ran::{End, Ran};
 use bytecode::Code;

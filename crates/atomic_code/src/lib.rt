@@ -7,6 +7,7 @@
 mod atomic;
 mod carry;
 mod context;
+pub mod laws;
 mod memory;
 mod open;
 mod ran;
