@@ -152,8 +152,8 @@ def main():
     if not underlined or f"```\n{plain(underlined[2])}```" not in page:
         wrong.append("the page does not show what the test has of a source's line and its carets")
     explained = explanation(next(cells for cells in cells_of(page) if cells[0] == "20"))
-    if f"```\n$ txc explain 20\n{explained}```" not in read("README.md"):
-        wrong.append("README.md does not show what `txc explain 20` prints")
+    if f"```\n$ txc explain 20\n{explained}```" not in read("docs/COMMANDS.md"):
+        wrong.append("docs/COMMANDS.md does not show what `txc explain 20` prints")
     if read(EXPLANATIONS) != explanations(page):
         wrong.append(f"{EXPLANATIONS} is not what this script writes from the page")
     print("\n".join(wrong) or f"FAULTS.md: {len(shown)} numbers, as the tests and the program have them")
