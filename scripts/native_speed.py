@@ -1,0 +1,103 @@
+#!/usr/bin/env python3
+"""Measures native programs (scripts/native.py) of the workloads that share data beside `txc run`, NOrec written by hand
+(scripts/workloads/norec.c) and GCC's transactional memory, with one and four threads.
+
+    scripts/native_speed.py [ROUNDS [TXC]]
+
+All sides run in turn in each of the rounds (9, where nothing is said). It prints times of whole processes on the clock,
+the least of the rounds with one thread and the median with four, and means of their ratios: `native` with sequentially
+consistent accesses, `weak` with acquire and release. libitm runs by its method ml_wt, and by its default one. TXC is the
+program, crates/txc/out/txc if it is not given.
+"""
+
+import math
+import os
+import statistics
+import subprocess
+import sys
+import tempfile
+import time
+
+import native
+
+BENCH = f"{native.TOP}/examples/bench"
+WORKLOADS = f"{native.TOP}/scripts/workloads"
+SHARED = ["counter", "bank", "list", "hashset", "longread", "disjoint", "sieve"]
+BY_HAND = SHARED[:-1]
+SIDES = ["txc run", "native", "weak", "by hand", "ml_wt", "libitm"]
+# A name, what is divided by what, and of which workloads.
+RATIOS = [("txc run", "native"), ("native", "by hand"), ("weak", "by hand"), ("native", "ml_wt"), ("native", "libitm")]
+
+
+def built(room):
+    """Makes all programs."""
+    gcc = ["gcc", "-O2", "-w", "-pthread"]
+    subprocess.run([*gcc, f"{WORKLOADS}/norec.c", "-o", f"{room}/norec"], check=True)
+    for name in SHARED:
+        file = f"{BENCH}/{name}.c"
+        for is_weak in (False, True):
+            native.compiled(native.text_of(file), f"{room}/{name}{'.weak' * is_weak}", is_weak=is_weak)
+        files = [file, f"{WORKLOADS}/threads.c", "-o", f"{room}/{name}.gcc"]
+        subprocess.run([*gcc, "-fgnu-tm", *files, "-litm"], check=True)
+
+
+def sides(room, name, threads):
+    """The command of each side, and its environment."""
+    count, all_of = str(threads), {**os.environ}
+    found = {
+        "txc run": ([native.txc(), "run", f"{BENCH}/{name}.c", "--threads", count], all_of),
+        "native": ([f"{room}/{name}", "--threads", count], all_of),
+        "weak": ([f"{room}/{name}.weak", "--threads", count], all_of),
+        "ml_wt": ([f"{room}/{name}.gcc", count], {**all_of, "ITM_DEFAULT_METHOD": "ml_wt"}),
+        "libitm": ([f"{room}/{name}.gcc", count], all_of),
+    }
+    if name in BY_HAND:
+        found["by hand"] = ([f"{room}/norec", name, count], all_of)
+    return found
+
+
+def clock(words, environment):
+    """Milliseconds of a process, and how it ended."""
+    start = time.perf_counter()
+    status = subprocess.run(words, env=environment, stdout=subprocess.DEVNULL, stderr=subprocess.DEVNULL).returncode
+    return 1000 * (time.perf_counter() - start), status
+
+
+def measured(room, rounds, threads):
+    """The time of each side at each workload."""
+    rows = {}
+    for name in SHARED:
+        times = {side: [] for side in sides(room, name, threads)}
+        for _ in range(rounds):
+            for side, (words, environment) in sides(room, name, threads).items():
+                took, status = clock(words, environment)
+                if status:
+                    sys.exit(f"{name}, {threads} threads, {side}: status {status}")
+                times[side].append(took)
+        one_of = min if threads == 1 else statistics.median
+        rows[name] = {side: one_of(found) for side, found in times.items()}
+        shown = [f"{rows[name][side]:.1f}" if side in rows[name] else "" for side in SIDES]
+        print(f"| `{name}` | {' | '.join(shown)} |", flush=True)
+    return rows
+
+
+def mean(rows, over, under):
+    """The geometric mean of a ratio."""
+    found = [math.log(row[over] / row[under]) for row in rows.values() if over in row and under in row]
+    return math.exp(sum(found) / len(found))
+
+
+def main():
+    rounds = int(sys.argv[1]) if len(sys.argv) > 1 else 9
+    os.environ["TXC"] = os.path.abspath(sys.argv[2]) if len(sys.argv) > 2 else f"{native.TOP}/crates/txc/out/txc"
+    with tempfile.TemporaryDirectory(prefix="native-speed-") as room:
+        built(room)
+        for threads in (1, 4):
+            print(f"\n{threads} threads, ms: {', '.join(SIDES)}")
+            rows = measured(room, rounds, threads)
+            for over, under in RATIOS:
+                print(f"{over} / {under}: {mean(rows, over, under):.2f}")
+
+
+if __name__ == "__main__":
+    main()
