@@ -36,9 +36,11 @@ PROMISES = (
     ("`txc replay --print-schedule`", "PrintsSchedule lines_of_seed"),
     ("`txc check`", "SaysAccepted"),
     ("`txc listing`", "PrintsListing"),
-    ("a refusal (status 1)", "IsRefused"),
+    ("a refusal by `check`, `source`, `outcomes` (status 1)", "IsRefused"),
+    ("a refusal where code is made (status 1)", "HasNoCode"),
     ("what is written, whatever the status", "WritesFor"),
-    ("`serve`: all of these", "AnswersRequest WritesFor IsRefused"),
+    ("`serve`: all of these", "AnswersRequest WritesFor IsRequestRefused"),
+    ("`serve_words`: all of these, and what words ask", "AnswersWords"),
 )
 
 # What of them is said by the source, with the code that `listing` prints and that means it; the rest speaks of the machine.
@@ -368,13 +370,13 @@ def says(file):
 
 
 def promised(names):
-    """The definitions of `serving` that say a promise: names that the clauses of `serve` have, or its answers."""
-    specs = f"{TOP}/crates/serving/specs"
-    said = words_of(read(f"{specs}/Answers.antt") + read(f"{TOP}/crates/serving/src/request.rt"))
+    """The definitions of `serving` that say a promise: names that its clauses of requests or words have, or its answers."""
+    specs, code = f"{TOP}/crates/serving/specs", f"{TOP}/crates/serving/src"
+    said = words_of(read(f"{specs}/Answers.antt") + read(f"{code}/request.rt") + read(f"{code}/words.rt"))
     out = set()
     for name in names.split():
         if name not in said:
-            sys.exit(f"serve does not speak of {name}")
+            sys.exit(f"no clause of requests or words speaks of {name}")
         found = set().union(
             *(item_at(f"crates/serving/specs/{it}", [name]) for it in sorted(os.listdir(specs)) if it.endswith(".antt"))
         )
@@ -404,7 +406,9 @@ def promise_table():
         out.append(row(f"{title} | {', '.join(f'`{it}`' for it in names.split())}", promised(names)))
     by_source = ", ".join(f"`{it}`" for it in BY_SOURCE.split())
     out.append(row(f"of these, what is said by the source | {by_source}", promised(BY_SOURCE)))
-    out.append(row("what is said besides, by the machine | the others", promised(PROMISES[-1][1]), reached(promised(BY_SOURCE))))
+    of_source = reached(promised(BY_SOURCE))
+    besides = "what is said besides, by words, by limits of code and by the machine | the others"
+    out.append(row(besides, promised(PROMISES[-1][1]), of_source))
     return out + [""]
 
 

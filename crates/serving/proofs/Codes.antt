@@ -4,7 +4,8 @@ use Rattle.syntax.specs.Views.{program_of}
 use Rattle.parse.specs.Faults.{source_of}
 use Rattle.serving.specs.declared.compiled.Compiled.{Compiled}
 use Rattle.serving.specs.Codes.{Compiles, IsCodeOf}
-use Rattle.serving.specs.Checks.{IsSourceOf}
+use Rattle.bytecode.specs.Code.{Code}
+use Rattle.serving.specs.Checks.{Accepts, IsSourceOf}
 
 abbrev pub compiles : {A : Type 0} (text : List ℕ) (c : Compiled A) → IsSourceOf text (source_of c.accepted.safe.typed.unit) → IsCodeOf (program_of c.accepted.safe.typed.unit) c.code → Compiles text c.code
 compiles text c spelled compiled = record {
@@ -13,3 +14,7 @@ compiles text c spelled compiled = record {
   accepted = c.accepted.accepted;
   compiled = compiled;
 }
+
+-- which is accepted
+pub accepts : (text : List ℕ) (code : Code) → Compiles text code → Accepts text
+accepts text code c = record { source = c.source; spelled = c.spelled; accepted = c.accepted }

@@ -1,9 +1,8 @@
 -- What a status says of a text, and what it does not say of what was printed.
-use Rattle.std.proofs.Common.{◌≡◌, ◌≢◌, ◌<◌, ◌⊎◌, inl, inr, ℕ, List, ◌∷◌, length, Option, Some, None, refl, sym, subst, arith}
-use Rattle.std.specs.Prelude.{Contains, IfSome}
-use Rattle.std.proofs.lemmas.List.Elements.{Contains-append_right}
+use Rattle.std.proofs.Common.{◌≡◌, ◌≢◌, ◌<◌, ◌⊎◌, inl, inr, ℕ, List, length, Option, Some, None, Result, Ok, Err, IsErr, refl, subst, sym, arith}
+use Rattle.std.specs.Prelude.{IfErr, IfSome}
+use Rattle.std.specs.Result.{IsErrAnd}
 use Rattle.syntax.specs.Grammar.{ParsedSource as Spelled}
-use Rattle.syntax.specs.Tree.{Defines, Program}
 use Rattle.separation.specs.Touching.{IsAccepted}
 use Rattle.command.specs.declared.request.Task.{Task}
 use Rattle.command.specs.declared.request.Task.TheVariants.{Check, Listing, Run, Replay, Timeline, Picture, PrintSchedule, Source, Outcomes}
@@ -11,35 +10,52 @@ use Rattle.lex.specs.declared.fault.LexFault.TheVariants.{FileTooLong}
 use Rattle.lex.specs.declared.lexer.TheConstants.{MOST_BYTES}
 use Rattle.lower.specs.Faults.{IsLowerFaultOf}
 use Rattle.lower.specs.declared.fault.LowerFault.{LowerFault}
-use Rattle.lower.specs.declared.fault.LowerFault.TheVariants as limit
-use Rattle.serving.specs.declared.run.SourceFault.TheVariants.{Lex}
+use Rattle.serving.specs.declared.run.SourceFault.{SourceFault}
+use Rattle.serving.specs.declared.run.SourceFault.TheVariants.{OutOfMemory, Lex, Parse, IllTyped, Unsafe, NotSeparate, NoCode}
 use Rattle.serving.specs.Answers.{Answers}
 use Rattle.serving.specs.Checks.{IsSourceOf}
-use Rattle.serving.specs.Refusals.{IsLimit, IsRefused, IsUncoded}
+use Rattle.serving.specs.Limits.{HasNoCode, IsFaultOfText, PassesLimit}
+use Rattle.serving.specs.Refusals.{IsFaultOfSource, IsRefused}
+use Rattle.serving.specs.Refused.{IsRefusedFor}
 
--- what is said of a limit by the code that is picked says what the source tells of it
-limit_of : (p : Program) (fault : LowerFault) → IsLowerFaultOf p fault → IsLimit p fault
-limit_of p limit.OutOfMemory is = tt
-limit_of p (limit.TooManyRegisters at) is = (is.0, record { function = is.1.function; is_of = is.1.is_of; is_at = is.1.is_at })
-limit_of p (limit.TooMuchCode at) is = (
-  is.0,
-  record {
-    function = is.1.function;
-    is_of = subst (λ (items : Program). Contains items (Defines is.1.function)) (sym is.1.is_of)
-        (Contains-append_right is.1.before (Defines is.1.function ∷ is.1.after) (Defines is.1.function) (0, omega arith, refl));
-    is_at = is.1.is_at;
-  },
-)
-limit_of p (limit.NestedTooDeep at) is = is
+-- a fault of the source is one of its text
+faulty : (text : List ℕ) (fault : SourceFault) → IsFaultOfSource text fault → IsFaultOfText text fault
+faulty text OutOfMemory is = is
+faulty text (Lex fault) is = is
+faulty text (Parse fault) is = is
+faulty text (IllTyped fault) is = is
+faulty text (Unsafe fault) is = is
+faulty text (NotSeparate fault) is = is
+faulty text (NoCode fault) is = absurd is
+
+-- and is so where it is passed on
+pub faulty_passed : {T : Type 0} (text : List ℕ) (fault : SourceFault) (r : Result T SourceFault) → IsErr r × IsErrAnd r (λ y. y ≡ fault) → IsFaultOfSource text fault → IfErr r (λ f. IsFaultOfText text f)
+faulty_passed text fault (Ok x) passed is = tt
+faulty_passed text fault (Err e) passed is = subst (IsFaultOfText text) (sym passed.1) (faulty text fault is)
 
 -- the accepted program of a text has no code
-pub uncoded : (text : List ℕ) (source : Spelled) (fault : LowerFault) → IsSourceOf text source → ∥ IsAccepted source.program ∥₁ → IsLowerFaultOf source.program fault → IsUncoded text fault
+pub uncoded : (text : List ℕ) (source : Spelled) (fault : LowerFault) → IsSourceOf text source → ∥ IsAccepted source.program ∥₁ → IsLowerFaultOf source.program fault → PassesLimit text fault
 uncoded text source fault spelled accepted is = record {
   source = source;
   spelled = spelled;
   accepted = accepted;
-  because = limit_of source.program fault is;
+  because = is;
 }
+
+-- a source that is refused is so for each task
+refused_text : (text : List ℕ) → IsRefused text → HasNoCode text
+refused_text text is = (is.0, faulty text is.0 is.1, is.2)
+
+refused_task : (task : Task) (text : List ℕ) → IsRefused text → IsRefusedFor task text
+refused_task Check text is = is
+refused_task Listing text is = refused_text text is
+refused_task (Run threads budget counts) text is = refused_text text is
+refused_task (Replay threads steps) text is = refused_text text is
+refused_task (Timeline threads steps) text is = refused_text text is
+refused_task (Picture threads steps) text is = refused_text text is
+refused_task (PrintSchedule threads seed count) text is = refused_text text is
+refused_task (Source threads order ticks) text is = is
+refused_task (Outcomes threads ticks limit) text is = is
 
 -- a file that is too long is refused
 pub long_refused : (known : Option (List ℕ)) → IfSome known (λ bytes. MOST_BYTES < length bytes) → IfSome known (λ bytes. IsRefused bytes)
@@ -75,7 +91,8 @@ unread_answers (Some bytes) task schedule status old new (inl one) = nothing_pri
 unread_answers (Some bytes) task schedule status old new (inr is) = not_read_answers (Some bytes) task schedule status old new is
 
 -- what the status 1 says there
-pub unread_says : {IsOne : Type 0} (status : ℕ) → (status ≡ 1) × IsOne ⊎ (status ≡ 2) ⊎ (status ≡ 4) → status ≡ 1 → IsOne
-unread_says status (inl one) e = one.1
-unread_says status (inr (inl two)) e = absurd (omega (arith, two, e))
-unread_says status (inr (inr four)) e = absurd (omega (arith, four, e))
+pub unread_says : (known : Option (List ℕ)) (task : Task) (status : ℕ) → (status ≡ 1) × IfSome known (λ bytes. IsRefused bytes) ⊎ (status ≡ 2) ⊎ (status ≡ 4) → status ≡ 1 → IfSome known (λ bytes. IsRefusedFor task bytes)
+unread_says None task status is e = tt
+unread_says (Some bytes) task status (inl one) e = refused_task task bytes one.1
+unread_says (Some bytes) task status (inr (inl two)) e = absurd (omega (arith, two, e))
+unread_says (Some bytes) task status (inr (inr four)) e = absurd (omega (arith, four, e))

@@ -194,7 +194,6 @@ module _ (more_ticks : MoreTicks) (goes_on : GoesOn) (never_more : NeverMoreLeft
         in_order = record {
           source = r.compiled.source;
           spelled = r.compiled.spelled;
-          accepted = r.compiled.accepted;
           run = subst (IsOrderOf p threads o.0 o.1) (no_events shown (no_run_events p r.code threads budget shown r.run)) o.2;
         };
       }
@@ -216,7 +215,7 @@ module _ (more_ticks : MoreTicks) (goes_on : GoesOn) (never_more : NeverMoreLeft
       record {
         ticks = o.0;
         order = o.1;
-        in_order = record { source = c.source; spelled = c.spelled; accepted = c.accepted; run = o.2 };
+        in_order = record { source = c.source; spelled = c.spelled; run = o.2 };
       }
 
   pub replays_leave_orders : laws.ReplaysLeaveOrders

@@ -5,7 +5,7 @@ use Rattle.command.specs.declared.request.Request.TheVariants.{Program, Explain}
 use Rattle.command.specs.declared.request.Task.{Task}
 use Rattle.command.specs.declared.request.Task.TheVariants.{Check, Listing, Run, Replay, Timeline, Picture}
 use Rattle.command.specs.declared.request.Task.TheVariants.{PrintSchedule, Source, Outcomes}
-use Rattle.serving.specs.Checks.{SaysAccepted}
+use Rattle.serving.specs.Checks.{Accepts, SaysAccepted}
 use Rattle.serving.specs.Listings.{PrintsListing}
 use Rattle.serving.specs.Reports.{PrintsReport}
 use Rattle.serving.specs.Outcomes.{PrintsOutcomes}
@@ -21,20 +21,20 @@ abbrev pub Answers : Task → (schedule : Option (List ℕ)) → (text : List �
 Answers Check schedule text status old new = SaysAccepted text status old new
 Answers Listing schedule text status old new = PrintsListing text status old new
 Answers (Run threads budget counts) schedule text status old new =
-    PrintsReport (λ shown. RunsInSomeOrder threads text shown
+    PrintsReport (λ shown. RunsInSomeOrder threads text shown × Accepts text
     × RunsConcurrently threads budget text shown) status old new
 Answers (Replay threads steps) schedule text status old new =
-    PrintsReport (λ shown. RunsInSomeOrder threads text (behind_events shown)
+    PrintsReport (λ shown. RunsInSomeOrder threads text (behind_events shown) × Accepts text
     × Replays threads steps schedule text shown) status old new
 Answers (Timeline threads steps) schedule text status old new =
-    PrintsTimeline (λ lines shown. RunsInSomeOrder threads text (behind_events shown)
+    PrintsTimeline (λ lines shown. RunsInSomeOrder threads text (behind_events shown) × Accepts text
     × ReplaysShown threads steps schedule text lines shown) status old new
 Answers (Picture threads steps) schedule text status old new =
     PrintsPicture (λ svg shown. ReplaysDrawn threads steps schedule text svg shown) status old new
 Answers (PrintSchedule threads seed count) schedule text status old new =
     PrintsSchedule (lines_of_seed seed threads count) text status old new
 Answers (Source threads order ticks) schedule text status old new =
-    PrintsReport (RunsInOrder threads ticks order.items text) status old new
+    PrintsReport (λ shown. RunsInOrder threads ticks order.items text shown × Accepts text) status old new
 Answers (Outcomes threads ticks limit) schedule text status old new = PrintsOutcomes threads ticks text status old new
 
 -- a request, where these bytes are those of the file

@@ -6,7 +6,7 @@ use Rattle.command.specs.declared.request.Steps.TheVariants.{Schedule}
 use Rattle.command.specs.declared.request.Task.{Task}
 use Rattle.command.specs.declared.request.Task.TheVariants.{Picture, Replay, Timeline}
 use Rattle.serving.specs.Answers.{Answers}
-use Rattle.serving.specs.Refusals.{IsRefused}
+use Rattle.serving.specs.Refused.{IsRefusedFor}
 use Rattle.serving.specs.Written.{IsAskedFor, WritesPart}
 
 -- the bytes of the file of each name, where they are known
@@ -40,5 +40,5 @@ WritesForFiles (Explain number) contents old new = Unit {0}
 -- a source is named, and it is refused
 abbrev pub RefusesSource : Request → Contents → Type 0
 RefusesSource (Program file verbose format task) contents =
-    IfSome (contents (string_bytes file)) (λ bytes. IsRefused bytes)
+    IfSome (contents (string_bytes file)) (λ bytes. IsRefusedFor task bytes)
 RefusesSource (Explain number) contents = ⊥

@@ -1,5 +1,6 @@
--- Laws of reports: what a report says of the machine, and what it says of the source.
-use Rattle.std.specs.Prelude.{◌≡◌, ℕ, List, Option, None, Contains, false}
+-- Laws of reports, what a report says of the machine and what it says of the source, and of refusals.
+use Rattle.std.specs.Prelude.{◌≡◌, ◌≤◌, ℕ, List, Option, None, Contains, is_some, false, true}
+use Rattle.syntax.specs.Grammar.{deepest_program, source_depth}
 use Rattle.syntax.specs.Tree.{Program}
 use Rattle.bytecode.specs.Code.{Code}
 use Rattle.world.specs.declared.stop.WorldStop.{WorldStop}
@@ -7,7 +8,12 @@ use Rattle.replay.specs.declared.line.Line.{Line}
 use Rattle.command.specs.declared.request.Steps.{Steps}
 use Rattle.report.specs.Printed.{Printed}
 use Rattle.outcome_lists.specs.Lists.{OutcomeShown}
+use Rattle.lower.specs.Answers.{span_of}
+use Rattle.lower.specs.declared.fault.LowerFault.{LowerFault}
+use Rattle.serving.specs.Checks.{Accepts}
 use Rattle.serving.specs.Codes.{IsCodeOf}
+use Rattle.serving.specs.Limits.{HasNoCode, PassesLimit}
+use Rattle.serving.specs.Refusals.{IsRefused}
 use Rattle.serving.specs.Reports.{has_stopped}
 use Rattle.serving.specs.Orders.{LeavesSomeOrder, RunsInSomeOrder}
 use Rattle.serving.specs.Outcomes.{AreAllOutcomes, reports}
@@ -47,3 +53,13 @@ OrdersAreListed =
     (threads ticks : ℕ) (text : List ℕ) (os : List OutcomeShown) (shown : Printed) →
     AreAllOutcomes threads ticks text os → RunsInSomeOrder threads text shown → has_stopped shown ≡ false →
     Contains (reports os) shown
+
+-- an accepted program within the depth is not refused
+abbrev pub AcceptedAreNotRefused : Type 0
+AcceptedAreNotRefused = (text : List ℕ) (is : Accepts text) → source_depth is.source ≤ deepest_program →
+    IsRefused text → ⊥
+
+-- where an accepted program within the depth has no code, a limit of code is passed at a place
+abbrev pub AcceptedPassLimits : Type 0
+AcceptedPassLimits = (text : List ℕ) (is : Accepts text) → source_depth is.source ≤ deepest_program →
+    HasNoCode text → (fault : LowerFault) × PassesLimit text fault × (is_some (span_of fault) ≡ true)

@@ -24,6 +24,8 @@ pub mod Pictures
 pub mod Refusals
 -- why a program has no code
 pub mod Limits
+-- what is refused, by what is asked
+pub mod Refused
 -- what orders show is what the machine can come to
 pub mod Possible
 -- laws of reports
@@ -34,5 +36,7 @@ pub mod Written
 pub mod Answers
 -- the files that a request names
 pub mod Files
+-- what is answered to words
+pub mod Words
 -- what only private functions speak of
 pub mod inner

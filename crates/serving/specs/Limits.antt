@@ -1,4 +1,4 @@
--- Why the accepted program of a text has no code, by the code that is picked for it.
+-- Why no code is made of a text: its program is refused, or the code that is picked for it passes a limit.
 use Rattle.std.specs.Prelude.{ℕ, List}
 use Rattle.syntax.specs.Grammar.{ParsedSource}
 use Rattle.separation.specs.Touching.{IsAccepted}
@@ -7,6 +7,7 @@ use Rattle.lower.specs.declared.fault.LowerFault.{LowerFault}
 use Rattle.serving.specs.declared.run.SourceFault.{SourceFault}
 use Rattle.serving.specs.declared.run.SourceFault.TheVariants.{NoCode}
 use Rattle.serving.specs.Checks.{IsSourceOf}
+use Rattle.serving.specs.Refusals.{IsFaultOfSource, IsFaulty}
 
 -- the code that is picked for the accepted program of a text passes a limit
 pub record PassesLimit (text : List ℕ) (fault : LowerFault) : Type 0 where
@@ -15,7 +16,11 @@ pub record PassesLimit (text : List ℕ) (fault : LowerFault) : Type 0 where
   pub accepted : ∥ IsAccepted source.program ∥₁
   pub because : IsLowerFaultOf source.program fault
 
--- what a fault of code says of a text; other faults say nothing here
-abbrev pub PassesLimitIf : List ℕ → SourceFault → Type 0
-PassesLimitIf text (NoCode fault) = PassesLimit text fault
-PassesLimitIf text _ = Unit {0}
+-- what a fault says of a text of which code is made
+abbrev pub IsFaultOfText : List ℕ → SourceFault → Type 0
+IsFaultOfText text (NoCode fault) = PassesLimit text fault
+IsFaultOfText text fault = IsFaultOfSource text fault
+
+-- a rule of the language is broken at a place, or the program has no code, since a limit is passed
+abbrev pub HasNoCode : List ℕ → Type 0
+HasNoCode text = IsFaulty IsFaultOfText text

@@ -8,7 +8,6 @@ use Rattle.syntax.specs.Behaviours.{Stands, Step}
 use Rattle.syntax.specs.Orders.{in_order}
 use Rattle.syntax.specs.Threads.{IsSourceRun, thread}
 use Rattle.syntax.specs.Grammar.{ParsedSource}
-use Rattle.separation.specs.Touching.{IsAccepted}
 use Rattle.meaning.specs.InOrder.{NamesThreads}
 use Rattle.report.specs.Printed.{ThreadShown, Printed}
 use Rattle.serving.specs.Checks.{IsSourceOf}
@@ -20,15 +19,14 @@ pub record IsOrderOf (p : Program) (count ticks : ℕ) (order : List ℕ) (shown
   pub named : NamesThreads count order
   pub shows : shown ≡ order_shown p (in_order (thread p) (initial_memory p) count ticks order)
 
--- the text spells an accepted program, and this is what the report of its threads in this order shows
+-- the text spells a program, and this is what the report of its threads in this order shows
 pub record RunsInOrder (count ticks : ℕ) (order text : List ℕ) (shown : Printed) : Type 0 where
   pub source : ParsedSource
   pub spelled : IsSourceOf text source
-  pub accepted : ∥ IsAccepted source.program ∥₁
   pub run : IsOrderOf source.program count ticks order shown
 
--- the text spells an accepted program, and this is what the report of its threads shows in some order, each with some
--- number of ticks
+-- the text spells a program, and this is what the report of its threads shows in some order, each with some number of
+-- ticks
 pub record RunsInSomeOrder (count : ℕ) (text : List ℕ) (shown : Printed) : Type 0 where
   pub ticks : ℕ
   pub order : List ℕ

@@ -1,12 +1,11 @@
 -- Why a source's text is refused.
-use Rattle.std.specs.Prelude.{◌≡◌, ℕ, List, Contains, Option, Some, None, is_some, true}
+use Rattle.std.specs.Prelude.{◌≡◌, ℕ, List, Option, Some, None, is_some, true}
 use Rattle.lex.specs.declared.token.Span.{Span}
 use Rattle.lex.specs.Faults as lex
 use Rattle.parse.specs.Faults as parse
 use Rattle.lex.specs.Tokens.{Tok}
 use Rattle.lex.specs.Pieces.{IsLexed}
 use Rattle.lex.specs.Faults.{IsFault}
-use Rattle.syntax.specs.Tree.{Function, Defines, Program}
 use Rattle.syntax.specs.Grammar.{ParsedSource}
 use Rattle.syntax.specs.Typing.{Meets, first_unmet}
 use Rattle.types.specs.declared.fault.Violation.{Violation}
@@ -15,7 +14,7 @@ use Rattle.safety.specs.declared.fault.Violation.{Violation as SafetyViolation}
 use Rattle.safety.specs.Faults.{IsSafetyFault}
 use Rattle.safety.specs.Answers as safety
 use Rattle.separation.specs.declared.fault.Violation.{Violation as SeparationViolation}
-use Rattle.separation.specs.Touching.{IsAccepted, IsSeparationFault}
+use Rattle.separation.specs.Touching.{IsSeparationFault}
 use Rattle.separation.specs.Answers as separation
 use Rattle.parse.specs.Faults.{IsParseFaultOf as IsParseFault}
 use Rattle.meaning.specs.InOrder.{IsFaultOfOrder, number_in as order_number}
@@ -23,9 +22,6 @@ use Rattle.serving.specs.declared.run.SourceFault.{SourceFault}
 use Rattle.serving.specs.declared.run.SourceFault.TheVariants.{OutOfMemory, Lex, Parse, IllTyped, Unsafe, NotSeparate}
 use Rattle.serving.specs.declared.run.SourceFault.TheVariants.{NoCode}
 use Rattle.lower.specs.Answers as lower
-use Rattle.lower.specs.Nested.{nested_too_deep}
-use Rattle.lower.specs.declared.fault.LowerFault.{LowerFault}
-use Rattle.lower.specs.declared.fault.LowerFault.TheVariants as limit
 use Rattle.serving.specs.declared.order.OrderFault.{OrderFault}
 use Rattle.serving.specs.declared.order.OrderFault.TheVariants.{Source as OfSource, Order as OfOrder}
 use Rattle.serving.specs.Checks.{Accepts, IsSourceOf}
@@ -54,40 +50,19 @@ pub record IsNotSeparate (text : List ℕ) (fault : SeparationViolation) : Type 
   pub spelled : IsSourceOf text source
   pub first : IsSeparationFault (separation.number_in fault) (separation.span_in fault) source.program
 
--- the name of a function of this program stands here
-pub record IsFunctionName (p : Program) (at : Span) : Type 0 where
-  pub function : Function
-  pub is_of : Contains p (Defines function)
-  pub is_at : at ≡ function.name.span
-
--- a limit of code: a transaction lies in 16 others, and the keyword of the first one that does stands here; or none
--- does, and the code would have too many registers or instructions, in or with the function whose name stands here
-abbrev pub IsLimit : Program → LowerFault → Type 0
-IsLimit p limit.OutOfMemory = Unit {0}
-IsLimit p (limit.TooManyRegisters at) = (nested_too_deep p ≡ None) × IsFunctionName p at
-IsLimit p (limit.TooMuchCode at) = (nested_too_deep p ≡ None) × IsFunctionName p at
-IsLimit p (limit.NestedTooDeep at) = nested_too_deep p ≡ Some at
-
--- no code is made of the accepted program that a text spells
-pub record IsUncoded (text : List ℕ) (fault : LowerFault) : Type 0 where
-  pub source : ParsedSource
-  pub spelled : IsSourceOf text source
-  pub accepted : ∥ IsAccepted source.program ∥₁
-  pub because : IsLimit source.program fault
-
--- what a fault says of a text; want of memory says nothing
-abbrev pub IsFaultOfText : List ℕ → SourceFault → Type 0
-IsFaultOfText text OutOfMemory = Unit {0}
-IsFaultOfText text (Lex fault) = IsFault text fault
-IsFaultOfText text (Parse fault) = IsMisspelled text (λ tokens. IsParseFault tokens fault)
-IsFaultOfText text (IllTyped fault) = IsMistyped text fault
-IsFaultOfText text (Unsafe fault) = IsUnsafe text fault
-IsFaultOfText text (NotSeparate fault) = IsNotSeparate text fault
-IsFaultOfText text (NoCode fault) = IsUncoded text fault
+-- what a fault says of a text, where no code is made: it is never one of code, and want of memory says nothing
+abbrev pub IsFaultOfSource : List ℕ → SourceFault → Type 0
+IsFaultOfSource text OutOfMemory = Unit {0}
+IsFaultOfSource text (Lex fault) = IsFault text fault
+IsFaultOfSource text (Parse fault) = IsMisspelled text (λ tokens. IsParseFault tokens fault)
+IsFaultOfSource text (IllTyped fault) = IsMistyped text fault
+IsFaultOfSource text (Unsafe fault) = IsUnsafe text fault
+IsFaultOfSource text (NotSeparate fault) = IsNotSeparate text fault
+IsFaultOfSource text (NoCode fault) = ⊥
 
 -- what a fault says of a text and of an order: the order is looked at last
 abbrev pub IsFaultInOrder : (text : List ℕ) (threads : ℕ) (order : List ℕ) → OrderFault → Type 0
-IsFaultInOrder text threads order (OfSource fault) = IsFaultOfText text fault
+IsFaultInOrder text threads order (OfSource fault) = IsFaultOfSource text fault
 IsFaultInOrder text threads order (OfOrder fault) = Accepts text × IsFaultOfOrder threads order fault
 
 abbrev pub number_of_source : SourceFault → ℕ
@@ -112,6 +87,10 @@ span_of_source (Unsafe fault) = Some (safety.span_in fault)
 span_of_source (NotSeparate fault) = Some (separation.span_in fault)
 span_of_source (NoCode fault) = lower.span_of fault
 
--- a text has a fault that stands somewhere in it
+-- a text has a fault of this kind that stands somewhere in it
+abbrev pub IsFaulty : (List ℕ → SourceFault → Type 0) → List ℕ → Type 0
+IsFaulty IsFaultOf text = (fault : SourceFault) × IsFaultOf text fault × (is_some (span_of_source fault) ≡ true)
+
+-- a rule of the language is broken at a place
 abbrev pub IsRefused : List ℕ → Type 0
-IsRefused text = (fault : SourceFault) × IsFaultOfText text fault × (is_some (span_of_source fault) ≡ true)
+IsRefused text = IsFaulty IsFaultOfSource text

@@ -66,7 +66,7 @@ IsAskedFor (Timeline threads steps) schedule text written = IsReplayTimeline thr
 IsAskedFor (Picture threads steps) schedule text written = IsReplayPicture threads steps schedule text written
 IsAskedFor (PrintSchedule threads seed count) schedule text written = IsSeedSchedule seed threads count text written
 IsAskedFor (Source threads order ticks) schedule text written =
-    IsReportOf (RunsInOrder threads ticks order.items text) written
+    IsReportOf (λ shown. RunsInOrder threads ticks order.items text shown × Accepts text) written
 IsAskedFor (Outcomes threads ticks limit) schedule text written = IsListOfOutcomes threads ticks text written
 
 -- a text is written, or a beginning of it

@@ -10,7 +10,5 @@ pub mod Words
 pub mod Printing
 -- what a fault of running a text's threads says
 pub mod Threads
--- faults that come before code is made
-pub mod Early
 -- reports by runs of the source
 pub mod Serial

@@ -5,8 +5,7 @@ ghost use Rattle.syntax.specs.Views.{program_of};
 ghost use Rattle.parse.specs.Faults.{source_of};
 ghost use Rattle.serving.specs.Checks.{IsSourceOf};
 ghost use Rattle.serving.specs.Codes.{IsCodeOf};
-ghost use Rattle.serving.specs.Limits.{PassesLimitIf};
-ghost use Rattle.serving.specs.Refusals.{IsFaultOfText};
+ghost use Rattle.serving.specs.Limits.{IsFaultOfText};
 
 use crate::run::{SourceFault, read_accepted};
 use bytecode::Code;
@@ -26,7 +25,6 @@ pub fn compile<A: Allocator + Copy>(alloc: A, text: &str) -> Result<Compiled<A>,
     ensures source { IfOk result (λ c. IsSourceOf text.now (source_of c.accepted.safe.typed.unit)) }
     ensures code { IfOk result (λ c. IsCodeOf (program_of c.accepted.safe.typed.unit) c.code) }
     ensures err { IfErr result (λ f. IsFaultOfText text.now f) }
-    ensures limits { IfErr result (λ f. PassesLimitIf text.now f) }
 {
     let accepted = read_accepted(alloc, text)?;
     match lower(alloc, &accepted) {

@@ -10,14 +10,16 @@ ghost use Rattle.bytecode.specs.Code.{Code as Plain, effect};
 ghost use Rattle.bytecode.specs.Valid.{IsValid};
 ghost use Rattle.machine.specs.Serializable.{IsOpaque};
 ghost use Rattle.serving.specs.Codes.{IsCodeOf};
-ghost use Rattle.serving.specs.Laws.{ConcurrentRunsAreOrders, ConcurrentRunsLeaveOrders, OrdersAreListed};
-ghost use Rattle.serving.specs.Laws.{ReplaysAreOrders, ReplaysLeaveOrders};
+ghost use Rattle.serving.specs.Laws.{AcceptedAreNotRefused, AcceptedPassLimits, ConcurrentRunsAreOrders};
+ghost use Rattle.serving.specs.Laws.{ConcurrentRunsLeaveOrders, OrdersAreListed, ReplaysAreOrders, ReplaysLeaveOrders};
 ghost use Rattle.serving.specs.Possible.{OrdersAreReplays, OutcomesAreDone};
 
 use bytecode::laws::valid_code_fits_its_cells;
-use lex::laws::one_list_of_tokens;
+use lex::laws::{one_list_of_tokens, tokens_leave_no_fault};
 use outcomes::laws::ticks_change_nothing;
 use parse::one_tree;
+use safety::laws::a_safe_program_has_no_fault;
+use separation::laws::a_fault_touches;
 use syntax::laws::{orders_show_runs, threads_go_on, threads_leave_memories};
 
 /// The theorem about the machine, of programs: for every accepted program, every valid code that means it and has its
@@ -70,3 +72,16 @@ pub fn orders_are_replays()
     ensures replays { OrdersAreReplays }
     ensures outcomes { OutcomesAreDone }
 {}
+
+/// An accepted program that lies no deeper than a program may (fault 11) has no fault of its source: what makes no code
+/// does not refuse it. What makes code refuses it for a limit of code alone.
+pub fn accepted_programs_are_not_refused()
+    ensures refused { AcceptedAreNotRefused }
+    ensures limits { AcceptedPassLimits }
+{
+    one_list_of_tokens();
+    tokens_leave_no_fault();
+    one_tree();
+    a_safe_program_has_no_fault();
+    a_fault_touches();
+}

@@ -19,6 +19,7 @@ mod source;
 mod status;
 mod tell;
 mod timeline;
+mod words;
 
 pub use all_orders::{OutcomesFound, list_outcomes};
 pub use compiled::{Compiled, compile};
@@ -28,5 +29,6 @@ pub use order::{OrderFault, run_in_order};
 pub use replayed::{Replayed, replay_code};
 pub use request::{serve, serve_alone};
 pub use run::SourceFault;
-pub use tell::{Detail, not_read, refuse_run, tell_usage};
+pub use tell::{Detail, not_read, refuse_run, tell_usage, unread_words};
 pub use timeline::lines_shown;
+pub use words::serve_words;

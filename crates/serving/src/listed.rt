@@ -1,9 +1,8 @@
 //! The listing of a source's code.
 
 ghost use Rattle.std.specs.Prelude.{◌≡◌, IfOk, IfErr, string_bytes};
-ghost use Rattle.serving.specs.Limits.{PassesLimitIf};
+ghost use Rattle.serving.specs.Limits.{IsFaultOfText};
 ghost use Rattle.serving.specs.Listings.{ShowsListing};
-ghost use Rattle.serving.specs.Refusals.{IsFaultOfText};
 
 use crate::compiled::compile;
 use crate::run::SourceFault;
@@ -14,7 +13,6 @@ use std::alloc::Allocator;
 pub fn list_source<A: Allocator + Copy>(alloc: A, text: &str) -> Result<String<A>, SourceFault>
     ensures ok { IfOk result (λ s. ShowsListing text.now (string_bytes s)) }
     ensures err { IfErr result (λ f. IsFaultOfText text.now f) }
-    ensures limits { IfErr result (λ f. PassesLimitIf text.now f) }
 {
     let compiled = compile(alloc, text)?;
     match listing(alloc, &compiled.code) {

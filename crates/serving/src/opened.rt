@@ -3,7 +3,7 @@
 ghost use Rattle.std.specs.Prelude.{◌≡◌, ◌≤◌, ℕ, IfOk, IfSome, List, Option, option_map};
 ghost use Rattle.serving.specs.Answers.{Answers};
 ghost use Rattle.serving.specs.Files.{AnswersFiles, RefusesSource, WritesForFiles, schedule_in, schedule_of};
-ghost use Rattle.serving.specs.Refusals.{IsRefused};
+ghost use Rattle.serving.specs.Refused.{IsRefusedFor};
 ghost use Rattle.serving.specs.Written.{IsAskedFor, WritesPart};
 
 use crate::request::{explain, serve_program};
@@ -79,7 +79,7 @@ fn open_source<H: Threads + Wait + Sync, F: Files, W: Write, E: Write>(
     ensures written { IfSome (F.contents files.now file.now)
         (λ bytes. WritesPart (IsAskedFor task.now (schedule_in (F.contents files.now) (schedule_of task.now)) bytes)
         (W.contents out.old) (W.contents out.new)) }
-    ensures refused { result ≡ 1 → IfSome (F.contents files.now file.now) (λ bytes. IsRefused bytes) }
+    ensures refused { result ≡ 1 → IfSome (F.contents files.now file.now) (λ bytes. IsRefusedFor task.now bytes) }
     ensures untouched { result ≡ 1 → W.contents out.new ≡ W.contents out.old }
 {
     match files.open(file) {
@@ -107,7 +107,7 @@ fn open_schedule<H: Threads + Wait + Sync, F: Files, R: Read + Drop, W: Write, E
     ensures written { IfSome (R.remaining source)
         (λ bytes. WritesPart (IsAskedFor task.now (schedule_in (F.contents files.now) (schedule_of task.now)) bytes)
         (W.contents out.old) (W.contents out.new)) }
-    ensures refused { result ≡ 1 → IfSome (R.remaining source) (λ bytes. IsRefused bytes) }
+    ensures refused { result ≡ 1 → IfSome (R.remaining source) (λ bytes. IsRefusedFor task.now bytes) }
     ensures untouched { result ≡ 1 → W.contents out.new ≡ W.contents out.old }
 {
     match schedule_of(task) {

@@ -1,9 +1,10 @@
 //! Running threads of a source's text in an order.
 
-ghost use Rattle.std.specs.Prelude.{◌≡◌, IfOk, IfErr};
+ghost use Rattle.std.specs.Prelude.{◌≡◌, IfOk, IfErr, OnOk};
 ghost use Rattle.syntax.specs.Views.{program_of};
 ghost use Rattle.report.specs.Views.{printed_of};
 ghost use Rattle.meaning.specs.InOrder.{IsFaultOfOrder};
+ghost use Rattle.serving.specs.Checks.{Accepts};
 ghost use Rattle.serving.specs.Orders.{IsOrderOf, RunsInOrder};
 ghost use Rattle.serving.specs.Refusals.{IsFaultInOrder, number_of_order};
 
@@ -48,6 +49,7 @@ pub fn run_in_order<A: Allocator + Copy>(
     ticks: u64,
 ) -> Result<Printed<A>, OrderFault>
     ensures ok { IfOk result (λ r. RunsInOrder threads ticks order.now text.now (printed_of r)) }
+    ensures accepted { OnOk result (Accepts text.now) }
     ensures err { IfErr result (λ f. IsFaultInOrder text.now threads order.now f) }
 {
     match read_accepted(alloc, text) {

@@ -16,7 +16,9 @@ ghost use Rattle.picture.specs.Replayed.{IsDrawn};
 ghost use Rattle.serving.specs.Orders.{RunsInOrder, RunsInSomeOrder};
 ghost use Rattle.serving.specs.Outcomes.{IsListOfOutcomes, PrintsOutcomes, outcomes_status};
 ghost use Rattle.serving.specs.Pictures.{PrintsPicture, ReplaysDrawn};
+ghost use Rattle.serving.specs.Limits.{HasNoCode};
 ghost use Rattle.serving.specs.Refusals.{IsRefused};
+ghost use Rattle.serving.specs.Refused.{IsRefusedFor, IsRequestRefused};
 ghost use Rattle.serving.specs.Replays.{IsReplayOfText, PrintsSchedule, PrintsTimeline, Replays, ReplaysShown};
 ghost use Rattle.serving.specs.Replays.{behind_events, lines_of_seed};
 ghost use Rattle.serving.specs.Reports.{PrintsReport, exit_status};
@@ -79,7 +81,7 @@ pub fn serve<H: Threads + Wait + Sync, R: Read + Drop, S: Read + Drop, W: Write,
     ensures answer { IfSome (R.remaining source)
         (λ bytes. AnswersRequest request.now (S.remaining schedule) bytes result (W.contents out.old)
         (W.contents out.new)) }
-    ensures refused { result ≡ 1 → IfSome (R.remaining source) (λ bytes. IsRefused bytes) }
+    ensures refused { result ≡ 1 → IsRequestRefused request.now (R.remaining source) }
     ensures written { WritesFor request.now (S.remaining schedule) (R.remaining source) (W.contents out.old)
         (W.contents out.new) }
     ensures untouched { result ≡ 1 → W.contents out.new ≡ W.contents out.old }
@@ -129,7 +131,7 @@ pub(crate) fn serve_program<
     ensures status { result ≤ 4 }
     ensures answer { IfSome (R.remaining source)
         (λ bytes. Answers task.now (S.remaining schedule) bytes result (W.contents out.old) (W.contents out.new)) }
-    ensures refused { result ≡ 1 → IfSome (R.remaining source) (λ bytes. IsRefused bytes) }
+    ensures refused { result ≡ 1 → IfSome (R.remaining source) (λ bytes. IsRefusedFor task.now bytes) }
     ensures written { IfSome (R.remaining source)
         (λ bytes. WritesPart (IsAskedFor task.now (S.remaining schedule) bytes) (W.contents out.old)
         (W.contents out.new)) }
@@ -166,7 +168,7 @@ pub fn serve_alone<A: Allocator + Copy, R: Read + Drop, S: Read + Drop, W: Write
     ensures status { result ≤ 4 }
     ensures answer { IfSome (R.remaining source)
         (λ bytes. Answers task.now (S.remaining schedule) bytes result (W.contents out.old) (W.contents out.new)) }
-    ensures refused { result ≡ 1 → IfSome (R.remaining source) (λ bytes. IsRefused bytes) }
+    ensures refused { result ≡ 1 → IfSome (R.remaining source) (λ bytes. IsRefusedFor task.now bytes) }
     ensures written { IfSome (R.remaining source)
         (λ bytes. WritesPart (IsAskedFor task.now (S.remaining schedule) bytes) (W.contents out.old)
         (W.contents out.new)) }
@@ -212,7 +214,7 @@ fn work<H: Threads + Wait + Sync, S: Read + Drop, W: Write, E: Write>(
 ) -> u8
     ensures status { result ≤ 4 }
     ensures answer { Answers task.now (S.remaining schedule) text.now result (W.contents out.old) (W.contents out.new) }
-    ensures refused { result ≡ 1 → IsRefused text.now }
+    ensures refused { result ≡ 1 → IsRefusedFor task.now text.now }
     ensures written { WritesPart (IsAskedFor task.now (S.remaining schedule) text.now) (W.contents out.old)
         (W.contents out.new) }
     ensures untouched { result ≡ 1 → W.contents out.new ≡ W.contents out.old }
@@ -250,7 +252,7 @@ fn work_alone<A: Allocator + Copy, S: Read + Drop, W: Write, E: Write>(
 ) -> u8
     ensures status { result ≤ 4 }
     ensures answer { Answers task.now (S.remaining schedule) text.now result (W.contents out.old) (W.contents out.new) }
-    ensures refused { result ≡ 1 → IsRefused text.now }
+    ensures refused { result ≡ 1 → IsRefusedFor task.now text.now }
     ensures written { WritesPart (IsAskedFor task.now (S.remaining schedule) text.now) (W.contents out.old)
         (W.contents out.new) }
     ensures untouched { result ≡ 1 → W.contents out.new ≡ W.contents out.old }
@@ -317,9 +319,9 @@ fn run<H: Threads + Wait + Sync, W: Write, E: Write>(
     err: &mut E,
 ) -> u8
     ensures status { result ≤ 4 }
-    ensures report { PrintsReport (λ shown. RunsInSomeOrder threads text.now shown
+    ensures report { PrintsReport (λ shown. RunsInSomeOrder threads text.now shown × Accepts text.now
         × RunsConcurrently threads budget text.now shown) result (W.contents out.old) (W.contents out.new) }
-    ensures refused { result ≡ 1 → IsRefused text.now }
+    ensures refused { result ≡ 1 → HasNoCode text.now }
     ensures written { WritesPart (IsReportOf (RunsConcurrently threads budget text.now)) (W.contents out.old)
         (W.contents out.new) }
     ensures untouched { result ≡ 1 → W.contents out.new ≡ W.contents out.old }
@@ -348,10 +350,10 @@ fn replay_source<A: Allocator + Copy, S: Read + Drop, W: Write, E: Write>(
     err: &mut E,
 ) -> u8
     ensures status { result ≤ 4 }
-    ensures report { PrintsReport (λ shown. RunsInSomeOrder threads text.now (behind_events shown)
+    ensures report { PrintsReport (λ shown. RunsInSomeOrder threads text.now (behind_events shown) × Accepts text.now
         × Replays threads steps.now (S.remaining schedule) text.now shown) result (W.contents out.old)
         (W.contents out.new) }
-    ensures refused { result ≡ 1 → IsRefused text.now }
+    ensures refused { result ≡ 1 → HasNoCode text.now }
     ensures written { WritesPart (IsReplayReport threads steps.now (S.remaining schedule) text.now) (W.contents out.old)
         (W.contents out.new) }
     ensures untouched { result ≡ 1 → W.contents out.new ≡ W.contents out.old }
@@ -376,9 +378,9 @@ fn show_steps<A: Allocator + Copy, S: Read + Drop, W: Write, E: Write>(
 ) -> u8
     ensures status { result ≤ 4 }
     ensures timeline { PrintsTimeline (λ lines shown. RunsInSomeOrder threads text.now (behind_events shown)
-        × ReplaysShown threads steps.now (S.remaining schedule) text.now lines shown) result (W.contents out.old)
-        (W.contents out.new) }
-    ensures refused { result ≡ 1 → IsRefused text.now }
+        × Accepts text.now × ReplaysShown threads steps.now (S.remaining schedule) text.now lines shown) result
+        (W.contents out.old) (W.contents out.new) }
+    ensures refused { result ≡ 1 → HasNoCode text.now }
     ensures written { WritesPart (IsReplayTimeline threads steps.now (S.remaining schedule) text.now)
         (W.contents out.old) (W.contents out.new) }
     ensures untouched { result ≡ 1 → W.contents out.new ≡ W.contents out.old }
@@ -408,7 +410,7 @@ fn draw<A: Allocator + Copy, S: Read + Drop, W: Write, E: Write>(
     ensures picture { PrintsPicture
         (λ svg shown. ReplaysDrawn threads steps.now (S.remaining schedule) text.now svg shown) result
         (W.contents out.old) (W.contents out.new) }
-    ensures refused { result ≡ 1 → IsRefused text.now }
+    ensures refused { result ≡ 1 → HasNoCode text.now }
     ensures written { WritesPart (IsReplayPicture threads steps.now (S.remaining schedule) text.now)
         (W.contents out.old) (W.contents out.new) }
     ensures untouched { result ≡ 1 → W.contents out.new ≡ W.contents out.old }
@@ -434,7 +436,7 @@ fn replay_text<A: Allocator + Copy, S: Read + Drop, E: Write>(
     ensures ok { IfOk result
         (λ r. IsReplayOfText threads steps.now (S.remaining schedule) text.now r.0.code r.1.made.items r.1.stop
         (printed_of r.1.printed)) }
-    ensures status { IfErr result (λ s. (s ≡ 1) × IsRefused text.now ⊎ (s ≡ 2) ⊎ (s ≡ 4)) }
+    ensures status { IfErr result (λ s. (s ≡ 1) × HasNoCode text.now ⊎ (s ≡ 2) ⊎ (s ≡ 4)) }
 {
     match compile(alloc, text) {
         Ok(compiled) => match lines_of(alloc, threads, steps, schedule, detail, err) {
@@ -462,7 +464,7 @@ fn print_schedule<A: Allocator + Copy, W: Write, E: Write>(
     ensures status { result ≤ 4 }
     ensures schedule { PrintsSchedule (lines_of_seed seed threads count) text.now result (W.contents out.old)
         (W.contents out.new) }
-    ensures refused { result ≡ 1 → IsRefused text.now }
+    ensures refused { result ≡ 1 → HasNoCode text.now }
     ensures written { WritesPart (IsSeedSchedule seed threads count text.now) (W.contents out.old)
         (W.contents out.new) }
     ensures untouched { result ≡ 1 → W.contents out.new ≡ W.contents out.old }
@@ -489,7 +491,7 @@ fn list<A: Allocator + Copy, W: Write, E: Write>(
 ) -> u8
     ensures status { result ≤ 4 }
     ensures listing { PrintsListing text.now result (W.contents out.old) (W.contents out.new) }
-    ensures refused { result ≡ 1 → IsRefused text.now }
+    ensures refused { result ≡ 1 → HasNoCode text.now }
     ensures written { WritesPart (ShowsListing text.now) (W.contents out.old) (W.contents out.new) }
     ensures untouched { result ≡ 1 → W.contents out.new ≡ W.contents out.old }
 {
@@ -511,11 +513,12 @@ fn in_order<A: Allocator + Copy, W: Write, E: Write>(
     err: &mut E,
 ) -> u8
     ensures status { result ≤ 4 }
-    ensures report { PrintsReport (RunsInOrder threads ticks order.now text.now) result (W.contents out.old)
-        (W.contents out.new) }
+    ensures report { PrintsReport (λ shown. RunsInOrder threads ticks order.now text.now shown × Accepts text.now)
+        result (W.contents out.old) (W.contents out.new) }
     ensures refused { result ≡ 1 → IsRefused text.now }
-    ensures written { WritesPart (IsReportOf (RunsInOrder threads ticks order.now text.now)) (W.contents out.old)
-        (W.contents out.new) }
+    ensures written { WritesPart
+        (IsReportOf (λ shown. RunsInOrder threads ticks order.now text.now shown × Accepts text.now))
+        (W.contents out.old) (W.contents out.new) }
     ensures untouched { result ≡ 1 → W.contents out.new ≡ W.contents out.old }
 {
     match run_in_order(alloc, text, threads, order, ticks) {

@@ -3,8 +3,7 @@
 ghost use Rattle.std.specs.Prelude.{◌≡◌, IfOk, IfErr, OnOk};
 ghost use Rattle.parse.specs.Faults.{source_of};
 ghost use Rattle.serving.specs.Checks.{Accepts, IsSourceOf};
-ghost use Rattle.serving.specs.Refusals.{IsFaultOfText, number_of_source, span_of_source};
-ghost use Rattle.serving.specs.inner.Early.{IsEarly};
+ghost use Rattle.serving.specs.Refusals.{IsFaultOfSource, number_of_source, span_of_source};
 
 use lex::token::Span;
 use lex::{LexFault, lex};
@@ -73,8 +72,7 @@ impl SourceFault {
 /// The program that a text spells.
 fn read<A: Allocator + Copy>(alloc: A, text: &str) -> Result<Unit<A>, SourceFault>
     ensures ok { IfOk result (λ u. IsSourceOf text.now (source_of u)) }
-    ensures err { IfErr result (λ f. IsFaultOfText text.now f) }
-    ensures early { IfErr result (λ f. IsEarly f) }
+    ensures err { IfErr result (λ f. IsFaultOfSource text.now f) }
 {
     match lex(alloc, text) {
         Ok(tokens) => match parse(alloc, tokens.as_slice()) {
@@ -88,8 +86,7 @@ fn read<A: Allocator + Copy>(alloc: A, text: &str) -> Result<Unit<A>, SourceFaul
 /// The typed program that a text spells.
 fn read_typed<A: Allocator + Copy>(alloc: A, text: &str) -> Result<Typed<A>, SourceFault>
     ensures ok { IfOk result (λ t. IsSourceOf text.now (source_of t.unit)) }
-    ensures err { IfErr result (λ f. IsFaultOfText text.now f) }
-    ensures early { IfErr result (λ f. IsEarly f) }
+    ensures err { IfErr result (λ f. IsFaultOfSource text.now f) }
 {
     match check(alloc, read(alloc, text)?) {
         Ok(typed) => Ok(typed),
@@ -101,8 +98,7 @@ fn read_typed<A: Allocator + Copy>(alloc: A, text: &str) -> Result<Typed<A>, Sou
 /// The safe program that a text spells.
 fn read_safe<A: Allocator + Copy>(alloc: A, text: &str) -> Result<Safe<A>, SourceFault>
     ensures ok { IfOk result (λ s. IsSourceOf text.now (source_of s.typed.unit)) }
-    ensures err { IfErr result (λ f. IsFaultOfText text.now f) }
-    ensures early { IfErr result (λ f. IsEarly f) }
+    ensures err { IfErr result (λ f. IsFaultOfSource text.now f) }
 {
     match safe(alloc, read_typed(alloc, text)?) {
         Ok(safe) => Ok(safe),
@@ -117,8 +113,7 @@ pub(crate) fn read_accepted<A: Allocator + Copy>(
     text: &str,
 ) -> Result<Accepted<A>, SourceFault>
     ensures ok { IfOk result (λ a. IsSourceOf text.now (source_of a.safe.typed.unit)) }
-    ensures err { IfErr result (λ f. IsFaultOfText text.now f) }
-    ensures early { IfErr result (λ f. IsEarly f) }
+    ensures err { IfErr result (λ f. IsFaultOfSource text.now f) }
 {
     match accept(alloc, read_safe(alloc, text)?) {
         Ok(accepted) => Ok(accepted),
@@ -132,7 +127,7 @@ pub(crate) fn read_accepted<A: Allocator + Copy>(
 /// Says of a source's text whether its program is accepted.
 pub(crate) fn check_source<A: Allocator + Copy>(alloc: A, text: &str) -> Result<(), SourceFault>
     ensures ok { OnOk result (Accepts text.now) }
-    ensures err { IfErr result (λ f. IsFaultOfText text.now f) }
+    ensures err { IfErr result (λ f. IsFaultOfSource text.now f) }
 {
     let _accepted = read_accepted(alloc, text)?;
     Ok(())

@@ -54,8 +54,11 @@ impl<'a> Detail<'a> {
 
 /// Tells help, or why words are not a request. Gives the exit status.
 pub fn tell_usage<W: Write, E: Write>(fault: &UsageFault, out: &mut W, err: &mut E) -> u8
+    ensures status { result ≤ 4 }
     ensures help { IsHelp fault.now → (result ≡ 0) ⊎ (result ≡ 4) }
     ensures wrong { IsWrong fault.now → result ≡ 2 }
+    ensures memory { fault.now ≡ UsageFault.OutOfMemory → result ≡ 4 }
+    ensures untouched { IsHelp fault.now ⊎ (W.contents out.new ≡ W.contents out.old) }
 {
     match fault {
         UsageFault::OutOfMemory => out_of_memory(err),
@@ -179,6 +182,20 @@ pub fn not_read<E: Write>(file: &str, error: &io::Error, detail: Detail<'_>, err
     match error.kind() {
         ErrorKind::OutOfMemory => out_of_memory(err),
         _ => cannot_read(file, error, detail, err),
+    }
+}
+
+/// Says why the words of the command line were not had: memory was refused, or one of them is not UTF-8.
+pub fn unread_words<E: Write>(kind: ErrorKind, err: &mut E) -> u8
+    ensures memory { kind ≡ ErrorKind.OutOfMemory → result ≡ 4 }
+    ensures others { kind ≢ ErrorKind.OutOfMemory → result ≡ 2 }
+{
+    match kind {
+        ErrorKind::OutOfMemory => out_of_memory(err),
+        _ => {
+            let _ = writeln!(err, "txc: a word is not UTF-8");
+            UNUSABLE
+        }
     }
 }
 

@@ -1,13 +1,10 @@
 //! The texts of standard error that are fixed: docs/COMMANDS.md lists them, and none of them changes. What is better told
 //! follows in a line behind, on a terminal or with `--verbose`.
 
-use crate::opened::{Found, NONE, REFUSED, REPLAY, Told, TwoFiles};
+use crate::opened::{Found, NONE, REFUSED, REPLAY, Told, TwoFiles, answer_line};
 use crate::served::Closed;
-use command::Request;
-use serving::{serve_files, tell_usage};
-use serving_in_memory::{ADDS, request_of};
+use serving_in_memory::ADDS;
 use std::alloc::Global;
-use std::io::Write;
 use std::sync::Wait;
 use std::thread::Threads;
 
@@ -104,29 +101,22 @@ fn rows() -> &'static [Row] {
     &ROWS
 }
 
-/// Serves a request over two files, and tells what is wrong.
-fn serve_told<H: Threads + Wait + Sync, W: Write>(
+/// Answers a row's command line, and tells what is wrong.
+fn answer<H: Threads + Wait + Sync>(
     rt: &H,
     alloc: Global,
-    request: &Request,
     row: &Row,
-    out: &mut W,
     told: &mut Told,
-) -> u8 {
+) -> Option<u8> {
     let files = TwoFiles {
         source: row.1,
         schedule: row.2,
     };
-    serve_files(rt, alloc, request, &files, out, told)
-}
-
-/// Answers a row's command line, and tells what is wrong.
-fn answer<H: Threads + Wait + Sync>(rt: &H, alloc: Global, row: &Row, told: &mut Told) -> u8 {
-    let mut out = Vec::new(alloc);
-    match request_of(alloc, row.0) {
-        Ok(request) if row.3 => serve_told(rt, alloc, &request, row, &mut Closed, told),
-        Ok(request) => serve_told(rt, alloc, &request, row, &mut out, told),
-        Err(fault) => tell_usage(&fault, &mut out, told),
+    if row.3 {
+        answer_line(rt, alloc, row.0, &files, &mut Closed, told)
+    } else {
+        let mut out = Vec::new(alloc);
+        answer_line(rt, alloc, row.0, &files, &mut out, told)
     }
 }
 
@@ -137,7 +127,7 @@ fn is_told<H: Threads + Wait + Sync>(rt: &H, alloc: Global, row: &Row) -> bool {
         is_terminal: false,
     };
     let status = answer(rt, alloc, row, &mut told);
-    status == row.4 && told.bytes.as_slice() == row.5
+    status == Some(row.4) && told.bytes.as_slice() == row.5
 }
 
 /// The command line of the first row whose text is not told.

@@ -1,7 +1,7 @@
-//! Which files are opened for a request, and what is said of those that are not.
+//! Which files are opened for the words of a command line, and what is said of those that are not.
 
-use serving::{Files, serve_files};
-use serving_in_memory::{ADDS, ServeResult, request_of};
+use serving::{Files, serve_words};
+use serving_in_memory::{ADDS, ServeResult};
 use std::alloc::Global;
 use std::io;
 use std::io::{ErrorKind, IsTerminal, Read, Write};
@@ -91,7 +91,22 @@ pub(crate) const REFUSED: Found = Err(ErrorKind::OutOfMemory);
 const OUT_OF_MEMORY: ServeResult<'static> = (4, b"", b"txc: out of memory\n");
 
 fn rows() -> &'static [Row] {
-    static ROWS: [Row; 11] = [
+    static ROWS: [Row; 13] = [
+        // words that make no request open no file
+        (
+            "txc run a.c --threads 65",
+            REFUSED,
+            NONE,
+            false,
+            (2, b"", b"txc: usage: --threads is 1 to 64\n"),
+        ),
+        (
+            "txc check a.c",
+            Ok(ADDS),
+            NONE,
+            false,
+            (0, b"accepted\n", b""),
+        ),
         // the source is opened first
         (
             REPLAY,
@@ -178,20 +193,31 @@ fn rows() -> &'static [Row] {
     &ROWS
 }
 
+/// Answers a command line, in which a space ends each word but the last. Gives the exit status, if there was memory for
+/// the words.
+pub(crate) fn answer_line<H: Threads + Wait + Sync, W: Write>(
+    rt: &H,
+    alloc: Global,
+    line: &str,
+    files: &TwoFiles,
+    out: &mut W,
+    told: &mut Told,
+) -> Option<u8> {
+    let words: Vec<&str> = line.split(' ').collect(alloc).ok()?;
+    Some(serve_words(rt, alloc, words.as_slice(), files, out, told))
+}
+
 /// Whether a row is answered as it should be.
 fn is_answered<H: Threads + Wait + Sync>(rt: &H, alloc: Global, row: &Row) -> bool {
     let (line, source, schedule, is_terminal, wanted) = *row;
-    let Ok(request) = request_of(alloc, line) else {
-        return false;
-    };
     let files = TwoFiles { source, schedule };
     let mut out = Vec::new(alloc);
     let mut told = Told {
         bytes: Vec::new(alloc),
         is_terminal,
     };
-    let status = serve_files(rt, alloc, &request, &files, &mut out, &mut told);
-    status == wanted.0 && out.as_slice() == wanted.1 && told.bytes.as_slice() == wanted.2
+    let status = answer_line(rt, alloc, line, &files, &mut out, &mut told);
+    status == Some(wanted.0) && out.as_slice() == wanted.1 && told.bytes.as_slice() == wanted.2
 }
 
 /// The number, from 0, of the first row that is answered otherwise.
@@ -207,4 +233,26 @@ fn wrong_files<H: Threads + Wait + Sync>(rt: &H, alloc: Global) -> Option<usize>
 #[test]
 fn files_are_opened_in_turn(rt: HostRuntime) {
     assert_eq!(rt; wrong_files(&rt, rt.alloc()), None);
+}
+
+/// Whether a command line prints what begins so, and nothing is told.
+fn begins_with<H: Threads + Wait + Sync>(rt: &H, alloc: Global, line: &str, first: &[u8]) -> bool {
+    let files = TwoFiles {
+        source: NONE,
+        schedule: NONE,
+    };
+    let mut out = Vec::new(alloc);
+    let mut told = Told {
+        bytes: Vec::new(alloc),
+        is_terminal: false,
+    };
+    let status = answer_line(rt, alloc, line, &files, &mut out, &mut told);
+    status == Some(0) && out.starts_with(first) && told.bytes.is_empty()
+}
+
+#[test]
+fn help_is_printed(rt: HostRuntime) {
+    let alloc = rt.alloc();
+    assert!(rt; begins_with(&rt, alloc, "txc source --help", b"Runs the source itself"));
+    assert!(rt; begins_with(&rt, alloc, "txc --version", b"txc "));
 }

@@ -1,7 +1,7 @@
 //! Runs, orders and listings of sources, and what is said of files and words.
 
 use command::{Format, Request, UsageFault};
-use serving::{Detail, not_read as tell_unread, serve, tell_usage};
+use serving::{Detail, not_read as tell_unread, serve, tell_usage, unread_words};
 use serving_in_memory::{
     ADDS, Broken, Row, ServeResult, answers, is_answer, request_of, serve_bytes, wrong_row,
 };
@@ -653,6 +653,22 @@ fn says_what_words_are_wrong(rt: HostRuntime) {
     assert!(rt; is_refused(rt.alloc(), help, (0, b"Runs the source itself", b"")));
     let refused = (4, b"".as_slice(), b"txc: out of memory\n".as_slice());
     assert!(rt; is_told_so(rt.alloc(), &UsageFault::OutOfMemory, refused));
+}
+
+/// Whether words that were not had are told so.
+fn are_words_unread(alloc: Global, kind: ErrorKind, wanted: ServeResult) -> bool {
+    let mut err = Vec::new(alloc);
+    let status = unread_words(kind, &mut err);
+    status == wanted.0 && err.as_slice() == wanted.2
+}
+
+#[test]
+fn says_why_words_were_not_had(rt: HostRuntime) {
+    let alloc = rt.alloc();
+    let refused = (4, b"".as_slice(), b"txc: out of memory\n".as_slice());
+    assert!(rt; are_words_unread(alloc, ErrorKind::OutOfMemory, refused));
+    let bytes = (2, b"".as_slice(), b"txc: a word is not UTF-8\n".as_slice());
+    assert!(rt; are_words_unread(alloc, ErrorKind::InvalidData, bytes));
 }
 
 /// Whether output that cannot be written is told so.

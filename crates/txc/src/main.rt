@@ -3,9 +3,8 @@
 
 ghost use Rattle.std.specs.Prelude.{None};
 
-use command::{Request, UsageFault, command};
-use serving::{Files, serve_files, tell_usage};
-use std::alloc::Global;
+use serving::{Files, serve_words, unread_words};
+use std::alloc::AllocError;
 use std::fs::File;
 use std::io::{ErrorKind, Read, Stdin};
 use std::process::ExitCode;
@@ -19,38 +18,31 @@ fn main(rt: HostRuntime) -> ExitCode {
 
 /// Reads the command line and does what it asks; `handle` starts threads and waits for them. Gives the exit status.
 fn answer<H: Threads + Wait + Sync>(rt: &HostRuntime, handle: &H) -> u8 {
-    match request(rt) {
-        Ok(request) => serve_files(
+    match env::args(rt) {
+        Ok(words) => match words.collect(rt.alloc()) {
+            Ok(words) => answer_words(rt, handle, words),
+            Err(AllocError) => unread_words(ErrorKind::OutOfMemory, &mut rt.stderr()),
+        },
+        Err(error) => unread_words(error.kind(), &mut rt.stderr()),
+    }
+}
+
+/// Does what words ask, with the files of the system and the standard streams.
+fn answer_words<H: Threads + Wait + Sync>(rt: &HostRuntime, handle: &H, words: Vec<String>) -> u8 {
+    let words: Result<Vec<&str>, AllocError> = words
+        .iter()
+        .map(|word| word.as_str())
+        .collect(rt.alloc());
+    match words {
+        Ok(words) => serve_words(
             handle,
             rt.alloc(),
-            &request,
+            words.as_slice(),
             &SystemFiles { rt },
             &mut rt.stdout(),
             &mut rt.stderr(),
         ),
-        Err(fault) => tell_usage(&fault, &mut rt.stdout(), &mut rt.stderr()),
-    }
-}
-
-/// What the command line asks.
-fn request(rt: &HostRuntime) -> Result<Request, UsageFault> {
-    let alloc = rt.alloc();
-    let words: Vec<String> = match env::args(rt) {
-        Ok(words) => words.collect(alloc)?,
-        Err(error) => return Err(no_words(alloc, error.kind())),
-    };
-    let words: Vec<&str> = words.iter().map(|word| word.as_str()).collect(alloc)?;
-    command(alloc, words.as_slice())
-}
-
-/// Why the words of the command line could not be had: memory was refused, or one is not UTF-8.
-fn no_words(alloc: Global, kind: ErrorKind) -> UsageFault {
-    if kind == ErrorKind::OutOfMemory {
-        return UsageFault::OutOfMemory;
-    }
-    match String::from_str(alloc, "txc: a word is not UTF-8\n") {
-        Ok(text) => UsageFault::Wrong { text },
-        Err(_) => UsageFault::OutOfMemory,
+        Err(AllocError) => unread_words(ErrorKind::OutOfMemory, &mut rt.stderr()),
     }
 }
 

@@ -3,7 +3,7 @@ use Rattle.std.specs.Prelude.{ℕ, List}
 use Rattle.workers.specs.Driving.{IsRunRefused}
 use Rattle.serving.specs.declared.concurrent.ThreadsFault.{ThreadsFault}
 use Rattle.serving.specs.declared.concurrent.ThreadsFault.TheVariants.{Source, Run}
-use Rattle.serving.specs.Refusals.{IsFaultOfText}
+use Rattle.serving.specs.Limits.{IsFaultOfText}
 
 -- what a fault says of a text and of a number of threads
 abbrev pub IsThreadsFault : (text : List ℕ) (threads : ℕ) → ThreadsFault → Type 0

@@ -1,4 +1,5 @@
 use Rattle.report.specs.Views.{printed_of}
+use Rattle.serving.proofs.Codes.{accepts}
 use Rattle.serving.proofs.Ends.{none_stopped}
 use Rattle.serving.proofs.Replays.{replays}
 use Rattle.serving.proofs.Parts.{part_so}
@@ -12,7 +13,7 @@ returns-in-Ok-clause-report g c = λ status.
     let shown = printed_of c.in-Ok.replayed.printed in
     let printed = c.print_replay.ensures.report status in
     let replay = replays c.args.threads c.args.steps.now _ c.args.text.now _ _ _ shown (c.print_replay.ensures.whole status) c.in-Ok.ensures.ok in
-    (shown, (c.reports_are_orders.ensures.replays c.args.threads c.args.steps.now _ c.args.text.now shown replay (none_stopped _ shown status printed.0), replay), printed.0, printed.1)
+    (shown, (c.reports_are_orders.ensures.replays c.args.threads c.args.steps.now _ c.args.text.now shown replay (none_stopped _ shown status printed.0), accepts c.args.text.now _ c.in-Ok.ensures.ok.compiled, replay), printed.0, printed.1)
 
 pub returns-in-Ok-clause-written : goal.returns-in-Ok-clause-written
 returns-in-Ok-clause-written g c =

@@ -2,6 +2,7 @@ use Rattle.std.proofs.Common.{ℕ, List, ◌≡◌, ◌++◌}
 use Rattle.replay.specs.Replays.{simulation_after, timeline_of}
 use Rattle.report.specs.Timeline.{timeline_text}
 use Rattle.report.specs.Views.{printed_of}
+use Rattle.serving.proofs.Codes.{accepts}
 use Rattle.serving.proofs.Ends.{none_stopped}
 use Rattle.serving.proofs.Replays.{replays, replays_shown}
 use Rattle.serving.proofs.Parts.{part_so}
@@ -18,7 +19,7 @@ returns-in-Ok-clause-timeline g c = λ status.
     let whole = c.print_timeline.ensures.whole status in
     let shown = replays_shown c.args.threads c.args.steps.now _ c.args.text.now c.in-Ok.compiled.code made c.in-Ok.replayed.stop report whole c.in-Ok.ensures.ok in
     let replay = replays c.args.threads c.args.steps.now _ c.args.text.now c.in-Ok.compiled.code made c.in-Ok.replayed.stop report whole c.in-Ok.ensures.ok in
-    (lines, report, (c.reports_are_orders.ensures.replays c.args.threads c.args.steps.now _ c.args.text.now report replay (none_stopped _ report status printed.0), shown), printed.0, printed.1)
+    (lines, report, (c.reports_are_orders.ensures.replays c.args.threads c.args.steps.now _ c.args.text.now report replay (none_stopped _ report status printed.0), accepts c.args.text.now _ c.in-Ok.ensures.ok.compiled, shown), printed.0, printed.1)
 
 pub returns-in-Ok-clause-written : goal.returns-in-Ok-clause-written
 returns-in-Ok-clause-written g c =

@@ -1,0 +1,26 @@
+-- What the exit status 1 says of a source, by what is asked.
+use Rattle.std.specs.Prelude.{ℕ, List, Option, IfSome}
+use Rattle.command.specs.declared.request.Request.{Request}
+use Rattle.command.specs.declared.request.Request.TheVariants.{Program, Explain}
+use Rattle.command.specs.declared.request.Task.{Task}
+use Rattle.command.specs.declared.request.Task.TheVariants.{Check, Listing, Run, Replay, Timeline, Picture}
+use Rattle.command.specs.declared.request.Task.TheVariants.{PrintSchedule, Source, Outcomes}
+use Rattle.serving.specs.Limits.{HasNoCode}
+use Rattle.serving.specs.Refusals.{IsRefused}
+
+-- why a task with a text is refused: a limit of code is no reason for one that makes no code
+abbrev pub IsRefusedFor : Task → (text : List ℕ) → Type 0
+IsRefusedFor Check text = IsRefused text
+IsRefusedFor Listing text = HasNoCode text
+IsRefusedFor (Run threads budget counts) text = HasNoCode text
+IsRefusedFor (Replay threads steps) text = HasNoCode text
+IsRefusedFor (Timeline threads steps) text = HasNoCode text
+IsRefusedFor (Picture threads steps) text = HasNoCode text
+IsRefusedFor (PrintSchedule threads seed count) text = HasNoCode text
+IsRefusedFor (Source threads order ticks) text = IsRefused text
+IsRefusedFor (Outcomes threads ticks limit) text = IsRefused text
+
+-- why a request is refused, where these bytes are those of the file
+abbrev pub IsRequestRefused : Request → (bytes : Option (List ℕ)) → Type 0
+IsRequestRefused (Program file verbose format task) bytes = IfSome bytes (λ text. IsRefusedFor task text)
+IsRequestRefused (Explain number) bytes = ⊥
