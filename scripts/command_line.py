@@ -18,7 +18,7 @@ COMMANDS = f"{TOP}/docs/COMMANDS.md"
 FUNCTION = re.compile(r"^(?:pub )?fn (\w+).*?^\{\n(.*?)^\}", re.M | re.S)
 TEXT = r'"((?:[^"\\]|\\.)*)"'
 CALL = re.compile(
-    rf"\b(?:text\(\s*alloc,\s*{TEXT},\s*{TEXT},\s*{TEXT}|flag\(\s*alloc,\s*{TEXT},\s*{TEXT}"
+    rf"\b(?:(?:text|wanted)\(\s*alloc,\s*{TEXT},\s*{TEXT},\s*{TEXT}|flag\(\s*alloc,\s*{TEXT},\s*{TEXT}"
     rf'|Arg::new\(alloc, "([A-Z]+)"\)|\.help\({TEXT}|(?:of_file|command_of)\(\s*alloc,\s*{TEXT},\s*{TEXT},\s*{TEXT}|(\w+)\(alloc)'
 )
 ADDED = re.compile(r"with_command\(.*\b(\w+)\(alloc\)\);?$", re.M)
@@ -29,7 +29,7 @@ Option = collections.namedtuple("Option", "name value help")
 Command = collections.namedtuple("Command", "name about example takes options")
 
 # What stands behind an option in place of a word of one's own: a file, or one of some words.
-FILES, CHOICES = {"schedule"}, {"format": ["short"]}
+FILES, CHOICES = ["order-file", "report", "schedule"], {"format": ["short"]}
 HELP = Option("help", None, "Prints help")
 VERSION = Option("version", None, "Prints which txc it is")
 
@@ -190,7 +190,7 @@ def man_text(program, commands):
     lines += [".SH EXIT STATUS"]
     for status, when in STATUS.findall(pages):
         lines += [".TP", f"\\fB{status}\\fR", roff(when)]
-    lines += [".SH FILES", "A source, or a schedule, named \\- is standard input. It is not both."]
+    lines += [".SH FILES", "One file that is read, the source or another, is standard input where it is named \\-."]
     return "\n".join(lines) + "\n"
 
 

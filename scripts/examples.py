@@ -59,12 +59,12 @@ def row(literals, deep=4):
 
 
 def transcript(path):
-    """The words behind `$`, the source, the schedule, and what is shown."""
+    """The words behind `$`, the source, the schedule or the order, the report, and what is shown."""
     first, shown = read(path).split("\n", 1)
     words = first.removeprefix("$ ")
-    sources = re.findall(r"examples/\S+\.c", words)
-    schedules = re.findall(r"--schedule (\S+)", words)
-    return words, *(read(found[0]) if found else "" for found in (sources, schedules)), shown
+    named = (r"(examples/\S+\.c)", r"--(?:schedule|order-file) (\S+)", r"--report (\S+)")
+    files = [re.search(name, words) for name in named]
+    return words, *(read(found[1]) if found else "" for found in files), shown
 
 
 def tests():
@@ -75,7 +75,7 @@ def tests():
     ]
     return f"""//! The programs of examples/ with what each prints, and its transcripts: written by scripts/examples.py.
 
-use serving_in_memory::{{Served, serve_line}};
+use serving_in_memory::{{Served, request_of, serve_claim, serve_line}};
 use std::alloc::Global;
 use std::sync::Wait;
 use std::thread::Threads;
@@ -113,8 +113,14 @@ fn examples_print_what_they_should(rt: HostRuntime) {{
     assert_eq!(rt; wrong_example(&rt, rt.alloc()), None);
 }}
 
-/// The command line, the source, the schedule, and what a terminal shows.
-type Transcript = (&'static str, &'static [u8], &'static [u8], &'static [u8]);
+/// The command line, the source, the schedule or the order, the report, and what a terminal shows.
+type Transcript = (
+    &'static str,
+    &'static [u8],
+    &'static [u8],
+    &'static [u8],
+    &'static [u8],
+);
 
 fn transcripts() -> &'static [Transcript] {{
     static ROWS: [Transcript; {len(transcripts)}] = [
@@ -135,18 +141,22 @@ fn is_shown<H: Threads + Wait + Sync>(
     line: &str,
     source: &[u8],
     schedule: &[u8],
+    report: &[u8],
     shown: &[u8],
 ) -> bool {{
-    match serve_line(rt, alloc, line, source, schedule, true) {{
-        Some(served) => shows(&served, shown),
-        None => false,
+    match request_of(alloc, line) {{
+        Ok(request) => {{
+            let served = serve_claim(rt, alloc, &request, source, schedule, report, true);
+            shows(&served, shown)
+        }}
+        Err(_) => false,
     }}
 }}
 
 /// The first command line of which a terminal shows something else.
 fn wrong_transcript<H: Threads + Wait + Sync>(rt: &H, alloc: Global) -> Option<&'static str> {{
-    for (line, source, schedule, shown) in transcripts() {{
-        if !is_shown(rt, alloc, line, source, schedule, shown) {{
+    for (line, source, schedule, report, shown) in transcripts() {{
+        if !is_shown(rt, alloc, line, source, schedule, report, shown) {{
             return Some(*line);
         }}
     }}

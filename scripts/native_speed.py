@@ -1,17 +1,19 @@
 #!/usr/bin/env python3
 """Measures native programs (scripts/native.py) of the workloads that share data beside `txc run`, NOrec written by hand
-(scripts/workloads/norec.c) and GCC's transactional memory, with one and four threads.
+(scripts/workloads/norec.c) and GCC's transactional memory, with one and four threads; and what a certificate costs.
 
     scripts/native_speed.py [ROUNDS [TXC]]
 
 All sides run in turn in each of the rounds (9, where nothing is said). It prints times of whole processes on the clock,
 the least of the rounds with one thread and the median with four, and means of their ratios: `native` with sequentially
-consistent accesses, `weak` with acquire and release. libitm runs by its method ml_wt, and by its default one. TXC is the
-program, crates/txc/out/txc if it is not given.
+consistent accesses, `weak` with acquire and release. libitm runs by its method ml_wt, and by its default one. Then of
+runs with one thread and with four that wrote down their order: how many transactions, the time of the run, and time and
+memory of `txc certify`. TXC is the program, crates/txc/out/txc if it is not given.
 """
 
 import math
 import os
+import resource
 import statistics
 import subprocess
 import sys
@@ -56,10 +58,10 @@ def sides(room, name, threads):
     return found
 
 
-def clock(words, environment):
+def clock(words, environment, out=subprocess.DEVNULL):
     """Milliseconds of a process, and how it ended."""
     start = time.perf_counter()
-    status = subprocess.run(words, env=environment, stdout=subprocess.DEVNULL, stderr=subprocess.DEVNULL).returncode
+    status = subprocess.run(words, env=environment, stdout=out, stderr=subprocess.DEVNULL).returncode
     return 1000 * (time.perf_counter() - start), status
 
 
@@ -87,6 +89,29 @@ def mean(rows, over, under):
     return math.exp(sum(found) / len(found))
 
 
+def certificate(room, name, threads):
+    """Prints what the certificate of one run costs."""
+    count, order, report = ["--threads", str(threads)], f"{room}/order", f"{room}/report"
+    with open(report, "wb") as out:
+        ran, status = clock([f"{room}/{name}", *count, "--order-file", order], None, out)
+    if status:
+        return print(f"| `{name}` | {threads} | status {status} |")
+    many = native.read(order).replace(",", " ").split()
+    words = [native.txc(), "certify", f"{BENCH}/{name}.c", *count, "--order-file", order, "--report", report]
+    start = time.perf_counter()
+    told = subprocess.Popen(words, stdout=subprocess.PIPE, stderr=subprocess.STDOUT, preexec_fn=limited)
+    said = told.stdout.read().decode().splitlines()
+    _, _, used = os.wait4(told.pid, 0)
+    took = time.perf_counter() - start
+    verdict = said[0] if said else "nothing"
+    print(f"| `{name}` | {threads} | {len(many):,} | {ran:.0f} | {took:.2f} | {used.ru_maxrss // 1024:,} | {verdict} |", flush=True)
+
+
+def limited():
+    """So much memory is a certificate to take at most."""
+    resource.setrlimit(resource.RLIMIT_AS, (6 << 30, 6 << 30))
+
+
 def main():
     rounds = int(sys.argv[1]) if len(sys.argv) > 1 else 9
     os.environ["TXC"] = os.path.abspath(sys.argv[2]) if len(sys.argv) > 2 else f"{native.TOP}/crates/txc/out/txc"
@@ -97,6 +122,10 @@ def main():
             rows = measured(room, rounds, threads)
             for over, under in RATIOS:
                 print(f"{over} / {under}: {mean(rows, over, under):.2f}")
+        print("\ncertificates: threads, transactions, run in ms, certificate in s, MB, what it says")
+        for name in SHARED:
+            for threads in (1, 4):
+                certificate(room, name, threads)
 
 
 if __name__ == "__main__":

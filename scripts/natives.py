@@ -1,15 +1,15 @@
 #!/usr/bin/env python3
 """Holds native programs (scripts/native.py) against the source. Of each program drawn by chance, with sequentially
-consistent accesses and with acquire and release, runs with one thread to four have to be certified: the report has to
-be, byte for byte, what `txc source` prints for the order of transactions that the run wrote down. And runs of native
-programs with a fault planted must not all be certified: validation that passes over a changed word, a lock that is not
-looked at behind a read, a release before the stores, an `unsigned` sum that does not wrap.
+consistent accesses and with acquire and release, runs with one thread to four have to be certified: `txc certify` has
+to say that the report is, byte for byte, what the source prints in the order of transactions that the run wrote down.
+And runs of native programs with a fault planted must not all be certified: validation that passes over a changed word,
+a lock that is not looked at behind a read, a release before the stores, an `unsigned` sum that does not wrap.
 
     scripts/natives.py [PROGRAMS [TXC]]
 
 PROGRAMS is how many are drawn, 1,000 if it is not given. TXC is the program, crates/txc/out/txc if it is not given,
 which `cd crates/txc && rt run -- --version` builds; the one of scripts/quick_build.py will do. Left out, and counted,
-are runs that stop, whose order is too long for a command line, or whose source uses up its ticks.
+are runs that stop, and those for which `txc certify` has no memory.
 """
 
 import collections
@@ -22,8 +22,8 @@ import tempfile
 import native
 from programs import WEIGHTS, Program, text_of
 
-# What a word of the command line may have.
-LONGEST = 131_000
+# What `txc certify` says by its exit status.
+CERTIFIED, REFUTED = 0, 5
 RUNS = 10
 # Money goes from account to account, and their sum is looked at before each transfer, and in it.
 CONTENDED = """int account[512];
@@ -85,18 +85,16 @@ FAULTS = {
 
 def is_certified(program, exe, threads):
     """Whether a run is that of its order, and why it is left out, if it is."""
-    with tempfile.NamedTemporaryFile("r") as order:
-        ran = subprocess.run([exe, "--threads", str(threads), "--order-file", order.name], capture_output=True)
+    count = ["--threads", str(threads)]
+    with tempfile.NamedTemporaryFile() as order, tempfile.NamedTemporaryFile() as report:
+        ran = subprocess.run([exe, *count, "--order-file", order.name], stdout=report, stderr=subprocess.DEVNULL)
         if ran.returncode not in (0, 3):
             return None, f"status {ran.returncode}"
-        turns = order.read().strip()
-    if len(turns) > LONGEST:
-        return None, "a long order"
-    words = [native.txc(), "source", program, "--threads", str(threads), "--order", turns, "--ticks", "1000000"]
-    source = subprocess.run(words, capture_output=True)
-    if b": spent" in source.stdout:
-        return None, "spent ticks"
-    return (ran.stdout, ran.returncode) == (source.stdout, source.returncode), None
+        files = ["--order-file", order.name, "--report", report.name]
+        told = subprocess.run([native.txc(), "certify", program, *count, *files], capture_output=True)
+    if told.returncode not in (CERTIFIED, REFUTED):
+        return None, f"no verdict: {told.stderr.decode().strip()}"
+    return told.returncode == CERTIFIED, None
 
 
 def hold(seed, room, came):

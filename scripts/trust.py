@@ -28,6 +28,7 @@ PROMISES = (
     ("`txc run`, by the source alone", "PrintsReport RunsInSomeOrder"),
     ("`txc run`, all", "PrintsReport RunsInSomeOrder RunsConcurrently"),
     ("`txc source`", "PrintsReport RunsInOrder"),
+    ("`txc certify`", "CertifiesReport"),
     ("`txc outcomes`", "PrintsOutcomes"),
     ("`txc replay`, by the source alone", "PrintsReport RunsInSomeOrder behind_events"),
     ("`txc replay`, all", "PrintsReport RunsInSomeOrder behind_events Replays"),
@@ -44,7 +45,7 @@ PROMISES = (
 )
 
 # What of them is said by the source, with the code that `listing` prints and that means it; the rest speaks of the machine.
-BY_SOURCE = "SaysAccepted PrintsListing PrintsReport RunsInSomeOrder PrintsOutcomes IsRefused"
+BY_SOURCE = "SaysAccepted PrintsListing PrintsReport RunsInSomeOrder CertifiesReport PrintsOutcomes IsRefused"
 
 
 @functools.lru_cache(maxsize=None)
@@ -372,7 +373,7 @@ def says(file):
 def promised(names):
     """The definitions of `serving` that say a promise: names that its clauses of requests or words have, or its answers."""
     specs, code = f"{TOP}/crates/serving/specs", f"{TOP}/crates/serving/src"
-    said = words_of(read(f"{specs}/Answers.antt") + read(f"{code}/request.rt") + read(f"{code}/words.rt"))
+    said = words_of(read(f"{specs}/Answers.antt") + read(f"{code}/request.rt") + read(f"{code}/served.rt") + read(f"{code}/words.rt"))
     out = set()
     for name in names.split():
         if name not in said:

@@ -3,11 +3,11 @@ _txc() {
     local word=${COMP_WORDS[COMP_CWORD]} words=
     case ${COMP_WORDS[COMP_CWORD - 1]} in
         --format) words='short' ;;
-        --schedule) ;;
+        --order-file | --report | --schedule) ;;
         --budget | --limit | --order | --seed | --steps | --threads | --ticks) return ;;
         *)
             if ((COMP_CWORD == 1)); then
-                words='check listing run replay source outcomes explain --help --version'
+                words='check listing run replay source outcomes certify explain --help --version'
             elif [[ $word == -* ]]; then
                 case ${COMP_WORDS[1]} in
                     check) words='--verbose --format --help' ;;
@@ -16,6 +16,7 @@ _txc() {
                     replay) words='--verbose --format --threads --schedule --seed --steps --timeline --picture --print-schedule --help' ;;
                     source) words='--verbose --format --threads --order --ticks --help' ;;
                     outcomes) words='--verbose --format --threads --ticks --limit --help' ;;
+                    certify) words='--verbose --format --threads --order-file --report --ticks --help' ;;
                     explain) words='--help' ;;
                 esac
             fi ;;

@@ -3,7 +3,7 @@
 //     EXE [--threads T] [--counts] [--order-file FILE]
 //
 // The exit status is that of `txc run`: 0 where every thread ended, 3 where one trapped, 4 where one stopped. With
-// --order-file the order of the transactions that took effect is written, a list for `txc source --order`.
+// --order-file the order of the transactions that took effect is written, a list for `txc certify --order-file`.
 //
 // It stands behind the program's functions, the words that its cells begin with (`first`) and its `globals`.
 

@@ -1,5 +1,7 @@
 -- threads' numbers, one more
 mod Numbers
+-- numbers that are read word by word
+mod OrderWords
 -- what is given for an argument
 mod Reading
 -- the command line is simple

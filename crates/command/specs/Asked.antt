@@ -1,15 +1,16 @@
 -- What words ask.
 use Rattle.std.specs.Prelude.{◌≡◌, ◌≢◌, ◌⊎◌, ◌↔◌, ◌≤◌, ◌<◌, ◌==◌, ℕ, Bool, true, false, IsTrue, IsSomeAnd, List, []}
-use Rattle.std.specs.Prelude.{◌∷◌, Option, Some, None, codes, string_bytes}
+use Rattle.std.specs.Prelude.{◌∷◌, ◌||◌, Option, Some, None, codes, filter, length, not, string_bytes}
 use Rattle.std.specs.List.{slice_split}
 use Rattle.std.specs.Str.Parse.{IsNumeral, digits_value, without_leading_plus}
 use Rattle.clap.specs.Words.{IsAmong, Row, Text, fault_of, first_of, one_of, subcommand_of}
 use Rattle.clap.specs.declared.error.kind.ErrorKind.{ErrorKind}
 use Rattle.clap.specs.declared.error.kind.ErrorKind.TheVariants.{DisplayHelp, DisplayVersion}
+use Rattle.command.specs.declared.request.Claim.{Claim}
 use Rattle.command.specs.declared.request.Format.{Format}
 use Rattle.command.specs.declared.request.Format.TheVariants.{Plain, Short}
 use Rattle.command.specs.declared.request.Request.{Request}
-use Rattle.command.specs.declared.request.Request.TheVariants.{Program, Explain}
+use Rattle.command.specs.declared.request.Request.TheVariants.{Program, Certify, Explain}
 use Rattle.command.specs.declared.request.Task.{Task}
 use Rattle.command.specs.declared.request.Task.TheVariants.{Check, Listing, Run, Replay, Timeline, Picture}
 use Rattle.command.specs.declared.request.Task.TheVariants.{PrintSchedule, Source, Outcomes}
@@ -51,6 +52,18 @@ AreThreads _ _ = ⊥
 -- thread numbers between commas, or no text
 abbrev pub IsOrder : Text → List ℕ → Type 0
 IsOrder text order = ((text ≡ []) × (order ≡ [])) ⊎ AreThreads (slice_split (λ b. b == 44) text) order
+
+-- what parts thread numbers in a file: a comma, a blank, a tab or the end of a line, which may have a carriage return
+abbrev pub is_between : ℕ → Bool
+is_between b = (b == 44) || (b == 32) || (b == 9) || (b == 10) || (b == 13)
+
+-- what stands between
+abbrev pub words_listed : Text → List Text
+words_listed text = filter (λ word. not (length word == 0)) (slice_split is_between text)
+
+-- thread numbers, parted by any number of these
+abbrev pub IsListedOrder : Text → List ℕ → Type 0
+IsListedOrder text order = AreThreads (words_listed text) order
 
 -- so many steps are asked for
 abbrev pub AreCounted : List Row → ℕ → Type 0
@@ -117,6 +130,20 @@ IsTask name given (Outcomes threads ticks limit) = (name ≡ codes "outcomes") �
     × IsNumberInRange given (codes "ticks") 100000 0 1000000 ticks
     × IsNumberInRange given (codes "limit") 100000 0 4294967295 limit
 
+-- a file of an order, and one of a report; at most one of these and the source is standard input
+pub record AreClaimFiles (given : List Row) (order report : Text) : Type 0 where
+  pub order_named : first_of (codes "order-file") given ≡ Some order
+  pub report_named : first_of (codes "report") given ≡ Some report
+  pub order_not_both : IsNotBoth given order
+  pub report_not_both : IsNotBoth given report
+  pub not_both : (order ≡ codes "-") × (report ≡ codes "-") → ⊥
+
+-- what is claimed of a report
+pub record IsClaim (given : List Row) (claim : Claim) : Type 0 where
+  pub threads : AreThreadsGiven given claim.threads
+  pub files : AreClaimFiles given (string_bytes claim.order) (string_bytes claim.report)
+  pub ticks : IsNumberInRange given (codes "ticks") 4294967295 0 4294967295 claim.ticks
+
 -- how faults are to be told, by what is given for `--format`
 abbrev pub IsFormat : Option Text → Format → Type 0
 IsFormat text Plain = text ≡ None
@@ -127,6 +154,10 @@ abbrev pub IsRequest : Text → List Row → Request → Type 0
 IsRequest name given (Program file verbose format task) = (first_of (codes "FILE") given ≡ Some (string_bytes file))
     × (IsTrue verbose ↔ IsFlagged given (codes "verbose")) × IsFormat (first_of (codes "format") given) format
     × IsTask name given task
+IsRequest name given (Certify file verbose format claim) =
+    (first_of (codes "FILE") given ≡ Some (string_bytes file))
+    × (IsTrue verbose ↔ IsFlagged given (codes "verbose")) × IsFormat (first_of (codes "format") given) format
+    × (name ≡ codes "certify") × IsClaim given claim
 IsRequest name given (Explain number) =
     (name ≡ codes "explain") × IsGiven given (codes "NN") number
 

@@ -15,9 +15,13 @@ flag_rule name = record (new_rule name) { long = Some name; action = Some SetTru
 abbrev pub text_rule : Text → Rule
 text_rule name = record (new_rule name) { long = Some name; action = Some Set; value_names = 1 }
 
+-- one that has to be given
+abbrev pub wanted_rule : Text → Rule
+wanted_rule name = record (text_rule name) { required = true }
+
 -- `--order`
 abbrev pub order_rule : Rule
-order_rule = record (text_rule (codes "order")) { required = true }
+order_rule = wanted_rule (codes "order")
 
 -- the number of a fault
 abbrev pub fault_rule : Rule
@@ -61,6 +65,12 @@ outcomes_app =
     let threads = with_rule (file_app (codes "outcomes")) (text_rule (codes "threads")) in
     with_rule (with_rule threads (text_rule (codes "ticks"))) (text_rule (codes "limit"))
 
+abbrev pub certify_app : App
+certify_app =
+    let threads = with_rule (file_app (codes "certify")) (text_rule (codes "threads")) in
+    let order = with_rule threads (wanted_rule (codes "order-file")) in
+    with_rule (with_rule order (wanted_rule (codes "report"))) (text_rule (codes "ticks"))
+
 abbrev pub explain_app : App
 explain_app = with_rule (new_app (codes "explain")) fault_rule
 
@@ -75,4 +85,4 @@ program_app =
     let lists = with_subcommand (with_subcommand commandless_app check_app.top) listing_app.top in
     let runs = with_subcommand (with_subcommand lists run_app.top) replay_app.top in
     let of_source = with_subcommand (with_subcommand runs source_app.top) outcomes_app.top in
-    with_subcommand of_source explain_app.top
+    with_subcommand (with_subcommand of_source certify_app.top) explain_app.top

@@ -3,9 +3,9 @@
 ghost use Rattle.std.specs.Prelude.{◌≡◌, IfOk, codes, false};
 ghost use Rattle.clap.specs.Words.{App, Rule, app_of, new_app, rule_of, with_rule, with_subcommand};
 ghost use Rattle.command.specs.inner.Made.{IsMade};
-ghost use Rattle.command.specs.Line.{file_rule, flag_rule, fault_rule, text_rule, order_rule, file_app, check_app};
-ghost use Rattle.command.specs.Line.{listing_app, run_app, replay_steps_app, replay_app, source_app, outcomes_app};
-ghost use Rattle.command.specs.Line.{explain_app, commandless_app, program_app};
+ghost use Rattle.command.specs.Line.{file_rule, flag_rule, fault_rule, text_rule, wanted_rule, order_rule, file_app};
+ghost use Rattle.command.specs.Line.{check_app, listing_app, run_app, replay_steps_app, replay_app, source_app};
+ghost use Rattle.command.specs.Line.{outcomes_app, certify_app, explain_app, commandless_app, program_app};
 
 use clap::{Arg, ArgAction, Command};
 use std::alloc::{AllocError, Global};
@@ -48,18 +48,25 @@ fn text<'a>(alloc: Global, name: &'a str, value: &'a str, help: &'a str) -> Arg<
         .help(help)
 }
 
+/// An option that has to be given, with a value.
+fn wanted<'a>(alloc: Global, name: &'a str, value: &'a str, help: &'a str) -> Arg<'a>
+    ensures rule { rule_of result ≡ wanted_rule name.entry.now }
+    ensures global { result.global ≡ false }
+{
+    text(alloc, name, value, help).required(true)
+}
+
 /// The order of threads.
 fn order<'a>(alloc: Global) -> Arg<'a>
     ensures rule { rule_of result ≡ order_rule }
     ensures global { result.global ≡ false }
 {
-    text(
+    wanted(
         alloc,
         "order",
         "LIST",
         "Whose turn it is, turn by turn: thread numbers joined by commas, or an empty word",
     )
-    .required(true)
 }
 
 /// A command with what is said of it.
@@ -297,6 +304,35 @@ fn outcomes<'a>(alloc: Global) -> Result<Command<'a>, AllocError>
     with(command, limit)
 }
 
+/// The command that certifies a report.
+fn certify<'a>(alloc: Global) -> Result<Command<'a>, AllocError>
+    ensures { IfOk result (IsMade certify_app) }
+{
+    let command = of_file(
+        alloc,
+        "certify",
+        "Says whether a report is what the source prints in an order of threads, byte for byte, and else where it differs",
+        "Example:\n  txc certify bank.c --threads 4 --order-file order --report report",
+    );
+    let command = with(command, threads(alloc));
+    let order = wanted(
+        alloc,
+        "order-file",
+        "S",
+        "A file that says whose turn it is, turn by turn: thread numbers between commas, blanks or ends of lines",
+    );
+    let command = with(command, order);
+    let report = wanted(alloc, "report", "R", "A file with the report");
+    let command = with(command, report);
+    let ticks = text(
+        alloc,
+        "ticks",
+        "N",
+        "How many ticks each thread has: 0 to 4294967295, and that if not given",
+    );
+    with(command, ticks)
+}
+
 /// The number of a fault.
 fn fault<'a>(alloc: Global) -> Arg<'a>
     ensures rule { rule_of result ≡ fault_rule }
@@ -379,5 +415,6 @@ pub fn program<'a>(alloc: Global) -> Result<Command<'a>, AllocError>
     let program = with_command(program, replay(alloc));
     let program = with_command(program, source(alloc));
     let program = with_command(program, outcomes(alloc));
+    let program = with_command(program, certify(alloc));
     with_command(program, explain(alloc))
 }

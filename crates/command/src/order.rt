@@ -14,7 +14,7 @@ fn pieces<'a>(alloc: Global, text: &'a str) -> Result<Vec<&'a str>, AllocError>
 }
 
 /// The number of a thread, in decimal digits alone.
-fn thread_number(piece: &str) -> Option<u32>
+pub(crate) fn thread_number(piece: &str) -> Option<u32>
     ensures { MatchOption result ((n : ℕ) → IsDecimal piece.now n → ⊥) (IsDecimal piece.now) }
 {
     if piece.starts_with('+') {

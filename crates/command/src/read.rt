@@ -7,6 +7,7 @@ ghost use Rattle.command.specs.declared.request.Request.{Request};
 ghost use Rattle.command.specs.Asked.{Requests, IsFormat, IsRequest, Refuses};
 ghost use Rattle.command.specs.inner.Refusals.{AreNoRequest, IsOwn, HasGiven, SaysError};
 
+use crate::claim::claim;
 use crate::given::{fault_wanted, flag_given, text_given, text_wanted, wrong};
 use crate::line::program;
 use crate::request::{Format, Request, UsageFault};
@@ -79,10 +80,20 @@ fn request_of(alloc: Global, name: &str, given: &ArgMatches<'_>) -> Result<Reque
         });
     }
     let file = text_wanted(alloc, given, "FILE")?;
+    let verbose = flag_given(given, "verbose");
+    let format = format_given(alloc, given)?;
+    if name == "certify" {
+        return Ok(Request::Certify {
+            file,
+            verbose,
+            format,
+            claim: claim(alloc, given)?,
+        });
+    }
     Ok(Request::Program {
         file,
-        verbose: flag_given(given, "verbose"),
-        format: format_given(alloc, given)?,
+        verbose,
+        format,
         task: task(alloc, name, given)?,
     })
 }

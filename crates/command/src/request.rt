@@ -16,10 +16,30 @@ pub enum Request {
         format: Format,
         task: Task,
     },
+    /// Certifies a report of the program in a file.
+    Certify {
+        file: String,
+        /// Whether more is told of a fault than its line.
+        verbose: bool,
+        format: Format,
+        claim: Claim,
+    },
     /// Tells what the fault of a number means.
     Explain {
         number: u32,
     },
+}
+
+/// That a file has what the source prints, run in the order that another file lists: 1 to 64 threads, each with so many
+/// ticks.
+#[derive(Debug, Drop)]
+pub struct Claim {
+    pub threads: u32,
+    /// The file of the order.
+    pub order: String,
+    /// The file of the report.
+    pub report: String,
+    pub ticks: u32,
 }
 
 /// How the fault of a source is told.

@@ -25,7 +25,7 @@ const MOST_TICKS: u32 = 1000000;
 const MOST_STEPS: u32 = 1048576;
 
 /// The number that is given for an argument, or else this one; in its range.
-fn number(
+pub(crate) fn number(
     alloc: Global,
     given: &ArgMatches<'_>,
     id: &str,
@@ -45,7 +45,7 @@ fn number(
 }
 
 /// The number of threads that is given.
-fn threads(alloc: Global, given: &ArgMatches<'_>) -> Result<u32, UsageFault>
+pub(crate) fn threads(alloc: Global, given: &ArgMatches<'_>) -> Result<u32, UsageFault>
     ensures ok { IfOk result (AreThreadsGiven (rows_of (found_of given.now))) }
     ensures err { IfErr result (IsOwn ((n : ℕ) → AreThreadsGiven (rows_of (found_of given.now)) n → ⊥)) }
 {
@@ -61,7 +61,7 @@ fn count_given(alloc: Global, given: &ArgMatches<'_>) -> Result<u32, UsageFault>
 }
 
 /// Whether both the source and this file are standard input.
-fn are_both(given: &ArgMatches<'_>, file: &str) -> bool
+pub(crate) fn are_both(given: &ArgMatches<'_>, file: &str) -> bool
     ensures { IsTrue result ↔ (first_of (codes "FILE") (rows_of (found_of given.now)) ≡ Some (codes "-"))
         × (file.now ≡ codes "-") }
 {

@@ -1,10 +1,11 @@
--- What is answered to a request: what a status says of what was printed.
-use Rattle.std.specs.Prelude.{ℕ, List, Option}
+-- What is answered to a request: what a status says of what was printed, and what is written whatever it is.
+use Rattle.std.specs.Prelude.{ℕ, List, Option, IfSome}
 use Rattle.command.specs.declared.request.Request.{Request}
-use Rattle.command.specs.declared.request.Request.TheVariants.{Program, Explain}
+use Rattle.command.specs.declared.request.Request.TheVariants.{Program, Certify, Explain}
 use Rattle.command.specs.declared.request.Task.{Task}
 use Rattle.command.specs.declared.request.Task.TheVariants.{Check, Listing, Run, Replay, Timeline, Picture}
 use Rattle.command.specs.declared.request.Task.TheVariants.{PrintSchedule, Source, Outcomes}
+use Rattle.serving.specs.Certified.{CertifiesReport, WritesVerdict}
 use Rattle.serving.specs.Checks.{Accepts, SaysAccepted}
 use Rattle.serving.specs.Listings.{PrintsListing}
 use Rattle.serving.specs.Reports.{PrintsReport}
@@ -12,6 +13,7 @@ use Rattle.serving.specs.Outcomes.{PrintsOutcomes}
 use Rattle.serving.specs.Orders.{RunsInOrder, RunsInSomeOrder}
 use Rattle.serving.specs.Runs.{RunsConcurrently}
 use Rattle.serving.specs.Pictures.{PrintsPicture, ReplaysDrawn}
+use Rattle.serving.specs.Written.{IsAskedFor, WritesPart}
 use Rattle.serving.specs.Replays.{PrintsSchedule, PrintsTimeline, Replays, ReplaysShown, behind_events, lines_of_seed}
 
 -- a task with a text: the bytes that the writer had, if they are known, and those that it has then; a replay may have a
@@ -38,8 +40,25 @@ Answers (Source threads order ticks) schedule text status old new =
 Answers (Outcomes threads ticks limit) schedule text status old new = PrintsOutcomes threads ticks text status old new
 
 -- a request, where these bytes are those of the file
-abbrev pub AnswersRequest : Request → (schedule : Option (List ℕ)) → (bytes : List ℕ) → (status : ℕ) →
+abbrev pub AnswersRequest : Request → (schedule report : Option (List ℕ)) → (bytes : List ℕ) → (status : ℕ) →
     (old new : Option (List ℕ)) → Type 0
-AnswersRequest (Program file verbose format task) schedule bytes status old new =
+AnswersRequest (Program file verbose format task) schedule report bytes status old new =
     Answers task schedule bytes status old new
-AnswersRequest (Explain number) schedule bytes status old new = Unit {0}
+AnswersRequest (Certify file verbose format claim) schedule report bytes status old new =
+    CertifiesReport claim schedule report bytes status old new
+AnswersRequest (Explain number) schedule report bytes status old new = Unit {0}
+
+-- what is written for a request, where these bytes are those of the file
+abbrev pub WritesFor : Request → (schedule report : Option (List ℕ)) → (bytes : Option (List ℕ)) →
+    (old new : Option (List ℕ)) → Type 0
+WritesFor (Program file verbose format task) schedule report bytes old new =
+    IfSome bytes (λ text. WritesPart (IsAskedFor task schedule text) old new)
+WritesFor (Certify file verbose format claim) schedule report bytes old new =
+    IfSome bytes (λ text. WritesVerdict claim schedule report text old new)
+WritesFor (Explain number) schedule report bytes old new = Unit {0}
+
+-- the most that the exit status of a request is
+abbrev pub most_status : Request → ℕ
+most_status (Program file verbose format task) = 4
+most_status (Certify file verbose format claim) = 5
+most_status (Explain number) = 4

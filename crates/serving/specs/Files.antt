@@ -1,11 +1,13 @@
 -- The files that a request names.
 use Rattle.std.specs.Prelude.{ℕ, List, [], Option, Some, None, IfSome, string_bytes}
 use Rattle.command.specs.declared.request.Request.{Request}
-use Rattle.command.specs.declared.request.Request.TheVariants.{Program, Explain}
+use Rattle.command.specs.declared.request.Request.TheVariants.{Program, Certify, Explain}
 use Rattle.command.specs.declared.request.Steps.TheVariants.{Schedule}
 use Rattle.command.specs.declared.request.Task.{Task}
 use Rattle.command.specs.declared.request.Task.TheVariants.{Picture, Replay, Timeline}
 use Rattle.serving.specs.Answers.{Answers}
+use Rattle.serving.specs.Certified.{CertifiesReport, WritesVerdict}
+use Rattle.serving.specs.Refusals.{IsRefused}
 use Rattle.serving.specs.Refused.{IsRefusedFor}
 use Rattle.serving.specs.Written.{IsAskedFor, WritesPart}
 
@@ -29,16 +31,24 @@ schedule_in contents None = Some []
 abbrev pub AnswersFiles : Request → Contents → (status : ℕ) → (old new : Option (List ℕ)) → Type 0
 AnswersFiles (Program file verbose format task) contents status old new = IfSome (contents (string_bytes file))
     (λ bytes. Answers task (schedule_in contents (schedule_of task)) bytes status old new)
+AnswersFiles (Certify file verbose format claim) contents status old new = IfSome (contents (string_bytes file))
+    (λ bytes. CertifiesReport claim (contents (string_bytes claim.order)) (contents (string_bytes claim.report)) bytes
+    status old new)
 AnswersFiles (Explain number) contents status old new = Unit {0}
 
 -- what is written for a request, where these are the bytes of files
 abbrev pub WritesForFiles : Request → Contents → (old new : Option (List ℕ)) → Type 0
 WritesForFiles (Program file verbose format task) contents old new = IfSome (contents (string_bytes file))
     (λ bytes. WritesPart (IsAskedFor task (schedule_in contents (schedule_of task)) bytes) old new)
+WritesForFiles (Certify file verbose format claim) contents old new = IfSome (contents (string_bytes file))
+    (λ bytes. WritesVerdict claim (contents (string_bytes claim.order)) (contents (string_bytes claim.report)) bytes
+    old new)
 WritesForFiles (Explain number) contents old new = Unit {0}
 
 -- a source is named, and it is refused
 abbrev pub RefusesSource : Request → Contents → Type 0
 RefusesSource (Program file verbose format task) contents =
     IfSome (contents (string_bytes file)) (λ bytes. IsRefusedFor task bytes)
+RefusesSource (Certify file verbose format claim) contents =
+    IfSome (contents (string_bytes file)) (λ bytes. IsRefused bytes)
 RefusesSource (Explain number) contents = ⊥

@@ -32,6 +32,8 @@ pub mod Possible
 pub mod Laws
 -- what is written for a request
 pub mod Written
+-- reports that are certified
+pub mod Certified
 -- what is answered to a request
 pub mod Answers
 -- the files that a request names

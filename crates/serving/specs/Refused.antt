@@ -1,7 +1,7 @@
 -- What the exit status 1 says of a source, by what is asked.
 use Rattle.std.specs.Prelude.{ℕ, List, Option, IfSome}
 use Rattle.command.specs.declared.request.Request.{Request}
-use Rattle.command.specs.declared.request.Request.TheVariants.{Program, Explain}
+use Rattle.command.specs.declared.request.Request.TheVariants.{Program, Certify, Explain}
 use Rattle.command.specs.declared.request.Task.{Task}
 use Rattle.command.specs.declared.request.Task.TheVariants.{Check, Listing, Run, Replay, Timeline, Picture}
 use Rattle.command.specs.declared.request.Task.TheVariants.{PrintSchedule, Source, Outcomes}
@@ -23,4 +23,5 @@ IsRefusedFor (Outcomes threads ticks limit) text = IsRefused text
 -- why a request is refused, where these bytes are those of the file
 abbrev pub IsRequestRefused : Request → (bytes : Option (List ℕ)) → Type 0
 IsRequestRefused (Program file verbose format task) bytes = IfSome bytes (λ text. IsRefusedFor task text)
+IsRequestRefused (Certify file verbose format claim) bytes = IfSome bytes (λ text. IsRefused text)
 IsRequestRefused (Explain number) bytes = ⊥

@@ -1,5 +1,5 @@
 -- What is written for a request, whatever the exit status: nothing, or what is asked for, or a beginning of that.
-use Rattle.std.specs.Prelude.{◌≡◌, ◌⊎◌, ◌++◌, ℕ, List, Option, IfSome, codes, take}
+use Rattle.std.specs.Prelude.{◌≡◌, ◌⊎◌, ◌++◌, ℕ, List, Option, codes, take}
 use Rattle.std.specs.Io.KnownBytes.{Appends}
 use Rattle.std.specs.Str.Lines.{lines}
 use Rattle.bytecode.specs.Code.{Code}
@@ -10,8 +10,6 @@ use Rattle.report.specs.Printed.{Printed}
 use Rattle.report.specs.Report.{report_text}
 use Rattle.report.specs.Timeline.{timeline_text}
 use Rattle.picture.specs.Replayed.{IsDrawn}
-use Rattle.command.specs.declared.request.Request.{Request}
-use Rattle.command.specs.declared.request.Request.TheVariants.{Program, Explain}
 use Rattle.command.specs.declared.request.Steps.{Steps}
 use Rattle.command.specs.declared.request.Task.{Task}
 use Rattle.command.specs.declared.request.Task.TheVariants.{Check, Listing, Run, Replay, Timeline, Picture}
@@ -76,10 +74,3 @@ AppendsBeginning old new text = (count : ℕ) × Appends old new (take count tex
 -- nothing is written, or a text of which this is so, or a beginning of one
 abbrev pub WritesPart : (List ℕ → Type 0) → Option (List ℕ) → Option (List ℕ) → Type 0
 WritesPart IsSo old new = (new ≡ old) ⊎ ((text : List ℕ) × IsSo text × AppendsBeginning old new text)
-
--- what is written for a request, where these bytes are those of the file
-abbrev pub WritesFor : Request → (schedule : Option (List ℕ)) → (bytes : Option (List ℕ)) →
-    (old new : Option (List ℕ)) → Type 0
-WritesFor (Program file verbose format task) schedule bytes old new =
-    IfSome bytes (λ text. WritesPart (IsAskedFor task schedule text) old new)
-WritesFor (Explain number) schedule bytes old new = Unit {0}

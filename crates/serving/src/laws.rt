@@ -9,6 +9,7 @@ ghost use Rattle.bytecode.specs.Beginning.{beginning};
 ghost use Rattle.bytecode.specs.Code.{Code as Plain, effect};
 ghost use Rattle.bytecode.specs.Valid.{IsValid};
 ghost use Rattle.machine.specs.Serializable.{IsOpaque};
+ghost use Rattle.serving.specs.Certified.{OneReportIsPrinted};
 ghost use Rattle.serving.specs.Codes.{IsCodeOf};
 ghost use Rattle.serving.specs.Laws.{AcceptedAreNotRefused, AcceptedPassLimits, ConcurrentRunsAreOrders};
 ghost use Rattle.serving.specs.Laws.{ConcurrentRunsLeaveOrders, OrdersAreListed, ReplaysAreOrders, ReplaysLeaveOrders};
@@ -84,4 +85,13 @@ pub fn accepted_programs_are_not_refused()
     one_tree();
     a_safe_program_has_no_fault();
     a_fault_touches();
+}
+
+/// There is one report that the source prints in an order. So one that is not certified, since another is printed in the
+/// order, is not printed in it.
+pub fn one_report_is_printed()
+    ensures { OneReportIsPrinted }
+{
+    one_list_of_tokens();
+    one_tree();
 }

@@ -3,6 +3,7 @@
 #![tactic(auto)]
 
 mod all_orders;
+mod certify;
 mod compiled;
 mod concurrent;
 mod concurrent_shown;
@@ -14,6 +15,7 @@ mod replayed;
 mod request;
 mod run;
 mod scheduled;
+mod served;
 mod shown;
 mod source;
 mod status;
@@ -27,8 +29,9 @@ pub use listed::list_source;
 pub use opened::{Files, serve_files};
 pub use order::{OrderFault, run_in_order};
 pub use replayed::{Replayed, replay_code};
-pub use request::{serve, serve_alone};
+pub use request::serve_alone;
 pub use run::SourceFault;
+pub use served::serve;
 pub use tell::{Detail, not_read, refuse_run, tell_usage, unread_words};
 pub use timeline::lines_shown;
 pub use words::serve_words;

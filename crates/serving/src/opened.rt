@@ -1,11 +1,12 @@
 //! Opens the files that a request names, and does what it asks.
 
 ghost use Rattle.std.specs.Prelude.{◌≡◌, ◌≤◌, ℕ, IfOk, IfSome, List, Option, option_map};
-ghost use Rattle.serving.specs.Answers.{Answers};
+ghost use Rattle.serving.specs.Answers.{Answers, most_status};
 ghost use Rattle.serving.specs.Files.{AnswersFiles, RefusesSource, WritesForFiles, schedule_in, schedule_of};
 ghost use Rattle.serving.specs.Refused.{IsRefusedFor};
 ghost use Rattle.serving.specs.Written.{IsAskedFor, WritesPart};
 
+use crate::certify::open_claim;
 use crate::request::{explain, serve_program};
 use crate::tell::{Detail, not_read};
 use command::{Request, Steps, Task};
@@ -31,8 +32,8 @@ pub trait Files {
 /// Opens the files that a request names, does what is asked over them and two writers, and gives the exit status, as
 /// `serve` does.
 ///
-/// The source is opened first, and then a schedule, where one is named. What cannot be opened is told of as what cannot
-/// be read. The line of a fault follows it where `err` is a terminal, or the words ask for it.
+/// The source is opened first, and then a schedule, or an order and a report, where they are named. What cannot be
+/// opened is told of as what cannot be read. The line of a fault follows it where `err` is a terminal, or the words ask for it.
 pub fn serve_files<H: Threads + Wait + Sync, F: Files, W: Write, E: Write + IsTerminal>(
     rt: &H,
     alloc: Global,
@@ -41,7 +42,7 @@ pub fn serve_files<H: Threads + Wait + Sync, F: Files, W: Write, E: Write + IsTe
     out: &mut W,
     err: &mut E,
 ) -> u8
-    ensures status { result ≤ 4 }
+    ensures status { result ≤ most_status request.now }
     ensures answer { AnswersFiles request.now (F.contents files.now) result (W.contents out.old) (W.contents out.new) }
     ensures written { WritesForFiles request.now (F.contents files.now) (W.contents out.old) (W.contents out.new) }
     ensures refused { result ≡ 1 → RefusesSource request.now (F.contents files.now) }
@@ -56,6 +57,15 @@ pub fn serve_files<H: Threads + Wait + Sync, F: Files, W: Write, E: Write + IsTe
         } => {
             let detail = Detail::of(file.as_str(), *verbose, *format, err.is_terminal());
             open_source(rt, alloc, file.as_str(), task, files, detail, out, err)
+        }
+        Request::Certify {
+            file,
+            verbose,
+            format,
+            claim,
+        } => {
+            let detail = Detail::of(file.as_str(), *verbose, *format, err.is_terminal());
+            open_claim(alloc, file.as_str(), claim, files, detail, out, err)
         }
         Request::Explain { number } => explain(*number, out, err),
     }

@@ -69,7 +69,7 @@ pub(crate) fn unit_of<A: Allocator>(accepted: &Accepted<A>) -> &Unit<A>
 }
 
 /// Runs threads of an accepted program in an order.
-fn order_accepted<A: Allocator + Copy>(
+pub(crate) fn order_accepted<A: Allocator + Copy>(
     alloc: A,
     accepted: &Accepted<A>,
     threads: u32,

@@ -1,9 +1,9 @@
-//! Answers a request over readers and writers.
+//! Does what is asked with the program in a file, over readers and writers.
 
 ghost use Rattle.std.specs.Prelude.{◌≡◌, ◌≢◌, ◌≤◌, ◌⊎◌, ◌++◌, IfErr, IfOk, IfSome, None, codes, false, map};
 ghost use Rattle.std.specs.Prelude.{string_bytes, true};
 ghost use Rattle.std.specs.Io.KnownBytes.{Appends};
-ghost use Rattle.serving.specs.Answers.{Answers, AnswersRequest};
+ghost use Rattle.serving.specs.Answers.{Answers};
 ghost use Rattle.replay.specs.Replays.{simulation_after, timeline_of};
 ghost use Rattle.report.specs.Report.{report_text};
 ghost use Rattle.report.specs.Timeline.{timeline_text};
@@ -18,13 +18,13 @@ ghost use Rattle.serving.specs.Outcomes.{IsListOfOutcomes, PrintsOutcomes, outco
 ghost use Rattle.serving.specs.Pictures.{PrintsPicture, ReplaysDrawn};
 ghost use Rattle.serving.specs.Limits.{HasNoCode};
 ghost use Rattle.serving.specs.Refusals.{IsRefused};
-ghost use Rattle.serving.specs.Refused.{IsRefusedFor, IsRequestRefused};
+ghost use Rattle.serving.specs.Refused.{IsRefusedFor};
 ghost use Rattle.serving.specs.Replays.{IsReplayOfText, PrintsSchedule, PrintsTimeline, Replays, ReplaysShown};
 ghost use Rattle.serving.specs.Replays.{behind_events, lines_of_seed};
 ghost use Rattle.serving.specs.Reports.{PrintsReport, exit_status};
 ghost use Rattle.serving.specs.Runs.{RunsConcurrently};
 ghost use Rattle.serving.specs.Written.{AppendsBeginning, IsAskedFor, IsReplayPicture, IsReplayReport};
-ghost use Rattle.serving.specs.Written.{IsReplayTimeline, IsReportOf, IsSeedSchedule, WritesFor, WritesPart};
+ghost use Rattle.serving.specs.Written.{IsReplayTimeline, IsReportOf, IsSeedSchedule, WritesPart};
 ghost use Rattle.serving.specs.inner.Printing.{PrintsBehind, PrintsShown};
 
 use crate::all_orders::{OutcomesFound, list_outcomes, status_of_outcomes};
@@ -44,7 +44,7 @@ use crate::tell::{
 };
 use crate::timeline::lines_shown;
 use bytecode::Code;
-use command::{Request, Steps, Task};
+use command::{Steps, Task};
 use faults::explanation;
 use outcome_lists::list_text;
 use picture::replay_picture;
@@ -56,59 +56,6 @@ use std::sync::Wait;
 use std::thread::Threads;
 use workers::RunFault;
 use world::StopReason;
-
-/// Does what is asked over two readers and two writers, and gives the exit status.
-///
-/// The source's text is read from `source`, and a schedule from `schedule`, once the source has code. The report, the
-/// list of outcomes, `accepted` or what a fault means goes to `out`, and faults to `err`; what `err` does not take is
-/// lost. Where `err` is a terminal, or the words ask for it, the line of the source or of the schedule follows its
-/// fault. The status is 0 where all threads ended, all outcomes were listed, the source is accepted or a fault is
-/// explained, 1 where the source is refused and nothing is printed, 2 where it or the schedule cannot be read or is
-/// not UTF-8, the schedule or an order is refused, or the words are of no use, 3 where a thread trapped, in a run or
-/// in some outcome, and 4 where one did neither, there may be more outcomes, a step was not made, or memory or `out`
-/// was refused.
-pub fn serve<H: Threads + Wait + Sync, R: Read + Drop, S: Read + Drop, W: Write, E: Write>(
-    rt: &H,
-    alloc: Global,
-    request: &Request,
-    source: R,
-    schedule: S,
-    out: &mut W,
-    err: &mut E,
-    is_terminal: bool,
-) -> u8
-    ensures status { result ≤ 4 }
-    ensures answer { IfSome (R.remaining source)
-        (λ bytes. AnswersRequest request.now (S.remaining schedule) bytes result (W.contents out.old)
-        (W.contents out.new)) }
-    ensures refused { result ≡ 1 → IsRequestRefused request.now (R.remaining source) }
-    ensures written { WritesFor request.now (S.remaining schedule) (R.remaining source) (W.contents out.old)
-        (W.contents out.new) }
-    ensures untouched { result ≡ 1 → W.contents out.new ≡ W.contents out.old }
-{
-    match request {
-        Request::Program {
-            file,
-            verbose,
-            format,
-            task,
-        } => {
-            let detail = Detail::of(file.as_str(), *verbose, *format, is_terminal);
-            serve_program(
-                rt,
-                alloc,
-                file.as_str(),
-                task,
-                source,
-                schedule,
-                detail,
-                out,
-                err,
-            )
-        }
-        Request::Explain { number } => explain(*number, out, err),
-    }
-}
 
 /// Does what is asked with the program in a file.
 pub(crate) fn serve_program<
@@ -181,7 +128,7 @@ pub fn serve_alone<A: Allocator + Copy, R: Read + Drop, S: Read + Drop, W: Write
 }
 
 /// Reads a source. What is wrong with it is told, and the error is then the exit status.
-fn text_of<A: Allocator, R: Read + Drop, E: Write>(
+pub(crate) fn text_of<A: Allocator, R: Read + Drop, E: Write>(
     alloc: A,
     file: &str,
     source: R,
@@ -605,7 +552,7 @@ fn check<A: Allocator + Copy, W: Write, E: Write>(
 }
 
 /// Prints a text, and gives the exit status.
-fn print_text<W: Write, E: Write>(text: &[u8], out: &mut W, err: &mut E) -> u8
+pub(crate) fn print_text<W: Write, E: Write>(text: &[u8], out: &mut W, err: &mut E) -> u8
     ensures status { (result ≡ 0) ⊎ (result ≡ 4) }
     ensures printed { result ≡ 0 → Appends (W.contents out.old) (W.contents out.new) text.now }
     ensures written { AppendsBeginning (W.contents out.old) (W.contents out.new) text.now }

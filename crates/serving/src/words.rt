@@ -22,7 +22,7 @@ pub fn serve_words<H: Threads + Wait + Sync, F: Files, W: Write, E: Write + IsTe
     out: &mut W,
     err: &mut E,
 ) -> u8
-    ensures status { result ≤ 4 }
+    ensures status { result ≤ 5 }
     ensures answer { AnswersWords (map (λ w. w.now) words.now) (F.contents files.now) result (W.contents out.old)
         (W.contents out.new) }
 {

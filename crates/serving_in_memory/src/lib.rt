@@ -53,6 +53,25 @@ pub fn serve_bytes<H: Threads + Wait + Sync, R: Read + Drop, S: Read + Drop>(
     schedule: S,
     is_terminal: bool,
 ) -> Served {
+    let report = b"".as_slice();
+    serve_claim(rt, alloc, request, source, schedule, report, is_terminal)
+}
+
+/// Serves a request that may have a report, to a terminal or not.
+pub fn serve_claim<
+    H: Threads + Wait + Sync,
+    R: Read + Drop,
+    S: Read + Drop,
+    Q: Read + Drop,
+>(
+    rt: &H,
+    alloc: Global,
+    request: &Request,
+    source: R,
+    schedule: S,
+    report: Q,
+    is_terminal: bool,
+) -> Served {
     let mut out = Vec::new(alloc);
     let mut err = Vec::new(alloc);
     let status = serve(
@@ -61,6 +80,7 @@ pub fn serve_bytes<H: Threads + Wait + Sync, R: Read + Drop, S: Read + Drop>(
         request,
         source,
         schedule,
+        report,
         &mut out,
         &mut err,
         is_terminal,

@@ -1,6 +1,6 @@
 //! The programs of examples/ with what each prints, and its transcripts: written by scripts/examples.py.
 
-use serving_in_memory::{Served, serve_line};
+use serving_in_memory::{Served, request_of, serve_claim, serve_line};
 use std::alloc::Global;
 use std::sync::Wait;
 use std::thread::Threads;
@@ -208,14 +208,35 @@ fn examples_print_what_they_should(rt: HostRuntime) {
     assert_eq!(rt; wrong_example(&rt, rt.alloc()), None);
 }
 
-/// The command line, the source, the schedule, and what a terminal shows.
-type Transcript = (&'static str, &'static [u8], &'static [u8], &'static [u8]);
+/// The command line, the source, the schedule or the order, the report, and what a terminal shows.
+type Transcript = (
+    &'static str,
+    &'static [u8],
+    &'static [u8],
+    &'static [u8],
+    &'static [u8],
+);
 
 fn transcripts() -> &'static [Transcript] {
-    static ROWS: [Transcript; 46] = [
+    static ROWS: [Transcript; 48] = [
+        (
+            "txc certify examples/hashset.c --threads 2 --order-file examples/orders/hashset.txt --report examples/orders/hashset.out",
+            b"// A set of numbers in a table of 16 places, without a lock of its own: each insertion is one step.\nint place[16], count;\n\nint insert(int key) {\n    int at = key * 7 & 15, added = 0;\n    __transaction_atomic {\n        while (place[at] != 0 && place[at] != key) at = at + 1 & 15;\n        if (place[at] == 0) {\n            place[at] = key;\n            count = count + 1;\n            added = 1;\n        }\n    }\n    return added;\n}\n\nvoid worker(int self) {\n    int i, added = 0;\n    for (i = 1; i <= 4; i++) added = added + insert(i * (self + 1));\n    printf(\"%d added\\n\", added);\n}\n",
+            b"0,1,0,1,0,1,0,1\n",
+            b"== thread 0: ended\n2 added\n== thread 1: ended\n4 added\n== memory\nplace = 0 0 0 0 0 3 0 1 8 0 6 0 4 0 2 0\ncount = 6\n",
+            b"certified\n",
+        ),
+        (
+            "txc certify examples/hashset.c --threads 2 --order-file examples/orders/hashset_other.txt --report examples/orders/hashset.out",
+            b"// A set of numbers in a table of 16 places, without a lock of its own: each insertion is one step.\nint place[16], count;\n\nint insert(int key) {\n    int at = key * 7 & 15, added = 0;\n    __transaction_atomic {\n        while (place[at] != 0 && place[at] != key) at = at + 1 & 15;\n        if (place[at] == 0) {\n            place[at] = key;\n            count = count + 1;\n            added = 1;\n        }\n    }\n    return added;\n}\n\nvoid worker(int self) {\n    int i, added = 0;\n    for (i = 1; i <= 4; i++) added = added + insert(i * (self + 1));\n    printf(\"%d added\\n\", added);\n}\n",
+            b"0 0\n1 1\n0 1\n0 1\n",
+            b"== thread 0: ended\n2 added\n== thread 1: ended\n4 added\n== memory\nplace = 0 0 0 0 0 3 0 1 8 0 6 0 4 0 2 0\ncount = 6\n",
+            b"line 2 differs\nsource: 3 added\nreport: 2 added\n",
+        ),
         (
             "txc check examples/queue.c",
             b"// A bounded queue: one transaction puts or takes, and a cancel undoes what does not fit.\nint slots[4], head, count, refused;\n\nint put(int value) {\n    int done = 0;\n    __transaction_atomic {\n        slots[(head + count) % 4] = value;\n        count++;\n        if (count > 4) __transaction_cancel;\n        done = 1;\n    }\n    return done;\n}\n\nvoid worker(int self) {\n    int i;\n    for (i = 1; i <= 6; i++) {\n        if (!put(i * i)) {\n            __transaction_atomic { refused++; }\n        }\n    }\n    __transaction_relaxed {\n        printf(\"%d waiting, %d refused\\n\", count, refused);\n        while (count > 0) {\n            printf(\"%d \", slots[head]);\n            head = (head + 1) % 4;\n            count--;\n        }\n    }\n    printf(\"\\n\");\n}\n",
+            b"",
             b"",
             b"accepted\n",
         ),
@@ -223,11 +244,13 @@ fn transcripts() -> &'static [Transcript] {
             "txc check examples/refused/bare.c",
             b"int x;\nvoid worker(int self) { x = 1; }\n",
             b"",
+            b"",
             b"txc: fault 50 at 2:25: shared access outside a transaction\nvoid worker(int self) { x = 1; }\n                        ^\nwrite __transaction_atomic { .. } round it, or __transaction_atomic ( .. ) round an expression\ntxc explain 50 says more\n",
         ),
         (
             "txc check examples/refused/bare.c --format short",
             b"int x;\nvoid worker(int self) { x = 1; }\n",
+            b"",
             b"",
             b"examples/refused/bare.c:2:25: error: shared access outside a transaction [50]\n",
         ),
@@ -235,11 +258,13 @@ fn transcripts() -> &'static [Transcript] {
             "txc check examples/refused/carts.c",
             b"int frames = 3;\n\nvoid worker(int self) {\n    __transaction_atomic {\n        frames = frames - 1;\n        if (frames < 0) __transaction_cancel [[outer]];\n    }\n}\n",
             b"",
+            b"",
             b"txc: fault 45 at 6:25: outer cancel outside outer\n        if (frames < 0) __transaction_cancel [[outer]];\n                        ^^^^^^^^^^^^^^^^^^^^\nan outer cancel stands in the text of a __transaction_atomic [[outer]]\ntxc explain 45 says more\n",
         ),
         (
             "txc check examples/refused/drain.c",
             b"int head, total;\n\nvoid worker(int self) {\n    while (head < 2) {\n        __transaction_atomic { head++; }\n    }\n}\n",
+            b"",
             b"",
             b"txc: fault 50 at 4:12: shared access outside a transaction\n    while (head < 2) {\n           ^^^^\nwrite __transaction_atomic { .. } round it, or __transaction_atomic ( .. ) round an expression\ntxc explain 50 says more\n",
         ),
@@ -247,16 +272,19 @@ fn transcripts() -> &'static [Transcript] {
             "txc check examples/refused/fund.c",
             b"long long fund = 1234567890123;\n\nvoid worker(int self) {\n    long long part = __transaction_atomic (fund / 8);\n    printf(\"%d cents\\n\", part);\n}\n",
             b"",
+            b"",
             b"txc: fault 27 at 5:26: bad format\n    printf(\"%d cents\\n\", part);\n                         ^^^^\n%d prints it, and wants an int\n%d stands for an int, %u for an unsigned and %lld for a long long, one argument each; there is no other\ntxc explain 27 says more\n",
         ),
         (
             "txc check examples/refused/receipt.c",
             b"// The receipt again, in an atomic transaction: a print can not be undone, so this is refused.\nint sold, left = 10;\n\nvoid worker(int self) {\n    __transaction_atomic {\n        sold = sold + 1;\n        left = left - 1;\n        printf(\"ticket %d, %d left\\n\", sold, left);\n    }\n}\n",
             b"",
+            b"",
             b"txc: fault 40 at 8:9: unsafe in atomic\n        printf(\"ticket %d, %d left\\n\", sold, left);\n        ^^^^^^\na print can't be undone: it stands behind the transaction, or in __transaction_relaxed\ntxc explain 40 says more\n",
         ),
         (
             "txc explain 20",
+            b"",
             b"",
             b"",
             b"fault 20: unknown name\nWhen: a name that is not known where it stands\nPlace: the name\nExample: void worker(int self) { __transaction_atomic { z = 1; } }\nIt is told at: 1:48\n",
@@ -265,11 +293,13 @@ fn transcripts() -> &'static [Transcript] {
             "txc listing examples/first.c",
             b"int x = 40, y; void worker(int self) { __transaction_atomic { x = x + 2; y = x - 1; } }\n",
             b"",
+            b"",
             b"function worker registers 3\n0 begin >10\n1 rd r1 @0\n2 const r2 #2\n3 add.s r1 r1 r2\n4 wr @0 r1\n5 rd r1 @0\n6 const r2 #1\n7 sub.s r1 r1 r2\n8 wr @1 r1\n9 commit\n10 ret\n",
         ),
         (
             "txc listing examples/sum.c",
             b"int x = 5; void worker(int self) { int v = __transaction_atomic (x + 1) * 2; printf(\"%d\\n\", v); }\n",
+            b"",
             b"",
             b"function worker registers 4\n0 const r1 #0\n1 begin >6\n2 rd r2 @0\n3 const r3 #1\n4 add.s r2 r2 r3\n5 commit\n6 const r3 #2\n7 mul.s r1 r2 r3\n8 irrevocable\n9 print.s r1\n10 print.t #0\n11 ret\ntext 0 \"\\n\"\n",
         ),
@@ -277,11 +307,13 @@ fn transcripts() -> &'static [Transcript] {
             "txc outcomes examples/audit.c --threads 2",
             b"// Thread 0 moves 50 in two transactions. Thread 1 counts the money, and can find that 50 are missing.\nint checking = 120, savings = 40;\n\nvoid worker(int self) {\n    int total;\n    if (self == 0) {\n        __transaction_atomic { checking = checking - 50; }\n        __transaction_atomic { savings = savings + 50; }\n    } else {\n        __transaction_atomic { total = checking + savings; }\n        printf(\"%d\\n\", total);\n    }\n}\n",
             b"",
+            b"",
             b"== outcome --order 0,0,1\n== thread 0: ended\n== thread 1: ended\n160\n== memory\nchecking = 70\nsavings = 90\n== outcome --order 0,1,0\n== thread 0: ended\n== thread 1: ended\n110\n== memory\nchecking = 70\nsavings = 90\n== outcomes: 2, orders: 3\n",
         ),
         (
             "txc outcomes examples/audit_mended.c --threads 2",
             b"// Thread 0 moves 50 in one transaction. Thread 1 counts the money, and finds all of it.\nint checking = 120, savings = 40;\n\nvoid worker(int self) {\n    int total;\n    if (self == 0) {\n        __transaction_atomic {\n            checking = checking - 50;\n            savings = savings + 50;\n        }\n    } else {\n        __transaction_atomic { total = checking + savings; }\n        printf(\"%d\\n\", total);\n    }\n}\n",
+            b"",
             b"",
             b"== outcome --order 0,1\n== thread 0: ended\n== thread 1: ended\n160\n== memory\nchecking = 70\nsavings = 90\n== outcomes: 1, orders: 2\n",
         ),
@@ -289,11 +321,13 @@ fn transcripts() -> &'static [Transcript] {
             "txc outcomes examples/counter.c --threads 2",
             b"// Each thread adds one, three times. No addition is lost, whatever the threads do.\nint x;\n\nvoid worker(int self) {\n    int i;\n    for (i = 0; i < 3; i++) {\n        __transaction_atomic { x = x + 1; }\n    }\n}\n",
             b"",
+            b"",
             b"== outcome --order 0,0,0,1,1,1\n== thread 0: ended\n== thread 1: ended\n== memory\nx = 6\n== outcomes: 1, orders: 20\n",
         ),
         (
             "txc outcomes examples/receipt.c --threads 2",
             b"// Printing can't be undone, so it stands in a relaxed transaction: from its first piece on no other thread can change what is\n// shared, and the numbers on the receipt are those of one moment.\nint sold, left = 10;\n\nvoid worker(int self) {\n    __transaction_relaxed {\n        sold = sold + 1;\n        left = left - 1;\n        printf(\"ticket %d, %d left\\n\", sold, left);\n    }\n}\n",
+            b"",
             b"",
             b"== outcome --order 0,1\n== thread 0: ended\nticket 1, 9 left\n== thread 1: ended\nticket 2, 8 left\n== memory\nsold = 2\nleft = 8\n== outcome --order 1,0\n== thread 0: ended\nticket 2, 8 left\n== thread 1: ended\nticket 1, 9 left\n== memory\nsold = 2\nleft = 8\n== outcomes: 2, orders: 2\n",
         ),
@@ -301,11 +335,13 @@ fn transcripts() -> &'static [Transcript] {
             "txc outcomes examples/seats.c --threads 2",
             b"// One seat and two buyers. Each looks first and buys then, in two transactions: the seat can be sold twice.\nint seats = 1, sold;\n\nvoid worker(int self) {\n    int free;\n    __transaction_atomic { free = seats > 0; }\n    if (free) {\n        __transaction_atomic {\n            seats = seats - 1;\n            sold = sold + 1;\n        }\n    }\n}\n",
             b"",
+            b"",
             b"== outcome --order 0,0,1\n== thread 0: ended\n== thread 1: ended\n== memory\nseats = 0\nsold = 1\n== outcome --order 0,1,0,1\n== thread 0: ended\n== thread 1: ended\n== memory\nseats = -1\nsold = 2\n== outcomes: 2, orders: 4\n",
         ),
         (
             "txc outcomes examples/seats_checked.c --threads 2",
             b"// As seats.c, with what has to hold: where the seat is sold twice, a division by 0 ends the thread.\nint seats = 1, sold;\n\nvoid worker(int self) {\n    int free;\n    __transaction_atomic { free = seats > 0; }\n    if (free) {\n        __transaction_atomic {\n            seats = seats - 1;\n            sold = sold + 1;\n            free = 1 / (sold <= 1);\n        }\n    }\n}\n",
+            b"",
             b"",
             b"== outcome --order 0,0,1\n== thread 0: ended\n== thread 1: ended\n== memory\nseats = 0\nsold = 1\n== outcome --order 0,1,0,1\n== thread 0: ended\n== thread 1: trap 2\n== memory\nseats = 0\nsold = 1\n== outcome --order 0,1,1,0\n== thread 0: trap 2\n== thread 1: ended\n== memory\nseats = 0\nsold = 1\n== outcomes: 3, orders: 4\n",
         ),
@@ -313,35 +349,41 @@ fn transcripts() -> &'static [Transcript] {
             "txc outcomes examples/seats_mended.c --threads 2",
             b"// One seat and two buyers, each of whom looks and buys in one transaction: the seat is sold once.\nint seats = 1, sold;\n\nvoid worker(int self) {\n    __transaction_atomic {\n        if (seats > 0) {\n            seats = seats - 1;\n            sold = sold + 1;\n        }\n    }\n}\n",
             b"",
+            b"",
             b"== outcome --order 0,1\n== thread 0: ended\n== thread 1: ended\n== memory\nseats = 0\nsold = 1\n== outcomes: 1, orders: 2\n",
         ),
         (
             "txc replay examples/booking.c --schedule examples/schedules/booking.txt",
             b"// A cancel of an inner transaction undoes the inner one alone: who finds no seat in the train takes one in the bus, and what the\n// outer transaction wrote before stays. Each thread books twice.\nint train = 1, bus = 9, asked, by_train, by_bus;\n\nvoid worker(int self) {\n    int i;\n    for (i = 0; i < 2; i++) {\n        __transaction_atomic {\n            int seated = 0;\n            asked = asked + 1;\n            __transaction_atomic {\n                train = train - 1;\n                by_train = by_train + 1;\n                if (train < 0) __transaction_cancel;\n                seated = 1;\n            }\n            if (!seated) {\n                bus = bus - 1;\n                by_bus = by_bus + 1;\n            }\n        }\n    }\n}\n",
             b"0 a100\n",
+            b"",
             b"== events\n12 0 commit\n19 0 cancel\n28 0 commit\n== thread 0: ended\n== memory\ntrain = 0\nbus = 8\nasked = 2\nby_train = 1\nby_bus = 1\n",
         ),
         (
             "txc replay examples/carts.c --schedule examples/schedules/carts.txt",
             b"// A cart is built as a whole or not at all: where the wheels are too few, in the inner transaction, one cancel undoes both.\nint frames = 3, wheels = 9, built;\n\nvoid worker(int self) {\n    int i;\n    for (i = 0; i < 3; i++) {\n        __transaction_atomic [[outer]] {\n            frames = frames - 1;\n            __transaction_atomic {\n                wheels = wheels - 4;\n                if (wheels < 0) __transaction_cancel [[outer]];\n            }\n            built = built + 1;\n        }\n    }\n}\n",
             b"0 a99\n",
+            b"",
             b"== events\n12 0 commit\n24 0 commit\n29 0 cancel\n== thread 0: ended\n== memory\nframes = 1\nwheels = 1\nbuilt = 2\n",
         ),
         (
             "txc replay examples/counter.c --threads 2 --schedule examples/schedules/counter.txt",
             b"// Each thread adds one, three times. No addition is lost, whatever the threads do.\nint x;\n\nvoid worker(int self) {\n    int i;\n    for (i = 0; i < 3; i++) {\n        __transaction_atomic { x = x + 1; }\n    }\n}\n",
             b"0 a3\n1 a3\n0 a3\n1 a100\n0 a100\n",
+            b"",
             b"== events\n9 0 commit\n12 1 abort\n18 1 commit\n24 1 commit\n30 1 commit\n36 0 commit\n42 0 commit\n== thread 0: ended\n== thread 1: ended\n== memory\nx = 6\n",
         ),
         (
             "txc replay examples/counter.c --threads 2 --schedule examples/schedules/abort.txt --timeline",
             b"// Each thread adds one, three times. No addition is lost, whatever the threads do.\nint x;\n\nvoid worker(int self) {\n    int i;\n    for (i = 0; i < 3; i++) {\n        __transaction_atomic { x = x + 1; }\n    }\n}\n",
             b"1 a3\n0 a6\n1 a3\n",
+            b"",
             b"== timeline\n0 1 0 const r4 #3\n0 1 1 const r5 #1\n0 1 2 const r1 #0\n0 1 3 const r1 #0\n0 1 4 jump >13\n0 1 13 lt.s r2 r1 r4\n0 1 14 jnz r2 >7\n1 1 7 begin >12; load lock = 0\n2 1 8 rd r2 @0; load @0 = 0\n3 1 8 rd r2 @0; load lock = 0\n3 0 0 const r4 #3\n3 0 1 const r5 #1\n3 0 2 const r1 #0\n3 0 3 const r1 #0\n3 0 4 jump >13\n3 0 13 lt.s r2 r1 r4\n3 0 14 jnz r2 >7\n4 0 7 begin >12; load lock = 0\n5 0 8 rd r2 @0; load @0 = 0\n6 0 8 rd r2 @0; load lock = 0\n6 0 9 add.s r2 r2 r5\n6 0 10 wr @0 r2\n7 0 11 commit; swap lock 0: won\n8 0 11 commit; store @0 = 1\n9 0 11 commit; store lock = 2; commit\n9 1 9 add.s r2 r2 r5\n9 1 10 wr @0 r2\n10 1 11 commit; swap lock 0: lost, 2\n11 1 11 commit; load lock = 2\n12 1 11 commit; load @0 = 1; abort\n== events\n9 0 commit\n12 1 abort\n== thread 0: running\n== thread 1: running\n== memory\nx = 1\n",
         ),
         (
             "txc replay examples/counter.c --threads 2 --seed 10 --steps 30",
             b"// Each thread adds one, three times. No addition is lost, whatever the threads do.\nint x;\n\nvoid worker(int self) {\n    int i;\n    for (i = 0; i < 3; i++) {\n        __transaction_atomic { x = x + 1; }\n    }\n}\n",
+            b"",
             b"",
             b"== events\n9 1 commit\n12 0 abort\n== thread 0: running\n== thread 1: running\n== memory\nx = 1\n",
         ),
@@ -349,17 +391,20 @@ fn transcripts() -> &'static [Transcript] {
             "txc replay examples/counter.c --threads 2 --seed 10 --steps 6 --print-schedule",
             b"// Each thread adds one, three times. No addition is lost, whatever the threads do.\nint x;\n\nvoid worker(int self) {\n    int i;\n    for (i = 0; i < 3; i++) {\n        __transaction_atomic { x = x + 1; }\n    }\n}\n",
             b"",
+            b"",
             b"1 1\n1 1\n1 1\n1 1\n0 1\n0 1\n",
         ),
         (
             "txc replay examples/drain.c --threads 2 --schedule examples/schedules/drain.txt",
             b"// Threads empty a queue together. The loop's condition reads the head in a transaction of its own, and so the next one, which\n// takes a number, has to look again.\nint queue[2] = {7, 9}, head, total;\n\nvoid worker(int self) {\n    int taken = 0;\n    while (__transaction_atomic (head) < 2) {\n        __transaction_atomic {\n            if (head < 2) {\n                total = total + queue[head];\n                head++;\n                taken++;\n            }\n        }\n    }\n    printf(\"%d taken, %d left\\n\", taken, 2 - __transaction_atomic (head));\n}\n",
             b"0 a18\n1 a3\n0 a99\n1 a99\n",
+            b"",
             b"== events\n3 0 commit\n18 0 commit\n24 0 commit\n39 0 commit\n42 0 commit\n45 0 commit\n45 1 commit\n48 1 commit\n51 1 commit\n54 1 commit\n== thread 0: ended\n2 taken, 0 left\n== thread 1: ended\n0 taken, 0 left\n== memory\nqueue = 7 9\nhead = 2\ntotal = 16\n",
         ),
         (
             "txc replay examples/first.c --seed 1 --steps 17 --timeline",
             b"int x = 40, y; void worker(int self) { __transaction_atomic { x = x + 2; y = x - 1; } }\n",
+            b"",
             b"",
             b"== timeline\n1 0 0 begin >10; load lock = 0\n2 0 1 rd r1 @0; load @0 = 40\n3 0 1 rd r1 @0; load lock = 0\n3 0 2 const r2 #2\n3 0 3 add.s r1 r1 r2\n3 0 4 wr @0 r1\n3 0 5 rd r1 @0\n3 0 6 const r2 #1\n3 0 7 sub.s r1 r1 r2\n3 0 8 wr @1 r1\n4 0 9 commit; swap lock 0: won\n5 0 9 commit; store @0 = 42\n6 0 9 commit; store @1 = 41\n7 0 9 commit; store lock = 2; commit\n7 0 10 ret\n7 0 ended\n7 0 ended\n== events\n7 0 commit\n== thread 0: ended\n== memory\nx = 42\ny = 41\n",
         ),
@@ -367,17 +412,20 @@ fn transcripts() -> &'static [Transcript] {
             "txc replay examples/overflow.c --seed 1 --steps 12 --timeline",
             b"// A sum that leaves the range of `int` is trap 1: the thread ends, and nothing of the transaction is left.\nint total = 2147483647, entries = 5;\n\nvoid worker(int self) {\n    __transaction_atomic {\n        entries = entries + 1;\n        total = total + 1;\n    }\n}\n",
             b"",
+            b"",
             b"== timeline\n1 0 0 begin >10; load lock = 0\n2 0 1 rd r1 @1; load @1 = 5\n3 0 1 rd r1 @1; load lock = 0\n3 0 2 const r2 #1\n3 0 3 add.s r1 r1 r2\n3 0 4 wr @1 r1\n4 0 5 rd r1 @0; load @0 = 2147483647\n5 0 5 rd r1 @0; load lock = 0\n5 0 6 const r2 #1\n5 0 7 add.s r1 r1 r2; trap 1\n5 0 trap 1\n5 0 trap 1\n== events\n5 0 trap 1\n== thread 0: trap 1\n== memory\ntotal = 2147483647\nentries = 5\n",
         ),
         (
             "txc replay examples/receipt.c --threads 2 --schedule examples/schedules/receipt.txt",
             b"// Printing can't be undone, so it stands in a relaxed transaction: from its first piece on no other thread can change what is\n// shared, and the numbers on the receipt are those of one moment.\nint sold, left = 10;\n\nvoid worker(int self) {\n    __transaction_relaxed {\n        sold = sold + 1;\n        left = left - 1;\n        printf(\"ticket %d, %d left\\n\", sold, left);\n    }\n}\n",
             b"1 a5\n0 a100\n1 a100\n",
+            b"",
             b"== events\n14 0 commit\n17 1 abort\n26 1 commit\n== thread 0: ended\nticket 1, 9 left\n== thread 1: ended\nticket 2, 8 left\n== memory\nsold = 2\nleft = 8\n",
         ),
         (
             "txc replay examples/receipt.c --seed 3 --steps 23 --timeline",
             b"// Printing can't be undone, so it stands in a relaxed transaction: from its first piece on no other thread can change what is\n// shared, and the numbers on the receipt are those of one moment.\nint sold, left = 10;\n\nvoid worker(int self) {\n    __transaction_relaxed {\n        sold = sold + 1;\n        left = left - 1;\n        printf(\"ticket %d, %d left\\n\", sold, left);\n    }\n}\n",
+            b"",
             b"",
             b"== timeline\n1 0 0 begin >18; load lock = 0\n2 0 1 rd r1 @0; load @0 = 0\n3 0 1 rd r1 @0; load lock = 0\n3 0 2 const r2 #1\n3 0 3 add.s r1 r1 r2\n3 0 4 wr @0 r1\n4 0 5 rd r1 @1; load @1 = 10\n5 0 5 rd r1 @1; load lock = 0\n5 0 6 const r2 #1\n5 0 7 sub.s r1 r1 r2\n5 0 8 wr @1 r1\n6 0 9 irrevocable; swap lock 0: won\n6 0 10 rd r1 @0\n6 0 11 rd r2 @1\n6 0 12 print.t #0\n6 0 13 print.s r1\n6 0 14 print.t #1\n6 0 15 print.s r2\n6 0 16 print.t #2\n7 0 17 commit; store @0 = 1\n8 0 17 commit; store @1 = 9\n9 0 17 commit; store lock = 2; commit\n9 0 18 ret\n== events\n9 0 commit\n== thread 0: ended\nticket 1, 9 left\n== memory\nsold = 1\nleft = 9\n",
         ),
@@ -385,17 +433,20 @@ fn transcripts() -> &'static [Transcript] {
             "txc replay examples/transfer.c --threads 2 --schedule examples/schedules/transfer.txt",
             b"// Both accounts change in one step, or neither does.\nint checking = 120, savings = 40;\n\nvoid worker(int self) {\n    __transaction_atomic {\n        checking = checking - 50;\n        savings = savings + 50;\n    }\n    __transaction_atomic {\n        savings = savings + 1;\n    }\n}\n",
             b"0 a7\n1 a5\n",
+            b"",
             b"== events\n== thread 0: running\n== thread 1: running\n== memory: lock held by thread 0\n",
         ),
         (
             "txc replay examples/withdraw.c --threads 2 --schedule examples/schedules/withdraw.txt",
             b"// A cancel undoes all that its transaction wrote: a thread takes 70 from the account, or nothing. It tries twice.\nint balance = 100, refused;\n\nint withdraw(int amount) {\n    int paid = 0;\n    __transaction_atomic {\n        balance = balance - amount;\n        if (balance < 0) __transaction_cancel;\n        paid = 1;\n    }\n    return paid;\n}\n\nvoid worker(int self) {\n    int i;\n    for (i = 0; i < 2; i++) {\n        if (!withdraw(70)) {\n            __transaction_atomic { refused = refused + 1; }\n        }\n    }\n}\n",
             b"0 a3\n1 a3\n0 a100\n1 a100\n",
+            b"",
             b"== events\n9 0 commit\n12 0 cancel\n18 0 commit\n21 1 abort\n24 1 cancel\n30 1 commit\n33 1 cancel\n39 1 commit\n== thread 0: ended\n== thread 1: ended\n== memory\nbalance = 30\nrefused = 3\n",
         ),
         (
             "txc run examples/counter.c --threads 4",
             b"// Each thread adds one, three times. No addition is lost, whatever the threads do.\nint x;\n\nvoid worker(int self) {\n    int i;\n    for (i = 0; i < 3; i++) {\n        __transaction_atomic { x = x + 1; }\n    }\n}\n",
+            b"",
             b"",
             b"== thread 0: ended\n== thread 1: ended\n== thread 2: ended\n== thread 3: ended\n== memory\nx = 12\n",
         ),
@@ -403,11 +454,13 @@ fn transcripts() -> &'static [Transcript] {
             "txc run examples/counter.c --threads 2",
             b"// Each thread adds one, three times. No addition is lost, whatever the threads do.\nint x;\n\nvoid worker(int self) {\n    int i;\n    for (i = 0; i < 3; i++) {\n        __transaction_atomic { x = x + 1; }\n    }\n}\n",
             b"",
+            b"",
             b"== thread 0: ended\n== thread 1: ended\n== memory\nx = 6\n",
         ),
         (
             "txc run examples/counter.c --counts",
             b"// Each thread adds one, three times. No addition is lost, whatever the threads do.\nint x;\n\nvoid worker(int self) {\n    int i;\n    for (i = 0; i < 3; i++) {\n        __transaction_atomic { x = x + 1; }\n    }\n}\n",
+            b"",
             b"",
             b"== thread 0: ended\n== memory\nx = 3\n== counts\nthread 0: steps 41, accesses 18, transactions 3, drops 0, retries 0\n",
         ),
@@ -415,11 +468,13 @@ fn transcripts() -> &'static [Transcript] {
             "txc source examples/booking.c --threads 2 --order 1,0,0,1",
             b"// A cancel of an inner transaction undoes the inner one alone: who finds no seat in the train takes one in the bus, and what the\n// outer transaction wrote before stays. Each thread books twice.\nint train = 1, bus = 9, asked, by_train, by_bus;\n\nvoid worker(int self) {\n    int i;\n    for (i = 0; i < 2; i++) {\n        __transaction_atomic {\n            int seated = 0;\n            asked = asked + 1;\n            __transaction_atomic {\n                train = train - 1;\n                by_train = by_train + 1;\n                if (train < 0) __transaction_cancel;\n                seated = 1;\n            }\n            if (!seated) {\n                bus = bus - 1;\n                by_bus = by_bus + 1;\n            }\n        }\n    }\n}\n",
             b"",
+            b"",
             b"== thread 0: ended\n== thread 1: ended\n== memory\ntrain = 0\nbus = 6\nasked = 4\nby_train = 1\nby_bus = 3\n",
         ),
         (
             "txc source examples/against/clear_torn.c --threads 2 --order 0,1",
             b"// Thread 0 clears an array in one transaction, thread 1 reads both ends of it in another. So it prints 1 1, or 0 0.\nunsigned a[8] = {1, 1, 1, 1, 1, 1, 1, 1};\n\nvoid worker(int self) {\n    unsigned first = 0, last = 0;\n    if (self == 0) {\n        __transaction_atomic {\n            for (int i = 0; i < 8; i++) a[i] = 0;\n        }\n    } else {\n        __transaction_atomic {\n            first = a[0]; /*pause*/\n            last = a[7];\n        }\n        printf(\"%u %u\\n\", first, last);\n    }\n}\n",
+            b"",
             b"",
             b"== thread 0: ended\n== thread 1: ended\n0 0\n== memory\na = 0 0 0 0 0 0 0 0\n",
         ),
@@ -427,11 +482,13 @@ fn transcripts() -> &'static [Transcript] {
             "txc source examples/against/clear_torn.c --threads 2 --order 1,0",
             b"// Thread 0 clears an array in one transaction, thread 1 reads both ends of it in another. So it prints 1 1, or 0 0.\nunsigned a[8] = {1, 1, 1, 1, 1, 1, 1, 1};\n\nvoid worker(int self) {\n    unsigned first = 0, last = 0;\n    if (self == 0) {\n        __transaction_atomic {\n            for (int i = 0; i < 8; i++) a[i] = 0;\n        }\n    } else {\n        __transaction_atomic {\n            first = a[0]; /*pause*/\n            last = a[7];\n        }\n        printf(\"%u %u\\n\", first, last);\n    }\n}\n",
             b"",
+            b"",
             b"== thread 0: ended\n== thread 1: ended\n1 1\n== memory\na = 0 0 0 0 0 0 0 0\n",
         ),
         (
             "txc source examples/counter.c --threads 2 --order 0,1,1,0,0,1",
             b"// Each thread adds one, three times. No addition is lost, whatever the threads do.\nint x;\n\nvoid worker(int self) {\n    int i;\n    for (i = 0; i < 3; i++) {\n        __transaction_atomic { x = x + 1; }\n    }\n}\n",
+            b"",
             b"",
             b"== thread 0: ended\n== thread 1: ended\n== memory\nx = 6\n",
         ),
@@ -439,11 +496,13 @@ fn transcripts() -> &'static [Transcript] {
             "txc source examples/counter.c --threads 2 --order 0,1,1",
             b"// Each thread adds one, three times. No addition is lost, whatever the threads do.\nint x;\n\nvoid worker(int self) {\n    int i;\n    for (i = 0; i < 3; i++) {\n        __transaction_atomic { x = x + 1; }\n    }\n}\n",
             b"",
+            b"",
             b"== thread 0: waits\n== thread 1: waits\n== memory\nx = 3\n",
         ),
         (
             "txc source examples/fund.c --threads 2 --order 0,1,1,0,1,0",
             b"// Cents that no `int` holds: each payment is an eighth of what is left of the fund, and both together stay what they were.\nlong long fund = 1234567890123, paid;\nint payments;\n\nvoid worker(int self) {\n    int i;\n    for (i = 0; i < 3; i++) {\n        long long part;\n        __transaction_atomic {\n            part = fund / 8;\n            fund = fund - part;\n            paid = paid + part;\n            payments++;\n        }\n        printf(\"%lld dollars, %d cents\\n\", part / 100, (int)(part % 100));\n    }\n}\n",
+            b"",
             b"",
             b"== thread 0: ended\n1543209862 dollars, 65 cents\n1033830044 dollars, 70 cents\n791526127 dollars, 98 cents\n== thread 1: ended\n1350308629 dollars, 82 cents\n1181520051 dollars, 9 cents\n904601289 dollars, 12 cents\n== memory\nfund = 554068289587\npaid = 680499600536\npayments = 6\n",
         ),
@@ -451,11 +510,13 @@ fn transcripts() -> &'static [Transcript] {
             "txc source examples/hashset.c --threads 2 --order 0,1,0,1,0,1,0,1",
             b"// A set of numbers in a table of 16 places, without a lock of its own: each insertion is one step.\nint place[16], count;\n\nint insert(int key) {\n    int at = key * 7 & 15, added = 0;\n    __transaction_atomic {\n        while (place[at] != 0 && place[at] != key) at = at + 1 & 15;\n        if (place[at] == 0) {\n            place[at] = key;\n            count = count + 1;\n            added = 1;\n        }\n    }\n    return added;\n}\n\nvoid worker(int self) {\n    int i, added = 0;\n    for (i = 1; i <= 4; i++) added = added + insert(i * (self + 1));\n    printf(\"%d added\\n\", added);\n}\n",
             b"",
+            b"",
             b"== thread 0: ended\n2 added\n== thread 1: ended\n4 added\n== memory\nplace = 0 0 0 0 0 3 0 1 8 0 6 0 4 0 2 0\ncount = 6\n",
         ),
         (
             "txc source examples/queue.c --threads 2 --order 0,0,1,1,1,1,1,1,1,1,1,1,1,0,0,0,0,0",
             b"// A bounded queue: one transaction puts or takes, and a cancel undoes what does not fit.\nint slots[4], head, count, refused;\n\nint put(int value) {\n    int done = 0;\n    __transaction_atomic {\n        slots[(head + count) % 4] = value;\n        count++;\n        if (count > 4) __transaction_cancel;\n        done = 1;\n    }\n    return done;\n}\n\nvoid worker(int self) {\n    int i;\n    for (i = 1; i <= 6; i++) {\n        if (!put(i * i)) {\n            __transaction_atomic { refused++; }\n        }\n    }\n    __transaction_relaxed {\n        printf(\"%d waiting, %d refused\\n\", count, refused);\n        while (count > 0) {\n            printf(\"%d \", slots[head]);\n            head = (head + 1) % 4;\n            count--;\n        }\n    }\n    printf(\"\\n\");\n}\n",
+            b"",
             b"",
             b"== thread 0: ended\n4 waiting, 4 refused\n9 16 25 36 \n== thread 1: ended\n4 waiting, 4 refused\n1 4 1 4 \n== memory\nslots = 9 16 25 36\nhead = 0\ncount = 0\nrefused = 4\n",
         ),
@@ -463,11 +524,13 @@ fn transcripts() -> &'static [Transcript] {
             "txc source examples/receipt.c --threads 3 --order 2,0,1",
             b"// Printing can't be undone, so it stands in a relaxed transaction: from its first piece on no other thread can change what is\n// shared, and the numbers on the receipt are those of one moment.\nint sold, left = 10;\n\nvoid worker(int self) {\n    __transaction_relaxed {\n        sold = sold + 1;\n        left = left - 1;\n        printf(\"ticket %d, %d left\\n\", sold, left);\n    }\n}\n",
             b"",
+            b"",
             b"== thread 0: ended\nticket 2, 8 left\n== thread 1: ended\nticket 3, 7 left\n== thread 2: ended\nticket 1, 9 left\n== memory\nsold = 3\nleft = 7\n",
         ),
         (
             "txc source examples/transfer.c --threads 2 --order 0,1,1,0",
             b"// Both accounts change in one step, or neither does.\nint checking = 120, savings = 40;\n\nvoid worker(int self) {\n    __transaction_atomic {\n        checking = checking - 50;\n        savings = savings + 50;\n    }\n    __transaction_atomic {\n        savings = savings + 1;\n    }\n}\n",
+            b"",
             b"",
             b"== thread 0: ended\n== thread 1: ended\n== memory\nchecking = 20\nsavings = 142\n",
         ),
@@ -475,17 +538,20 @@ fn transcripts() -> &'static [Transcript] {
             "txc source examples/against/wide_lost.c --threads 2 --order 0,1",
             b"// Thread 0 writes four neighbours, thread 1 adds 1 to two of them. So these are 8 and 9 (thread 0 first), or 7 and 8.\nunsigned a[16], n;\n\nvoid worker(int self) {\n    if (self == 0) {\n        __transaction_atomic {\n            a[6] = 1;\n            a[7] = 2;\n            if (n == 0) {\n                a[6] = 5;\n                a[7] = 6;\n                a[8] = 7;\n                a[9] = 8;\n            }\n        }\n    } else {\n        __transaction_atomic {\n            a[8] = a[8] + 1; /*pause*/\n            a[9] = a[9] + 1;\n        }\n    }\n}\n",
             b"",
+            b"",
             b"== thread 0: ended\n== thread 1: ended\n== memory\na = 0 0 0 0 0 0 5 6 8 9 0 0 0 0 0 0\nn = 0\n",
         ),
         (
             "txc source examples/against/wide_lost.c --threads 2 --order 1,0",
             b"// Thread 0 writes four neighbours, thread 1 adds 1 to two of them. So these are 8 and 9 (thread 0 first), or 7 and 8.\nunsigned a[16], n;\n\nvoid worker(int self) {\n    if (self == 0) {\n        __transaction_atomic {\n            a[6] = 1;\n            a[7] = 2;\n            if (n == 0) {\n                a[6] = 5;\n                a[7] = 6;\n                a[8] = 7;\n                a[9] = 8;\n            }\n        }\n    } else {\n        __transaction_atomic {\n            a[8] = a[8] + 1; /*pause*/\n            a[9] = a[9] + 1;\n        }\n    }\n}\n",
             b"",
+            b"",
             b"== thread 0: ended\n== thread 1: ended\n== memory\na = 0 0 0 0 0 0 5 6 7 8 0 0 0 0 0 0\nn = 0\n",
         ),
         (
             "txc source examples/withdraw.c --threads 2 --order 0,1,1,1,1,0,0",
             b"// A cancel undoes all that its transaction wrote: a thread takes 70 from the account, or nothing. It tries twice.\nint balance = 100, refused;\n\nint withdraw(int amount) {\n    int paid = 0;\n    __transaction_atomic {\n        balance = balance - amount;\n        if (balance < 0) __transaction_cancel;\n        paid = 1;\n    }\n    return paid;\n}\n\nvoid worker(int self) {\n    int i;\n    for (i = 0; i < 2; i++) {\n        if (!withdraw(70)) {\n            __transaction_atomic { refused = refused + 1; }\n        }\n    }\n}\n",
+            b"",
             b"",
             b"== thread 0: ended\n== thread 1: ended\n== memory\nbalance = 30\nrefused = 3\n",
         ),
@@ -506,18 +572,22 @@ fn is_shown<H: Threads + Wait + Sync>(
     line: &str,
     source: &[u8],
     schedule: &[u8],
+    report: &[u8],
     shown: &[u8],
 ) -> bool {
-    match serve_line(rt, alloc, line, source, schedule, true) {
-        Some(served) => shows(&served, shown),
-        None => false,
+    match request_of(alloc, line) {
+        Ok(request) => {
+            let served = serve_claim(rt, alloc, &request, source, schedule, report, true);
+            shows(&served, shown)
+        }
+        Err(_) => false,
     }
 }
 
 /// The first command line of which a terminal shows something else.
 fn wrong_transcript<H: Threads + Wait + Sync>(rt: &H, alloc: Global) -> Option<&'static str> {
-    for (line, source, schedule, shown) in transcripts() {
-        if !is_shown(rt, alloc, line, source, schedule, shown) {
+    for (line, source, schedule, report, shown) in transcripts() {
+        if !is_shown(rt, alloc, line, source, schedule, report, shown) {
             return Some(*line);
         }
     }

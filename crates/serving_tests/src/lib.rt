@@ -6,6 +6,8 @@ mod all_orders;
 #[cfg(test)]
 mod beside;
 #[cfg(test)]
+mod certified;
+#[cfg(test)]
 mod fixed;
 #[cfg(test)]
 mod hostile;

@@ -23,7 +23,7 @@ pub(crate) struct TwoFiles {
 /// A file that was opened.
 #[derive(Drop)]
 pub(crate) struct Opened {
-    rest: &'static [u8],
+    pub(crate) rest: &'static [u8],
 }
 
 impl Read for Opened {

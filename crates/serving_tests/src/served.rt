@@ -686,6 +686,7 @@ fn cannot_write<H: Threads + Wait + Sync>(
         request,
         FIRST,
         none,
+        none,
         &mut Closed,
         &mut err,
         false,

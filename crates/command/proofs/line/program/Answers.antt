@@ -8,4 +8,5 @@ returns c =
     let four = c.with_command-program-4.ensures _ _ three c.replay.ensures in
     let five = c.with_command-program-5.ensures _ _ four c.source.ensures in
     let six = c.with_command-program-6.ensures _ _ five c.outcomes.ensures in
-    c.with_command.ensures _ _ six c.explain.ensures
+    let seven = c.with_command-program-7.ensures _ _ six c.certify.ensures in
+    c.with_command.ensures _ _ seven c.explain.ensures

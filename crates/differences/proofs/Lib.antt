@@ -1,0 +1,2 @@
+-- lists that are the same so far, and lines
+mod Firsts

@@ -1,0 +1,2 @@
+-- the lines of texts
+pub mod Texts

@@ -1,0 +1,313 @@
+//! Certifying a report: whether it is what the source prints in an order of threads.
+
+ghost use Rattle.std.specs.Prelude.{◌≡◌, ◌≢◌, ◌≤◌, ◌⊎◌, IfErr, IfOk, IfSome, string_bytes};
+ghost use Rattle.command.specs.Asked.{IsListedOrder};
+ghost use Rattle.syntax.specs.Views.{program_of};
+ghost use Rattle.serving.specs.Certified.{Certifies, CertifiesReport, IsVerdict, WritesVerdict};
+ghost use Rattle.serving.specs.Orders.{IsOrderOf};
+ghost use Rattle.serving.specs.Refusals.{IsRefused};
+ghost use Rattle.serving.specs.Written.{IsReportOf, WritesPart};
+
+use crate::opened::Files;
+use crate::order::order_accepted;
+use crate::request::{print_text, text_of};
+use crate::run::read_accepted;
+use crate::tell::{
+    Detail, cannot_write, not_read, out_of_memory, print, refuse, refuse_order, unusable,
+};
+use command::{Claim, listed_order};
+use differences::difference;
+use meaning::MeaningFault;
+use report::report_text;
+use separation::Accepted;
+use std::alloc::Allocator;
+use std::io;
+use std::io::{Read, Write};
+
+/// The exit status where a report is not the one that the source prints.
+const REFUTED: u8 = 5;
+
+/// Opens what a claim names, the source first, then the order and the report, and says whether it is so.
+pub(crate) fn open_claim<A: Allocator + Copy, F: Files, W: Write, E: Write>(
+    alloc: A,
+    file: &str,
+    claim: &Claim,
+    files: &F,
+    detail: Detail<'_>,
+    out: &mut W,
+    err: &mut E,
+) -> u8
+    ensures status { result ≤ 5 }
+    ensures answer { IfSome (F.contents files.now file.now)
+        (λ bytes. CertifiesReport claim.now (F.contents files.now (string_bytes claim.now.order))
+        (F.contents files.now (string_bytes claim.now.report)) bytes result (W.contents out.old) (W.contents out.new)) }
+    ensures written { IfSome (F.contents files.now file.now)
+        (λ bytes. WritesVerdict claim.now (F.contents files.now (string_bytes claim.now.order))
+        (F.contents files.now (string_bytes claim.now.report)) bytes (W.contents out.old) (W.contents out.new)) }
+    ensures refused { result ≡ 1 → IfSome (F.contents files.now file.now) (λ bytes. IsRefused bytes) }
+    ensures untouched { result ≡ 1 → W.contents out.new ≡ W.contents out.old }
+{
+    match files.open(file) {
+        Ok(source) => open_order(alloc, file, claim, source, files, detail, out, err),
+        Err(error) => not_read(file, &error, detail, err),
+    }
+}
+
+/// Opens the order, and then the report, and says whether a claim is so.
+fn open_order<A: Allocator + Copy, F: Files, R: Read + Drop, W: Write, E: Write>(
+    alloc: A,
+    file: &str,
+    claim: &Claim,
+    source: R,
+    files: &F,
+    detail: Detail<'_>,
+    out: &mut W,
+    err: &mut E,
+) -> u8
+    ensures status { result ≤ 5 }
+    ensures answer { IfSome (R.remaining source)
+        (λ bytes. CertifiesReport claim.now (F.contents files.now (string_bytes claim.now.order))
+        (F.contents files.now (string_bytes claim.now.report)) bytes result (W.contents out.old) (W.contents out.new)) }
+    ensures written { IfSome (R.remaining source)
+        (λ bytes. WritesVerdict claim.now (F.contents files.now (string_bytes claim.now.order))
+        (F.contents files.now (string_bytes claim.now.report)) bytes (W.contents out.old) (W.contents out.new)) }
+    ensures refused { result ≡ 1 → IfSome (R.remaining source) (λ bytes. IsRefused bytes) }
+    ensures untouched { result ≡ 1 → W.contents out.new ≡ W.contents out.old }
+{
+    match files.open(claim.order.as_str()) {
+        Ok(order) => open_report(alloc, file, claim, source, order, files, detail, out, err),
+        Err(error) => not_read(claim.order.as_str(), &error, detail, err),
+    }
+}
+
+/// Opens the report, and says whether a claim is so.
+fn open_report<A: Allocator + Copy, F: Files, R: Read + Drop, S: Read + Drop, W: Write, E: Write>(
+    alloc: A,
+    file: &str,
+    claim: &Claim,
+    source: R,
+    order: S,
+    files: &F,
+    detail: Detail<'_>,
+    out: &mut W,
+    err: &mut E,
+) -> u8
+    ensures status { result ≤ 5 }
+    ensures answer { IfSome (R.remaining source)
+        (λ bytes. CertifiesReport claim.now (S.remaining order)
+        (F.contents files.now (string_bytes claim.now.report)) bytes result (W.contents out.old) (W.contents out.new)) }
+    ensures written { IfSome (R.remaining source)
+        (λ bytes. WritesVerdict claim.now (S.remaining order)
+        (F.contents files.now (string_bytes claim.now.report)) bytes (W.contents out.old) (W.contents out.new)) }
+    ensures refused { result ≡ 1 → IfSome (R.remaining source) (λ bytes. IsRefused bytes) }
+    ensures untouched { result ≡ 1 → W.contents out.new ≡ W.contents out.old }
+{
+    match files.open(claim.report.as_str()) {
+        Ok(report) => certify(alloc, file, claim, source, order, report, detail, out, err),
+        Err(error) => not_read(claim.report.as_str(), &error, detail, err),
+    }
+}
+
+/// Says whether a claim is so: whether a report is what the source prints in an order, or else in which line it first
+/// differs. The source is read first, then the order, once the source is accepted, and then the report, once the source
+/// has run. The status is 0 where it is so, 5 where it is not, and else as `serve` says.
+pub(crate) fn certify<
+    A: Allocator + Copy,
+    R: Read + Drop,
+    S: Read + Drop,
+    Q: Read + Drop,
+    W: Write,
+    E: Write,
+>(
+    alloc: A,
+    file: &str,
+    claim: &Claim,
+    source: R,
+    order: S,
+    report: Q,
+    detail: Detail<'_>,
+    out: &mut W,
+    err: &mut E,
+) -> u8
+    ensures status { result ≤ 5 }
+    ensures answer { IfSome (R.remaining source)
+        (λ bytes. CertifiesReport claim.now (S.remaining order) (Q.remaining report) bytes result (W.contents out.old)
+        (W.contents out.new)) }
+    ensures written { IfSome (R.remaining source)
+        (λ bytes. WritesVerdict claim.now (S.remaining order) (Q.remaining report) bytes (W.contents out.old)
+        (W.contents out.new)) }
+    ensures refused { result ≡ 1 → IfSome (R.remaining source) (λ bytes. IsRefused bytes) }
+    ensures untouched { result ≡ 1 → W.contents out.new ≡ W.contents out.old }
+{
+    match text_of(alloc, file, source, detail, err) {
+        Ok(text) => certify_text(alloc, claim, text.as_str(), order, report, detail, out, err),
+        Err(status) => status,
+    }
+}
+
+/// Says whether a claim is so of a source's text.
+fn certify_text<A: Allocator + Copy, S: Read + Drop, Q: Read + Drop, W: Write, E: Write>(
+    alloc: A,
+    claim: &Claim,
+    text: &str,
+    order: S,
+    report: Q,
+    detail: Detail<'_>,
+    out: &mut W,
+    err: &mut E,
+) -> u8
+    ensures status { result ≤ 5 }
+    ensures answer { CertifiesReport claim.now (S.remaining order) (Q.remaining report) text.now result
+        (W.contents out.old) (W.contents out.new) }
+    ensures written { WritesVerdict claim.now (S.remaining order) (Q.remaining report) text.now (W.contents out.old)
+        (W.contents out.new) }
+    ensures refused { result ≡ 1 → IsRefused text.now }
+    ensures untouched { result ≡ 1 → W.contents out.new ≡ W.contents out.old }
+{
+    match read_accepted(alloc, text) {
+        Ok(accepted) => match order_of(alloc, claim.order.as_str(), order, detail, err) {
+            Ok(order) => certify_order(
+                alloc,
+                claim,
+                &accepted,
+                order.as_slice(),
+                report,
+                detail,
+                out,
+                err,
+            ),
+            Err(status) => status,
+        },
+        Err(fault) => refuse(alloc, text, fault, detail, err),
+    }
+}
+
+/// Says whether a claim is so of an accepted program and this order.
+fn certify_order<A: Allocator + Copy, Q: Read + Drop, W: Write, E: Write>(
+    alloc: A,
+    claim: &Claim,
+    accepted: &Accepted<A>,
+    order: &[u32],
+    report: Q,
+    detail: Detail<'_>,
+    out: &mut W,
+    err: &mut E,
+) -> u8
+    ensures status { result ≤ 5 }
+    ensures not_refused { result ≢ 1 }
+    ensures answer { IfSome (Q.remaining report)
+        (λ found. Certifies (IsReportOf (IsOrderOf (program_of accepted.now.safe.typed.unit) claim.now.threads
+        claim.now.ticks order.now)) found result (W.contents out.old) (W.contents out.new)) }
+    ensures written { IfSome (Q.remaining report)
+        (λ found. WritesPart (IsVerdict (IsReportOf (IsOrderOf (program_of accepted.now.safe.typed.unit)
+        claim.now.threads claim.now.ticks order.now)) found) (W.contents out.old) (W.contents out.new)) }
+{
+    let ticks = u64::from(claim.ticks);
+    match due_report(alloc, accepted, claim.threads, order, ticks) {
+        Ok(due) => certify_due(
+            alloc,
+            due.as_slice(),
+            claim.report.as_str(),
+            report,
+            detail,
+            out,
+            err,
+        ),
+        Err(fault) => refuse_order(fault, detail, err),
+    }
+}
+
+/// The report of an accepted program in an order.
+fn due_report<A: Allocator + Copy>(
+    alloc: A,
+    accepted: &Accepted<A>,
+    threads: u32,
+    order: &[u32],
+    ticks: u64,
+) -> Result<Vec<u8, A>, MeaningFault>
+    ensures { IfOk result
+        (λ v. IsReportOf (IsOrderOf (program_of accepted.now.safe.typed.unit) threads ticks order.now) v.items) }
+{
+    let printed = order_accepted(alloc, accepted, threads, order, ticks)?;
+    match report_text(alloc, &printed) {
+        Ok(due) => Ok(due),
+        Err(_) => Err(MeaningFault::OutOfMemory),
+    }
+}
+
+/// Says whether the report in a file is the one that is due.
+fn certify_due<A: Allocator + Copy, Q: Read + Drop, W: Write, E: Write>(
+    alloc: A,
+    due: &[u8],
+    file: &str,
+    report: Q,
+    detail: Detail<'_>,
+    out: &mut W,
+    err: &mut E,
+) -> u8
+    ensures status { result ≤ 5 }
+    ensures not_refused { result ≢ 1 }
+    ensures answer { IfSome (Q.remaining report)
+        (λ found. Certifies (λ text. text ≡ due.now) found result (W.contents out.old) (W.contents out.new)) }
+    ensures written { IfSome (Q.remaining report)
+        (λ found. WritesPart (IsVerdict (λ text. text ≡ due.now) found) (W.contents out.old) (W.contents out.new)) }
+{
+    match read_all(alloc, report) {
+        Ok(found) => tell_verdict(alloc, due, found.as_slice(), out, err),
+        Err(error) => not_read(file, &error, detail, err),
+    }
+}
+
+/// The order that a file lists. What is wrong with it is told, and the error is then the exit status.
+fn order_of<A: Allocator + Copy, S: Read + Drop, E: Write>(
+    alloc: A,
+    file: &str,
+    order: S,
+    detail: Detail<'_>,
+    err: &mut E,
+) -> Result<Vec<u32, A>, u8>
+    ensures ok { IfOk result (λ v. IfSome (S.remaining order) (λ bytes. IsListedOrder bytes v.items)) }
+    ensures status { IfErr result (λ s. (s ≡ 2) ⊎ (s ≡ 4)) }
+{
+    match read_all(alloc, order) {
+        Ok(listed) => match listed_order(alloc, listed.as_slice()) {
+            Ok(Some(order)) => Ok(order),
+            Ok(None) => Err(unusable("bad --order-file", err)),
+            Err(_) => Err(out_of_memory(err)),
+        },
+        Err(error) => Err(not_read(file, &error, detail, err)),
+    }
+}
+
+/// Reads all that is left.
+fn read_all<A: Allocator, R: Read + Drop>(alloc: A, mut reader: R) -> io::Result<Vec<u8, A>>
+    ensures { IfOk result (λ v. IfSome (R.remaining reader) (λ bytes. v.items ≡ bytes)) }
+{
+    let mut bytes = Vec::new(alloc);
+    reader.read_to_end(&mut bytes)?;
+    Ok(bytes)
+}
+
+/// Says whether a report is the one that is due, or shows the first line in which it differs.
+fn tell_verdict<A: Allocator + Copy, W: Write, E: Write>(
+    alloc: A,
+    due: &[u8],
+    found: &[u8],
+    out: &mut W,
+    err: &mut E,
+) -> u8
+    ensures status { result ≤ 5 }
+    ensures not_refused { result ≢ 1 }
+    ensures answer { Certifies (λ text. text ≡ due.now) found.now result (W.contents out.old) (W.contents out.new) }
+    ensures written { WritesPart (IsVerdict (λ text. text ≡ due.now) found.now) (W.contents out.old)
+        (W.contents out.new) }
+{
+    match difference(alloc, due, found) {
+        Ok(None) => print_text(b"certified\n", out, err),
+        Ok(Some(difference)) => match print(difference.as_slice(), out) {
+            Ok(()) => REFUTED,
+            Err(_) => cannot_write(err),
+        },
+        Err(_) => out_of_memory(err),
+    }
+}

@@ -1,0 +1,95 @@
+//! Answers a request over readers and writers.
+
+ghost use Rattle.std.specs.Prelude.{◌≡◌, ◌≤◌, IfSome};
+ghost use Rattle.serving.specs.Answers.{AnswersRequest, WritesFor, most_status};
+ghost use Rattle.serving.specs.Refused.{IsRequestRefused};
+
+use crate::certify::certify;
+use crate::request::{explain, serve_program};
+use crate::tell::Detail;
+use command::Request;
+use std::alloc::Global;
+use std::io::{Read, Write};
+use std::sync::Wait;
+use std::thread::Threads;
+
+/// Does what is asked over three readers and two writers, and gives the exit status.
+///
+/// The source's text is read from `source`, a schedule, or an order that is listed, from `schedule`, once the source has
+/// code or is accepted, and a report from `report`, once the source has run. The report, the list of outcomes,
+/// `accepted`, `certified` or the line in which a report differs, or what a fault means goes to `out`, and faults to
+/// `err`; what `err` does not take is lost. Where `err` is a terminal, or the words ask for it, the line of the source
+/// or of the schedule follows its fault. The status is 0 where all threads ended, all outcomes were listed, the source
+/// is accepted, a report is certified or a fault is explained, 1 where the source is refused and nothing is printed, 2
+/// where one of the readers cannot be read, the source or the schedule is not UTF-8, the schedule or an order is
+/// refused, or the words are of no use, 3 where a thread trapped, in a run or in some outcome, 4 where one did neither,
+/// there may be more outcomes, a step was not made, or memory or `out` was refused, and 5 where a report is another.
+pub fn serve<
+    H: Threads + Wait + Sync,
+    R: Read + Drop,
+    S: Read + Drop,
+    Q: Read + Drop,
+    W: Write,
+    E: Write,
+>(
+    rt: &H,
+    alloc: Global,
+    request: &Request,
+    source: R,
+    schedule: S,
+    report: Q,
+    out: &mut W,
+    err: &mut E,
+    is_terminal: bool,
+) -> u8
+    ensures status { result ≤ most_status request.now }
+    ensures answer { IfSome (R.remaining source)
+        (λ bytes. AnswersRequest request.now (S.remaining schedule) (Q.remaining report) bytes result
+        (W.contents out.old) (W.contents out.new)) }
+    ensures refused { result ≡ 1 → IsRequestRefused request.now (R.remaining source) }
+    ensures written { WritesFor request.now (S.remaining schedule) (Q.remaining report) (R.remaining source)
+        (W.contents out.old) (W.contents out.new) }
+    ensures untouched { result ≡ 1 → W.contents out.new ≡ W.contents out.old }
+{
+    match request {
+        Request::Program {
+            file,
+            verbose,
+            format,
+            task,
+        } => {
+            let detail = Detail::of(file.as_str(), *verbose, *format, is_terminal);
+            serve_program(
+                rt,
+                alloc,
+                file.as_str(),
+                task,
+                source,
+                schedule,
+                detail,
+                out,
+                err,
+            )
+        }
+        Request::Certify {
+            file,
+            verbose,
+            format,
+            claim,
+        } => {
+            let detail = Detail::of(file.as_str(), *verbose, *format, is_terminal);
+            certify(
+                alloc,
+                file.as_str(),
+                claim,
+                source,
+                schedule,
+                report,
+                detail,
+                out,
+                err,
+            )
+        }
+        Request::Explain { number } => explain(*number, out, err),
+    }
+}

@@ -1,0 +1,398 @@
+//! Reports that are certified, and others.
+
+use crate::opened::{Found, NONE, Opened, REFUSED, Told};
+use crate::served::Closed;
+use serving::{Files, serve_files, tell_usage};
+use serving_in_memory::{ADDS, ServeResult, request_of};
+use std::alloc::Global;
+use std::io;
+use std::io::{ErrorKind, Write};
+use std::sync::Wait;
+use std::thread::Threads;
+
+/// The three files that there are.
+#[derive(Drop)]
+struct ThreeFiles {
+    /// The file `a.c`.
+    source: Found,
+    /// The file `s`.
+    order: Found,
+    /// The file `r`.
+    report: Found,
+}
+
+impl Files for ThreeFiles {
+    type File = Opened;
+
+    ghost use Rattle.std.specs.Prelude.{None};
+
+    ghost contents = { λ _ _. None };
+
+    fn open(&self, name: &str) -> io::Result<Opened> {
+        let found = match name {
+            "a.c" => self.source,
+            "s" => self.order,
+            "r" => self.report,
+            _ => Err(ErrorKind::NotFound),
+        };
+        match found {
+            Ok(rest) => Ok(Opened { rest }),
+            Err(kind) => Err(io::Error::from(kind)),
+        }
+    }
+}
+
+/// A command line, what is found of its three files, and what is answered.
+type Row = (&'static str, Found, Found, Found, ServeResult<'static>);
+
+const TWO: &str = "txc certify a.c --threads 2 --order-file s --report r";
+
+const SHORT: &str = "txc certify a.c --threads 2 --order-file s --report r --ticks 4";
+
+/// Two threads that each write twice what they are and have read.
+const WRITES: Found = Ok(
+    b"unsigned x; void worker(int self) {
+    __transaction_atomic { x = 10u * x + self + 1u; }
+    __transaction_atomic { x = 10u * x + self + 1u; } }",
+);
+
+const ADDED: Found = Ok(b"== thread 0: ended\n== thread 1: ended\n== memory\nx = 2\n");
+
+const WRITTEN: Found = Ok(b"== thread 0: ended\n== thread 1: ended\n== memory\nx = 1221\n");
+
+const CERTIFIED: ServeResult<'static> = (0, b"certified\n", b"");
+
+fn rows() -> &'static [Row] {
+    static ROWS: [Row; 29] = [
+        (TWO, Ok(ADDS), Ok(b"0,1"), ADDED, CERTIFIED),
+        // orders as they are written
+        (TWO, Ok(ADDS), Ok(b"1 0\n"), ADDED, CERTIFIED),
+        (TWO, Ok(ADDS), Ok(b"\n0\r\n\t1 ,\n"), ADDED, CERTIFIED),
+        (TWO, WRITES, Ok(b"0,1,1,0"), WRITTEN, CERTIFIED),
+        (
+            "txc certify a.c --order-file s --report r",
+            Ok(b"void worker(int self) { }"),
+            Ok(b""),
+            Ok(b"== thread 0: ended\n== memory\n"),
+            CERTIFIED,
+        ),
+        // another order gives another report
+        (
+            TWO,
+            WRITES,
+            Ok(b"0,1,0,1"),
+            WRITTEN,
+            (
+                5,
+                b"line 4 differs\nsource: x = 1212\nreport: x = 1221\n",
+                b"",
+            ),
+        ),
+        // a report that is as long
+        (
+            TWO,
+            Ok(ADDS),
+            Ok(b"0,1"),
+            Ok(b"== thread 0: ended\n== thread 1: ended\n== memory\nx = 3\n"),
+            (5, b"line 4 differs\nsource: x = 2\nreport: x = 3\n", b""),
+        ),
+        // reports that are cut off, after a line, in one, and before the end of the last one
+        (
+            TWO,
+            Ok(ADDS),
+            Ok(b"0,1"),
+            Ok(b"== thread 0: ended\n== thread 1: ended\n== memory\n"),
+            (5, b"line 4 differs\nsource: x = 2\nreport: \n", b""),
+        ),
+        (
+            TWO,
+            Ok(ADDS),
+            Ok(b"0,1"),
+            Ok(b"== thread 0: ended\n== thr"),
+            (
+                5,
+                b"line 2 differs\nsource: == thread 1: ended\nreport: == thr\n",
+                b"",
+            ),
+        ),
+        (
+            TWO,
+            Ok(ADDS),
+            Ok(b"0,1"),
+            Ok(b"== thread 0: ended\n== thread 1: ended\n== memory\nx = 2"),
+            (5, b"line 5 differs\nsource: \nreport ends\n", b""),
+        ),
+        (
+            TWO,
+            Ok(ADDS),
+            Ok(b"0,1"),
+            Ok(b""),
+            (
+                5,
+                b"line 1 differs\nsource: == thread 0: ended\nreport: \n",
+                b"",
+            ),
+        ),
+        // reports with a line more, with a byte more
+        (
+            TWO,
+            Ok(ADDS),
+            Ok(b"0,1"),
+            Ok(b"== thread 0: ended\n== thread 1: ended\n== memory\nx = 2\ny = 1\n"),
+            (5, b"line 5 differs\nsource: \nreport: y = 1\n", b""),
+        ),
+        (
+            TWO,
+            Ok(ADDS),
+            Ok(b"0,1"),
+            Ok(b"== thread 0: ended\n== thread 1: ended\n== memory\nx = 2\n\n"),
+            (5, b"line 6 differs\nsource ends\nreport: \n", b""),
+        ),
+        // bytes that are no text
+        (
+            TWO,
+            Ok(ADDS),
+            Ok(b"0,1"),
+            Ok(b"\xff"),
+            (
+                5,
+                b"line 1 differs\nsource: == thread 0: ended\nreport: \xff\n",
+                b"",
+            ),
+        ),
+        // a thread ends after the others too
+        (
+            TWO,
+            Ok(ADDS),
+            Ok(b"0,1"),
+            Ok(b"== thread 0: ended\n== thread 1: trap 1\n== memory\nx = 2\n"),
+            (
+                5,
+                b"line 2 differs\nsource: == thread 1: ended\nreport: == thread 1: trap 1\n",
+                b"",
+            ),
+        ),
+        // an entry more changes nothing where its thread has ended
+        (TWO, Ok(ADDS), Ok(b"0,1,1,0,0"), ADDED, CERTIFIED),
+        // and something where it has not
+        (
+            TWO,
+            WRITES,
+            Ok(b"0,0,1"),
+            Ok(b"== thread 0: ended\n== thread 1: waits\n== memory\nx = 11\n"),
+            (5, b"line 4 differs\nsource: x = 112\nreport: x = 11\n", b""),
+        ),
+        // too few entries leave a thread that waits, and a report that says so is the one
+        (
+            TWO,
+            Ok(ADDS),
+            Ok(b"0"),
+            Ok(b"== thread 0: ended\n== thread 1: ended\n== memory\nx = 1\n"),
+            (
+                5,
+                b"line 2 differs\nsource: == thread 1: waits\nreport: == thread 1: ended\n",
+                b"",
+            ),
+        ),
+        (
+            TWO,
+            Ok(ADDS),
+            Ok(b"0"),
+            Ok(b"== thread 0: ended\n== thread 1: waits\n== memory\nx = 1\n"),
+            CERTIFIED,
+        ),
+        // so with ticks
+        (
+            SHORT,
+            WRITES,
+            Ok(b"0,1,1,0"),
+            WRITTEN,
+            (
+                5,
+                b"line 1 differs\nsource: == thread 0: spent\nreport: == thread 0: ended\n",
+                b"",
+            ),
+        ),
+        // a stranger, and what is no order
+        (
+            TWO,
+            Ok(ADDS),
+            Ok(b"0,1,2"),
+            ADDED,
+            (2, b"", b"txc: fault 55\n"),
+        ),
+        (
+            TWO,
+            Ok(ADDS),
+            Ok(b"0,-1"),
+            ADDED,
+            (2, b"", b"txc: usage: bad --order-file\n"),
+        ),
+        (
+            TWO,
+            Ok(ADDS),
+            Ok(b"0;1"),
+            ADDED,
+            (2, b"", b"txc: usage: bad --order-file\n"),
+        ),
+        (
+            TWO,
+            Ok(ADDS),
+            Ok(b"0,1,4294967296"),
+            ADDED,
+            (2, b"", b"txc: usage: bad --order-file\n"),
+        ),
+        // the source is looked at before the order
+        (
+            TWO,
+            Ok(b"int x;"),
+            Ok(b"x"),
+            ADDED,
+            (1, b"", b"txc: fault 28 at 1:7: no worker\n"),
+        ),
+        // files that are not there
+        (TWO, NONE, NONE, NONE, (2, b"", b"txc: cannot read a.c\n")),
+        (
+            TWO,
+            Ok(b"int"),
+            NONE,
+            NONE,
+            (2, b"", b"txc: cannot read s\n"),
+        ),
+        (
+            TWO,
+            Ok(b"int"),
+            Ok(b"x"),
+            NONE,
+            (2, b"", b"txc: cannot read r\n"),
+        ),
+        (
+            TWO,
+            Ok(ADDS),
+            Ok(b"0,1"),
+            REFUSED,
+            (4, b"", b"txc: out of memory\n"),
+        ),
+    ];
+    &ROWS
+}
+
+/// What a command line is answered over three files: the status, and what is told.
+fn answer<H: Threads + Wait + Sync, W: Write>(
+    rt: &H,
+    alloc: Global,
+    line: &str,
+    files: &ThreeFiles,
+    out: &mut W,
+    told: &mut Told,
+) -> u8 {
+    match request_of(alloc, line) {
+        Ok(request) => serve_files(rt, alloc, &request, files, out, told),
+        Err(fault) => tell_usage(&fault, out, told),
+    }
+}
+
+/// Whether a row is answered as it should be.
+fn is_answered<H: Threads + Wait + Sync>(rt: &H, alloc: Global, row: &Row) -> bool {
+    let (line, source, order, report, wanted) = *row;
+    let files = ThreeFiles {
+        source,
+        order,
+        report,
+    };
+    let mut out = Vec::new(alloc);
+    let mut told = Told {
+        bytes: Vec::new(alloc),
+        is_terminal: false,
+    };
+    let status = answer(rt, alloc, line, &files, &mut out, &mut told);
+    status == wanted.0 && out.as_slice() == wanted.1 && told.bytes.as_slice() == wanted.2
+}
+
+/// The number, from 0, of the first row that is answered otherwise.
+fn wrong_claim<H: Threads + Wait + Sync>(rt: &H, alloc: Global) -> Option<usize> {
+    for (number, row) in rows().iter().enumerate() {
+        if !is_answered(rt, alloc, row) {
+            return Some(number);
+        }
+    }
+    None
+}
+
+#[test]
+fn reports_are_certified(rt: HostRuntime) {
+    assert_eq!(rt; wrong_claim(&rt, rt.alloc()), None);
+}
+
+/// Command lines that are refused, and why.
+fn wrong_words() -> &'static [(&'static str, &'static [u8])] {
+    static ROWS: [(&str, &[u8]); 5] = [
+        (
+            "txc certify - --order-file - --report r",
+            b"txc: usage: FILE and S can't both be -\n",
+        ),
+        (
+            "txc certify - --order-file s --report -",
+            b"txc: usage: FILE and R can't both be -\n",
+        ),
+        (
+            "txc certify a.c --order-file - --report -",
+            b"txc: usage: S and R can't both be -\n",
+        ),
+        (
+            "txc certify a.c --order-file s --report r --threads 65",
+            b"txc: usage: --threads is 1 to 64\n",
+        ),
+        (
+            "txc certify a.c --order-file s --report r --ticks 4294967296",
+            b"txc: usage: --ticks is 0 to 4294967295\n",
+        ),
+    ];
+    &ROWS
+}
+
+/// The first command line that is told otherwise.
+fn told_otherwise<H: Threads + Wait + Sync>(rt: &H, alloc: Global) -> Option<&'static str> {
+    let files = ThreeFiles {
+        source: NONE,
+        order: NONE,
+        report: NONE,
+    };
+    for (line, why) in wrong_words() {
+        let mut out = Vec::new(alloc);
+        let mut told = Told {
+            bytes: Vec::new(alloc),
+            is_terminal: false,
+        };
+        let status = answer(rt, alloc, line, &files, &mut out, &mut told);
+        if status != 2 || told.bytes.as_slice() != *why {
+            return Some(*line);
+        }
+    }
+    None
+}
+
+#[test]
+fn standard_input_is_one_file(rt: HostRuntime) {
+    assert_eq!(rt; told_otherwise(&rt, rt.alloc()), None);
+}
+
+/// What is answered where standard output takes nothing.
+fn answer_closed<H: Threads + Wait + Sync>(rt: &H, alloc: Global, report: Found) -> u8 {
+    let files = ThreeFiles {
+        source: Ok(ADDS),
+        order: Ok(b"0,1"),
+        report,
+    };
+    let mut told = Told {
+        bytes: Vec::new(alloc),
+        is_terminal: false,
+    };
+    answer(rt, alloc, TWO, &files, &mut Closed, &mut told)
+}
+
+#[test]
+fn a_verdict_that_is_not_written_is_none(rt: HostRuntime) {
+    assert_eq!(rt; answer_closed(&rt, rt.alloc(), ADDED), 4);
+    assert_eq!(rt; answer_closed(&rt, rt.alloc(), WRITTEN), 4);
+}
