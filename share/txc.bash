@@ -13,7 +13,7 @@ _txc() {
                     check) words='--verbose --format --help' ;;
                     listing) words='--verbose --format --help' ;;
                     run) words='--verbose --format --threads --budget --counts --help' ;;
-                    replay) words='--verbose --format --threads --schedule --seed --steps --timeline --picture --print-schedule --help' ;;
+                    replay) words='--verbose --format --threads --schedule --seed --steps --order --timeline --picture --print-schedule --help' ;;
                     source) words='--verbose --format --threads --order --ticks --help' ;;
                     outcomes) words='--verbose --format --threads --ticks --limit --help' ;;
                     certify) words='--verbose --format --threads --order-file --report --ticks --help' ;;

@@ -20,7 +20,7 @@ complete -c txc -n '__fish_seen_subcommand_from run' -l threads -x -d 'How many 
 complete -c txc -n '__fish_seen_subcommand_from run' -l budget -x -d 'How many steps each thread makes at most: 0 to 4294967295, and that if not given'
 complete -c txc -n '__fish_seen_subcommand_from run' -l counts -d 'Tells the steps, accesses, transactions, drops and retries of each thread behind the report, on standard error'
 complete -c txc -n '__fish_seen_subcommand_from run' -l help -d 'Prints help'
-complete -c txc -n __fish_use_subcommand -a replay -d 'Makes the steps of the machine that a schedule or a seed names, and prints what happened in them and what they leave'
+complete -c txc -n __fish_use_subcommand -a replay -d 'Makes the steps of the machine that a schedule, a seed or an order names, and prints what happened in them and what they leave'
 complete -c txc -n '__fish_seen_subcommand_from replay' -F
 complete -c txc -n '__fish_seen_subcommand_from replay' -l verbose -d 'Shows the line of a fault, and says why a file can'\''t be read'
 complete -c txc -n '__fish_seen_subcommand_from replay' -l format -x -a 'short' -d 'How a fault is told: short is FILE:LINE:COL: error: WORDS [NN], for editors'
@@ -28,9 +28,10 @@ complete -c txc -n '__fish_seen_subcommand_from replay' -l threads -x -d 'How ma
 complete -c txc -n '__fish_seen_subcommand_from replay' -l schedule -r -F -d 'A file with a schedule: lines `T COUNT`, steps of thread T, or `T aCOUNT`, its steps up to so many accesses'
 complete -c txc -n '__fish_seen_subcommand_from replay' -l seed -x -d 'Picks the thread of each step by chance, in place of a schedule: 0 to 4294967295'
 complete -c txc -n '__fish_seen_subcommand_from replay' -l steps -x -d 'How many steps are picked: 0 to 1048576, and 100000 if not given'
+complete -c txc -n '__fish_seen_subcommand_from replay' -l order -x -d 'Whose turn it is, turn by turn: thread numbers joined by commas, or an empty word'
 complete -c txc -n '__fish_seen_subcommand_from replay' -l timeline -d 'Shows each step, a line each, before the report'
 complete -c txc -n '__fish_seen_subcommand_from replay' -l picture -d 'Draws the steps as one SVG, in place of the report'
-complete -c txc -n '__fish_seen_subcommand_from replay' -l print-schedule -d 'Prints the steps of the seed as a schedule, and makes none of them'
+complete -c txc -n '__fish_seen_subcommand_from replay' -l print-schedule -d 'Prints the steps of the seed or of the order as a schedule, in place of the report'
 complete -c txc -n '__fish_seen_subcommand_from replay' -l help -d 'Prints help'
 complete -c txc -n __fish_use_subcommand -a source -d 'Runs the source itself, transaction by transaction, in the order of threads that is given'
 complete -c txc -n '__fish_seen_subcommand_from source' -F

@@ -1,11 +1,11 @@
 -- What is given for arguments makes no task.
-use Rattle.std.proofs.Common.{◌≡◌, ℕ, List, Some, length, ap, subst, arith}
+use Rattle.std.proofs.Common.{◌≡◌, ◌∙◌, ℕ, List, None, Some, length, sym, ap, subst, arith}
 use Rattle.std.specs.Prelude.{codes, slice_index}
 use Rattle.clap.specs.Words.{Row, Text, first_of}
-use Rattle.command.specs.declared.request.Task.TheVariants.{Check, Listing, Run, Replay, Timeline, Picture, PrintSchedule, Source, Outcomes}
+use Rattle.command.specs.declared.request.Task.TheVariants.{Check, Listing, Run, Replay, Timeline, Picture, PrintOrder, PrintSchedule, Source, Outcomes}
 use Rattle.command.specs.declared.request.Steps.{Steps}
-use Rattle.command.specs.declared.request.Steps.TheVariants.{Seed}
-use Rattle.command.specs.Asked.{AreSteps, IsOrder, IsOrderGiven}
+use Rattle.command.specs.declared.request.Steps.TheVariants.{Order, Schedule, Seed}
+use Rattle.command.specs.Asked.{AreCounted, AreSteps, IsOrder, IsOrderGiven}
 use Rattle.command.specs.inner.Refusals.{AreNoTask}
 
 -- no steps, no replay
@@ -17,8 +17,15 @@ no_replay given none (Replay threads steps) is = none steps is.2
 no_replay given none (Timeline threads steps) is = none steps is.2
 no_replay given none (Picture threads steps) is = none steps is.2
 no_replay given none (PrintSchedule threads seed count) is = none (Seed seed count) is.2
+no_replay given none (PrintOrder threads order) is = none (Order order) is.2
 no_replay given none (Source threads order ticks) is = let e : 114 ≡ 115 = ap (λ l. slice_index l 0) is.0 in absurd (omega (arith, e))
 no_replay given none (Outcomes threads ticks limit) is = let e : 114 ≡ 111 = ap (λ l. slice_index l 0) is.0 in absurd (omega (arith, e))
+
+-- an order that is given makes other steps none
+pub no_ordered : (given : List Row) (text : Text) → first_of (codes "order") given ≡ Some text → ((ns : List ℕ) → IsOrderGiven given ns → (n : ℕ) → AreCounted given n → ⊥) → (steps : Steps) → AreSteps given steps → ⊥
+no_ordered given text said none (Schedule file) are = let e : None ≡ Some text = sym are.no_order ∙ said in cc
+no_ordered given text said none (Seed seed count) are = let e : None ≡ Some text = sym are.2 ∙ said in cc
+no_ordered given text said none (Order order) are = none order.items are.order_is are.count are.counted
 
 -- no order, no run of the source
 pub no_source : (given : List Row) → ((order : List ℕ) → IsOrderGiven given order → ⊥) → AreNoTask (codes "source") given
@@ -29,6 +36,7 @@ no_source given none (Replay threads steps) is = let e : 115 ≡ 114 = ap (λ l.
 no_source given none (Timeline threads steps) is = let e : 115 ≡ 114 = ap (λ l. slice_index l 0) is.0 in absurd (omega (arith, e))
 no_source given none (Picture threads steps) is = let e : 115 ≡ 114 = ap (λ l. slice_index l 0) is.0 in absurd (omega (arith, e))
 no_source given none (PrintSchedule threads seed count) is = let e : 115 ≡ 114 = ap (λ l. slice_index l 0) is.0 in absurd (omega (arith, e))
+no_source given none (PrintOrder threads order) is = let e : 115 ≡ 114 = ap (λ l. slice_index l 0) is.0 in absurd (omega (arith, e))
 no_source given none (Source threads order ticks) is = none order.items is.2
 no_source given none (Outcomes threads ticks limit) is = let e : 115 ≡ 111 = ap (λ l. slice_index l 0) is.0 in absurd (omega (arith, e))
 

@@ -13,9 +13,9 @@ use Rattle.command.specs.declared.request.Request.{Request}
 use Rattle.command.specs.declared.request.Request.TheVariants.{Program, Certify, Explain}
 use Rattle.command.specs.declared.request.Task.{Task}
 use Rattle.command.specs.declared.request.Task.TheVariants.{Check, Listing, Run, Replay, Timeline, Picture}
-use Rattle.command.specs.declared.request.Task.TheVariants.{PrintSchedule, Source, Outcomes}
+use Rattle.command.specs.declared.request.Task.TheVariants.{PrintOrder, PrintSchedule, Source, Outcomes}
 use Rattle.command.specs.declared.request.Steps.{Steps}
-use Rattle.command.specs.declared.request.Steps.TheVariants.{Schedule, Seed}
+use Rattle.command.specs.declared.request.Steps.TheVariants.{Order, Schedule, Seed}
 use Rattle.command.specs.declared.request.UsageFault.{UsageFault}
 use Rattle.command.specs.declared.request.UsageFault.TheVariants.{OutOfMemory, Help, Wrong}
 use Rattle.command.specs.Line.{program_app}
@@ -73,29 +73,40 @@ AreCounted given count = IsNumberInRange given (codes "steps") 100000 0 1048576 
 abbrev pub IsNotBoth : List Row → Text → Type 0
 IsNotBoth given file = (first_of (codes "FILE") given ≡ Some (codes "-")) × (file ≡ codes "-") → ⊥
 
--- a schedule and no seed; a number of steps has no effect beside it, and is in its range all the same
+-- a schedule, no seed and no order; a number of steps has no effect beside it, and is in its range all the same
 pub record AreScheduled (given : List Row) (file : Text) : Type 0 where
   pub named : first_of (codes "schedule") given ≡ Some file
   pub no_seed : one_of (codes "seed") given ≡ None
+  pub no_order : first_of (codes "order") given ≡ None
   pub count : ℕ
   pub counted : AreCounted given count
   pub not_both : IsNotBoth given file
-
--- either a schedule or a seed, and not both
-abbrev pub AreSteps : List Row → Steps → Type 0
-AreSteps given (Schedule file) = AreScheduled given (string_bytes file)
-AreSteps given (Seed seed count) = (first_of (codes "schedule") given ≡ None) × IsGiven given (codes "seed") seed
-    × AreCounted given count
-
--- 1 to 64 threads
-abbrev pub AreThreadsGiven : List Row → ℕ → Type 0
-AreThreadsGiven given n = IsNumberInRange given (codes "threads") 1 1 64 n
 
 -- an order of threads
 pub record IsOrderGiven (given : List Row) (order : List ℕ) : Type 0 where
   pub text : Text
   pub said : first_of (codes "order") given ≡ Some text
   pub listed : IsOrder text order
+
+-- an order of threads, and neither a schedule nor a seed; a number of steps has no effect beside it, and is in its range
+-- all the same
+pub record AreOrdered (given : List Row) (order : List ℕ) : Type 0 where
+  pub order_is : IsOrderGiven given order
+  pub no_schedule : first_of (codes "schedule") given ≡ None
+  pub no_seed : one_of (codes "seed") given ≡ None
+  pub count : ℕ
+  pub counted : AreCounted given count
+
+-- a schedule, a seed or an order, and one of them alone
+abbrev pub AreSteps : List Row → Steps → Type 0
+AreSteps given (Schedule file) = AreScheduled given (string_bytes file)
+AreSteps given (Seed seed count) = (first_of (codes "schedule") given ≡ None) × IsGiven given (codes "seed") seed
+    × (first_of (codes "order") given ≡ None) × AreCounted given count
+AreSteps given (Order order) = AreOrdered given order.items
+
+-- 1 to 64 threads
+abbrev pub AreThreadsGiven : List Row → ℕ → Type 0
+AreThreadsGiven given n = IsNumberInRange given (codes "threads") 1 1 64 n
 
 -- a flag
 abbrev pub IsFlagged : List Row → Text → Type 0
@@ -123,6 +134,8 @@ IsTask name given (Picture threads steps) = (name ≡ codes "replay")
     × AreThreadsGiven given threads × AreSteps given steps × AreFlagged given false true false
 IsTask name given (PrintSchedule threads seed count) = (name ≡ codes "replay") × AreThreadsGiven given threads
     × AreSteps given (Seed seed count) × AreFlagged given false false true
+IsTask name given (PrintOrder threads order) = (name ≡ codes "replay") × AreThreadsGiven given threads
+    × AreSteps given (Order order) × AreFlagged given false false true
 IsTask name given (Source threads order ticks) = (name ≡ codes "source") × AreThreadsGiven given threads
     × IsOrderGiven given order.items
     × IsNumberInRange given (codes "ticks") 100000 0 1000000 ticks

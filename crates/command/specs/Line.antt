@@ -48,7 +48,8 @@ abbrev pub replay_steps_app : App
 replay_steps_app =
     let threads = with_rule (file_app (codes "replay")) (text_rule (codes "threads")) in
     let schedule = with_rule threads (text_rule (codes "schedule")) in
-    with_rule (with_rule schedule (text_rule (codes "seed"))) (text_rule (codes "steps"))
+    let steps = with_rule (with_rule schedule (text_rule (codes "seed"))) (text_rule (codes "steps")) in
+    with_rule steps (text_rule (codes "order"))
 
 abbrev pub replay_app : App
 replay_app =

@@ -58,15 +58,23 @@ fn wanted<'a>(alloc: Global, name: &'a str, value: &'a str, help: &'a str) -> Ar
 
 /// The order of threads.
 fn order<'a>(alloc: Global) -> Arg<'a>
-    ensures rule { rule_of result ≡ order_rule }
+    ensures rule { rule_of result ≡ text_rule (codes "order") }
     ensures global { result.global ≡ false }
 {
-    wanted(
+    text(
         alloc,
         "order",
         "LIST",
         "Whose turn it is, turn by turn: thread numbers joined by commas, or an empty word",
     )
+}
+
+/// The order of threads that a run of the source wants.
+fn order_wanted<'a>(alloc: Global) -> Arg<'a>
+    ensures rule { rule_of result ≡ order_rule }
+    ensures global { result.global ≡ false }
+{
+    order(alloc).required(true)
 }
 
 /// A command with what is said of it.
@@ -203,7 +211,7 @@ fn replay_steps<'a>(alloc: Global) -> Result<Command<'a>, AllocError>
     let command = of_file(
         alloc,
         "replay",
-        "Makes the steps of the machine that a schedule or a seed names, and prints what happened in them and what they leave",
+        "Makes the steps of the machine that a schedule, a seed or an order names, and prints what happened in them and what they leave",
         "Example:\n  txc replay counter.c --threads 2 --seed 7",
     );
     let command = with(command, threads(alloc));
@@ -227,7 +235,8 @@ fn replay_steps<'a>(alloc: Global) -> Result<Command<'a>, AllocError>
         "K",
         "How many steps are picked: 0 to 1048576, and 100000 if not given",
     );
-    with(command, steps)
+    let command = with(command, steps);
+    with(command, order(alloc))
 }
 
 /// The command that replays steps of the machine.
@@ -250,7 +259,7 @@ fn replay<'a>(alloc: Global) -> Result<Command<'a>, AllocError>
     let print_schedule = flag(
         alloc,
         "print-schedule",
-        "Prints the steps of the seed as a schedule, and makes none of them",
+        "Prints the steps of the seed or of the order as a schedule, in place of the report",
     );
     with(command, print_schedule)
 }
@@ -266,7 +275,7 @@ fn source<'a>(alloc: Global) -> Result<Command<'a>, AllocError>
         "Example:\n  txc source first.c --threads 2 --order 0,1",
     );
     let command = with(command, threads(alloc));
-    let command = with(command, order(alloc));
+    let command = with(command, order_wanted(alloc));
     with(command, ticks(alloc))
 }
 

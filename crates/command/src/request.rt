@@ -86,6 +86,11 @@ pub enum Task {
         seed: u32,
         count: u32,
     },
+    /// Prints the steps of an order of 1 to 64 threads as a schedule.
+    PrintOrder {
+        threads: u32,
+        order: Vec<u32>,
+    },
     /// Runs the source: 1 to 64 threads in an order, each with 0 to 1,000,000 ticks.
     Source {
         threads: u32,
@@ -108,6 +113,8 @@ pub enum Steps {
     Schedule { file: String },
     /// A seed, for 0 to 1,048,576 steps.
     Seed { seed: u32, count: u32 },
+    /// An order of threads, each of which makes a whole transaction where it is named.
+    Order { order: Vec<u32> },
 }
 
 /// Why words are not a request.

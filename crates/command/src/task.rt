@@ -82,50 +82,6 @@ fn schedule(alloc: Global, given: &ArgMatches<'_>, file: &str) -> Result<String,
     Ok(String::from_str(alloc, file)?)
 }
 
-/// Where the steps of a replay come from: a schedule or a seed.
-fn steps(alloc: Global, given: &ArgMatches<'_>) -> Result<Steps, UsageFault>
-    ensures ok { IfOk result (AreSteps (rows_of (found_of given.now))) }
-    ensures err { IfErr result (IsOwn ((s : Steps) → AreSteps (rows_of (found_of given.now)) s → ⊥)) }
-{
-    let seed = number_given(alloc, given, "seed", 0, u32::MAX)?;
-    match (text_given(given, "schedule"), seed) {
-        (Some(file), None) => Ok(Steps::Schedule {
-            file: schedule(alloc, given, file)?,
-        }),
-        (None, Some(seed)) => Ok(Steps::Seed {
-            seed,
-            count: count_given(alloc, given)?,
-        }),
-        _ => Err(wrong(alloc, "one of --schedule and --seed")),
-    }
-}
-
-/// A replay, by which of its flags is given: it is shown step by step, drawn, or what it would make is printed.
-fn replay(alloc: Global, given: &ArgMatches<'_>) -> Result<Task, UsageFault>
-    ensures ok { IfOk result (IsTask (codes "replay") (rows_of (found_of given.now))) }
-    ensures err { IfErr result (IsOwn (AreNoTask (codes "replay") (rows_of (found_of given.now)))) }
-{
-    let threads = threads(alloc, given)?;
-    let steps = steps(alloc, given)?;
-    let timeline = flag_given(given, "timeline");
-    let picture = flag_given(given, "picture");
-    let print_schedule = flag_given(given, "print-schedule");
-    match (timeline, picture, print_schedule) {
-        (false, false, false) => Ok(Task::Replay { threads, steps }),
-        (true, false, false) => Ok(Task::Timeline { threads, steps }),
-        (false, true, false) => Ok(Task::Picture { threads, steps }),
-        (false, false, true) => match steps {
-            Steps::Seed { seed, count } => Ok(Task::PrintSchedule {
-                threads,
-                seed,
-                count,
-            }),
-            Steps::Schedule { .. } => Err(wrong(alloc, "--print-schedule wants --seed")),
-        },
-        _ => Err(wrong(alloc, "one of --picture, --print-schedule and --timeline")),
-    }
-}
-
 /// Says that an order is none, and how one is written where more is to be told.
 fn bad_order(alloc: Global, given: &ArgMatches<'_>) -> UsageFault
     ensures { IsOwn (Unit {0}) result }
@@ -149,6 +105,70 @@ fn order_given(alloc: Global, given: &ArgMatches<'_>) -> Result<Vec<u32>, UsageF
     match order(alloc, text.as_str())? {
         Some(order) => Ok(order),
         None => Err(bad_order(alloc, given)),
+    }
+}
+
+/// The order of threads whose transactions the steps of a replay are.
+fn order_of_steps(alloc: Global, given: &ArgMatches<'_>) -> Result<Vec<u32>, UsageFault>
+    ensures ok { IfOk result (λ v. IsOrderGiven (rows_of (found_of given.now)) v.items) }
+    ensures counted { IfOk result (λ v. (n : ℕ) × AreCounted (rows_of (found_of given.now)) n) }
+    ensures err { IfErr result (IsOwn ((ns : List ℕ) → IsOrderGiven (rows_of (found_of given.now)) ns
+        → (n : ℕ) → AreCounted (rows_of (found_of given.now)) n → ⊥)) }
+{
+    let _steps = count_given(alloc, given)?;
+    order_given(alloc, given)
+}
+
+/// Where the steps of a replay come from: a schedule, a seed or an order.
+fn steps(alloc: Global, given: &ArgMatches<'_>) -> Result<Steps, UsageFault>
+    ensures ok { IfOk result (AreSteps (rows_of (found_of given.now))) }
+    ensures err { IfErr result (IsOwn ((s : Steps) → AreSteps (rows_of (found_of given.now)) s → ⊥)) }
+{
+    let seed = number_given(alloc, given, "seed", 0, u32::MAX)?;
+    match (
+        text_given(given, "schedule"),
+        seed,
+        text_given(given, "order"),
+    ) {
+        (Some(file), None, None) => Ok(Steps::Schedule {
+            file: schedule(alloc, given, file)?,
+        }),
+        (None, Some(seed), None) => Ok(Steps::Seed {
+            seed,
+            count: count_given(alloc, given)?,
+        }),
+        (None, None, Some(_)) => Ok(Steps::Order {
+            order: order_of_steps(alloc, given)?,
+        }),
+        (_, _, None) => Err(wrong(alloc, "one of --schedule and --seed")),
+        (_, _, Some(_)) => Err(wrong(alloc, "--order wants no --schedule and no --seed")),
+    }
+}
+
+/// A replay, by which of its flags is given: it is shown step by step, drawn, or what it would make is printed.
+fn replay(alloc: Global, given: &ArgMatches<'_>) -> Result<Task, UsageFault>
+    ensures ok { IfOk result (IsTask (codes "replay") (rows_of (found_of given.now))) }
+    ensures err { IfErr result (IsOwn (AreNoTask (codes "replay") (rows_of (found_of given.now)))) }
+{
+    let threads = threads(alloc, given)?;
+    let steps = steps(alloc, given)?;
+    let timeline = flag_given(given, "timeline");
+    let picture = flag_given(given, "picture");
+    let print_schedule = flag_given(given, "print-schedule");
+    match (timeline, picture, print_schedule) {
+        (false, false, false) => Ok(Task::Replay { threads, steps }),
+        (true, false, false) => Ok(Task::Timeline { threads, steps }),
+        (false, true, false) => Ok(Task::Picture { threads, steps }),
+        (false, false, true) => match steps {
+            Steps::Seed { seed, count } => Ok(Task::PrintSchedule {
+                threads,
+                seed,
+                count,
+            }),
+            Steps::Order { order } => Ok(Task::PrintOrder { threads, order }),
+            Steps::Schedule { .. } => Err(wrong(alloc, "--print-schedule wants --seed")),
+        },
+        _ => Err(wrong(alloc, "one of --picture, --print-schedule and --timeline")),
     }
 }
 

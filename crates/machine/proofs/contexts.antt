@@ -30,3 +30,5 @@ pub mod Validating
 pub mod Nexts
 -- which steps may want memory
 pub mod Wanting
+-- where a thread rests
+pub mod Resting

@@ -22,6 +22,10 @@ pub mod Alone
 pub mod Open
 -- a thread that runs alone beside others
 pub mod Solo
+-- threads that rest between their transactions
+pub mod Resting
+-- turns of threads that rest
+pub mod Turns
 -- how many accesses an undisturbed transaction makes, by what its code means
 pub mod Tallies
 -- what becomes of a thread that has the lock

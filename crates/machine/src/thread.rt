@@ -10,6 +10,7 @@ ghost use Rattle.norec_core.specs.declared.step.Answer.{Answer as Reply};
 ghost use Rattle.norec_core.specs.declared.step.Answer.TheVariants.{Value};
 ghost use Rattle.norec_core.specs.Phases.{entry_access};
 ghost use Rattle.machine.specs.Threads.{access, step_with as told_spec};
+ghost use Rattle.machine.specs.Resting.{IsBegin, IsThreadAtRest};
 ghost use Rattle.machine.specs.Standing.{IsThreadOf};
 ghost use Rattle.machine.specs.Loads.{counted_thread};
 ghost use Rattle.machine.specs.States.{BeginsNext, ComparesEntry, ComparesNext, IsLeft, IsPrepared, IsWordOf};
@@ -76,6 +77,15 @@ fn idle(most: u64) -> Option<Doing>
     ensures local { IfSome result (λ doing. (0 < most) × (doing ≡ Doing.Local)) }
 {
     if most == 0 { None } else { Some(Doing::Local) }
+}
+
+fn is_begin(doing: Doing) -> bool
+    ensures { result ≡ true ↔ IsBegin doing }
+{
+    match doing {
+        Doing::Begin(_) => true,
+        _ => false,
+    }
 }
 
 impl<A: Allocator + Copy> Thread<A> {
@@ -384,6 +394,19 @@ impl<A: Allocator + Copy> Thread<A> {
         ensures { result ≡ self.now.thread.status }
     {
         self.context.status
+    }
+
+    /// Whether the thread rests between its transactions: it is over, or has no attempt and stands at a begin.
+    pub fn is_at_rest<B: Allocator>(&self, code: &Code<B>) -> bool
+        requires { IsThreadOf code.now self.now.thread }
+        ensures rests { result ≡ true → IsThreadAtRest (effect code.now) self.now.thread }
+        ensures goes_on { result ≡ false → IsThreadAtRest (effect code.now) self.now.thread → ⊥ }
+    {
+        match self.context.status {
+            Status::Running => { !self.context.core.has_attempt() && is_begin(self.doing(code)) }
+            Status::Ended => true,
+            Status::Trapped(_) => true,
+        }
     }
 
     /// The place in the code at which the thread stands.

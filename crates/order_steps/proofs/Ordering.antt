@@ -9,15 +9,17 @@ use Rattle.syntax.specs.declared.numbers.Halt.TheVariants.{Wants}
 use Rattle.syntax.specs.declared.numbers.Status.TheVariants.{Running}
 use Rattle.bytecode.specs.Effects.{Effect, FitsCells}
 use Rattle.bytecode.specs.Effects.Effect.{Begin as BeginEffect}
-use Rattle.bytecode.specs.Sequential.{Sequential, start, steps}
+use Rattle.bytecode.specs.Sequential.{Sequential, end_of, start, steps}
 use Rattle.bytecode.proofs.Tables.{some_same}
 use Rattle.machine.specs.Drops.{dropped_in, drops}
 use Rattle.machine.specs.Serializable.{world_after}
 use Rattle.machine.specs.Solo.{outside_thread}
+use Rattle.machine.specs.Threads.{Thread}
+use Rattle.machine.specs.Turns.{AreBegun, AreTurns, IsTurnOf, RunsIn, Span, steps_in}
 use Rattle.machine.specs.Worlds.{Part, Reached, World, new_part, new_parts, new_world, run, step}
 use Rattle.machine.proofs.alone.Alone.{Solo, out_solo, solo}
-use Rattle.machine.proofs.alone.Beside.{comes_beside}
-use Rattle.machine.proofs.alone.Transaction.{There, after, found_all}
+use Rattle.machine.proofs.alone.Beside.{comes_beside, rests_beside, rests_in_world}
+use Rattle.machine.proofs.alone.Transaction.{AllGoOn, There, after, found_all, going_at}
 use Rattle.machine.proofs.alone.Unstopped.{reached_run, run-append}
 use Rattle.machine.proofs.parts.Memories.{sized}
 use Rattle.machine.proofs.runs.Serializable.{new_invariant, start_of}
@@ -26,7 +28,11 @@ use Rattle.states.specs.Leads.{EntryLeads, OrderLeads}
 use Rattle.states.specs.Rests.{Rests, Turn, end_at_rest}
 use Rattle.order_steps.specs.Resting.{AllRestAs, RestsAs, WorldRests}
 use Rattle.order_steps.specs.Stepped.{ComesToRest, OrdersAreSteps}
-use Rattle.order_steps.proofs.Turns.{Got, at_begin, gets_on_sized}
+use Rattle.order_steps.proofs.Turns.{Got, at_begin, at_rest, gets_on_sized}
+
+steps_append : (xs ys : List Span) → steps_in (xs ++ ys) ≡ steps_in xs ++ steps_in ys
+steps_append [] ys = refl
+steps_append (x ∷ xs) ys = ap (λ ts. replicate x.1 x.0 ++ ts) (steps_append xs ys) ∙ sym (append_assoc (replicate x.1 x.0) (steps_in xs) (steps_in ys))
 
 -- lists of steps, one after another
 module _ {C : Type 0} (code : C → Effect C) where
@@ -75,15 +81,38 @@ module _ {C : Type 0} (code : C → Effect C) where
 
 module _ {C : Type 0} (code : C → Effect C) where
   module _ (bs : List ℕ) (fits : FitsCells code bs) where
-    -- a world that steps lead to, which rests so
-    pub record Came (w : World C) (last : Memory) (rest : List (Sequential C)) (count : ℕ) : Type 0 where
-      pub trace : List ℕ
-      pub stands : WorldRests code last rest (run code trace w)
-      pub low : (run code trace w).lock ≤ 2 * count
-      pub undropped : (u : ℕ) → drops code u trace w ≡ 0
+    -- a world that a turn leads to, which rests so
+    pub record Took (w : World C) (t : ℕ) (last : Memory) (rest : List (Sequential C)) (count : ℕ) : Type 0 where
+      pub steps : ℕ
+      pub turn : IsTurnOf code w t steps
+      pub stands : WorldRests code last rest (run code (replicate steps t) w)
+      pub low : (run code (replicate steps t) w).lock ≤ 2 * count
+      pub undropped : (u : ℕ) → drops code u (replicate steps t) w ≡ 0
+
+    -- a world that the turns of an order lead to, which rests so
+    pub record Came (w : World C) (order : List ℕ) (last : Memory) (rest : List (Sequential C)) (count : ℕ) : Type 0 where
+      pub spans : List Span
+      pub takes : AreTurns code w order spans
+      pub stands : WorldRests code last rest (run code (steps_in spans) w)
+      pub low : (run code (steps_in spans) w).lock ≤ 2 * count
+      pub undropped : (u : ℕ) → drops code u (steps_in spans) w ≡ 0
+
+    -- a thread that rests and wants no memory does not run
+    not_running : (w : World C) (t : ℕ) (k : Sequential C) (p : Part C) → slice_get w.parts t ≡ Some p → RestsAs code k p.thread → end_at_rest k ≢ Stopped Wants → RunsIn code w t → ⊥
+    not_running w t k p at r idle runs = by r.rests.goes_no_further
+      where
+        same : runs.part ≡ p
+        same = some_same runs.part p (sym runs.there ∙ at)
+
+        running : k.status ≡ Running
+        running = sym (ap (λ (th : Thread C). th.status) r.thread) ∙ ap (λ (x : Part C). x.thread.status) (sym same) ∙ runs.running
+
+        by : (k.wants ≡ true) ⊎ (k.status ≢ Running) → ⊥
+        by (inl wants) = idle (ap (λ x. end_of x k.status) wants)
+        by (inr over) = over running
 
     pub one_entry : (w : World C) (t : ℕ) (m : Memory) (ks : List (Sequential C)) (left : Memory) (next : List (Sequential C)) (count : ℕ) → WorldRests code m ks w → length m ≡ length bs → w.lock ≤ 2 * count
-        → EntryLeads end_at_rest (Turn code) t m ks left next → Came w left next (suc count) × (length left ≡ length bs)
+        → EntryLeads end_at_rest (Turn code) t m ks left next → Took w t left next (suc count) × (length left ≡ length bs)
     one_entry w t m ks left next count s size low e = by e.goes
       where
         even_after : {l : ℕ} → (l ≡ w.lock) ⊎ (l ≡ w.lock + 2) → l % 2 ≡ 0
@@ -94,10 +123,14 @@ module _ {C : Type 0} (code : C → Effect C) where
         low_after (inl same) = omega (arith, same, low)
         low_after (inr up) = omega (arith, up, low)
 
-        by : ((end_at_rest e.one ≢ Stopped Wants) × (left ≡ m) × (next ≡ ks)) ⊎ ((end_at_rest e.one ≡ Stopped Wants) × (other : Sequential C) × Turn code e.one m left other × (next ≡ set ks t other)) → Came w left next (suc count) × (length left ≡ length bs)
+        at : (p : Part C) × (slice_get w.parts t ≡ Some p) × RestsAs code e.one p.thread
+        at = look code ks w.parts t e.one s.parts e.there
+
+        by : ((end_at_rest e.one ≢ Stopped Wants) × (left ≡ m) × (next ≡ ks)) ⊎ ((end_at_rest e.one ≡ Stopped Wants) × (other : Sequential C) × Turn code e.one m left other × (next ≡ set ks t other)) → Took w t left next (suc count) × (length left ≡ length bs)
         by (inl (idle, same, kept)) = (
           record {
-            trace = [];
+            steps = 0;
+            turn = not_running w t e.one at.0 at.1 at.2 idle;
             stands = record { even = s.even; memory = s.memory ∙ sym same; parts = subst (λ x. AllRestAs code x w.parts) (sym kept) s.parts };
             low = omega (arith, low);
             undropped = λ u. refl;
@@ -105,12 +138,12 @@ module _ {C : Type 0} (code : C → Effect C) where
           ap length same ∙ size,
         )
         by (inr (wants, other, turn, set_to)) =
-            let at = look code ks w.parts t e.one s.parts e.there in
             let g : Got code bs fits w t left other = gets_on_sized code bs fits w t at.0 e.one left other s.even (ap length s.memory ∙ size) at.1 at.2
             (subst (λ x. Turn code e.one x left other) (sym s.memory) turn) in
             let c : ComesToRest code w t left other = g.comes in (
               record {
-                trace = replicate c.steps t;
+                steps = c.steps;
+                turn = c.turn;
                 stands = subst (WorldRests code left next) (sym c.world) (record {
                   even = even_after (c.locked);
                   memory = refl;
@@ -123,9 +156,10 @@ module _ {C : Type 0} (code : C → Effect C) where
             )
 
     pub all_entries : (order : List ℕ) (w : World C) (m : Memory) (ks : List (Sequential C)) (last : Memory) (rest : List (Sequential C)) (count : ℕ) → WorldRests code m ks w → length m ≡ length bs → w.lock ≤ 2 * count
-        → OrderLeads end_at_rest (Turn code) order m ks last rest → Came w last rest (count + length order)
+        → OrderLeads end_at_rest (Turn code) order m ks last rest → Came w order last rest (count + length order)
     all_entries [] w m ks last rest count s size low (same, kept) = record {
-      trace = [];
+      spans = [];
+      takes = refl;
       stands = record { even = s.even; memory = s.memory ∙ sym same; parts = subst (λ x. AllRestAs code x w.parts) (sym kept) s.parts };
       low = omega (arith, low);
       undropped = λ u. refl;
@@ -133,24 +167,26 @@ module _ {C : Type 0} (code : C → Effect C) where
     all_entries (t ∷ order) w m ks last rest count s size low (mid, mids, e, more) =
         let first = one_entry w t m ks mid mids count s size low e in
         let f = first.0 in
-        let then_ = all_entries order (run code f.trace w) mid mids last rest (suc count) f.stands first.1 f.low more in
+        let then_ = all_entries order (run code (replicate f.steps t) w) mid mids last rest (suc count) f.stands first.1 f.low more in
         record {
-          trace = f.trace ++ then_.trace;
-          stands = subst (WorldRests code last rest) (sym (run-append code f.trace then_.trace w)) then_.stands;
-          low = let l = then_.low in let same = ap (λ (x : World C). x.lock) (run-append code f.trace then_.trace w) in omega (arith, l, same);
-          undropped = λ u. drops_append code u f.trace then_.trace w ∙ ap₂ (λ a b. a + b) (f.undropped u) (then_.undropped u);
+          spans = (t, f.steps) ∷ then_.spans;
+          takes = (f.steps, then_.spans, refl, f.turn, then_.takes);
+          stands = subst (WorldRests code last rest) (sym (run-append code (replicate f.steps t) (steps_in then_.spans) w)) then_.stands;
+          low = let l = then_.low in let same = ap (λ (x : World C). x.lock) (run-append code (replicate f.steps t) (steps_in then_.spans) w) in omega (arith, l, same);
+          undropped = λ u. drops_append code u (replicate f.steps t) (steps_in then_.spans) w ∙ ap₂ (λ a b. a + b) (f.undropped u) (then_.undropped u);
         }
 
   module _ (init : ℕ → C) (p : Program) where
     -- up to where all threads rest, before any transaction
     pub record Begun (front : List (Part C)) (t : ℕ) (ks : List (Sequential C)) (lock : ℕ) (words : Memory) : Type 0 where
-      pub trace : List ℕ
+      pub spans : List Span
       pub back : List (Part C)
-      pub world : run code trace (record { lock = lock; words = words; parts = front ++ new_parts init t (length ks) }) ≡ record { lock = lock; words = words; parts = front ++ back }
+      pub begins : AreBegun code (record { lock = lock; words = words; parts = front ++ new_parts init t (length ks) }) t (length ks) spans
+      pub world : run code (steps_in spans) (record { lock = lock; words = words; parts = front ++ new_parts init t (length ks) }) ≡ record { lock = lock; words = words; parts = front ++ back }
       pub rests : AllRestAs code ks back
-      pub undropped : (u : ℕ) → drops code u trace (record { lock = lock; words = words; parts = front ++ new_parts init t (length ks) }) ≡ 0
+      pub undropped : (u : ℕ) → drops code u (steps_in spans) (record { lock = lock; words = words; parts = front ++ new_parts init t (length ks) }) ≡ 0
 
-    first_rest : (t : ℕ) (k : Sequential C) (lock : ℕ) (words : List ℕ) → Rests code (bounds p) init t [] [] k → RestsAs code k (outside_thread k.configuration k.text k.status) × ((n : ℕ) × (solo code n (out_solo lock words (init t) [] Running) ≡ out_solo lock words k.configuration k.text k.status))
+    first_rest : (t : ℕ) (k : Sequential C) (lock : ℕ) (words : List ℕ) → Rests code (bounds p) init t [] [] k → RestsAs code k (outside_thread k.configuration k.text k.status) × ((n : ℕ) × (solo code n (out_solo lock words (init t) [] Running) ≡ out_solo lock words k.configuration k.text k.status) × AllGoOn code n (out_solo lock words (init t) [] Running))
     first_rest t k lock words r =
         let a : There code (steps code r.made (start (init t) [])) (out_solo lock words (init t) [] Running) lock words [] = after code lock words [] r.made (init t) [] Running in
         let is : record k { lefts = [] } ≡ found_all a.c [] a.text a.status a.wants = sym r.does ∙ a.meaning in (
@@ -161,11 +197,11 @@ module _ {C : Type 0} (code : C → Effect C) where
                 (subst (λ (x : Sequential C). (x.status ≡ Running) × ((e : C) × (d : C) × (code x.configuration ≡ BeginEffect e d))) (sym is) (a.begins (sym (ap (λ (x : Sequential C). x.wants) is) ∙ w)));
             thread = refl;
           },
-          (a.reach.0, a.reach.1 ∙ (λ i. out_solo lock words (sym is i).configuration (sym is i).text (sym is i).status)),
+          (a.reach.0, a.reach.1 ∙ (λ i. out_solo lock words (sym is i).configuration (sym is i).text (sym is i).status), a.reach.2),
         )
 
     pub begin_all : (ks : List (Sequential C)) (front : List (Part C)) (t lock : ℕ) (words : Memory) → length front ≡ t → AllBegin (Rests code (bounds p) init) t ks → Begun front t ks lock words
-    begin_all [] front t lock words size b = record { trace = []; back = []; world = refl; rests = tt; undropped = λ u. refl }
+    begin_all [] front t lock words size b = record { spans = []; back = []; begins = refl; world = refl; rests = tt; undropped = λ u. refl }
     begin_all (k ∷ ks) front t lock words size (r, b) =
         let others : List (Part C) = new_parts init (suc t) (length ks) in
         let mine : Part C = new_part (init t) in
@@ -182,11 +218,21 @@ module _ {C : Type 0} (code : C → Effect C) where
         let none : drops code t (replicate f.1.0 t) (world_of (front ++ mine ∷ others)) ≡ 0 = made.dropped in
         let more = begin_all ks (front ++ now ∷ []) (suc t) lock words (length_more code front now ∙ ap suc size) (subst (λ v. AllBegin (Rests code (bounds p) init) v ks) up b) in
         record {
-          trace = replicate f.1.0 t ++ more.trace;
+          spans = (t, f.1.0) ∷ more.spans;
           back = now ∷ more.back;
-          world = run-append code (replicate f.1.0 t) more.trace (world_of (front ++ mine ∷ others)) ∙ ap (run code more.trace) goes ∙ more.world ∙ ap world_of (append_assoc front (now ∷ []) more.back);
+          begins = (
+            f.1.0,
+            more.spans,
+            refl,
+            record {
+              first = λ n lt r. going_at code f.1.0 n (out_solo lock words (init t) [] Running) f.1.2 lt (rests_beside code (world_of (front ++ mine ∷ others)) t mine n here r);
+              rests = rests_in_world code (world_of (front ++ mine ∷ others)) t mine f.1.0 end here f.1.1 (at_rest code k end.thread f.0);
+            },
+            subst (λ x. AreBegun code x (suc t) (length ks) more.spans) (sym goes) more.begins,
+          );
+          world = run-append code (replicate f.1.0 t) (steps_in more.spans) (world_of (front ++ mine ∷ others)) ∙ ap (run code (steps_in more.spans)) goes ∙ more.world ∙ ap world_of (append_assoc front (now ∷ []) more.back);
           rests = (f.0, more.rests);
-          undropped = λ u. drops_append code u (replicate f.1.0 t) more.trace (world_of (front ++ mine ∷ others)) ∙ ap₂ (λ a b. a + b) (no_drops code t f.1.0 (world_of (front ++ mine ∷ others)) none u) (ap (drops code u more.trace) goes ∙ more.undropped u);
+          undropped = λ u. drops_append code u (replicate f.1.0 t) (steps_in more.spans) (world_of (front ++ mine ∷ others)) ∙ ap₂ (λ a b. a + b) (no_drops code t f.1.0 (world_of (front ++ mine ∷ others)) none u) (ap (drops code u (steps_in more.spans)) goes ∙ more.undropped u);
         }
 
     module _ (fits : FitsCells code (bounds p)) (is_memory : IsMemory (bounds p) (initial_memory p)) where
@@ -194,15 +240,22 @@ module _ {C : Type 0} (code : C → Effect C) where
       orders_are_steps ks order last rest begin leads short =
           let m0 = initial_memory p in
           let b : Begun [] 0 ks 0 m0 = begin_all ks [] 0 0 m0 refl begin in
-          let first : WorldRests code m0 ks (run code b.trace (new_world init m0 (length ks))) = subst (WorldRests code m0 ks) (sym b.world) (record { even = refl; memory = refl; parts = b.rests }) in
-          let low : (run code b.trace (new_world init m0 (length ks))).lock ≤ 2 * 0 = subst (λ (x : World C). x.lock ≤ 2 * 0) (sym b.world) (omega arith) in
-          let c = all_entries (bounds p) fits order (run code b.trace (new_world init m0 (length ks))) m0 ks last rest 0 first (sized (bounds p) m0 is_memory) low leads in
-          let joined = run-append code b.trace c.trace (new_world init m0 (length ks)) in
-          let there : WorldRests code last rest (world_after code init m0 (length ks) (b.trace ++ c.trace)) = subst (WorldRests code last rest) (sym joined) c.stands in
-          let below : (run code (b.trace ++ c.trace) (new_world init m0 (length ks))).lock < 2 ^ 64 - 1 =
+          let first : World C = run code (steps_in b.spans) (new_world init m0 (length ks)) in
+          let rested : WorldRests code m0 ks first = subst (WorldRests code m0 ks) (sym b.world) (record { even = refl; memory = refl; parts = b.rests }) in
+          let low : first.lock ≤ 2 * 0 = subst (λ (x : World C). x.lock ≤ 2 * 0) (sym b.world) (omega arith) in
+          let c = all_entries (bounds p) fits order first m0 ks last rest 0 rested (sized (bounds p) m0 is_memory) low leads in
+          let ts : List ℕ = steps_in b.spans ++ steps_in c.spans in
+          let joined = run-append code (steps_in b.spans) (steps_in c.spans) (new_world init m0 (length ks)) in
+          let there : WorldRests code last rest (world_after code init m0 (length ks) ts) = subst (WorldRests code last rest) (sym joined) c.stands in
+          let below : (run code ts (new_world init m0 (length ks))).lock < 2 ^ 64 - 1 =
           let l = c.low in let same = ap (λ (x : World C). x.lock) joined in omega (arith, l, same, short) in (
-            b.trace ++ c.trace,
+            ts,
             there,
-            reached_run code init (bounds p) m0 is_memory fits (length ks) (b.trace ++ c.trace) (new_world init m0 (length ks)) (start_of m0) (new_invariant code init (bounds p) m0 is_memory (length ks)) below Reached.new,
-            λ u. drops_append code u b.trace c.trace (new_world init m0 (length ks)) ∙ ap₂ (λ x y. x + y) (b.undropped u) (c.undropped u),
+            reached_run code init (bounds p) m0 is_memory fits (length ks) ts (new_world init m0 (length ks)) (start_of m0) (new_invariant code init (bounds p) m0 is_memory (length ks)) below Reached.new,
+            λ u. drops_append code u (steps_in b.spans) (steps_in c.spans) (new_world init m0 (length ks)) ∙ ap₂ (λ x y. x + y) (b.undropped u) (c.undropped u),
+            (
+              b.spans ++ c.spans,
+              record { begun = b.spans; turns = c.spans; begins = b.begins; takes = c.takes; are = refl },
+              sym (steps_append b.spans c.spans),
+            ),
           )

@@ -19,13 +19,14 @@ use Rattle.bytecode.proofs.Tables.{some_same}
 use Rattle.bytecode.specs.Sequential.{Sequential, end_of, meaning, next, outcome_of, outside, start, steps}
 use Rattle.syntax.proofs.ThreadLaws.{more_ticks}
 use Rattle.syntax.proofs.Words.{begins_with_memory}
+use Rattle.machine.specs.Resting.{IsAtBegin, IsThreadAtRest}
 use Rattle.machine.specs.Drops.{drops}
 use Rattle.machine.specs.Serializable.{world_after}
 use Rattle.machine.specs.Threads.{Thread}
 use Rattle.machine.specs.Worlds.{Part, Reached, new_world}
 use Rattle.machine.proofs.alone.Alone.{out_solo}
 use Rattle.machine.proofs.alone.Lefts.{leaves_memories}
-use Rattle.machine.proofs.alone.Transaction.{Left, found_all}
+use Rattle.machine.proofs.alone.Transaction.{Left, begun_solo, found_all}
 use Rattle.machine.proofs.alone.Transaction.{after as after_steps}
 use Rattle.machine.proofs.parts.Memories.{sized}
 use Rattle.machine.proofs.runs.Drops.{last_of}
@@ -37,10 +38,10 @@ use Rattle.states.specs.Shown.{IsOrderAmong, NoneIsSpent, told_at_rest, told_in,
 use Rattle.states.proofs.Later.{after, after_size, entries_more, founds_at, get_set, unspent_before, unspent_in, wants_or}
 use Rattle.states.proofs.Leading.{stays}
 use Rattle.states.proofs.Resting.{Ready, behind, comes, goes, more_steps, ready, steps_behind}
-use Rattle.order_steps.specs.Resting.{AllRestAs, IsAtBegin, IsThreadAtRest, RestsAs, WorldRests}
-use Rattle.order_steps.specs.Stepped.{MachineDoesAll, SourceOrdersAreSteps, SourceOrdersLead, end_when_idle, told_when_idle}
+use Rattle.order_steps.specs.Resting.{AllRestAs, RestsAs, WorldRests}
+use Rattle.order_steps.specs.Stepped.{AreStepsOf, MachineDoesAll, SourceOrdersAreSteps, SourceOrdersLead, end_when_idle, told_when_idle}
 use Rattle.order_steps.proofs.Ordering.{orders_are_steps}
-use Rattle.order_steps.proofs.Turns.{at_begin, from_begin, stays_over}
+use Rattle.order_steps.proofs.Turns.{at_begin, at_rest, from_begin, stays_over}
 
 there_is : {X : Type 0} (xs : List X) (t : ℕ) → t < length xs → (x : X) × (slice_get xs t ≡ Some x)
 there_is [] t lt = absurd (omega (arith, lt))
@@ -72,18 +73,11 @@ module _ {C : Type 0} (code : C → Effect C) where
       (ap (λ (th : Thread C). (th.text, end_when_idle th.status)) r.thread ∙ ap (λ e. (k.text, e)) (same_end k.wants k.status r.rests.goes_no_further (λ w. (r.begins w).running)))
       (told_alike ks ps rs)
 
-  idle_one : (k : Sequential C) (th : Thread C) → RestsAs code k th → IsThreadAtRest code th
-  idle_one k th r = subst (IsThreadAtRest code) (sym r.thread) (record { attempt = refl; begins = λ runs. by runs r.rests.goes_no_further })
-    where
-      by : k.status ≡ Running → (k.wants ≡ true) ⊎ (k.status ≢ Running) → IsAtBegin code k.configuration k.status
-      by runs (inl w) = r.begins w
-      by runs (inr over) = absurd (over runs)
-
   idle_all : (ks : List (Sequential C)) (ps : List (Part C)) → AllRestAs code ks ps → AllByRecursion (λ (x : Part C). IsThreadAtRest code x.thread) ps
   idle_all [] [] rs = tt
   idle_all [] (p ∷ ps) rs = elim rs [ ]
   idle_all (k ∷ ks) [] rs = elim rs [ ]
-  idle_all (k ∷ ks) (p ∷ ps) (r, rs) = (idle_one k p.thread r, idle_all ks ps rs)
+  idle_all (k ∷ ks) (p ∷ ps) (r, rs) = (at_rest code k p.thread r, idle_all ks ps rs)
 
   module _ (init : ℕ → C) (p : Program) (fits : FitsCells code (bounds p)) (is_memory : IsMemory (bounds p) (initial_memory p)) (means : Means (bounds p) (meaning code init) (thread p)) where
     -- thread t rests as k, where it has found these memories and left those
@@ -187,7 +181,7 @@ module _ {C : Type 0} (code : C → Effect C) where
             sym (stays_over code first.few last over) ∙ sym (more_steps code j.0 first.few (start (init t) f')) ∙ ap (λ n. steps code n (start (init t) f')) swap
             ∙ more_steps code first.few j.0 (start (init t) f') ∙ ap (steps code j.0) at ∙ steps_behind code j.0 ls found
 
-        l : Left code (bounds p) fits 0 (steps code j.0 found) (out_solo 0 m k.configuration k.text Running) []
+        l : Left code (bounds p) fits 0 (steps code j.0 found) (begun_solo 0 m k.configuration b.first k.text) []
         l = from_begin code (bounds p) fits 0 m refl (sized (bounds p) m is) j.0 k.configuration k.text b.first b.cancelled b.begins (subst (λ (x : Sequential C). (x.wants ≡ true) ⊎ (x.status ≢ Running)) comes_to over)
 
         k' : Sequential C
@@ -388,7 +382,7 @@ module _ {C : Type 0} (code : C → Effect C) where
     pub source_orders_are_steps : SourceOrdersAreSteps code init p
     source_orders_are_steps count ticks order few named none short =
         let l = source_orders_lead count ticks order few named none in
-        let made = subst (λ c. (ts : List ℕ) × WorldRests code l.last l.rest (world_after code init (initial_memory p) c ts) × Reached code init (initial_memory p) c (world_after code init (initial_memory p) c ts) × ((t : ℕ) → drops code t ts (new_world init (initial_memory p) c) ≡ 0)) l.many
+        let made = subst (λ c. (ts : List ℕ) × WorldRests code l.last l.rest (world_after code init (initial_memory p) c ts) × Reached code init (initial_memory p) c (world_after code init (initial_memory p) c ts) × ((t : ℕ) → drops code t ts (new_world init (initial_memory p) c) ≡ 0) × AreStepsOf code init (initial_memory p) c order ts) l.many
         (orders_are_steps code init p fits is_memory l.ks order l.last l.rest l.begin l.leads short) in
         record {
           trace = made.0;
@@ -398,6 +392,7 @@ module _ {C : Type 0} (code : C → Effect C) where
           told = told_alike l.rest _ made.1.parts ∙ sym l.told;
           idle = idle_all l.rest _ made.1.parts;
           undropped = made.3;
+          turns = made.4;
         }
 
 pub machine_does_all : {C : Type 0} (code : C → Effect C) (init : ℕ → C) → MachineDoesAll code init

@@ -1,21 +1,21 @@
 -- A turn of a thread that rests is steps of it alone.
-use Rattle.std.proofs.Common.{◌≡◌, ◌≢◌, inl, inr, ◌%◌, ℕ, zero, suc, Bool, true, false, List, [], ◌∷◌, Some, refl, sym, ◌∙◌, ap, subst, length, set as slice_set, slice_get}
+use Rattle.std.proofs.Common.{◌≡◌, ◌≢◌, ◌⊎◌, inl, inr, ◌%◌, ℕ, zero, suc, Bool, true, false, List, [], ◌∷◌, Some, refl, sym, ◌∙◌, ap, subst, length, set as slice_set, slice_get}
 use Rattle.syntax.specs.Behaviours.{Memory}
-use Rattle.syntax.specs.Orders.{last_left}
 use Rattle.syntax.specs.declared.numbers.Status.{Status}
 use Rattle.syntax.specs.declared.numbers.Status.TheVariants.{Running, Ended as HasEnded, Trapped as HasTrapped}
 use Rattle.bytecode.specs.Effects.{Effect, FitsCells}
 use Rattle.bytecode.specs.Effects.Effect.{Begin}
 use Rattle.bytecode.specs.Sequential.{Sequential, next, outside, outside_step, sequential_step, steps}
-use Rattle.machine.specs.Solo.{GoesAs, GoesNoFurther, outside_thread}
+use Rattle.machine.specs.Resting.{IsAtBegin, IsThreadAtRest}
+use Rattle.machine.specs.Solo.{GoesNoFurther, outside_thread}
 use Rattle.machine.specs.Threads.{Thread}
 use Rattle.machine.specs.Worlds.{Part, World}
-use Rattle.machine.proofs.alone.Alone.{out_solo}
-use Rattle.machine.proofs.alone.Beside.{goes_as}
-use Rattle.machine.proofs.alone.Transaction.{Did, Left, begins, ends, found_all, left_did, not_yet}
+use Rattle.machine.proofs.alone.Alone.{Solo, out_solo, solo, solo_with}
+use Rattle.machine.proofs.alone.Beside.{ComesBeside, comes_beside, rests_beside, rests_in_world, solo_of}
+use Rattle.machine.proofs.alone.Transaction.{Left, begin_step, begins, begun_solo, ends, found_all, going_at, not_yet}
 use Rattle.states.specs.Rests.{Turn}
 use Rattle.states.proofs.Resting.{stays_wanting}
-use Rattle.order_steps.specs.Resting.{IsAtBegin, RestsAs}
+use Rattle.order_steps.specs.Resting.{RestsAs}
 use Rattle.order_steps.specs.Stepped.{ComesToRest, GetsOn}
 
 module _ {C : Type 0} (code : C → Effect C) where
@@ -44,15 +44,23 @@ module _ {C : Type 0} (code : C → Effect C) where
   pub at_begin : (c : C) (status : Status) → (status ≡ Running) × ((e : C) × (d : C) × (code c ≡ Begin e d)) → IsAtBegin code c status
   at_begin c status b = record { running = b.0; first = b.1.0; cancelled = b.1.1; begins = b.1.2 }
 
+  -- a thread that rests as the code's does
+  pub at_rest : (k : Sequential C) (th : Thread C) → RestsAs code k th → IsThreadAtRest code th
+  at_rest k th r = subst (IsThreadAtRest code) (sym r.thread) (record { attempt = refl; begins = λ runs. by runs r.rests.goes_no_further })
+    where
+      by : k.status ≡ Running → (k.wants ≡ true) ⊎ (k.status ≢ Running) → IsAtBegin code k.configuration k.status
+      by runs (inl w) = r.begins w
+      by runs (inr over) = absurd (over runs)
+
   module _ (bounds : List ℕ) (fits : FitsCells code bounds) where
     -- from an outermost begin to where the meaning goes no further
     pub from_begin : (lock : ℕ) (words : List ℕ) → lock % 2 ≡ 0 → length words ≡ length bounds → (n : ℕ) (c : C) (text : List ℕ) (e d : C) → code c ≡ Begin e d
-        → GoesNoFurther (steps code n (outside c (words ∷ []) [] text Running)) → Left code bounds fits lock (steps code n (outside c (words ∷ []) [] text Running)) (out_solo lock words c text Running) []
+        → GoesNoFurther (steps code n (outside c (words ∷ []) [] text Running)) → Left code bounds fits lock (steps code n (outside c (words ∷ []) [] text Running)) (begun_solo lock words c e text) []
     from_begin lock words even sized zero c text e d ex over = absurd (not_yet code bounds fits over)
     from_begin lock words even sized (suc n) c text e d ex over =
         let o : Sequential C = outside c (words ∷ []) [] text Running in
-        subst (λ x. Left code bounds fits lock (steps code n (outside_step o x)) (out_solo lock words c text Running) []) (sym ex)
-        (ends code bounds fits lock (steps code n (outside_step o (Begin e d))) (out_solo lock words c text Running) words [] (begins code bounds fits lock words even sized n c text e d ex)
+        subst (λ x. Left code bounds fits lock (steps code n (outside_step o x)) (begun_solo lock words c e text) []) (sym ex)
+        (ends code bounds fits lock (steps code n (outside_step o (Begin e d))) (begun_solo lock words c e text) words [] (begins code bounds fits lock words even sized n c text e d ex)
         (subst (λ x. GoesNoFurther (steps code n (outside_step o x))) ex over))
 
     -- with the words' number
@@ -70,21 +78,23 @@ module _ {C : Type 0} (code : C → Effect C) where
       wanted : k.wants ≡ true → Got w t left after
       wanted wants = record {
         comes = record {
-          steps = g.steps;
-          part = g.part;
-          lock = g.lock;
-          world = g.world ∙ ap (λ (x : Sequential C). record { lock = g.lock; words = last_left w.words x.lefts; parts = slice_set w.parts t g.part }) does;
-          rests = record {
-            rests = turn.rests;
-            outside = ap (λ (x : Sequential C). x.inside) is;
-            begins = λ wants'. at_begin after.configuration after.status
-                (subst (λ (x : Sequential C). (x.status ≡ Running) × ((e : C) × (d : C) × (code x.configuration ≡ Begin e d))) (sym is) (l.there.begins (sym (ap (λ (x : Sequential C). x.wants) is) ∙ wants')));
-            thread = g.thread ∙ (λ i. outside_thread (does i).configuration (does i).text (does i).status);
-          };
-          locked = g.locked;
-          undropped = g.undropped;
+          steps = suc made;
+          part = part;
+          lock = l.lock;
+          world = c.world ∙ ap (λ m. record { lock = l.lock; words = m; parts = slice_set w.parts t part }) (sym is_left);
+          rests = rests_as;
+          locked = l.moved;
+          undropped = c.dropped;
+          turn = (
+            record { part = p; there = here; running = ap (λ (th : Thread C). th.status) rests.thread ∙ b.running },
+            record {
+              first = λ m lt r. going_at code made m (begun_solo w.lock w.words k.configuration b.first k.text) l.there.reach.2 lt
+                  (subst (λ x. IsThreadAtRest code (solo code m x).thread) second (rests_beside code w t p (suc m) here r));
+              rests = rests_in_world code w t p (suc made) end here came (at_rest after end.thread rests_as);
+            },
+          );
         };
-        sized = ap length (one left l.left [] (ap (λ (x : Sequential C). x.lefts) is)) ∙ l.sized;
+        sized = ap length is_left ∙ l.sized;
       }
         where
           b : IsAtBegin code k.configuration k.status
@@ -96,16 +106,44 @@ module _ {C : Type 0} (code : C → Effect C) where
           does : steps code turn.made begun ≡ record after { lefts = left ∷ [] }
           does = ap (steps code turn.made) first ∙ turn.does
 
-          l : Left code bounds fits w.lock (steps code turn.made begun) (out_solo w.lock w.words k.configuration k.text Running) []
+          l : Left code bounds fits w.lock (steps code turn.made begun) (begun_solo w.lock w.words k.configuration b.first k.text) []
           l = from_begin w.lock w.words even sized turn.made k.configuration k.text b.first b.cancelled b.begins (subst GoesNoFurther (sym does) turn.rests.goes_no_further)
-
-          g : GoesAs code w t (steps code turn.made begun)
-          g = goes_as code bounds fits w t p (steps code turn.made begun) here
-              (subst (λ (th : Thread C). Did code bounds fits w.lock w.words (steps code turn.made begun) (record { lock = w.lock; words = w.words; thread = th; drops = 0 })) (sym (rests.thread ∙ ap (outside_thread k.configuration k.text) b.running))
-              (left_did code bounds fits w.lock w.words (steps code turn.made begun) (out_solo w.lock w.words k.configuration k.text Running) l))
 
           is : record after { lefts = left ∷ [] } ≡ found_all l.there.c (l.left ∷ []) l.there.text l.there.status l.there.wants
           is = sym does ∙ l.there.meaning
+
+          is_left : left ≡ l.left
+          is_left = one left l.left [] (ap (λ (x : Sequential C). x.lefts) is)
+
+          made : ℕ
+          made = l.there.reach.0
+
+          end : Solo C
+          end = out_solo l.lock l.left l.there.c l.there.text l.there.status
+
+          alone_is : solo_of code w p ≡ out_solo w.lock w.words k.configuration k.text Running
+          alone_is = ap (λ th. record { lock = w.lock; words = w.words; thread = th; drops = 0 }) (rests.thread ∙ ap (outside_thread k.configuration k.text) b.running)
+
+          second : solo_with code (code (solo_of code w p).thread.configuration) (solo_of code w p) ≡ begun_solo w.lock w.words k.configuration b.first k.text
+          second = ap (λ (x : Solo C). solo_with code (code x.thread.configuration) x) alone_is ∙ begin_step code bounds fits w.lock w.words even sized k.configuration k.text b.first b.cancelled b.begins
+
+          came : solo code (suc made) (solo_of code w p) ≡ end
+          came = ap (solo code made) second ∙ l.there.reach.1
+
+          c : ComesBeside code w t (suc made) end
+          c = comes_beside code w t p (suc made) end here came
+
+          part : Part C
+          part = record { thread = end.thread; base = c.base; records = c.records }
+
+          rests_as : RestsAs code after part.thread
+          rests_as = record {
+            rests = turn.rests;
+            outside = ap (λ (x : Sequential C). x.inside) is;
+            begins = λ wants'. at_begin after.configuration after.status
+                (subst (λ (x : Sequential C). (x.status ≡ Running) × ((e : C) × (d : C) × (code x.configuration ≡ Begin e d))) (sym is) (l.there.begins (sym (ap (λ (x : Sequential C). x.wants) is) ∙ wants')));
+            thread = λ i. outside_thread (sym is i).configuration (sym is i).text (sym is i).status;
+          }
 
       -- a thread that is over leaves no memory
       none_left : k.status ≢ Running → ⊥

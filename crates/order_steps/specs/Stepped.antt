@@ -11,13 +11,15 @@ use Rattle.syntax.specs.Tree.{Program}
 use Rattle.bytecode.specs.Effects.{Effect, FitsCells}
 use Rattle.bytecode.specs.Sequential.{Sequential, meaning}
 use Rattle.machine.specs.Drops.{drops}
+use Rattle.machine.specs.Resting.{IsThreadAtRest}
+use Rattle.machine.specs.Turns.{AreSpansOf, IsTurnOf, Span, steps_in}
 use Rattle.machine.specs.Worlds.{Part, World, Reached, new_world, run}
 use Rattle.machine.specs.Serializable.{world_after}
 use Rattle.states.specs.Kept.{AllBegin}
 use Rattle.states.specs.Leads.{OrderLeads}
 use Rattle.states.specs.Rests.{Rests, Turn, end_at_rest, text_at_rest}
 use Rattle.states.specs.Shown.{IsOrderAmong, NoneIsSpent, ToldOfThread, memory_in, told_at_rest, told_in}
-use Rattle.order_steps.specs.Resting.{IsThreadAtRest, RestsAs, WorldRests}
+use Rattle.order_steps.specs.Resting.{RestsAs, WorldRests}
 
 -- some number of steps of thread t alone leave these words and the thread at rest as next: no other part is another
 -- one, the lock is the same or two higher, and no step drops an attempt
@@ -31,6 +33,8 @@ pub record ComesToRest {C : Type 0} (code : C → Effect C) (w : World C) (t : �
   pub rests : RestsAs code next part.thread
   pub locked : (lock ≡ w.lock) ⊎ (lock ≡ w.lock + 2)
   pub undropped : drops code t (replicate steps t) w ≡ 0
+  -- it does not rest on the way
+  pub turn : IsTurnOf code w t steps
 
 -- From every world whose lock is free, where thread t rests as k, wherever the other threads are: a turn of it is some
 -- number of its steps alone.
@@ -39,6 +43,12 @@ GetsOn {C} code bounds =
     (w : World C) (t : ℕ) (p : Part C) (k : Sequential C) (left : Memory) (next : Sequential C) →
     w.lock % 2 ≡ 0 → length w.words ≡ length bounds → slice_get w.parts t ≡ Some p → RestsAs code k p.thread →
     Turn code k w.words left next → ComesToRest code w t left next
+
+-- the steps are turns of an order, each made by its thread alone
+abbrev pub AreStepsOf : {C : Type 0} → (C → Effect C) → (ℕ → C) → Memory → (threads : ℕ) → (order : List ℕ) → List ℕ →
+    Type 0
+AreStepsOf code init m0 threads order ts =
+    (spans : List Span) × AreSpansOf code init m0 threads order spans × (ts ≡ steps_in spans)
 
 -- an order of transactions is a list of the machine's steps, which do not stop
 abbrev pub OrdersAreSteps : {C : Type 0} → (C → Effect C) → (ℕ → C) → Program → Type 0
@@ -49,6 +59,13 @@ OrdersAreSteps {C} code init p =
     (ts : List ℕ) × WorldRests code last rest (world_after code init (initial_memory p) (length ks) ts)
     × Reached code init (initial_memory p) (length ks) (world_after code init (initial_memory p) (length ks) ts)
     × ((t : ℕ) → drops code t ts (new_world init (initial_memory p) (length ks)) ≡ 0)
+    × AreStepsOf code init (initial_memory p) (length ks) order ts
+
+-- each turn ends where its thread rests for the first time, so that the turns of an order are determined
+abbrev pub TurnsAreDetermined : {C : Type 0} → (C → Effect C) → (ℕ → C) → Type 0
+TurnsAreDetermined code init =
+    (m0 : Memory) (threads : ℕ) (order : List ℕ) (xs ys : List Span) → AreSpansOf code init m0 threads order xs →
+    AreSpansOf code init m0 threads order ys → xs ≡ ys
 
 -- what is told of a thread of the machine that has no attempt and goes no further by itself
 abbrev pub end_when_idle : Status → ThreadEnd
@@ -77,8 +94,8 @@ SourceOrdersLead code init p =
     (count ticks : ℕ) (order : List ℕ) → count ≤ 2 ^ 32 → IsOrderAmong count order →
     NoneIsSpent (told_in p count ticks order) → LeadsToRest code init p count ticks order
 
--- a list of steps that do not stop leaves a free lock, the memory of an order, and what the order tells of each thread;
--- no step drops an attempt
+-- A list of steps that do not stop leaves a free lock, the memory of an order, and what the order tells of each thread.
+-- No step drops an attempt, and the steps are the order's turns.
 pub record IsStepped {C : Type 0} (code : C → Effect C) (init : ℕ → C) (p : Program) (count ticks : ℕ)
     (order : List ℕ) : Type 0 where
   pub trace : List ℕ
@@ -90,6 +107,7 @@ pub record IsStepped {C : Type 0} (code : C → Effect C) (init : ℕ → C) (p 
   pub idle : AllByRecursion (λ (x : Part C). IsThreadAtRest code x.thread)
       (world_after code init (initial_memory p) count trace).parts
   pub undropped : (t : ℕ) → drops code t trace (new_world init (initial_memory p) count) ≡ 0
+  pub turns : AreStepsOf code init (initial_memory p) count order trace
 
 -- each order of the source in which no thread is spent is a list of the machine's steps
 abbrev pub SourceOrdersAreSteps : {C : Type 0} → (C → Effect C) → (ℕ → C) → Program → Type 0

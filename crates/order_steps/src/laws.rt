@@ -8,7 +8,7 @@ ghost use Rattle.syntax.specs.Threads.{thread as source};
 ghost use Rattle.syntax.specs.Tree.{Program};
 ghost use Rattle.bytecode.specs.Effects.{Effect, FitsCells};
 ghost use Rattle.bytecode.specs.Sequential.{meaning};
-ghost use Rattle.order_steps.specs.Stepped.{GetsOn, MachineDoesAll, OrdersAreSteps, SourceOrdersLead};
+ghost use Rattle.order_steps.specs.Stepped.{GetsOn, MachineDoesAll, OrdersAreSteps, SourceOrdersLead, TurnsAreDetermined};
 
 /// A turn of a thread that rests, from its begin to where it rests again, is some number of its steps alone, from every
 /// world whose lock is free and wherever the other threads are. No attempt is dropped.
@@ -17,7 +17,8 @@ pub fn turns_are_steps<C>()
 {}
 
 /// Each order of turns is a list of steps, of which none stops and none drops an attempt: it leads to a free lock, the
-/// memory that the order leaves, and each thread where the order's rests.
+/// memory that the order leaves, and each thread where the order's rests. The steps are the order's turns: each is made by
+/// its thread alone, from an outermost begin to where it rests for the first time.
 pub fn orders_are_steps<C>()
     ensures { (code : C → Effect C) (init : ℕ → C) (p : Program) → FitsCells code (program_bounds p) →
         OrdersAreSteps code init p }
@@ -28,6 +29,11 @@ pub fn orders_are_steps<C>()
 pub fn source_orders_lead<C>()
     ensures { (code : C → Effect C) (init : ℕ → C) (p : Program) → FitsCells code (program_bounds p) →
         Means (program_bounds p) (meaning code init) (source p) → SourceOrdersLead code init p }
+{}
+
+/// The turns of an order are determined: each of them ends where its thread rests for the first time.
+pub fn turns_are_determined<C>()
+    ensures { (code : C → Effect C) (init : ℕ → C) → TurnsAreDetermined code init }
 {}
 
 /// What the source can do, the machine can: each order of the source in which no thread is spent, of fewer than

@@ -6,6 +6,8 @@ pub mod Lines
 pub mod Words
 -- the steps that lines name
 pub mod Playing
+-- schedules of orders
+pub mod Turns
 -- lines that are written
 pub mod Writing
 -- what is shown of steps, one more at the end

@@ -21,13 +21,13 @@ use Rattle.replay.specs.inner.Playing.{ComesTo, Going, HaltsAt, HaltsIn, HasPlay
 
 module _ (code : Code) where
   -- a line that is done names nothing
-  done_line : (n : ℕ) (l : Line) (ls : List Line) (w : World Configuration) → is_done w l ≡ true → steps_of code n (l ∷ ls) w ≡ steps_of code n ls w
+  pub done_line : (n : ℕ) (l : Line) (ls : List Line) (w : World Configuration) → is_done w l ≡ true → steps_of code n (l ∷ ls) w ≡ steps_of code n ls w
   unfolding steps_of
   done_line zero l ls w e = refl
   done_line (suc n) l ls w e = ap (λ (b : Bool). steps_with code (steps_of code n) (cond b (lines_left w ls) (l ∷ ls)) w) e
 
   -- one that is not names a step of its thread
-  one_more : (n : ℕ) (l : Line) (ls : List Line) (w : World Configuration) → is_done w l ≡ false → steps_of code (suc n) (l ∷ ls) w ≡ l.thread ∷ steps_of code n (line_after code w l ∷ ls) (step (effect code) w l.thread)
+  pub one_more : (n : ℕ) (l : Line) (ls : List Line) (w : World Configuration) → is_done w l ≡ false → steps_of code (suc n) (l ∷ ls) w ≡ l.thread ∷ steps_of code n (line_after code w l ∷ ls) (step (effect code) w l.thread)
   unfolding steps_of
   one_more n l ls w e = ap (λ (b : Bool). steps_with code (steps_of code n) (cond b (lines_left w ls) (l ∷ ls)) w) e
 
@@ -37,7 +37,7 @@ module _ (code : Code) where
   no_room ls w = refl
 
   -- nor with no lines
-  no_lines : (n : ℕ) (w : World Configuration) → steps_of code n [] w ≡ []
+  pub no_lines : (n : ℕ) (w : World Configuration) → steps_of code n [] w ≡ []
   unfolding steps_of
   no_lines zero w = refl
   no_lines (suc n) w = refl

@@ -1,5 +1,7 @@
 -- schedules as text
 pub mod Schedules
+-- schedules of orders
+pub mod Turns
 -- schedules of seeds
 pub mod Seeds
 -- which steps a schedule names, and what a replay reports

@@ -7,6 +7,7 @@ mod row;
 mod schedule;
 mod seed;
 mod shown;
+mod turns;
 mod write;
 
 pub use line::{Line, MOST_STEPS};
@@ -14,4 +15,5 @@ pub use play::replay;
 pub use schedule::{ScheduleFault, read_schedule};
 pub use seed::seeded;
 pub use shown::timeline;
+pub use turns::{TurnsFault, turns};
 pub use write::write_schedule;

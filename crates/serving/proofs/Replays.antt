@@ -55,7 +55,7 @@ replay_of p code threads found r made stop shown compiled replay made_is stop_is
     }
 
 -- a replay of a text's program
-pub replay_of_text : {A : Type 0} (threads : ℕ) (steps : Steps) (schedule : Option (List ℕ)) (text : List ℕ) (c : Compiled A) (found slice : List Line) (made : List ℕ) (stop : Option WorldStop) (shown : Printed) → IsSourceOf text (source_of c.accepted.safe.typed.unit) → IsCodeOf (program_of c.accepted.safe.typed.unit) c.code → AreLinesOf steps threads schedule found → slice ≡ found → IsReplayOf (program_of c.accepted.safe.typed.unit) c.code threads slice made stop shown → IsReplayOfText threads steps schedule text c.code made stop shown
+pub replay_of_text : {A : Type 0} (threads : ℕ) (steps : Steps) (schedule : Option (List ℕ)) (text : List ℕ) (c : Compiled A) (found slice : List Line) (made : List ℕ) (stop : Option WorldStop) (shown : Printed) → IsSourceOf text (source_of c.accepted.safe.typed.unit) → IsCodeOf (program_of c.accepted.safe.typed.unit) c.code → AreLinesOf steps c.code threads schedule found → slice ≡ found → IsReplayOf (program_of c.accepted.safe.typed.unit) c.code threads slice made stop shown → IsReplayOfText threads steps schedule text c.code made stop shown
 replay_of_text threads steps schedule text c found slice made stop shown spelled compiled lines same replay = record {
   compiled = compiles text c spelled compiled;
   found = found;
@@ -89,6 +89,10 @@ words_counted : (n : ℕ) (g : Lcg) → length (first_words pcg32 n g) ≡ n
 unfolding first_words
 words_counted zero g = refl
 words_counted (suc n) g = ap suc (words_counted n (pcg32 g).1)
+
+-- rows that ask for few enough lines are a schedule
+pub lines_written : (rows : List (List ℕ)) (found slice : List Line) → slice ≡ found → counts found ≤ MOST_STEPS → AreRows rows slice → AreLines rows found
+lines_written rows found slice same few asked = (subst (λ (ls : List Line). AreRows rows ls) same asked, few)
 
 -- rows that ask for the lines of a seed are a schedule
 pub lines_of : (seed threads count : ℕ) (rows : List (List ℕ)) (found slice : List Line) → found ≡ lines_of_seed seed threads count → slice ≡ found → count ≤ MOST_STEPS → AreRows rows slice → AreLines rows (lines_of_seed seed threads count)

@@ -4,7 +4,7 @@ use Rattle.command.specs.declared.request.Request.{Request}
 use Rattle.command.specs.declared.request.Request.TheVariants.{Program, Certify, Explain}
 use Rattle.command.specs.declared.request.Task.{Task}
 use Rattle.command.specs.declared.request.Task.TheVariants.{Check, Listing, Run, Replay, Timeline, Picture}
-use Rattle.command.specs.declared.request.Task.TheVariants.{PrintSchedule, Source, Outcomes}
+use Rattle.command.specs.declared.request.Task.TheVariants.{PrintOrder, PrintSchedule, Source, Outcomes}
 use Rattle.serving.specs.Certified.{CertifiesReport, WritesVerdict}
 use Rattle.serving.specs.Checks.{Accepts, SaysAccepted}
 use Rattle.serving.specs.Listings.{PrintsListing}
@@ -14,7 +14,8 @@ use Rattle.serving.specs.Orders.{RunsInOrder, RunsInSomeOrder}
 use Rattle.serving.specs.Runs.{RunsConcurrently}
 use Rattle.serving.specs.Pictures.{PrintsPicture, ReplaysDrawn}
 use Rattle.serving.specs.Written.{IsAskedFor, WritesPart}
-use Rattle.serving.specs.Replays.{PrintsSchedule, PrintsTimeline, Replays, ReplaysShown, behind_events, lines_of_seed}
+use Rattle.serving.specs.Replays.{PrintsOrder, PrintsSchedule, PrintsTimeline, Replays, ReplaysShown}
+use Rattle.serving.specs.Replays.{behind_events, lines_of_seed}
 
 -- a task with a text: the bytes that the writer had, if they are known, and those that it has then; a replay may have a
 -- schedule, whose bytes may be known
@@ -35,6 +36,8 @@ Answers (Picture threads steps) schedule text status old new =
     PrintsPicture (λ svg shown. ReplaysDrawn threads steps schedule text svg shown) status old new
 Answers (PrintSchedule threads seed count) schedule text status old new =
     PrintsSchedule (lines_of_seed seed threads count) text status old new
+Answers (PrintOrder threads order) schedule text status old new =
+    PrintsOrder threads order.items text status old new
 Answers (Source threads order ticks) schedule text status old new =
     PrintsReport (λ shown. RunsInOrder threads ticks order.items text shown × Accepts text) status old new
 Answers (Outcomes threads ticks limit) schedule text status old new = PrintsOutcomes threads ticks text status old new

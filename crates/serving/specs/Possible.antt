@@ -23,9 +23,10 @@ use Rattle.outcomes.specs.Outcomes.{NeverSpent}
 use Rattle.outcome_lists.specs.Lists.{OutcomeShown}
 use Rattle.world.specs.Simulations.{IsHolder, world_of}
 use Rattle.replay.specs.Replays.{simulation_after}
+use Rattle.replay.specs.Schedules.{counts}
+use Rattle.replay.specs.Turns.{AreLinesOfOrder}
 use Rattle.serving.specs.Shows.{order_shown}
 use Rattle.states.specs.Shown.{IsOrderAmong, NoneIsSpent, told_in}
-use Rattle.order_steps.specs.Stepped.{IsStepped}
 
 -- a thread that waits in an order runs in a replay
 abbrev pub waiting : End → End
@@ -35,12 +36,9 @@ waiting e = e
 abbrev pub as_waiting : ThreadShown → ThreadShown
 as_waiting t = record t { end = waiting t.end }
 
--- these lines are replayed to their end, the lock is free, and the report shows what that of the order shows
-pub record OrderIsReplayed (p : Program) (code : Code) (threads ticks : ℕ) (order : List ℕ) : Type 0 where
-  pub lines : List Line
-  pub made : List ℕ
-  pub shown : Printed
-  pub replay : IsReplayOf p code threads lines made None shown
+-- a replay that made these steps shows what the order does, and leaves the lock free; none of its steps drops an attempt
+pub record ShowsOrder (p : Program) (code : Code) (threads ticks : ℕ) (order made : List ℕ) (shown : Printed) :
+    Type 0 where
   pub free : shown.holder ≡ None
   pub threads_are : map as_waiting shown.threads
       ≡ (order_shown p (in_order (thread p) (initial_memory p) threads ticks order)).threads
@@ -48,14 +46,30 @@ pub record OrderIsReplayed (p : Program) (code : Code) (threads ticks : ℕ) (or
       ≡ (order_shown p (in_order (thread p) (initial_memory p) threads ticks order)).globals
   pub undropped : (t : ℕ) → drops (effect code) t made (new_world (beginning code) (initial_of code) threads) ≡ 0
 
--- where few enough steps do it, a schedule has them
+-- an order in which the source spends no thread, of threads of a code that means the program
+pub record CanBeReplayed (p : Program) (code : Code) (threads ticks : ℕ) (order : List ℕ) : Type 0 where
+  pub compiled : IsCodeOf p code
+  pub fits : FitsCells (effect code) (bounds_of code)
+  pub few : threads ≤ 2 ^ 32
+  pub named : IsOrderAmong threads order
+  pub unspent : NoneIsSpent (told_in p threads ticks order)
+  pub short : length order < 2 ^ 63 - 1
+
+-- A replay of an order's lines, whatever makes them, shows the order, if all their steps were made: with any number of
+-- ticks that spends no thread. The lines are there, and if their steps are few enough they can be replayed.
+pub record OrderIsReplayed (p : Program) (code : Code) (threads ticks : ℕ) (order : List ℕ) : Type 0 where
+  pub lines : List Line
+  pub are : AreLinesOfOrder code threads order lines
+  pub can : counts lines ≤ MOST_STEPS →
+      (made : List ℕ) × (shown : Printed) × IsReplayOf p code threads lines made None shown
+  pub shows : (found : List Line) (made : List ℕ) (shown : Printed) → AreLinesOfOrder code threads order found →
+      counts found ≤ MOST_STEPS → IsReplayOf p code threads found made None shown →
+      ShowsOrder p code threads ticks order made shown
+
 abbrev pub OrdersAreReplays : Type 0
 OrdersAreReplays =
-    (p : Program) (code : Code) (threads ticks : ℕ) (order : List ℕ) → IsCodeOf p code →
-    FitsCells (effect code) (bounds_of code) → threads ≤ 2 ^ 32 → IsOrderAmong threads order →
-    NoneIsSpent (told_in p threads ticks order) → length order < 2 ^ 63 - 1 →
-    (s : IsStepped (effect code) (beginning code) p threads ticks order)
-    × (length s.trace ≤ MOST_STEPS → OrderIsReplayed p code threads ticks order)
+    (p : Program) (code : Code) (threads ticks : ℕ) (order : List ℕ) → CanBeReplayed p code threads ticks order →
+    OrderIsReplayed p code threads ticks order
 
 -- Each outcome that is listed is what the machine can do: some list of steps, none of which stops, leaves a world whose
 -- report is that of the outcome, word for word.

@@ -24,8 +24,9 @@ use Rattle.replay.specs.declared.line.TheConstants.{MOST_STEPS}
 use Rattle.replay.specs.Replays.{EndsAt, events_of, first_world, simulation_after, steps_of, timeline_of}
 use Rattle.replay.specs.Schedules.{AreLines}
 use Rattle.replay.specs.Seeds.{generator_of, one_step}
+use Rattle.replay.specs.Turns.{AreLinesOfOrder}
 use Rattle.command.specs.declared.request.Steps.{Steps}
-use Rattle.command.specs.declared.request.Steps.TheVariants.{Schedule, Seed}
+use Rattle.command.specs.declared.request.Steps.TheVariants.{Order, Schedule, Seed}
 use Rattle.report.specs.Printed.{Event, ThreadShown, Printed}
 use Rattle.report.specs.Report.{report_text}
 use Rattle.report.specs.Timeline.{timeline_text}
@@ -43,10 +44,11 @@ IsSchedule schedule found = IfSome schedule (λ text. AreLines (lines text) foun
 abbrev pub lines_of_seed : (seed threads count : ℕ) → List Line
 lines_of_seed seed threads count = map (λ w. one_step (w % threads)) (first_words pcg32 count (generator_of seed))
 
--- the lines that the steps of a replay come from
-abbrev pub AreLinesOf : Steps → (threads : ℕ) → (schedule : Option (List ℕ)) → List Line → Type 0
-AreLinesOf (Schedule file) threads schedule found = IsSchedule schedule found
-AreLinesOf (Seed seed count) threads schedule found = found ≡ lines_of_seed seed threads count
+-- the lines that the steps of a replay of this code come from
+abbrev pub AreLinesOf : Steps → Code → (threads : ℕ) → (schedule : Option (List ℕ)) → List Line → Type 0
+AreLinesOf (Schedule file) code threads schedule found = IsSchedule schedule found
+AreLinesOf (Seed seed count) code threads schedule found = found ≡ lines_of_seed seed threads count
+AreLinesOf (Order order) code threads schedule found = AreLinesOfOrder code threads order.items found
 
 -- how a thread is found after a replay
 abbrev pub end_after_replay : WorldEnd → End
@@ -100,12 +102,20 @@ PrintsSchedule found text status old new =
     status ≡ 0 → (written : List ℕ) × (code : Code) × Compiles text code × AreLines (lines written) found
     × Appends old new written
 
+-- the status 0 tells of a text that spells an accepted program with code, and that a schedule was written of an order of
+-- its threads
+abbrev pub PrintsOrder : (threads : ℕ) → (order : List ℕ) → (text : List ℕ) → (status : ℕ) →
+    (old new : Option (List ℕ)) → Type 0
+PrintsOrder threads order text status old new =
+    status ≡ 0 → (written : List ℕ) × (code : Code) × (found : List Line) × Compiles text code
+    × AreLinesOfOrder code threads order found × AreLines (lines written) found × Appends old new written
+
 -- the text spells an accepted program, and this is what the report of a replay of its code shows
 pub record IsReplayOfText (threads : ℕ) (steps : Steps) (schedule : Option (List ℕ)) (text : List ℕ) (code : Code)
     (made : List ℕ) (stopped : Option WorldStop) (shown : Printed) : Type 0 where
   pub compiled : Compiles text code
   pub found : List Line
-  pub lines : AreLinesOf steps threads schedule found
+  pub lines : AreLinesOf steps code threads schedule found
   pub replay : IsReplayOf compiled.source.program code threads found made stopped shown
 
 -- this is what the report of a replay of all steps shows

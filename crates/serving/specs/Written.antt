@@ -4,8 +4,10 @@ use Rattle.std.specs.Io.KnownBytes.{Appends}
 use Rattle.std.specs.Str.Lines.{lines}
 use Rattle.bytecode.specs.Code.{Code}
 use Rattle.world.specs.declared.stop.WorldStop.{WorldStop}
+use Rattle.replay.specs.declared.line.Line.{Line}
 use Rattle.replay.specs.Replays.{simulation_after, timeline_of}
 use Rattle.replay.specs.Schedules.{AreLines}
+use Rattle.replay.specs.Turns.{AreLinesOfOrder}
 use Rattle.report.specs.Printed.{Printed}
 use Rattle.report.specs.Report.{report_text}
 use Rattle.report.specs.Timeline.{timeline_text}
@@ -13,7 +15,7 @@ use Rattle.picture.specs.Replayed.{IsDrawn}
 use Rattle.command.specs.declared.request.Steps.{Steps}
 use Rattle.command.specs.declared.request.Task.{Task}
 use Rattle.command.specs.declared.request.Task.TheVariants.{Check, Listing, Run, Replay, Timeline, Picture}
-use Rattle.command.specs.declared.request.Task.TheVariants.{PrintSchedule, Source, Outcomes}
+use Rattle.command.specs.declared.request.Task.TheVariants.{PrintOrder, PrintSchedule, Source, Outcomes}
 use Rattle.serving.specs.Checks.{Accepts}
 use Rattle.serving.specs.Codes.{Compiles}
 use Rattle.serving.specs.Listings.{ShowsListing}
@@ -54,6 +56,12 @@ abbrev pub IsSeedSchedule : (seed threads count : ℕ) → (text : List ℕ) →
 IsSeedSchedule seed threads count text written =
     (code : Code) × Compiles text code × AreLines (lines written) (lines_of_seed seed threads count)
 
+-- a schedule of an order, for a text that has code
+abbrev pub IsOrderSchedule : (threads : ℕ) → (order : List ℕ) → (text : List ℕ) → (written : List ℕ) → Type 0
+IsOrderSchedule threads order text written =
+    (code : Code) × (found : List Line) × Compiles text code × AreLinesOfOrder code threads order found
+    × AreLines (lines written) found
+
 -- what a task asks to be written
 abbrev pub IsAskedFor : Task → (schedule : Option (List ℕ)) → (text : List ℕ) → (written : List ℕ) → Type 0
 IsAskedFor Check schedule text written = Accepts text × (written ≡ codes "accepted\n")
@@ -63,6 +71,7 @@ IsAskedFor (Replay threads steps) schedule text written = IsReplayReport threads
 IsAskedFor (Timeline threads steps) schedule text written = IsReplayTimeline threads steps schedule text written
 IsAskedFor (Picture threads steps) schedule text written = IsReplayPicture threads steps schedule text written
 IsAskedFor (PrintSchedule threads seed count) schedule text written = IsSeedSchedule seed threads count text written
+IsAskedFor (PrintOrder threads order) schedule text written = IsOrderSchedule threads order.items text written
 IsAskedFor (Source threads order ticks) schedule text written =
     IsReportOf (λ shown. RunsInOrder threads ticks order.items text shown × Accepts text) written
 IsAskedFor (Outcomes threads ticks limit) schedule text written = IsListOfOutcomes threads ticks text written

@@ -64,11 +64,15 @@ pub fn orders_are_listed()
     ticks_change_nothing();
 }
 
-/// What orders show, the machine can come to. Each order of the source in which no thread is spent is replayed by a
-/// schedule, if the steps that it takes are few enough for one: the report shows the order's globals, texts and ends,
-/// with `running` for a thread that waits, the lock is free, and no attempt is dropped. And each outcome that is
-/// listed, where in no order a thread's ticks are used up, is word for word the report of a world that steps which do
-/// not stop lead to. With `reports_are_orders` and `orders_are_listed` such a list is exact.
+/// What orders show, the machine can come to.
+///
+/// Each order of the source in which no thread is spent has lines of a schedule: each thread, alone, comes to where it
+/// rests, and then has its turns of the order. Where all steps of such lines are made, the replay's report shows the
+/// order's globals, texts and ends, with `running` for a thread that waits, the lock is free, and no attempt was
+/// dropped; and where there are few enough for a schedule they can be made.
+///
+/// Each outcome that is listed, where in no order a thread's ticks are used up, is word for word the report of a world
+/// that steps which do not stop lead to. With `reports_are_orders` and `orders_are_listed` such a list is exact.
 pub fn orders_are_replays()
     ensures replays { OrdersAreReplays }
     ensures outcomes { OutcomesAreDone }

@@ -19,12 +19,12 @@ ghost use Rattle.serving.specs.Pictures.{PrintsPicture, ReplaysDrawn};
 ghost use Rattle.serving.specs.Limits.{HasNoCode};
 ghost use Rattle.serving.specs.Refusals.{IsRefused};
 ghost use Rattle.serving.specs.Refused.{IsRefusedFor};
-ghost use Rattle.serving.specs.Replays.{IsReplayOfText, PrintsSchedule, PrintsTimeline, Replays, ReplaysShown};
+ghost use Rattle.serving.specs.Replays.{IsReplayOfText, PrintsOrder, PrintsSchedule, PrintsTimeline, Replays, ReplaysShown};
 ghost use Rattle.serving.specs.Replays.{behind_events, lines_of_seed};
 ghost use Rattle.serving.specs.Reports.{PrintsReport, exit_status};
 ghost use Rattle.serving.specs.Runs.{RunsConcurrently};
 ghost use Rattle.serving.specs.Written.{AppendsBeginning, IsAskedFor, IsReplayPicture, IsReplayReport};
-ghost use Rattle.serving.specs.Written.{IsReplayTimeline, IsReportOf, IsSeedSchedule, WritesPart};
+ghost use Rattle.serving.specs.Written.{IsOrderSchedule, IsReplayTimeline, IsReportOf, IsSeedSchedule, WritesFor, WritesPart};
 ghost use Rattle.serving.specs.inner.Printing.{PrintsBehind, PrintsShown};
 
 use crate::all_orders::{OutcomesFound, list_outcomes, status_of_outcomes};
@@ -35,7 +35,7 @@ use crate::listed::list_source;
 use crate::order::{OrderFault, run_in_order, unit_of};
 use crate::replayed::{Replayed, replay_code};
 use crate::run::check_source;
-use crate::scheduled::{lines_of, lines_picked};
+use crate::scheduled::{lines_in_order, lines_of, lines_picked};
 use crate::source::{SourceText, read_source};
 use crate::status::{ENDED, status_of};
 use crate::tell::{
@@ -222,6 +222,9 @@ fn work_alone<A: Allocator + Copy, S: Read + Drop, W: Write, E: Write>(
             seed,
             count,
         } => print_schedule(alloc, text, *threads, *seed, *count, detail, out, err),
+        Task::PrintOrder { threads, order } => {
+            print_order(alloc, text, *threads, order.as_slice(), detail, out, err)
+        }
         Task::Source {
             threads,
             order,
@@ -386,7 +389,15 @@ fn replay_text<A: Allocator + Copy, S: Read + Drop, E: Write>(
     ensures status { IfErr result (λ s. (s ≡ 1) × HasNoCode text.now ⊎ (s ≡ 2) ⊎ (s ≡ 4)) }
 {
     match compile(alloc, text) {
-        Ok(compiled) => match lines_of(alloc, threads, steps, schedule, detail, err) {
+        Ok(compiled) => match lines_of(
+            alloc,
+            &compiled.code,
+            threads,
+            steps,
+            schedule,
+            detail,
+            err,
+        ) {
             Ok(found) => match replay_code(alloc, &compiled, threads, found.as_slice()) {
                 Ok(replayed) => Ok((compiled, replayed)),
                 Err(fault) => Err(refuse_replay(fault, err)),
@@ -418,6 +429,35 @@ fn print_schedule<A: Allocator + Copy, W: Write, E: Write>(
 {
     match compile(alloc, text) {
         Ok(_compiled) => match lines_picked(alloc, seed, threads, count, detail, err) {
+            Ok(found) => match write_schedule(alloc, found.as_slice()) {
+                Ok(written) => print_text(written.as_str().as_bytes(), out, err),
+                Err(_) => out_of_memory(err),
+            },
+            Err(status) => status,
+        },
+        Err(fault) => refuse(alloc, text, fault, detail, err),
+    }
+}
+
+/// Prints the steps of an order as a schedule.
+fn print_order<A: Allocator + Copy, W: Write, E: Write>(
+    alloc: A,
+    text: &str,
+    threads: u32,
+    order: &[u32],
+    detail: Detail<'_>,
+    out: &mut W,
+    err: &mut E,
+) -> u8
+    ensures status { result ≤ 4 }
+    ensures schedule { PrintsOrder threads order.now text.now result (W.contents out.old) (W.contents out.new) }
+    ensures refused { result ≡ 1 → IsRefused text.now }
+    ensures written { WritesPart (IsOrderSchedule threads order.now text.now) (W.contents out.old)
+        (W.contents out.new) }
+    ensures untouched { result ≡ 1 → W.contents out.new ≡ W.contents out.old }
+{
+    match compile(alloc, text) {
+        Ok(compiled) => match lines_in_order(alloc, &compiled.code, threads, order, detail, err) {
             Ok(found) => match write_schedule(alloc, found.as_slice()) {
                 Ok(written) => print_text(written.as_str().as_bytes(), out, err),
                 Err(_) => out_of_memory(err),

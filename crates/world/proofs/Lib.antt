@@ -4,5 +4,7 @@ pub mod Cells
 pub mod Opening
 -- a world's next step
 pub mod Stepping
+-- threads that rest
+pub mod Resting
 -- what a report shows of the threads
 pub mod Shown

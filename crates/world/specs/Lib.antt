@@ -1,5 +1,7 @@
 -- a world as its contracts see it
 pub mod Simulations
+-- threads that rest between their transactions
+pub mod Resting
 -- why a world is not opened, or a list of steps not made to its end
 pub mod Stops
 -- what a world leaves

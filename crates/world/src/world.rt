@@ -1,10 +1,11 @@
 //! A world: its lock, its words and its threads.
 
 ghost use Rattle.std.specs.Prelude.{◌≡◌, ◌+◌, ◌<◌, ◌≤◌, ◌⊎◌, ◌↔◌, ◌∷◌, [], true, Some, IfOk, IfErr, OnOk, OnErr};
-ghost use Rattle.std.specs.Prelude.{length, slice_index, take, vec_len};
+ghost use Rattle.std.specs.Prelude.{length, replicate, slice_index, take, vec_len};
 ghost use Rattle.syntax.specs.Behaviours.{Extends};
 ghost use Rattle.world.specs.Simulations.{EndsAlone, IsExplained, IsHolder, accesses_of, event_at, further, output_at};
 ghost use Rattle.world.specs.Simulations.{shown_at, status_at, stops_at, transactions_of, world_of};
+ghost use Rattle.world.specs.Resting.{GoesOnAlone, RestsAt};
 ghost use Rattle.world.specs.Stops.{StopsFor};
 ghost use Rattle.world.specs.inner.Following.{AreFirstFrom};
 
@@ -194,6 +195,39 @@ impl<A: Allocator + Copy> World<A> {
             }
         }
         Ok(())
+    }
+
+    /// Whether thread t rests between its transactions: it is over, or has no attempt and stands at a begin.
+    pub fn rests(&self, t: u32) -> bool
+        requires { t < self.now.threads }
+        ensures rests { result ≡ true → RestsAt self.now t }
+        ensures goes_on { result ≡ false → RestsAt self.now t → ⊥ }
+    {
+        let thread = &self.threads[t as usize];
+        thread.is_at_rest(&self.code)
+    }
+
+    /// Makes steps of thread t up to where it rests, and so many at most. It says how many it made. An error leaves the
+    /// steps that were made.
+    pub fn run_alone(&mut self, t: u32, most: u32) -> Result<u32, Stop>
+        requires { t < self.old.threads }
+        ensures made { IfOk result (λ n. (n ≤ most) × (self.new ≡ further self.old (replicate n t))) }
+        ensures first { IfOk result (λ n. GoesOnAlone self.old t n) }
+        ensures rests { IfOk result (λ n. RestsAt self.new t ⊎ (n ≡ most)) }
+        ensures threads { self.new.threads ≡ self.old.threads }
+        ensures explained { IsExplained self.new }
+    {
+        // The prover learns here that the world is explained.
+        let _threads = self.threads();
+        'steps: for made in 0..most {
+            if self.rests(t) {
+                return Ok(made);
+            }
+            if let Err(stop) = self.step(t) {
+                return Err(stop);
+            }
+        }
+        Ok(most)
     }
 
     /// How many threads there are.

@@ -88,7 +88,7 @@ module _ {C : Type 0} (code : C → Effect C) where
   abbrev pub Reach : Solo C → Solo C → Type 0
   Reach s r = (n : ℕ) × (solo code n s ≡ r)
 
-  solo-add : (n m : ℕ) (s : Solo C) → solo code (n + m) s ≡ solo code m (solo code n s)
+  pub solo-add : (n m : ℕ) (s : Solo C) → solo code (n + m) s ≡ solo code m (solo code n s)
   solo-add zero m s = ap (λ k. solo code k s) (zero-add m)
   solo-add (suc n) m s = ap (λ k. solo code k s) (suc-add n m) ∙ solo-add n m (solo_with code (code s.thread.configuration) s)
 
@@ -98,6 +98,31 @@ module _ {C : Type 0} (code : C → Effect C) where
   -- one step
   pub once : (s r : Solo C) (x : Effect C) → code s.thread.configuration ≡ x → solo_with code x s ≡ r → Reach s r
   once s r x e f = (1, ap (λ y. solo_with code y s) e ∙ f)
+
+  abbrev pub IsOpen : Option (Attempt C) → Type 0
+  IsOpen None = ⊥
+  IsOpen (Some a) = Unit {0}
+
+  -- an attempt is open before each of so many steps
+  abbrev pub AllOpen : ℕ → Solo C → Type 0
+  AllOpen zero s = Unit {0}
+  AllOpen (suc n) s = IsOpen s.thread.attempt × AllOpen n (solo_with code (code s.thread.configuration) s)
+
+  abbrev pub ReachInside : Solo C → Solo C → Type 0
+  ReachInside s r = (n : ℕ) × (solo code n s ≡ r) × AllOpen n s
+
+  pub reaches : (s r : Solo C) → ReachInside s r → Reach s r
+  reaches s r a = (a.0, a.1)
+
+  open-add : (n m : ℕ) (s : Solo C) → AllOpen n s → AllOpen m (solo code n s) → AllOpen (n + m) s
+  open-add zero m s a b = subst (λ k. AllOpen k s) (sym (zero-add m)) b
+  open-add (suc n) m s a b = subst (λ k. AllOpen k s) (sym (suc-add n m)) (a.0, open-add n m (solo_with code (code s.thread.configuration) s) a.1 b)
+
+  pub then_inside : (s r q : Solo C) → ReachInside s r → ReachInside r q → ReachInside s q
+  then_inside s r q a b = (a.0 + b.0, solo-add a.0 b.0 s ∙ ap (solo code b.0) a.1 ∙ b.1, open-add a.0 b.0 s a.2 (subst (AllOpen b.0) (sym a.1) b.2))
+
+  pub once_inside : (s r : Solo C) (x : Effect C) → code s.thread.configuration ≡ x → solo_with code x s ≡ r → IsOpen s.thread.attempt → ReachInside s r
+  once_inside s r x e f o = (1, ap (λ y. solo_with code y s) e ∙ f, (o, tt))
 
   module _ (bounds : List ℕ) (fits : FitsCells code bounds) where
     -- The meaning's thread beside the machine's, with the words, the memories still to be found and those left so far.
@@ -131,17 +156,18 @@ module _ {C : Type 0} (code : C → Effect C) where
       pub machine : s ≡ in_solo (lock_for snapshot kept) words c text (at_attempt saved first snapshot reads writes inner kept AtOperation)
 
     -- The machine comes to where the meaning is: still inside, or outside with one more memory left, which is the words.
+    -- An attempt is open on the way.
     abbrev pub Comes : ℕ → Sequential C → Solo C → List ℕ → List (List ℕ) → List (List ℕ) → Type 0
-    Comes from r s words founds lefts = (q : Solo C) × Reach s q × (In from r q words founds lefts ⊎ ((left : List ℕ) × Out from r q left founds (lefts ++ left ∷ [])))
+    Comes from r s words founds lefts = (q : Solo C) × ReachInside s q × (In from r q words founds lefts ⊎ ((left : List ℕ) × Out from r q left founds (lefts ++ left ∷ [])))
 
     -- a commit's stores, from the word after front on
     stores : (saved c e : C) (text : List ℕ) (first snapshot : ℕ) (reads front rest : List (ℕ × ℕ)) (kept : Bool) (m : List ℕ) → code c ≡ Commit e
-        → Reach (in_solo (snapshot + 1) (overlay m front) c text (at_attempt saved first snapshot reads (front ++ rest) [] kept (Stores (length front)))) (out_solo (snapshot + 2) (overlay m (front ++ rest)) e text Running)
-    stores saved c e text first snapshot reads front [] kept m ex = once _ _ (Commit e) ex (rw (append-nil front, get_end front) refl)
+        → ReachInside (in_solo (snapshot + 1) (overlay m front) c text (at_attempt saved first snapshot reads (front ++ rest) [] kept (Stores (length front)))) (out_solo (snapshot + 2) (overlay m (front ++ rest)) e text Running)
+    stores saved c e text first snapshot reads front [] kept m ex = once_inside _ _ (Commit e) ex (rw (append-nil front, get_end front) refl) tt
     stores saved c e text first snapshot reads front (p ∷ rest) kept m ex =
-        then _ (in_solo (snapshot + 1) (overlay m (front ++ p ∷ [])) c text (at_attempt saved first snapshot reads ((front ++ p ∷ []) ++ rest) [] kept (Stores (length (front ++ p ∷ []))))) _
-        (once _ _ (Commit e) ex (rw (get_seam front rest p, length_snoc front p, append_assoc front (p ∷ []) rest, overlay-append m front (p ∷ [])) refl))
-        (subst (λ l. Reach (in_solo (snapshot + 1) (overlay m (front ++ p ∷ [])) c text (at_attempt saved first snapshot reads ((front ++ p ∷ []) ++ rest) [] kept (Stores (length (front ++ p ∷ []))))) (out_solo (snapshot + 2) (overlay m l) e text Running)) (append_assoc front (p ∷ []) rest) (stores saved c e text first snapshot reads (front ++ p ∷ []) rest kept m ex))
+        then_inside _ (in_solo (snapshot + 1) (overlay m (front ++ p ∷ [])) c text (at_attempt saved first snapshot reads ((front ++ p ∷ []) ++ rest) [] kept (Stores (length (front ++ p ∷ []))))) _
+        (once_inside _ _ (Commit e) ex (rw (get_seam front rest p, length_snoc front p, append_assoc front (p ∷ []) rest, overlay-append m front (p ∷ [])) refl) tt)
+        (subst (λ l. ReachInside (in_solo (snapshot + 1) (overlay m (front ++ p ∷ [])) c text (at_attempt saved first snapshot reads ((front ++ p ∷ []) ++ rest) [] kept (Stores (length (front ++ p ∷ []))))) (out_solo (snapshot + 2) (overlay m l) e text Running)) (append_assoc front (p ∷ []) rest) (stores saved c e text first snapshot reads (front ++ p ∷ []) rest kept m ex))
 
     -- one instruction inside
     module _ (c : C) (text : List ℕ) (saved : C) (first snapshot : ℕ) (reads writes : List (ℕ × ℕ)) (inner : List (Checkpoint C)) (words : List ℕ) (founds lefts : List (List ℕ))
@@ -157,7 +183,7 @@ module _ {C : Type 0} (code : C → Effect C) where
 
       -- a local step, or the answer to one access
       within : (kept : Bool) (r : Sequential C) (c' : C) (text' : List ℕ) (reads' writes' : List (ℕ × ℕ)) (inner' : List (Checkpoint C)) (kept' : Bool)
-          → Reach (here kept) (in_solo (lock_for snapshot kept') words c' text' (at_attempt saved first snapshot reads' writes' inner' kept' AtOperation))
+          → ReachInside (here kept) (in_solo (lock_for snapshot kept') words c' text' (at_attempt saved first snapshot reads' writes' inner' kept' AtOperation))
           → IsDistinct writes' → AllByRecursion (λ (k : Checkpoint C). IsDistinct k.writes) inner' → r ≡ inside c' (inside_of code words saved writes' inner' kept') founds lefts text' → Comes snapshot r (here kept) words founds lefts
       within kept r c' text' reads' writes' inner' kept' reach dis ms is = (
         _,
@@ -182,7 +208,7 @@ module _ {C : Type 0} (code : C → Effect C) where
         }),
       )
 
-      leaves : (kept : Bool) (r : Sequential C) (c' : C) (status : Status) (lock : ℕ) (left : List ℕ) → Reach (here kept) (out_solo lock left c' text status) → lock % 2 ≡ 0 → ((lock ≡ snapshot) ⊎ (lock ≡ snapshot + 2)) → length left ≡ length bounds → r ≡ outside c' founds (lefts ++ left ∷ []) text status → Comes snapshot r (here kept) words founds lefts
+      leaves : (kept : Bool) (r : Sequential C) (c' : C) (status : Status) (lock : ℕ) (left : List ℕ) → ReachInside (here kept) (out_solo lock left c' text status) → lock % 2 ≡ 0 → ((lock ≡ snapshot) ⊎ (lock ≡ snapshot + 2)) → length left ≡ length bounds → r ≡ outside c' founds (lefts ++ left ∷ []) text status → Comes snapshot r (here kept) words founds lefts
       leaves kept r c' status lock left reach ev up size is = (
         _,
         reach,
@@ -203,69 +229,69 @@ module _ {C : Type 0} (code : C → Effect C) where
       )
 
       unlogged : (kept : Bool) (ad : ℕ) (k : ℕ → C) → code c ≡ Read ad k → overlay_word ad writes ≡ None → Does kept (Read ad k)
-      unlogged true ad k ex g = within true _ (k (slice_index words ad)) text reads writes inner true (once _ _ (Read ad k) ex (rw g refl)) distinct marks
+      unlogged true ad k ex g = within true _ (k (slice_index words ad)) text reads writes inner true (once_inside _ _ (Read ad k) ex (rw g refl) tt) distinct marks
           (ap (λ v. inside (k v) (inside_of code words saved writes inner true) founds lefts text) (overlay-other words ad writes (not_written ad writes g)))
       unlogged false ad k ex g = within false _ (k (slice_index words ad)) text (reads ++ (ad, slice_index words ad) ∷ []) writes inner false
-          (then _ (in_solo snapshot words c text (at_attempt saved first snapshot reads writes inner false (ReadsLock (slice_index words ad)))) _
-          (once _ _ (Read ad k) ex (rw g refl))
-          (once _ _ (Read ad k) ex (rw (eq-eqb snapshot snapshot refl) refl))) distinct marks
+          (then_inside _ (in_solo snapshot words c text (at_attempt saved first snapshot reads writes inner false (ReadsLock (slice_index words ad)))) _
+          (once_inside _ _ (Read ad k) ex (rw g refl) tt)
+          (once_inside _ _ (Read ad k) ex (rw (eq-eqb snapshot snapshot refl) refl) tt)) distinct marks
           (ap (λ v. inside (k v) (inside_of code words saved writes inner false) founds lefts text) (overlay-other words ad writes (not_written ad writes g)))
 
       reading : (kept : Bool) (ad : ℕ) (k : ℕ → C) (o : Option ℕ) → code c ≡ Read ad k → overlay_word ad writes ≡ o → Does kept (Read ad k)
       reading kept ad k None ex g = unlogged kept ad k ex g
-      reading kept ad k (Some v) ex g = within kept _ (k v) text reads writes inner kept (once _ _ (Read ad k) ex (rw g refl)) distinct marks
+      reading kept ad k (Some v) ex g = within kept _ (k v) text reads writes inner kept (once_inside _ _ (Read ad k) ex (rw g refl) tt) distinct marks
           (ap (λ v'. inside (k v') (inside_of code words saved writes inner kept) founds lefts text) (overlay-written words ad v writes distinct (let lt = fits.reads c ad k ex in omega arith) g))
 
       committing : (kept : Bool) (e : C) (ls : List (Checkpoint C)) (ws : List (ℕ × ℕ)) → code c ≡ Commit e → inner ≡ ls → writes ≡ ws → Does kept (Commit e)
-      committing kept e (l ∷ ls) ws ex ei ew = within kept _ e text reads writes ls kept (once _ _ (Commit e) ex (rw ei refl)) distinct (let ms = rw ei at marks in ms.1) (rw ei refl)
-      committing true e [] [] ex ei ew = leaves true _ e Running (snapshot + 2) words (once _ _ (Commit e) ex (rw (ei, ew) refl)) (omega arith) (inr refl) sized (rw (ei, ew) refl)
+      committing kept e (l ∷ ls) ws ex ei ew = within kept _ e text reads writes ls kept (once_inside _ _ (Commit e) ex (rw ei refl) tt) distinct (let ms = rw ei at marks in ms.1) (rw ei refl)
+      committing true e [] [] ex ei ew = leaves true _ e Running (snapshot + 2) words (once_inside _ _ (Commit e) ex (rw (ei, ew) refl) tt) (omega arith) (inr refl) sized (rw (ei, ew) refl)
       committing true e [] (p ∷ ps) ex ei ew = leaves true _ e Running (snapshot + 2) (overlay words (p ∷ ps))
-          (then _ (in_solo (snapshot + 1) (overlay words (p ∷ [])) c text (at_attempt saved first snapshot reads (p ∷ ps) [] true (Stores 1))) _
-          (once _ _ (Commit e) ex (rw (ei, ew, ei) refl))
+          (then_inside _ (in_solo (snapshot + 1) (overlay words (p ∷ [])) c text (at_attempt saved first snapshot reads (p ∷ ps) [] true (Stores 1))) _
+          (once_inside _ _ (Commit e) ex (rw (ei, ew, ei) refl) tt)
           (stores saved c e text first snapshot reads (p ∷ []) ps true words ex))
           (omega arith) (inr refl) (length-overlay words (p ∷ ps) ∙ sized) (rw (ei, ew) refl)
-      committing false e [] [] ex ei ew = leaves false _ e Running snapshot words (once _ _ (Commit e) ex (rw (ei, ew) refl)) even (inl refl) sized (rw (ei, ew) refl)
+      committing false e [] [] ex ei ew = leaves false _ e Running snapshot words (once_inside _ _ (Commit e) ex (rw (ei, ew) refl) tt) even (inl refl) sized (rw (ei, ew) refl)
       committing false e [] (p ∷ ps) ex ei ew = leaves false _ e Running (snapshot + 2) (overlay words (p ∷ ps))
-          (then _ (in_solo (snapshot + 1) words c text (at_attempt saved first snapshot reads (p ∷ ps) [] false (Stores 0))) _
-          (once _ _ (Commit e) ex (rw (ei, ew, eq-eqb snapshot snapshot refl, ei, ew) refl))
+          (then_inside _ (in_solo (snapshot + 1) words c text (at_attempt saved first snapshot reads (p ∷ ps) [] false (Stores 0))) _
+          (once_inside _ _ (Commit e) ex (rw (ei, ew, eq-eqb snapshot snapshot refl, ei, ew) refl) tt)
           (stores saved c e text first snapshot reads [] (p ∷ ps) false words ex))
           (omega arith) (inr refl) (length-overlay words (p ∷ ps) ∙ sized) (rw (ei, ew) refl)
 
       stays_at : (kept : Bool) (r : Sequential C) → r ≡ meant kept → Comes snapshot r (here kept) words founds lefts
-      stays_at kept r is = within kept r c text reads writes inner kept (0, refl) distinct marks is
+      stays_at kept r is = within kept r c text reads writes inner kept (0, refl, tt) distinct marks is
 
       cancelling : (kept : Bool) (ls : List (Checkpoint C)) → code c ≡ Cancel → inner ≡ ls → Does kept Cancel
-      cancelling kept (l ∷ ls) ex ei = within kept _ (after_cancel (code l.saved) l.saved) text reads l.writes ls kept (once _ _ Cancel ex (rw ei refl)) (let ms = rw ei at marks in ms.0) (let ms = rw ei at marks in ms.1) (rw ei refl)
+      cancelling kept (l ∷ ls) ex ei = within kept _ (after_cancel (code l.saved) l.saved) text reads l.writes ls kept (once_inside _ _ Cancel ex (rw ei refl) tt) (let ms = rw ei at marks in ms.0) (let ms = rw ei at marks in ms.1) (rw ei refl)
       cancelling true [] ex ei = stays_at true _ (rw ei refl)
-      cancelling false [] ex ei = leaves false _ (after_cancel (code saved) saved) Running snapshot words (once _ _ Cancel ex (rw ei refl)) even (inl refl) sized (rw ei refl)
+      cancelling false [] ex ei = leaves false _ (after_cancel (code saved) saved) Running snapshot words (once_inside _ _ Cancel ex (rw ei refl) tt) even (inl refl) sized (rw ei refl)
 
       outer_cancelling : (levels : ℕ) (kept : Bool) (ls : List (Checkpoint C)) → code c ≡ CancelOuter levels → drop (levels - 1) inner ≡ ls → Does kept (CancelOuter levels)
       outer_cancelling levels kept (l ∷ ls) ex ei =
           let ms = subst (AllByRecursion (λ (k : Checkpoint C). IsDistinct k.writes)) ei (all_left (λ (k : Checkpoint C). IsDistinct k.writes) (levels - 1) inner marks) in
-          within kept _ (after_cancel (code l.saved) l.saved) text reads l.writes ls kept (once _ _ (CancelOuter levels) ex (rw ei refl)) ms.0 ms.1 (outer_cancelled code _ words saved writes inner (l ∷ ls) kept levels ei)
+          within kept _ (after_cancel (code l.saved) l.saved) text reads l.writes ls kept (once_inside _ _ (CancelOuter levels) ex (rw ei refl) tt) ms.0 ms.1 (outer_cancelled code _ words saved writes inner (l ∷ ls) kept levels ei)
       outer_cancelling levels true [] ex ei = stays_at true _ (outer_cancelled code _ words saved writes inner [] true levels ei)
-      outer_cancelling levels false [] ex ei = leaves false _ (after_cancel (code saved) saved) Running snapshot words (once _ _ (CancelOuter levels) ex (rw ei refl)) even (inl refl) sized (outer_cancelled code _ words saved writes inner [] false levels ei)
+      outer_cancelling levels false [] ex ei = leaves false _ (after_cancel (code saved) saved) Running snapshot words (once_inside _ _ (CancelOuter levels) ex (rw ei refl) tt) even (inl refl) sized (outer_cancelled code _ words saved writes inner [] false levels ei)
 
       printing : (kept : Bool) (piece : List ℕ) (e : C) → code c ≡ Print piece e → Does kept (Print piece e)
-      printing true piece e ex = within true _ e (text ++ piece) reads writes inner true (once _ _ (Print piece e) ex refl) distinct marks refl
+      printing true piece e ex = within true _ e (text ++ piece) reads writes inner true (once_inside _ _ (Print piece e) ex refl tt) distinct marks refl
       printing false piece e ex = stays_at false _ refl
 
       taking : (kept : Bool) (e : C) → code c ≡ Irrevocable e → Does kept (Irrevocable e)
-      taking true e ex = within true _ e text reads writes inner true (once _ _ (Irrevocable e) ex refl) distinct marks refl
-      taking false e ex = within false _ e text reads writes inner true (once _ _ (Irrevocable e) ex (rw (eq-eqb snapshot snapshot refl) refl)) distinct marks refl
+      taking true e ex = within true _ e text reads writes inner true (once_inside _ _ (Irrevocable e) ex refl tt) distinct marks refl
+      taking false e ex = within false _ e text reads writes inner true (once_inside _ _ (Irrevocable e) ex (rw (eq-eqb snapshot snapshot refl) refl) tt) distinct marks refl
 
       trapping : (kept : Bool) (cause : Trap) → code c ≡ Traps cause → Does kept (Traps cause)
-      trapping false cause ex = leaves false _ c (HasTrapped cause) snapshot words (once _ _ (Traps cause) ex refl) even (inl refl) sized refl
+      trapping false cause ex = leaves false _ c (HasTrapped cause) snapshot words (once_inside _ _ (Traps cause) ex refl tt) even (inl refl) sized refl
       trapping true cause ex = leaves true _ c (HasTrapped cause) (snapshot + 2) words
-          (then _ (in_solo_with true (snapshot + 1) words c text (at_attempt saved first snapshot reads writes inner true AtOperation)) _
-          (once _ _ (Traps cause) ex refl) (once _ _ (Traps cause) ex refl)) (omega arith) (inr refl) sized refl
+          (then_inside _ (in_solo_with true (snapshot + 1) words c text (at_attempt saved first snapshot reads writes inner true AtOperation)) _
+          (once_inside _ _ (Traps cause) ex refl tt) (once_inside _ _ (Traps cause) ex refl tt)) (omega arith) (inr refl) sized refl
 
       pub in_step : (kept : Bool) (x : Effect C) → code c ≡ x → Does kept x
-      in_step kept (Pure e) ex = within kept _ e text reads writes inner kept (once _ _ (Pure e) ex refl) distinct marks refl
+      in_step kept (Pure e) ex = within kept _ e text reads writes inner kept (once_inside _ _ (Pure e) ex refl tt) distinct marks refl
       in_step kept (Print piece e) ex = printing kept piece e ex
-      in_step kept (Begin e e') ex = within kept _ e text reads writes (record { saved = c; writes = writes } ∷ inner) kept (once _ _ (Begin e e') ex refl) distinct (distinct, marks) (rw ex refl)
+      in_step kept (Begin e e') ex = within kept _ e text reads writes (record { saved = c; writes = writes } ∷ inner) kept (once_inside _ _ (Begin e e') ex refl tt) distinct (distinct, marks) (rw ex refl)
       in_step kept (Read ad k) ex = reading kept ad k (overlay_word ad writes) ex refl
-      in_step kept (Write ad v e) ex = within kept _ e text reads (with_write ad v writes) inner kept (once _ _ (Write ad v e) ex refl) (distinct-put ad v writes distinct) marks
+      in_step kept (Write ad v e) ex = within kept _ e text reads (with_write ad v writes) inner kept (once_inside _ _ (Write ad v e) ex refl tt) (distinct-put ad v writes distinct) marks
           (ap (λ w. inside e (record { cancelled = after_cancel (code saved) saved; found = words; mem = w; inner = inners_of code words inner; kept = kept }) founds lefts text) (sym (overlay-put words ad v writes distinct)))
       in_step kept (Commit e) ex = committing kept e inner writes ex refl refl
       in_step kept Cancel ex = cancelling kept inner ex refl
@@ -421,13 +447,13 @@ module _ {C : Type 0} (code : C → Effect C) where
         at g = by g.2
           where
             by : In from r' g.0 words founds lefts ⊎ ((left : List ℕ) × Out from r' g.0 left founds (lefts ++ left ∷ [])) → Goal (steps code n r') (in_solo (lock_for i.snapshot i.kept) words i.c i.text (at_attempt i.saved i.first i.snapshot i.reads i.writes i.inner i.kept AtOperation)) (last_of l ls)
-            by (inl j) = further _ g.0 _ _ g.1 (inn from r' g.0 words l founds lefts ls low j ov' le' f)
+            by (inl j) = further _ g.0 _ _ (reaches _ g.0 g.1) (inn from r' g.0 words l founds lefts ls low j ov' le' f)
             by (inr o) =
                 let grow = steps_grow n r' in
                 let was : r'.lefts ≡ lefts ++ o.0 ∷ [] = ap (λ (x : Sequential C). x.lefts) o.1.meaning in
                 let same : lefts ++ o.0 ∷ grow.0 ≡ lefts ++ l ∷ ls = sym (append_assoc lefts (o.0 ∷ []) grow.0) ∙ sym (ap (λ x. x ++ grow.0) was) ∙ sym grow.1 ∙ le' in
                 let parts = cons_same lefts grow.0 ls o.0 l same in
-                further _ g.0 _ _ g.1
+                further _ g.0 _ _ (reaches _ g.0 g.1)
                 (subst (λ w. Goal (steps code n r') g.0 (last_of w ls)) parts.0
                 (from_out n from out r' g.0 o.0 founds (lefts ++ o.0 ∷ []) ls (let size = length_snoc lefts o.0 in omega (arith, low, size)) o.1 ov'
                 (le' ∙ sym (append_assoc lefts (o.0 ∷ []) ls ∙ ap (λ w. lefts ++ w ∷ ls) parts.0))

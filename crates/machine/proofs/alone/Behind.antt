@@ -18,8 +18,8 @@ use Rattle.machine.specs.Threads.{op_of}
 use Rattle.machine.specs.inner.Invariant.{inners_of, inside, inside_of}
 use Rattle.machine.proofs.Levels.{all_left}
 use Rattle.machine.proofs.parts.Meaning.{outer_cancelled}
-use Rattle.machine.proofs.alone.Alone.{In, Reach, Solo, at_attempt, in_solo, lock_for, once, out_solo, solo_with, then}
-use Rattle.machine.proofs.alone.Transaction.{Follows, Left, after, ahead_left, within}
+use Rattle.machine.proofs.alone.Alone.{In, Reach, ReachInside, Solo, at_attempt, in_solo, lock_for, once_inside, out_solo, reaches, solo_with, then, then_inside}
+use Rattle.machine.proofs.alone.Transaction.{Follows, Left, after, ahead_left, reaches_by, runs_inside, within}
 
 module _ {C : Type 0} (code : C → Effect C) (bounds : List ℕ) (fits : FitsCells code bounds) (lock : ℕ) (words : List ℕ) (even : lock % 2 ≡ 0) (sized : length words ≡ length bounds) where
   -- the thread is inside its attempt, where the meaning is
@@ -48,12 +48,12 @@ module _ {C : Type 0} (code : C → Effect C) (bounds : List ℕ) (fits : FitsCe
   }
 
   keeps : (r : Sequential C) (s : Solo C) → Follows code bounds fits lock r s words [] → Keeps r s
-  keeps r s (inl i) = inl (i.0, i.1, opened r i.0 i.2)
+  keeps r s (inl i) = inl (i.0, reaches_by code s i.0 i.1, opened r i.0 i.2)
   keeps r s (inr l) = inr l
 
-  ahead_keeps : (r : Sequential C) (s q : Solo C) → Reach code s q → Keeps r q → Keeps r s
-  ahead_keeps r s q g (inl i) = inl (i.0, then code s q i.0 g i.1, i.2)
-  ahead_keeps r s q g (inr l) = inr (ahead_left code bounds fits lock s q r [] g l)
+  ahead_keeps : (r : Sequential C) (s q : Solo C) → ReachInside code s q → Keeps r q → Keeps r s
+  ahead_keeps r s q g (inl i) = inl (i.0, then code s q i.0 (reaches code s q g) i.1, i.2)
+  ahead_keeps r s q g (inr l) = inr (ahead_left code bounds fits lock s q r [] (runs_inside code s q g) l)
 
   module _ (saved : C) (first : ℕ) (text : List ℕ) where
     abbrev pub at : ℕ → List (ℕ × ℕ) → List (ℕ × ℕ) → List (Checkpoint C) → Phase → C → Solo C
@@ -67,11 +67,11 @@ module _ {C : Type 0} (code : C → Effect C) (bounds : List ℕ) (fits : FitsCe
 
     -- the attempt is dropped, once, or goes on
     abbrev pub Ends : ℕ → Sequential C → Solo C → Type 0
-    Ends n r s = Reach code s dropped ⊎ GoesOn n r s
+    Ends n r s = ReachInside code s dropped ⊎ GoesOn n r s
 
     -- by steps of the machine
-    pub ahead_ends : (n : ℕ) (r : Sequential C) (s q : Solo C) → Reach code s q → Ends n r q → Ends n r s
-    ahead_ends n r s q g (inl d) = inl (then code s q _ g d)
+    pub ahead_ends : (n : ℕ) (r : Sequential C) (s q : Solo C) → ReachInside code s q → Ends n r q → Ends n r s
+    ahead_ends n r s q g (inl d) = inl (then_inside code s q _ g d)
     ahead_ends n r s q g (inr k) = inr (k.0, k.1, ahead_keeps _ s q g k.2)
 
     -- by an instruction of the meaning
@@ -112,22 +112,22 @@ module _ {C : Type 0} (code : C → Effect C) (bounds : List ℕ) (fits : FitsCe
 
       -- the entries from the i-th on are compared
       abbrev Compared : ℕ → ℕ → Type 0
-      Compared time i = Reach code (valid (ValidatesEntry time i)) dropped ⊎ ((j : ℕ) × (slice_get reads j ≡ None) × Reach code (valid (ValidatesEntry time i)) (valid (ValidatesEntry time j)))
+      Compared time i = ReachInside code (valid (ValidatesEntry time i)) dropped ⊎ ((j : ℕ) × (slice_get reads j ≡ None) × ReachInside code (valid (ValidatesEntry time i)) (valid (ValidatesEntry time j)))
 
       compared : (time i k : ℕ) → length reads ≤ i + k → Compared time i
-      compared time i zero le = inr (i, slice_get_past reads i (omega (arith, le)), (0, refl))
+      compared time i zero le = inr (i, slice_get_past reads i (omega (arith, le)), (0, refl, tt))
       compared time i (suc k) le = look (compared time (suc i) k (omega (arith, le))) (slice_get reads i) refl
         where
-          hit : Reach code (valid (ValidatesEntry time i)) (valid (ValidatesEntry time (suc i))) → Compared time (suc i) → Compared time i
-          hit g (inl d) = inl (then code _ _ _ g d)
-          hit g (inr h) = inr (h.0, h.1, then code _ _ _ g h.2)
+          hit : ReachInside code (valid (ValidatesEntry time i)) (valid (ValidatesEntry time (suc i))) → Compared time (suc i) → Compared time i
+          hit g (inl d) = inl (then_inside code _ _ _ g d)
+          hit g (inr h) = inr (h.0, h.1, then_inside code _ _ _ g h.2)
 
           word : Compared time (suc i) → (e : ℕ × ℕ) → slice_get reads i ≡ Some e → (b : Bool) → (slice_index words e.0 == e.1) ≡ b → Compared time i
-          word more e get true eb = hit (once code _ _ x ex (rw (eo, get, eb) refl)) more
-          word more e get false eb = inl (once code _ _ x ex (rw (eo, get, eb) refl))
+          word more e get true eb = hit (once_inside code _ _ x ex (rw (eo, get, eb) refl) tt) more
+          word more e get false eb = inl (once_inside code _ _ x ex (rw (eo, get, eb) refl) tt)
 
           look : Compared time (suc i) → (u : Option (ℕ × ℕ)) → slice_get reads i ≡ u → Compared time i
-          look more None get = inr (i, get, (0, refl))
+          look more None get = inr (i, get, (0, refl, tt))
           look more (Some e) get = word more e get (slice_index words e.0 == e.1) refl
 
       module _ (distinct : IsDistinct writes) (marks : AllByRecursion (λ (k : Checkpoint C). IsDistinct k.writes) inner) (n : ℕ) where
@@ -136,19 +136,19 @@ module _ {C : Type 0} (code : C → Effect C) (bounds : List ℕ) (fits : FitsCe
 
         -- from the lock's load on
         pub validates : Wanted ValidatesTime
-        validates = ahead_ends n _ _ (valid (ValidatesEntry lock 0)) (once code _ _ x ex (rw (eo, eq-eqb (lock % 2) 0 even) refl)) (by (compared lock 0 (length reads) (omega arith)))
+        validates = ahead_ends n _ _ (valid (ValidatesEntry lock 0)) (once_inside code _ _ x ex (rw (eo, eq-eqb (lock % 2) 0 even) refl) tt) (by (compared lock 0 (length reads) (omega arith)))
           where
             by : Compared lock 0 → Wanted (ValidatesEntry lock 0)
             by (inl d) = inl d
-            by (inr h) = ahead_ends n _ _ (at lock reads writes inner AtOperation c) (then code _ _ _ h.2 (once code _ _ x ex (rw (eo, h.1, eq-eqb lock lock refl) refl))) (from_lock n reads writes inner c distinct marks)
+            by (inr h) = ahead_ends n _ _ (at lock reads writes inner AtOperation c) (then_inside code _ _ _ h.2 (once_inside code _ _ x ex (rw (eo, h.1, eq-eqb lock lock refl) refl) tt)) (from_lock n reads writes inner c distinct marks)
 
         -- from an entry on, with a time that the lock may no longer have
         pub validates_entry : (time i : ℕ) → Wanted (ValidatesEntry time i)
         validates_entry time i = by (compared time i (length reads) (omega arith))
           where
             last : (j : ℕ) → slice_get reads j ≡ None → (b : Bool) → (lock == time) ≡ b → Wanted (ValidatesEntry time j)
-            last j get true eb = ahead_ends n _ _ (at lock reads writes inner AtOperation c) (once code _ _ x ex (rw (eo, get, eb) (ap (λ s. at s reads writes inner AtOperation c) (sym (eqb-true lock time eb))))) (from_lock n reads writes inner c distinct marks)
-            last j get false eb = ahead_ends n _ _ (valid ValidatesTime) (once code _ _ x ex (rw (eo, get, eb) refl)) validates
+            last j get true eb = ahead_ends n _ _ (at lock reads writes inner AtOperation c) (once_inside code _ _ x ex (rw (eo, get, eb) (ap (λ s. at s reads writes inner AtOperation c) (sym (eqb-true lock time eb)))) tt) (from_lock n reads writes inner c distinct marks)
+            last j get false eb = ahead_ends n _ _ (valid ValidatesTime) (once_inside code _ _ x ex (rw (eo, get, eb) refl) tt) validates
 
             by : Compared time i → Wanted (ValidatesEntry time i)
             by (inl d) = inl d
@@ -170,7 +170,7 @@ module _ {C : Type 0} (code : C → Effect C) (bounds : List ℕ) (fits : FitsCe
         within_by : (x : Effect C) (c' : C) (writes' : List (ℕ × ℕ)) (inner' : List (Checkpoint C)) → code c ≡ x → solo_with code x here ≡ at snapshot reads writes' inner' AtOperation c'
             → IsDistinct writes' → AllByRecursion (λ (k : Checkpoint C). IsDistinct k.writes) inner' → inside_step (meant writes inner c) (inside_of code words saved writes inner false) x ≡ meant writes' inner' c' → Ends (suc n) (meant writes inner c) here
         within_by x c' writes' inner' ex one dis ms is = later (suc n) n _ (meant writes' inner' c') here (omega arith) (ap (inside_step (meant writes inner c) (inside_of code words saved writes inner false)) ex ∙ is)
-            (ahead_ends n _ here _ (once code here _ x ex one) (on c' writes' inner' dis ms))
+            (ahead_ends n _ here _ (once_inside code here _ x ex one tt) (on c' writes' inner' dis ms))
 
         -- the machine stands still, and so does the meaning
         stays : (x : Effect C) → code c ≡ x → inside_step (meant writes inner c) (inside_of code words saved writes inner false) x ≡ meant writes inner c → Ends (suc n) (meant writes inner c) here
@@ -183,7 +183,7 @@ module _ {C : Type 0} (code : C → Effect C) (bounds : List ℕ) (fits : FitsCe
           suc n,
           omega arith,
           subst (λ r. Keeps (steps code n r) here) (sym (ap (inside_step (meant writes inner c) (inside_of code words saved writes inner false)) ex ∙ is))
-              (ahead_keeps _ here (out_solo lock words c' text status) (once code here _ x ex one) (inr (record {
+              (ahead_keeps _ here (out_solo lock words c' text status) (once_inside code here _ x ex one tt) (inr (record {
                 left = words;
                 lock = lock;
                 moved = inl refl;
@@ -193,19 +193,19 @@ module _ {C : Type 0} (code : C → Effect C) (bounds : List ℕ) (fits : FitsCe
         )
 
         -- the lock is not the snapshot
-        validated : (x : Effect C) (o : Op) → code c ≡ x → op_of x false false ≡ Some o → Reach code here (at snapshot reads writes inner ValidatesTime c) → Ends (suc n) (meant writes inner c) here
+        validated : (x : Effect C) (o : Op) → code c ≡ x → op_of x false false ≡ Some o → ReachInside code here (at snapshot reads writes inner ValidatesTime c) → Ends (suc n) (meant writes inner c) here
         validated x o ex eo g = ahead_ends (suc n) _ here _ g (validates snapshot reads writes inner c x o ex eo distinct marks (suc n))
 
         reading : (cell : ℕ) (k : ℕ → C) (u : Option ℕ) → overlay_word cell writes ≡ u → Does (Read cell k)
         reading cell k (Some v) get ex = within_by (Read cell k) (k v) writes inner ex (rw get refl) distinct marks
             (ap (λ v'. meant writes inner (k v')) (overlay-written words cell v writes distinct (let lt = fits.reads c cell k ex in omega arith) get))
         reading cell k None get ex = validated (Read cell k) _ ex refl
-            (then code _ (at snapshot reads writes inner (ReadsLock (slice_index words cell)) c) _ (once code _ _ (Read cell k) ex (rw get refl)) (once code _ _ (Read cell k) ex (rw below refl)))
+            (then_inside code _ (at snapshot reads writes inner (ReadsLock (slice_index words cell)) c) _ (once_inside code _ _ (Read cell k) ex (rw get refl) tt) (once_inside code _ _ (Read cell k) ex (rw below refl) tt))
 
         committing : (e : C) (ls : List (Checkpoint C)) (ws : List (ℕ × ℕ)) → inner ≡ ls → writes ≡ ws → Does (Commit e)
         committing e (l ∷ ls) ws ei ew ex = within_by (Commit e) e writes ls ex (rw ei refl) distinct (let ms = rw ei at marks in ms.1) (rw ei refl)
         committing e [] [] ei ew ex = leaves (Commit e) e Running ex (rw (ei, ew) refl) (rw (ei, ew) refl)
-        committing e [] (p ∷ ps) ei ew ex = validated (Commit e) _ ex refl (once code _ _ (Commit e) ex (rw (ei, ew, below) (λ i. at snapshot reads (ew i) (ei i) ValidatesTime c)))
+        committing e [] (p ∷ ps) ei ew ex = validated (Commit e) _ ex refl (once_inside code _ _ (Commit e) ex (rw (ei, ew, below) (λ i. at snapshot reads (ew i) (ei i) ValidatesTime c)) tt)
 
         cancelling : (ls : List (Checkpoint C)) → inner ≡ ls → Does Cancel
         cancelling (l ∷ ls) ei ex = within_by Cancel (after_cancel (code l.saved) l.saved) l.writes ls ex (rw ei refl) (let ms = rw ei at marks in ms.0) (let ms = rw ei at marks in ms.1) (rw ei refl)
@@ -227,7 +227,7 @@ module _ {C : Type 0} (code : C → Effect C) (bounds : List ℕ) (fits : FitsCe
         does (Commit e) ex = committing e inner writes refl refl ex
         does Cancel ex = cancelling inner refl ex
         does (CancelOuter levels) ex = outer_cancelling levels (drop (levels - 1) inner) refl ex
-        does (Irrevocable e) ex = validated (Irrevocable e) _ ex refl (once code _ _ (Irrevocable e) ex (rw below refl))
+        does (Irrevocable e) ex = validated (Irrevocable e) _ ex refl (once_inside code _ _ (Irrevocable e) ex (rw below refl) tt)
         does (Traps cause) ex = leaves (Traps cause) c (HasTrapped cause) ex refl refl
         does End ex = stays End ex refl
 

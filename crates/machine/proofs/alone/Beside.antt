@@ -7,9 +7,12 @@ use Rattle.syntax.specs.Behaviours.{IsMemory}
 use Rattle.syntax.specs.Orders.{last_left}
 use Rattle.bytecode.specs.Effects.{Effect, FitsCells}
 use Rattle.bytecode.specs.Sequential.{Sequential}
+use Rattle.bytecode.proofs.Tables.{some_same}
 use Rattle.machine.specs.Drops.{dropped_in, drops}
 use Rattle.machine.specs.Solo.{GoesAs, RunsAlone, StaysReached, meaning_on}
+use Rattle.machine.specs.Resting.{IsThreadAtRest}
 use Rattle.machine.specs.Threads.{access, step_with}
+use Rattle.machine.specs.Turns.{RestsIn}
 use Rattle.machine.specs.Worlds.{Part, Reached, Record, World, answer, new_world, part_after, run, step, step_of}
 use Rattle.machine.proofs.alone.Alone.{Solo, out_solo, solo, solo_with}
 use Rattle.machine.proofs.alone.Transaction.{Did, goes_alone}
@@ -83,6 +86,21 @@ module _ {C : Type 0} (code : C → Effect C) where
         world = ap (run code (replicate n t)) (world_beside w t p here) ∙ made.2 ∙ ap (λ x. beside w.parts t x made.0 made.1) came;
         dropped = ap (drops code t (replicate n t)) (world_beside w t p here) ∙ count;
       }
+
+  -- where the part rests in the world, its thread alone does
+  pub rests_beside : (w : World C) (t : ℕ) (p : Part C) (n : ℕ) → slice_get w.parts t ≡ Some p → RestsIn code (run code (replicate n t) w) t → IsThreadAtRest code (solo code n (solo_of w p)).thread
+  rests_beside w t p n here r =
+      let c = comes_beside w t p n (solo code n (solo_of w p)) here refl in
+      let r' : RestsIn code (beside w.parts t (solo code n (solo_of w p)) c.base c.records) t = subst (λ x. RestsIn code x t) c.world r in
+      let mine : Part C = record { thread = (solo code n (solo_of w p)).thread; base = c.base; records = c.records } in
+      subst (λ (x : Part C). IsThreadAtRest code x.thread) (some_same r'.part mine (sym r'.there ∙ get-set_same w.parts t mine p here)) r'.rests
+
+  -- and the other way round
+  pub rests_in_world : (w : World C) (t : ℕ) (p : Part C) (n : ℕ) (end : Solo C) → slice_get w.parts t ≡ Some p → solo code n (solo_of w p) ≡ end → IsThreadAtRest code end.thread → RestsIn code (run code (replicate n t) w) t
+  rests_in_world w t p n end here came r =
+      let c = comes_beside w t p n end here came in
+      let mine : Part C = record { thread = end.thread; base = c.base; records = c.records } in
+      subst (λ x. RestsIn code x t) (sym c.world) (record { part = mine; there = get-set_same w.parts t mine p here; rests = r })
 
   -- from where the thread has done what its meaning does
   pub goes_as : (bounds : List ℕ) (fits : FitsCells code bounds) (w : World C) (t : ℕ) (p : Part C) (r : Sequential C) → slice_get w.parts t ≡ Some p → Did code bounds fits w.lock w.words r (solo_of w p) → GoesAs code w t r

@@ -19,7 +19,7 @@ use Rattle.machine.specs.Solo.{AttemptEnds, EndsAs, GoesOnAsMeant, DropsOnce, St
 use Rattle.machine.specs.Threads.{op_of}
 use Rattle.machine.specs.Worlds.{World, Part, new_world}
 use Rattle.machine.specs.inner.Invariant.{AttemptOk, History, InHand, Invariant, IsLog, LockBy, LockIs, Now, Validates, inside, inside_of}
-use Rattle.machine.proofs.alone.Alone.{Reach, Solo, at_attempt, in_solo, lock_for, once}
+use Rattle.machine.proofs.alone.Alone.{Reach, ReachInside, Solo, at_attempt, in_solo, lock_for, once_inside}
 use Rattle.machine.proofs.alone.Behind as behind
 use Rattle.machine.proofs.alone.Beside.{comes_beside, goes_as, solo_of}
 use Rattle.machine.proofs.alone.Calm.{Calm, all_calm}
@@ -72,7 +72,7 @@ module _ {C : Type 0} (code : C → Effect C) (bounds : List ℕ) (fits : FitsCe
   -- a word in hand is the cell's where the lock is the snapshot
   reading : (v cell : ℕ) (k : ℕ → C) → code c ≡ Read cell k → Lacks cell writes → (lock ≡ snapshot → slice_index words cell ≡ v) → (b : Bool) → (lock == snapshot) ≡ b → Ends (ReadsLock v)
   reading v cell k ex lacks right true eb =
-      behind.ahead_ends code bounds fits lock words even size saved first text n meant (here (ReadsLock v)) read (once code _ read (Read cell k) ex (rw eb refl))
+      behind.ahead_ends code bounds fits lock words even size saved first text n meant (here (ReadsLock v)) read (once_inside code _ read (Read cell k) ex (rw eb refl) tt)
       (behind.later code bounds fits lock words even size saved first text n n meant does read (omega arith) does_is
       (subst (λ s. behind.Ends code bounds fits lock words even size saved first text n does (in_solo lock words (k v) text (at_attempt saved first s (reads ++ (cell, v) ∷ []) writes inner false AtOperation))) (eqb-true lock snapshot eb)
       (behind.from_lock code bounds fits lock words even size saved first text n (reads ++ (cell, v) ∷ []) writes inner (k v) distinct marks)))
@@ -87,7 +87,7 @@ module _ {C : Type 0} (code : C → Effect C) (bounds : List ℕ) (fits : FitsCe
       does_is = ap (inside_step meant (inside_of code words saved writes inner false)) ex
           ∙ ap (λ u. inside (k u) (inside_of code words saved writes inner false) [] [] text) (overlay-other words cell writes lacks ∙ right (eqb-true lock snapshot eb))
   reading v cell k ex lacks right false eb =
-      behind.ahead_ends code bounds fits lock words even size saved first text n meant (here (ReadsLock v)) (here ValidatesTime) (once code _ _ (Read cell k) ex (rw eb refl))
+      behind.ahead_ends code bounds fits lock words even size saved first text n meant (here (ReadsLock v)) (here ValidatesTime) (once_inside code _ _ (Read cell k) ex (rw eb refl) tt)
       (validating (subst Validates (sym ex) tt))
 
   at_operation : (b : Bool) → (lock == snapshot) ≡ b → Ends AtOperation
@@ -112,7 +112,7 @@ module _ {C : Type 0} (code : C → Effect C) (init : ℕ → C) (bounds : List 
     ThreadEnds r s = behind.Ends code bounds fits w.lock w.words even size a.saved a.first p.thread.text n r s
 
     -- what the thread comes to is what its part comes to in the world
-    dropped_in_world : Reach code (solo_of code w p) (behind.dropped code bounds fits w.lock w.words even size a.saved a.first p.thread.text) → DropsOnce code w t p a
+    dropped_in_world : ReachInside code (solo_of code w p) (behind.dropped code bounds fits w.lock w.words even size a.saved a.first p.thread.text) → DropsOnce code w t p a
     dropped_in_world d =
         let end : Solo C = behind.dropped code bounds fits w.lock w.words even size a.saved a.first p.thread.text in
         let c = comes_beside code w t p d.0 end here_is d.1 in

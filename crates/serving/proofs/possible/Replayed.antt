@@ -1,5 +1,5 @@
 -- Orders of the source as replays.
-use Rattle.std.proofs.Common.{◌≡◌, ◌≢◌, All, ◌%◌, ◌≤◌, ◌^◌, ℕ, zero, suc, false, List, [], ◌∷◌, Option, None, Some, refl, sym, ◌∙◌, ap, ap₂, subst, length, map, slice_get, append-nil, arith}
+use Rattle.std.proofs.Common.{◌≡◌, ◌≢◌, All, ◌%◌, ◌≤◌, ◌^◌, ℕ, zero, suc, true, false, List, [], ◌∷◌, ◌++◌, Option, None, Some, refl, sym, ◌∙◌, ap, ap₂, subst, length, map, slice_get, append-nil, arith}
 use Rattle.std.specs.List.{AllByRecursion}
 use Rattle.std.specs.Prelude.{unwrap_or}
 use Rattle.std.proofs.lemmas.Option.{none-some}
@@ -21,14 +21,20 @@ use Rattle.bytecode.specs.Sequential.{meaning}
 use Rattle.bytecode.specs.Valid.{bounds_of}
 use Rattle.machine.specs.Drops.{drops}
 use Rattle.machine.specs.Serializable.{world_after}
+use Rattle.machine.specs.Resting.{IsThreadAtRest}
 use Rattle.machine.specs.States.{attempt_has_lock, thread_has_lock}
+use Rattle.machine.specs.Turns.{AreSpansOf}
 use Rattle.machine.specs.Worlds.{Part, Reached, World, new_world}
 use Rattle.machine.proofs.runs.Programs.{opaque_source}
-use Rattle.world.specs.Reports.{end_of, parts_shown}
+use Rattle.world.specs.Reports.{end_of, parts_shown, stop_with}
+use Rattle.world.specs.declared.stop.StopReason.{StopReason}
 use Rattle.world.specs.Simulations.{IsHolder, Simulation, world_of}
 use Rattle.replay.specs.declared.line.TheConstants.{MOST_STEPS}
-use Rattle.replay.specs.Replays.{first_world, simulation_after}
-use Rattle.replay.specs.Seeds.{one_step}
+use Rattle.replay.specs.Replays.{EndsAt, first_world, simulation_after, steps_of}
+use Rattle.replay.specs.Schedules.{counts}
+use Rattle.replay.specs.Turns.{AreLinesOfOrder, line_of}
+use Rattle.replay.specs.declared.line.Line.{Line}
+use Rattle.replay.proofs.Turns.{named_by_spans}
 use Rattle.report.specs.Printed.{Printed, Shown, ThreadShown}
 use Rattle.serving.specs.Codes.{IsCodeOf}
 use Rattle.serving.specs.Replays.{behind_events, end_after_replay, thread_found, world_shown}
@@ -37,11 +43,10 @@ use Rattle.syntax.specs.declared.numbers.Halt.TheVariants.{Wants}
 use Rattle.outcomes.specs.Outcomes.{IsFinished, report_of_order}
 use Rattle.serving.specs.Outcomes.{IsOutcomeOf, shown_in}
 use Rattle.states.specs.Shown.{told_in, told_of_outcome}
-use Rattle.order_steps.specs.Resting.{IsThreadAtRest}
 use Rattle.order_steps.specs.Stepped.{IsStepped, end_when_idle, told_when_idle}
+use Rattle.order_steps.proofs.Determined.{turns_are_determined}
 use Rattle.order_steps.proofs.Sourced.{machine_does_all}
-use Rattle.serving.specs.Possible.{OrderIsReplayed, OrdersAreReplays, OutcomesAreDone, as_waiting, waiting}
-use Rattle.serving.proofs.possible.Lined.{steps_each}
+use Rattle.serving.specs.Possible.{OrdersAreReplays, OutcomesAreDone, ShowsOrder, as_waiting, waiting}
 
 -- what is told of a thread, shown
 abbrev show_told : List ℕ × ThreadEnd → ThreadShown
@@ -94,15 +99,23 @@ module _ (p : Program) (code : Code) (threads ticks : ℕ) (order : List ℕ) (c
     λ t q e. none_has code (world_of (simulation_after code threads s.trace)).parts t q (subst (λ (x : World Configuration). AllByRecursion (λ (y : Part Configuration). IsThreadAtRest (effect code) y.thread) x.parts) (stepped_world s) s.idle) e,
   )
 
-  replayed : (s : IsStepped (effect code) (beginning code) p threads ticks order) → length s.trace ≤ MOST_STEPS → OrderIsReplayed p code threads ticks order
-  replayed s short = record {
-    lines = map one_step s.trace;
-    made = s.trace;
-    shown = shown;
-    replay = record {
+  -- the steps of the order's lines
+  module _ (s : IsStepped (effect code) (beginning code) p threads ticks order) where
+    lines_are : AreLinesOfOrder code threads order (map line_of s.turns.0)
+    lines_are = record {
+      spans = s.turns.0;
+      turns = subst (λ m. AreSpansOf (effect code) (beginning code) m threads order s.turns.0) same_first s.turns.1;
+      found_is = refl;
+    }
+
+    named : counts (map line_of s.turns.0) ≤ MOST_STEPS → steps_of code MOST_STEPS (map line_of s.turns.0) (first_world code threads) ≡ s.trace
+    named enough = named_by_spans code s.turns.0 MOST_STEPS (first_world code threads) enough ∙ sym s.turns.2
+
+    replays : counts (map line_of s.turns.0) ≤ MOST_STEPS → IsReplayOf p code threads (map line_of s.turns.0) s.trace None (world_shown p None None (simulation_after code threads s.trace))
+    replays enough = record {
       rest = [];
       stop = None;
-      named = steps_each code MOST_STEPS s.trace (first_world code threads) short ∙ sym (append-nil s.trace);
+      named = named enough ∙ sym (append-nil s.trace);
       ends = refl;
       explained = opaque_source (effect code) (beginning code) (bounds_of code) (initial_of code)
           (subst (λ m. IsMemory (bounds_of code) m) same_first (subst (λ b. IsMemory b (initial_memory p)) cells (begins_with_memory p))) fits (thread p)
@@ -110,19 +123,57 @@ module _ (p : Program) (code : Code) (threads ticks : ℕ) (order : List ℕ) (c
       holder = free_lock s;
       shows = refl;
       stopped_is = refl;
-    };
-    free = refl;
-    threads_are = same_parts 0 (world_of sim).parts ∙ ap (λ (x : World Configuration). map show_told (map told_when_idle x.parts)) (sym (stepped_world s)) ∙ ap (map show_told) s.told
-        ∙ same_told (in_order (thread p) (initial_memory p) threads ticks order).threads;
-    globals = ap (shown_globals (globals p)) (ap (λ (x : World Configuration). x.words) (sym (stepped_world s)) ∙ s.memory);
-    undropped = λ t. ap (λ m. drops (effect code) t s.trace (new_world (beginning code) m threads)) (sym same_first) ∙ s.undropped t;
-  }
-    where
-      sim : Simulation
-      sim = simulation_after code threads s.trace
+    }
 
-      shown : Printed
-      shown = world_shown p None None sim
+    -- what is replayed of lines of the order are these steps
+    same_steps : (found : List Line) (made : List ℕ) (shown : Printed) → AreLinesOfOrder code threads order found → counts found ≤ MOST_STEPS → IsReplayOf p code threads found made None shown → (made ≡ s.trace) × (shown ≡ world_shown p None shown.holder (simulation_after code threads s.trace))
+    same_steps found made shown are enough r = (
+      is,
+      r.shows ∙ ap₂ (λ o m. world_shown p o shown.holder (simulation_after code threads m)) whole is,
+    )
+      where
+        whole_by : (o : Option (ℕ × StopReason)) → None ≡ stop_with o (simulation_after code threads made) → o ≡ None
+        whole_by None e = refl
+        whole_by (Some u) e = absurd (cc)
+
+        whole : r.stop ≡ None
+        whole = whole_by r.stop r.stopped_is
+
+        over : r.rest ≡ []
+        over = subst (EndsAt (simulation_after code threads made) r.rest) whole r.ends
+
+        spans : are.spans ≡ s.turns.0
+        spans = turns_are_determined (effect code) (beginning code) (initial_of code) threads order are.spans s.turns.0 are.turns lines_are.turns
+
+        lines : found ≡ map line_of s.turns.0
+        lines = are.found_is ∙ ap (map line_of) spans
+
+        is : made ≡ s.trace
+        is = sym (append-nil made) ∙ ap (λ xs. made ++ xs) (sym over) ∙ sym r.named ∙ ap (λ ls. steps_of code MOST_STEPS ls (first_world code threads)) lines
+            ∙ named (subst (λ ls. counts ls ≤ MOST_STEPS) lines enough)
+
+    -- nobody has the lock
+    no_holder : (o : Option ℕ) → IsHolder (world_of (simulation_after code threads s.trace)) o → o ≡ None
+    no_holder None h = refl
+    no_holder (Some t) h =
+        let idle = subst (λ (x : World Configuration). AllByRecursion (λ (y : Part Configuration). IsThreadAtRest (effect code) y.thread) x.parts) (stepped_world s) s.idle in
+        let free = none_has code (world_of (simulation_after code threads s.trace)).parts t h.1.0 idle h.1.1 in
+        absurd (let e : true ≡ false = sym h.1.2 ∙ free in cc)
+
+    shows_order : (found : List Line) (made : List ℕ) (shown : Printed) → AreLinesOfOrder code threads order found → counts found ≤ MOST_STEPS → IsReplayOf p code threads found made None shown → ShowsOrder p code threads ticks order made shown
+    shows_order found made shown are enough r = record {
+      free = no_holder shown.holder (subst (λ m. IsHolder (world_of (simulation_after code threads m)) shown.holder) same.0 r.holder);
+      threads_are = ap (λ (x : Printed). map as_waiting x.threads) same.1 ∙ same_parts 0 (world_of sim).parts ∙ ap (λ (x : World Configuration). map show_told (map told_when_idle x.parts)) (sym (stepped_world s)) ∙ ap (map show_told) s.told
+          ∙ same_told (in_order (thread p) (initial_memory p) threads ticks order).threads;
+      globals = ap (λ (x : Printed). x.globals) same.1 ∙ ap (shown_globals (globals p)) (ap (λ (x : World Configuration). x.words) (sym (stepped_world s)) ∙ s.memory);
+      undropped = λ t. ap₂ (λ m ts. drops (effect code) t ts (new_world (beginning code) m threads)) (sym same_first) same.0 ∙ s.undropped t;
+    }
+      where
+        sim : Simulation
+        sim = simulation_after code threads s.trace
+
+        same : (made ≡ s.trace) × (shown ≡ world_shown p None shown.holder sim)
+        same = same_steps found made shown are enough r
 
   -- where no thread wants a memory the report is that of the order
   same_report : (s : IsStepped (effect code) (beginning code) p threads ticks order) → IsFinished (report_of_order p threads ticks order) → behind_events (world_shown p None None (simulation_after code threads s.trace)) ≡ shown_in p threads ticks order
@@ -135,10 +186,15 @@ module _ (p : Program) (code : Code) (threads ticks : ℕ) (order : List ℕ) (c
       (ap (shown_globals (globals p)) (ap (λ (x : World Configuration). x.words) (sym (stepped_world s)) ∙ s.memory))
 
 pub orders_are_replays : OrdersAreReplays
-orders_are_replays p code threads ticks order compiled fits few named none short =
-    let cells_are : bounds p ≡ bounds_of code = ap cell_bounds (sym compiled.globals) in
-    let s = machine_does_all (effect code) (beginning code) p (subst (FitsCells (effect code)) (sym cells_are) fits) compiled.means threads ticks order few named none short in
-    (s, replayed p code threads ticks order compiled fits few s)
+orders_are_replays p code threads ticks order c =
+    let cells_are : bounds p ≡ bounds_of code = ap cell_bounds (sym c.compiled.globals) in
+    let s = machine_does_all (effect code) (beginning code) p (subst (FitsCells (effect code)) (sym cells_are) c.fits) c.compiled.means threads ticks order c.few c.named c.unspent c.short in
+    record {
+      lines = map line_of s.turns.0;
+      are = lines_are p code threads ticks order c.compiled c.fits c.few s;
+      can = λ enough. (s.trace, world_shown p None None (simulation_after code threads s.trace), replays p code threads ticks order c.compiled c.fits c.few s enough);
+      shows = shows_order p code threads ticks order c.compiled c.fits c.few s;
+    }
 
 pub outcomes_are_done : OutcomesAreDone
 outcomes_are_done p code threads ticks is_whole os o compiled fits few are never has short =

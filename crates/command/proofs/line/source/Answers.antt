@@ -3,5 +3,5 @@ use Rattle.command.proofs.line.source.Goals as goal
 pub returns : goal.returns
 returns c =
     let one = c.with-command.ensures _ _ c.of_file-command.ensures c.threads.ensures.rule c.threads.ensures.global in
-    let two = c.with-command-2.ensures _ _ one c.order.ensures.rule c.order.ensures.global in
+    let two = c.with-command-2.ensures _ _ one c.order_wanted.ensures.rule c.order_wanted.ensures.global in
     c.with.ensures _ _ two c.ticks.ensures.rule c.ticks.ensures.global

@@ -1,0 +1,27 @@
+-- Threads that rest between their transactions.
+use Rattle.std.specs.Prelude.{◌≡◌, None}
+use Rattle.syntax.specs.declared.numbers.Status.{Status}
+use Rattle.syntax.specs.declared.numbers.Status.TheVariants.{Running}
+use Rattle.bytecode.specs.Effects.{Effect}
+use Rattle.bytecode.specs.Effects.Effect.{Begin}
+use Rattle.frames.specs.declared.doing.Doing.{Doing}
+use Rattle.frames.specs.declared.doing.Doing.TheVariants as doing
+use Rattle.machine.specs.Threads.{Thread}
+
+module _ {C : Type 0} (code : C → Effect C) where
+  -- a running thread in c stands at an outermost begin
+  pub record IsAtBegin (c : C) (status : Status) : Type 0 where
+    pub running : status ≡ Running
+    pub first : C
+    pub cancelled : C
+    pub begins : code c ≡ Begin first cancelled
+
+  -- a thread that goes no further by itself: it has no attempt, and where it runs it is at a begin
+  pub record IsThreadAtRest (th : Thread C) : Type 0 where
+    pub attempt : th.attempt ≡ None
+    pub begins : th.status ≡ Running → IsAtBegin th.configuration th.status
+
+-- what is to be done is a begin
+abbrev pub IsBegin : Doing → Type 0
+IsBegin (doing.Begin to) = Unit {0}
+IsBegin _ = ⊥
