@@ -23,7 +23,7 @@ use Rattle.machine.proofs.alone.Transaction.{AllGoOn, There, after, found_all, g
 use Rattle.machine.proofs.alone.Unstopped.{reached_run, run-append}
 use Rattle.machine.proofs.parts.Memories.{sized}
 use Rattle.machine.proofs.runs.Serializable.{new_invariant, start_of}
-use Rattle.states.specs.Kept.{AllBegin}
+use Rattle.states.specs.Comes.{AllBegin}
 use Rattle.states.specs.Leads.{EntryLeads, OrderLeads}
 use Rattle.states.specs.Rests.{Rests, Turn, end_at_rest}
 use Rattle.order_steps.specs.Resting.{AllRestAs, RestsAs, WorldRests}
@@ -127,11 +127,11 @@ module _ {C : Type 0} (code : C → Effect C) where
         at = look code ks w.parts t e.one s.parts e.there
 
         by : ((end_at_rest e.one ≢ Stopped Wants) × (left ≡ m) × (next ≡ ks)) ⊎ ((end_at_rest e.one ≡ Stopped Wants) × (other : Sequential C) × Turn code e.one m left other × (next ≡ set ks t other)) → Took w t left next (suc count) × (length left ≡ length bs)
-        by (inl (idle, same, kept)) = (
+        by (inl (idle, same, unchanged)) = (
           record {
             steps = 0;
             turn = not_running w t e.one at.0 at.1 at.2 idle;
-            stands = record { even = s.even; memory = s.memory ∙ sym same; parts = subst (λ x. AllRestAs code x w.parts) (sym kept) s.parts };
+            stands = record { even = s.even; memory = s.memory ∙ sym same; parts = subst (λ x. AllRestAs code x w.parts) (sym unchanged) s.parts };
             low = omega (arith, low);
             undropped = λ u. refl;
           },
@@ -157,10 +157,10 @@ module _ {C : Type 0} (code : C → Effect C) where
 
     pub all_entries : (order : List ℕ) (w : World C) (m : Memory) (ks : List (Sequential C)) (last : Memory) (rest : List (Sequential C)) (count : ℕ) → WorldRests code m ks w → length m ≡ length bs → w.lock ≤ 2 * count
         → OrderLeads end_at_rest (Turn code) order m ks last rest → Came w order last rest (count + length order)
-    all_entries [] w m ks last rest count s size low (same, kept) = record {
+    all_entries [] w m ks last rest count s size low (same, unchanged) = record {
       spans = [];
       takes = refl;
-      stands = record { even = s.even; memory = s.memory ∙ sym same; parts = subst (λ x. AllRestAs code x w.parts) (sym kept) s.parts };
+      stands = record { even = s.even; memory = s.memory ∙ sym same; parts = subst (λ x. AllRestAs code x w.parts) (sym unchanged) s.parts };
       low = omega (arith, low);
       undropped = λ u. refl;
     }

@@ -31,7 +31,7 @@ use Rattle.machine.proofs.alone.Transaction.{after as after_steps}
 use Rattle.machine.proofs.parts.Memories.{sized}
 use Rattle.machine.proofs.runs.Drops.{last_of}
 use Rattle.machine.proofs.steps.Worlds.{get-set_other, get-set_same}
-use Rattle.states.specs.Kept.{AllBegin, ComesToOutcome}
+use Rattle.states.specs.Comes.{AllBegin, ComesToOutcome}
 use Rattle.states.specs.Leads.{EntryLeads, OrderLeads}
 use Rattle.states.specs.Rests.{Rests, Turn, end_at_rest, text_at_rest}
 use Rattle.states.specs.Shown.{IsOrderAmong, NoneIsSpent, told_at_rest, told_in, told_of_outcome}

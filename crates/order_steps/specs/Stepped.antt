@@ -15,7 +15,7 @@ use Rattle.machine.specs.Resting.{IsThreadAtRest}
 use Rattle.machine.specs.Turns.{AreSpansOf, IsTurnOf, Span, steps_in}
 use Rattle.machine.specs.Worlds.{Part, World, Reached, new_world, run}
 use Rattle.machine.specs.Serializable.{world_after}
-use Rattle.states.specs.Kept.{AllBegin}
+use Rattle.states.specs.Comes.{AllBegin}
 use Rattle.states.specs.Leads.{OrderLeads}
 use Rattle.states.specs.Rests.{Rests, Turn, end_at_rest, text_at_rest}
 use Rattle.states.specs.Shown.{IsOrderAmong, NoneIsSpent, ToldOfThread, memory_in, told_at_rest, told_in}
