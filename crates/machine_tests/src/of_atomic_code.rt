@@ -5,6 +5,7 @@ mod driven;
 mod levels;
 mod pieces;
 mod programs;
+mod resting;
 mod transactions;
 mod wholes;
 mod wide;
