@@ -75,7 +75,7 @@ def tests():
     ]
     return f"""//! The programs of examples/ with what each prints, and its transcripts: written by scripts/examples.py.
 
-use serving_in_memory::{{Served, request_of, serve_claim, serve_line}};
+use test_serving::{{Served, request_of, serve_claim, serve_line}};
 use std::alloc::Global;
 use std::sync::Wait;
 use std::thread::Threads;
@@ -193,7 +193,7 @@ use crate::asserted::assert_none;
 use meaning::{{SourceOutcome, ThreadEnd, ThreadReport, run_order}};
 use separation::Accepted;
 use std::alloc::Global;
-use written_programs::accepted_of;
+use test_programs::accepted_of;
 
 /// A program, the number of the trap in which it ends or 0, what it prints, and the words of the memory that it leaves.
 type Row = (&'static str, u32, &'static str, &'static [u64]);

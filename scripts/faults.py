@@ -3,11 +3,11 @@
 with what `txc explain` prints.
 
   scripts/faults.py           fails where they differ
-  scripts/faults.py --write   writes crates/faults/src/explanations.rt, which is what `txc explain` prints,
+  scripts/faults.py --write   writes crates/messages/src/explanations.rt, which is what `txc explain` prints,
                               from the page
 
 Each example of the page's first table has to stand in crates/serving_tests/src/refusals.rt, with the same number, place
-and words, in TOLD or LONG; each number of the page has the words of crates/faults/src/table.rt, and so has each variant
+and words, in TOLD or LONG; each number of the page has the words of crates/messages/src/table.rt, and so has each variant
 of a type of faults (`#[error("..")]`) for its number; one of a type without numbers has the words of some number.
 Prints what differs, and ends in status 1 where something does.
 """
@@ -19,7 +19,7 @@ import sys
 
 TOP = os.path.dirname(os.path.dirname(os.path.abspath(__file__)))
 WORKER = "void worker(int self) {"
-EXPLANATIONS = "crates/faults/src/explanations.rt"
+EXPLANATIONS = "crates/messages/src/explanations.rt"
 TEXT = r'"((?:[^"\\]|\\.)*)"'
 
 
@@ -140,7 +140,7 @@ def main():
     here = documented(next(it for it in parts if it.startswith("A source is refused")))
     wrong += [f"no test has the example of {row[1]:02} at {row[2]}: {row[0][:80]!r}" for row in here if row not in told]
     wrong += [f"the page has no example of {row[1]:02} at {row[2]}: {row[0][:80]!r}" for row in told if row not in here]
-    words = {int(number): text for number, text in re.findall(rf"(\d+) => {TEXT}", read("crates/faults/src/table.rt"))}
+    words = {int(number): text for number, text in re.findall(rf"(\d+) => {TEXT}", read("crates/messages/src/table.rt"))}
     shown = {int(number): text for number, text in re.findall(r"^\| (\d\d) \| ([^|]*?) \|", page, re.M)}
     wrong += [
         f"{number:02}: the page says {shown.get(number)!r}, the program {words.get(number)!r}"

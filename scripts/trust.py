@@ -373,7 +373,7 @@ def says(file):
 def promised(names):
     """The definitions of `serving` that say a promise: names that its clauses of requests or words have, or its answers."""
     specs, code = f"{TOP}/crates/serving/specs", f"{TOP}/crates/serving/src"
-    said = words_of(read(f"{specs}/Answers.antt") + read(f"{code}/request.rt") + read(f"{code}/served.rt") + read(f"{code}/words.rt"))
+    said = words_of(read(f"{specs}/Answers.antt") + read(f"{code}/request.rt") + read(f"{code}/served.rt") + read(f"{code}/words.rt") + read(f"{code}/run.rt"))
     out = set()
     for name in names.split():
         if name not in said:

@@ -1,7 +1,7 @@
 -- A thread with more memories to find, and with some left before.
 use Rattle.std.proofs.Common.{◌≡◌, ◌-◌, ℕ, zero, suc, Bool, true, false, List, [], ◌∷◌, ◌++◌, Option, None, Some, refl, ◌∙◌, ap, drop, append_assoc}
-use Rattle.syntax.specs.declared.numbers.Status.{Status}
-use Rattle.syntax.specs.declared.numbers.Status.TheVariants.{Running, Ended as HasEnded, Trapped as HasTrapped}
+use Rattle.syntax.specs.declared.thread_end.Status.{Status}
+use Rattle.syntax.specs.declared.thread_end.Status.TheVariants.{Running, Ended as HasEnded, Trapped as HasTrapped}
 use Rattle.syntax.specs.Behaviours.{Memory}
 use Rattle.bytecode.specs.Effects.{Effect}
 use Rattle.bytecode.specs.Effects.Effect.{Print, Begin, Commit, Cancel, CancelOuter, Traps}

@@ -3,7 +3,7 @@ use Rattle.std.proofs.Common.{◌≡◌, ◌-◌, ℕ, zero, suc, Bool, true, fa
 use Rattle.std.specs.Prelude.{slice_index, slice_set}
 use Rattle.std.specs.List.{AllByRecursion}
 use Rattle.std.proofs.lemmas.List.{drop-map}
-use Rattle.syntax.specs.declared.numbers.Status.TheVariants.{Running}
+use Rattle.syntax.specs.declared.thread_end.Status.TheVariants.{Running}
 use Rattle.syntax.specs.Behaviours.{Memory, IsMemory}
 use Rattle.syntax.specs.Names.{cell_types}
 use Rattle.nesting.specs.Begins.{Saved}

@@ -9,12 +9,12 @@ ghost use Rattle.atomic_code.specs.Carried.{BreaksOff, CarriesOn, end_by, memory
 mod at_rest;
 
 use crate::context::{AtomicContext, Signal};
-use crate::ran::{End, Ran};
+use crate::ran::{AtomicEnd, Ran};
 use bytecode::Code;
 use frames::Frames;
 use std::alloc::{AllocError, Allocator, Global};
 use std::marker::Model;
-use syntax::numbers::Status;
+use syntax::thread_end::Status;
 
 /// A thread of a code, with transactions as single steps. It keeps no code: each call is given the code of `new`.
 #[derive(Drop)]
@@ -35,13 +35,13 @@ impl<A: Allocator> Model for AtomicThread<A> {
 }
 
 /// The end of a thread, by how it is.
-fn end_of(status: Status) -> Option<End>
+fn end_of(status: Status) -> Option<AtomicEnd>
     ensures { result ≡ end_by status }
 {
     match status {
         Status::Running => None,
-        Status::Ended => Some(End::Ended),
-        Status::Trapped(cause) => Some(End::Trapped(cause)),
+        Status::Ended => Some(AtomicEnd::Ended),
+        Status::Trapped(cause) => Some(AtomicEnd::Trapped(cause)),
     }
 }
 

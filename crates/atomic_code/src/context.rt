@@ -1,7 +1,7 @@
 //! The context of a thread between instructions, and one instruction of it.
 
 ghost use Rattle.std.specs.Prelude.{◌≡◌, ◌<◌, ◌↔◌, ℕ, Option, None, Some, IfOk, OnErr, IsTrue, length, option_map};
-ghost use Rattle.syntax.specs.declared.numbers.Status.TheVariants.{Running};
+ghost use Rattle.syntax.specs.declared.thread_end.Status.TheVariants.{Running};
 ghost use Rattle.syntax.specs.Behaviours.{Memory};
 ghost use Rattle.bytecode.specs.Effects.{Effect, after_cancel};
 ghost use Rattle.bytecode.specs.Code.{effect, going, onward, return_effect, setting};
@@ -18,7 +18,7 @@ use crate::open::{
 use bytecode::Code;
 use frames::{Doing, Frames, push_piece};
 use std::alloc::{AllocError, Allocator};
-use syntax::numbers::{Status, Trap};
+use syntax::thread_end::{Status, Trap};
 
 /// What a thread keeps.
 #[derive(Drop)]

@@ -15,5 +15,5 @@ mod whole;
 
 pub use atomic::AtomicThread;
 pub use memory::is_memory;
-pub use ran::{End, Ran};
+pub use ran::{AtomicEnd, Ran};
 pub use whole::{AtomicThreadEnd, AtomicThreadOutcome, thread};

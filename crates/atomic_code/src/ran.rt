@@ -1,11 +1,11 @@
 //! What comes of a thread that is carried on.
 
 use std::alloc::{Allocator, Global};
-use syntax::numbers::Trap;
+use syntax::thread_end::Trap;
 
 /// How a thread is over.
 #[derive(Clone, Copy, PartialEq, Eq)]
-pub enum End {
+pub enum AtomicEnd {
     /// The thread has come to its end.
     Ended,
 
@@ -23,5 +23,5 @@ pub struct Ran<A: Allocator = Global> {
     pub left: Option<Vec<u64, A>>,
 
     /// How the thread is over, if it is.
-    pub end: Option<End>,
+    pub end: Option<AtomicEnd>,
 }

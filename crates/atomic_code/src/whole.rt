@@ -15,7 +15,7 @@ use crate::context::{AtomicContext, Signal};
 use bytecode::Code;
 use frames::Frames;
 use std::alloc::{AllocError, Allocator, Global};
-use syntax::numbers::{Halt, Status};
+use syntax::thread_end::{Halt, Status};
 
 /// How a thread is found after its instructions.
 #[derive(Clone, Copy, PartialEq, Eq)]

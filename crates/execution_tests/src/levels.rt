@@ -5,11 +5,11 @@ use crate::asserted::assert_that;
 use crate::wanted::{Wanted, is_as};
 use bytecode::Code;
 use machine::Event;
-use refusing::Refusing;
 use replay::{read_schedule, replay};
 use std::alloc::{AllocError, Allocator, Global};
-use world::{End, World};
-use written_codes::{Levels, NUMBERS, cancels_levels, code_of, over_x};
+use test_codes::{Levels, NUMBERS, cancels_levels, code_of, over_x};
+use test_memory::Refusing;
+use world::{World, WorldEnd};
 
 /// Whether the report of one thread that makes a hundred steps is as wanted.
 fn replays(alloc: Global, code: &Code, wanted: &Wanted) -> bool {
@@ -31,7 +31,7 @@ fn commits(alloc: Global, code: &Code, levels: Levels) -> bool {
     let cancelled = if levels.kept { 2u64 } else { 1 };
     let wanted = Wanted {
         events: &[(cancelled, 0, Event::Cancel), (4, 0, Event::Commit)],
-        threads: &[(End::Ended, text)],
+        threads: &[(WorldEnd::Ended, text)],
         words: &[u64::from(levels.levels_left())],
         holder: None,
         stop: None,
@@ -43,7 +43,7 @@ fn commits(alloc: Global, code: &Code, levels: Levels) -> bool {
 fn all_cancelled() -> &'static Wanted<'static> {
     static WANTED: Wanted<'static> = Wanted {
         events: &[(1, 0, Event::Cancel)],
-        threads: &[(End::Ended, "0")],
+        threads: &[(WorldEnd::Ended, "0")],
         words: &[0],
         holder: None,
         stop: None,
@@ -55,7 +55,7 @@ fn all_cancelled() -> &'static Wanted<'static> {
 fn standing_still() -> &'static Wanted<'static> {
     static WANTED: Wanted<'static> = Wanted {
         events: &[],
-        threads: &[(End::Running, "")],
+        threads: &[(WorldEnd::Running, "")],
         words: &[0],
         holder: Some(0),
         stop: None,

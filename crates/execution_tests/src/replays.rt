@@ -7,9 +7,9 @@ use machine::{Event, StepShown};
 use norec_core::{Access, Answer};
 use replay::{Line, read_schedule, replay, seeded, timeline};
 use std::alloc::Global;
-use syntax::numbers::{Status, Trap};
-use world::{End, StopReason};
-use written_codes::{code_of, over_x, traps};
+use syntax::thread_end::{Status, Trap};
+use test_codes::{code_of, over_x, traps};
+use world::{StopReason, WorldEnd};
 
 /// Adds 1 to x.
 fn adds_one() -> &'static [Instr] {
@@ -57,7 +57,7 @@ fn dropped_once() -> &'static Wanted<'static> {
             (13, 1, Event::Abort),
             (19, 1, Event::Commit),
         ],
-        threads: &[(End::Ended, ""), (End::Ended, "")],
+        threads: &[(WorldEnd::Ended, ""), (WorldEnd::Ended, "")],
         words: &[2],
         holder: None,
         stop: None,
@@ -76,7 +76,7 @@ fn a_transaction_is_dropped_and_made_again(rt: HostRuntime) {
 fn met_a_stranger() -> &'static Wanted<'static> {
     static WANTED: Wanted<'static> = Wanted {
         events: &[(6, 0, Event::Commit)],
-        threads: &[(End::Ended, ""), (End::Running, "")],
+        threads: &[(WorldEnd::Ended, ""), (WorldEnd::Running, "")],
         words: &[1],
         holder: None,
         stop: Some((1000, StopReason::Stranger)),
@@ -95,7 +95,7 @@ fn a_stranger_ends_a_replay(rt: HostRuntime) {
 fn trap_replay() -> &'static Wanted<'static> {
     static WANTED: Wanted<'static> = Wanted {
         events: &[(3, 0, Event::Trap(Trap::ZeroDivisor))],
-        threads: &[(End::Trapped(Trap::ZeroDivisor), "2")],
+        threads: &[(WorldEnd::Trapped(Trap::ZeroDivisor), "2")],
         words: &[0],
         holder: None,
         stop: None,
@@ -134,7 +134,7 @@ fn takes_back() -> &'static [Instr] {
 fn taken_back() -> &'static Wanted<'static> {
     static WANTED: Wanted<'static> = Wanted {
         events: &[(3, 0, Event::Cancel), (6, 0, Event::Commit)],
-        threads: &[(End::Ended, "1")],
+        threads: &[(WorldEnd::Ended, "1")],
         words: &[1],
         holder: None,
         stop: None,
@@ -176,7 +176,7 @@ fn validation_replay() -> &'static Wanted<'static> {
             (15, 1, Event::Cancel),
             (18, 1, Event::Commit),
         ],
-        threads: &[(End::Ended, ""), (End::Ended, "")],
+        threads: &[(WorldEnd::Ended, ""), (WorldEnd::Ended, "")],
         words: &[5],
         holder: None,
         stop: None,
@@ -201,7 +201,7 @@ fn what_cancelled_levels_have_read_is_validated(rt: HostRuntime) {
 fn lock_held_replay() -> &'static Wanted<'static> {
     static WANTED: Wanted<'static> = Wanted {
         events: &[],
-        threads: &[(End::Running, "")],
+        threads: &[(WorldEnd::Running, "")],
         words: &[0],
         holder: Some(0),
         stop: None,

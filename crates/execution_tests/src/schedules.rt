@@ -1,9 +1,9 @@
 //! Schedules that are read, and those that are not.
 
 use crate::asserted::{assert_all, assert_none, assert_that};
-use refusing::Refusing;
 use replay::{Line, ScheduleFault, read_schedule, seeded, write_schedule};
 use std::alloc::{Allocator, Global};
+use test_memory::Refusing;
 
 /// Whether a text is read as these lines.
 fn is_read_as(alloc: Global, text: &str, lines: &[Line]) -> bool {

@@ -2,9 +2,9 @@
 
 use bytecode::{Code, Instr};
 use lex::token::Scalar;
-use seats::Setup;
+use shared_words::Setup;
 use std::alloc::Allocator;
-use written_codes::{WrittenCode, WrittenVariable, code_of, worker};
+use test_codes::{WrittenCode, WrittenVariable, code_of, worker};
 
 /// A variable that begins with this value.
 fn variable(value: u32) -> WrittenVariable<'static> {

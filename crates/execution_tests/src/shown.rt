@@ -4,10 +4,10 @@ use crate::asserted::{assert_all, assert_that};
 use containers::{Items, Text};
 use lex::token::Scalar;
 use machine::Event;
-use refusing::{Refusing, growths};
 use report::{End, Printed, Shown, ThreadShown, report_text};
 use std::alloc::{AllocError, Allocator, Global};
-use syntax::numbers::Trap;
+use syntax::thread_end::Trap;
+use test_memory::{Refusing, growths};
 
 /// How a thread ends, and what it has printed.
 type Thread = (End, &'static [u8]);

@@ -2,9 +2,9 @@
 
 use crate::asserted::assert_that;
 use crate::setups::setup;
-use refusing::{Refusing, growths};
-use seats::{Setup, close, join, meet, open, split_first};
+use shared_words::{Setup, close, join, meet, open, split_first};
 use std::alloc::{Allocator, Global};
+use test_memory::{Refusing, growths};
 
 /// What the cells have that a table leaves, whose seats part and join.
 fn cells_left(alloc: Global, setup: &Setup) -> Option<Vec<u64>> {

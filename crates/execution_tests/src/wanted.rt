@@ -1,20 +1,20 @@
 //! What reports are to be.
 
 use machine::Event;
-use world::{End, Report, StopReason};
+use world::{Report, StopReason, WorldEnd};
 
 /// A report: its events, its threads' ends and outputs, the words, who has the lock, and the step that was not made.
 #[derive(Clone, Copy)]
 pub struct Wanted<'a> {
     pub events: &'a [(u64, u32, Event)],
-    pub threads: &'a [(End, &'a str)],
+    pub threads: &'a [(WorldEnd, &'a str)],
     pub words: &'a [u64],
     pub holder: Option<u32>,
     pub stop: Option<(u64, StopReason)>,
 }
 
 /// Whether a thread is found so, with this output.
-fn shows(report: &Report, t: usize, end: End, text: &str) -> bool {
+fn shows(report: &Report, t: usize, end: WorldEnd, text: &str) -> bool {
     match report.threads.as_slice().get(t) {
         Some(found) => found.0 == end && found.1.as_str() == text,
         None => false,
@@ -22,7 +22,7 @@ fn shows(report: &Report, t: usize, end: End, text: &str) -> bool {
 }
 
 /// Whether the threads are found so.
-fn show(report: &Report, threads: &[(End, &str)]) -> bool {
+fn show(report: &Report, threads: &[(WorldEnd, &str)]) -> bool {
     for t in 0..threads.len() {
         let (end, text) = threads[t];
         if !shows(report, t, end, text) {

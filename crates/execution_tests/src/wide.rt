@@ -4,18 +4,18 @@ use crate::asserted::assert_none;
 use bytecode::{Code, Instr};
 use replay::{read_schedule, replay};
 use std::alloc::Global;
-use syntax::numbers::Trap;
-use world::{End, Report};
-use written_codes::{
+use syntax::thread_end::Trap;
+use test_codes::{
     WideOperator, WideRow, code_over_both, shown_operator, wide_cells, wide_operators, wide_steps,
 };
+use world::{Report, WorldEnd};
 
 /// Whether the one thread of a report has come to its end and has printed this, or has trapped so.
 fn is_given(report: &Report, given: Result<&str, Trap>) -> bool {
     match report.threads.as_slice().first() {
         Some(found) => match given {
-            Ok(text) => found.0 == End::Ended && found.1.as_str() == text,
-            Err(why) => found.0 == End::Trapped(why),
+            Ok(text) => found.0 == WorldEnd::Ended && found.1.as_str() == text,
+            Err(why) => found.0 == WorldEnd::Trapped(why),
         },
         None => false,
     }

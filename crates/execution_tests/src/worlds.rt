@@ -3,8 +3,8 @@
 use crate::asserted::{assert_all, assert_that};
 use crate::wanted::{Wanted, is_as};
 use std::alloc::{Allocator, Global};
-use world::{End, StopReason, World, WorldFault};
-use written_codes::{adds_five, code_of, over_x};
+use test_codes::{adds_five, code_of, over_x};
+use world::{StopReason, World, WorldEnd, WorldFault};
 
 /// Of two threads that add 5 to x: thread 1 has the word of x when thread 0 changes it. It reads again, and makes 10
 /// accesses in place of 6.
@@ -66,7 +66,7 @@ fn leads_to(alloc: Global, steps: &[u32], left: Left) -> bool {
 fn read_again() -> &'static Wanted<'static> {
     static WANTED: Wanted<'static> = Wanted {
         events: &[],
-        threads: &[(End::Ended, "5"), (End::Ended, "10")],
+        threads: &[(WorldEnd::Ended, "5"), (WorldEnd::Ended, "10")],
         words: &[10],
         holder: None,
         stop: None,
@@ -83,7 +83,7 @@ fn a_word_is_read_again(rt: HostRuntime) {
 fn lock_held_report() -> &'static Wanted<'static> {
     static WANTED: Wanted<'static> = Wanted {
         events: &[],
-        threads: &[(End::Running, ""), (End::Running, "")],
+        threads: &[(WorldEnd::Running, ""), (WorldEnd::Running, "")],
         words: &[0],
         holder: Some(1),
         stop: None,

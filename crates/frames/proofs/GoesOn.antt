@@ -3,8 +3,8 @@ use Rattle.std.proofs.Common.{◌≡◌, ℕ, suc, ◌+◌, ◌-◌, ◌<◌, �
 use Rattle.std.specs.Prelude.{slice_get, slice_index, slice_set, replicate, if◌then◌else◌, nat_lt, ◌==◌, IfOk}
 use Rattle.std.proofs.lemmas.Bool.{ltb-true}
 use Rattle.std.proofs.lemmas.List.{length-set, length-map, length-replicate}
-use Rattle.syntax.specs.declared.numbers.Trap.{Trap}
-use Rattle.syntax.specs.declared.numbers.Trap.TheVariants.{Index}
+use Rattle.syntax.specs.declared.thread_end.Trap.{Trap}
+use Rattle.syntax.specs.declared.thread_end.Trap.TheVariants.{Index}
 use Rattle.lex.specs.declared.token.Scalar.TheVariants.{Int, Unsigned, LongLong}
 use Rattle.syntax.specs.Numbers.{number, word_of, residue, bitwise_complement}
 use Rattle.nesting.specs.Begins.{Saved}

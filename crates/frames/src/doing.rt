@@ -7,7 +7,7 @@ ghost use Rattle.frames.specs.Doings.{piece_of};
 use bytecode::Code;
 use itoa::Buffer;
 use std::alloc::{AllocError, Allocator};
-use syntax::numbers::Trap;
+use syntax::thread_end::Trap;
 
 /// What stands at a thread's place to be done. Indices of arrays have been tested, and values of registers are given
 /// with it.

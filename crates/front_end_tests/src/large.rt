@@ -2,7 +2,7 @@
 
 use crate::stages::{Fault, Stage, fault_of};
 use std::alloc::Global;
-use written_programs::{Piece, text_of};
+use test_programs::{Piece, text_of};
 
 /// How many functions a chain has.
 const LENGTH: u32 = 20000;

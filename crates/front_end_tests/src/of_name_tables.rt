@@ -2,10 +2,10 @@
 
 use crate::asserted::assert_all;
 use name_tables::{Keyed, Scope, Table};
-use refusing::Refusing;
 use std::alloc::{AllocError, Allocator, Global};
 use std::hash::BuildHasher;
-use written_programs::unit_of;
+use test_memory::Refusing;
+use test_programs::unit_of;
 
 /// `count` as 7 and `total` as 8, and once more `count` as 9; whether each was new.
 fn declare_three<A: Allocator + Copy>(

@@ -8,8 +8,8 @@ use safety::safe;
 use separation::accept;
 use std::alloc::Global;
 use syntax::tree::Unit;
+use test_programs::{safe_of, typed_of, unit_of};
 use types::{Typed, check};
-use written_programs::{safe_of, typed_of, unit_of};
 
 /// A stage that finds faults.
 #[derive(Clone, Copy)]

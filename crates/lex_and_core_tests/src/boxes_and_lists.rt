@@ -2,8 +2,8 @@
 
 use crate::asserted::assert_all;
 use containers::{Boxed, Copied, Items, Same, Text};
-use refusing::{Refusing, growths};
 use std::alloc::{AllocError, Allocator, Global};
+use test_memory::{Refusing, growths};
 
 /// Whether all of these were made, and the first is equal to the second and not to the third.
 fn tells_apart<T: PartialEq + Drop>(

@@ -3,9 +3,9 @@
 ghost use Rattle.norec_core.specs.Accesses.{IsAnswerTo};
 
 use crate::asserted::{assert_growths, assert_that};
-use norec_core::{Access, Answer, Core, Op, Outcome, ReadStep, Saved, Stop};
-use refusing::{Refusing, growths};
+use norec_core::{Access, Answer, Core, Op, OpOutcome, ReadStep, Saved, Stop};
 use std::alloc::{Allocator, Global};
+use test_memory::{Refusing, growths};
 
 /// The answer of an access that finds this value in the lock or the word.
 pub(crate) fn answer_to(access: Access, found: u64) -> Answer
@@ -25,13 +25,13 @@ pub(crate) fn step<A: Allocator + Copy>(
     core: &mut Core<A>,
     op: Op,
     found: u64,
-) -> Result<(Access, Outcome), Stop> {
+) -> Result<(Access, OpOutcome), Stop> {
     let access = core.prepare(op, &[3, 4], 2, 7)?;
     Ok((access, core.told(answer_to(access, found))))
 }
 
 /// An operation, what its access finds, the access, and what comes of the operation.
-pub(crate) type Row = (Op, u64, Access, Outcome);
+pub(crate) type Row = (Op, u64, Access, OpOutcome);
 
 /// Whether each of these steps is played so. The rows stand in functions, so that no proof but theirs looks at them.
 pub(crate) fn plays<A: Allocator + Copy>(core: &mut Core<A>, rows: &[Row]) -> bool {
@@ -46,18 +46,18 @@ pub(crate) fn plays<A: Allocator + Copy>(core: &mut Core<A>, rows: &[Row]) -> bo
 /// A read that meets a later commit, reads anew and is written back.
 fn read_again() -> &'static [Row] {
     static ROWS: [Row; 12] = [
-        (Op::Begin, 1, Access::LoadLock, Outcome::Going),
-        (Op::Begin, 2, Access::LoadLock, Outcome::Done),
-        (Op::Read(5), 7, Access::LoadWord(5), Outcome::Going),
-        (Op::Read(5), 4, Access::LoadLock, Outcome::Going),
-        (Op::Read(5), 4, Access::LoadLock, Outcome::Going),
-        (Op::Read(5), 4, Access::LoadLock, Outcome::Going),
-        (Op::Read(5), 8, Access::LoadWord(5), Outcome::Going),
-        (Op::Read(5), 4, Access::LoadLock, Outcome::Read(8)),
-        (Op::Write(5, 9), 0, Access::Local, Outcome::Done),
-        (Op::Commit, 4, Access::Swap(4), Outcome::Going),
-        (Op::Commit, 0, Access::StoreWord(5, 9), Outcome::Going),
-        (Op::Commit, 0, Access::StoreLock(6), Outcome::Done),
+        (Op::Begin, 1, Access::LoadLock, OpOutcome::Going),
+        (Op::Begin, 2, Access::LoadLock, OpOutcome::Done),
+        (Op::Read(5), 7, Access::LoadWord(5), OpOutcome::Going),
+        (Op::Read(5), 4, Access::LoadLock, OpOutcome::Going),
+        (Op::Read(5), 4, Access::LoadLock, OpOutcome::Going),
+        (Op::Read(5), 4, Access::LoadLock, OpOutcome::Going),
+        (Op::Read(5), 8, Access::LoadWord(5), OpOutcome::Going),
+        (Op::Read(5), 4, Access::LoadLock, OpOutcome::Read(8)),
+        (Op::Write(5, 9), 0, Access::Local, OpOutcome::Done),
+        (Op::Commit, 4, Access::Swap(4), OpOutcome::Going),
+        (Op::Commit, 0, Access::StoreWord(5, 9), OpOutcome::Going),
+        (Op::Commit, 0, Access::StoreLock(6), OpOutcome::Done),
     ];
     &ROWS
 }
@@ -65,22 +65,22 @@ fn read_again() -> &'static [Row] {
 /// A cancelled inner transaction, with a committed one in it, has written to cells written before it and to others.
 fn nested_rows() -> &'static [Row] {
     static ROWS: [Row; 16] = [
-        (Op::Begin, 2, Access::LoadLock, Outcome::Done),
-        (Op::Write(3, 1), 0, Access::Local, Outcome::Done),
-        (Op::Begin, 0, Access::Local, Outcome::Done),
-        (Op::Write(3, 9), 0, Access::Local, Outcome::Done),
-        (Op::Write(7, 4), 0, Access::Local, Outcome::Done),
-        (Op::Begin, 0, Access::Local, Outcome::Done),
-        (Op::Write(3, 10), 0, Access::Local, Outcome::Done),
-        (Op::Commit, 0, Access::Local, Outcome::Done),
-        (Op::Read(3), 0, Access::Local, Outcome::Read(10)),
-        (Op::Cancel, 0, Access::Local, Outcome::Done),
-        (Op::Read(3), 0, Access::Local, Outcome::Read(1)),
-        (Op::Write(7, 6), 0, Access::Local, Outcome::Done),
-        (Op::Commit, 2, Access::Swap(2), Outcome::Going),
-        (Op::Commit, 0, Access::StoreWord(3, 1), Outcome::Going),
-        (Op::Commit, 0, Access::StoreWord(7, 6), Outcome::Going),
-        (Op::Commit, 0, Access::StoreLock(4), Outcome::Done),
+        (Op::Begin, 2, Access::LoadLock, OpOutcome::Done),
+        (Op::Write(3, 1), 0, Access::Local, OpOutcome::Done),
+        (Op::Begin, 0, Access::Local, OpOutcome::Done),
+        (Op::Write(3, 9), 0, Access::Local, OpOutcome::Done),
+        (Op::Write(7, 4), 0, Access::Local, OpOutcome::Done),
+        (Op::Begin, 0, Access::Local, OpOutcome::Done),
+        (Op::Write(3, 10), 0, Access::Local, OpOutcome::Done),
+        (Op::Commit, 0, Access::Local, OpOutcome::Done),
+        (Op::Read(3), 0, Access::Local, OpOutcome::Read(10)),
+        (Op::Cancel, 0, Access::Local, OpOutcome::Done),
+        (Op::Read(3), 0, Access::Local, OpOutcome::Read(1)),
+        (Op::Write(7, 6), 0, Access::Local, OpOutcome::Done),
+        (Op::Commit, 2, Access::Swap(2), OpOutcome::Going),
+        (Op::Commit, 0, Access::StoreWord(3, 1), OpOutcome::Going),
+        (Op::Commit, 0, Access::StoreWord(7, 6), OpOutcome::Going),
+        (Op::Commit, 0, Access::StoreLock(4), OpOutcome::Done),
     ];
     &ROWS
 }
@@ -88,13 +88,13 @@ fn nested_rows() -> &'static [Row] {
 /// Validation finds another word in a cell that was read, and the attempt is dropped.
 fn changed_word_rows() -> &'static [Row] {
     static ROWS: [Row; 7] = [
-        (Op::Begin, 2, Access::LoadLock, Outcome::Done),
-        (Op::Read(5), 7, Access::LoadWord(5), Outcome::Going),
-        (Op::Read(5), 2, Access::LoadLock, Outcome::Read(7)),
-        (Op::Read(6), 1, Access::LoadWord(6), Outcome::Going),
-        (Op::Read(6), 4, Access::LoadLock, Outcome::Going),
-        (Op::Read(6), 4, Access::LoadLock, Outcome::Going),
-        (Op::Read(6), 8, Access::LoadWord(5), Outcome::Aborted),
+        (Op::Begin, 2, Access::LoadLock, OpOutcome::Done),
+        (Op::Read(5), 7, Access::LoadWord(5), OpOutcome::Going),
+        (Op::Read(5), 2, Access::LoadLock, OpOutcome::Read(7)),
+        (Op::Read(6), 1, Access::LoadWord(6), OpOutcome::Going),
+        (Op::Read(6), 4, Access::LoadLock, OpOutcome::Going),
+        (Op::Read(6), 4, Access::LoadLock, OpOutcome::Going),
+        (Op::Read(6), 8, Access::LoadWord(5), OpOutcome::Aborted),
     ];
     &ROWS
 }
@@ -102,20 +102,20 @@ fn changed_word_rows() -> &'static [Row] {
 /// The lock is taken at its last value but one, and released at its last even one.
 fn last_release() -> &'static [Row] {
     static ROWS: [Row; 5] = [
-        (Op::Begin, u64::MAX - 3, Access::LoadLock, Outcome::Done),
-        (Op::Write(5, 9), 0, Access::Local, Outcome::Done),
+        (Op::Begin, u64::MAX - 3, Access::LoadLock, OpOutcome::Done),
+        (Op::Write(5, 9), 0, Access::Local, OpOutcome::Done),
         (
             Op::Commit,
             u64::MAX - 3,
             Access::Swap(u64::MAX - 3),
-            Outcome::Going,
+            OpOutcome::Going,
         ),
-        (Op::Commit, 0, Access::StoreWord(5, 9), Outcome::Going),
+        (Op::Commit, 0, Access::StoreWord(5, 9), OpOutcome::Going),
         (
             Op::Commit,
             0,
             Access::StoreLock(u64::MAX - 1),
-            Outcome::Done,
+            OpOutcome::Done,
         ),
     ];
     &ROWS
@@ -124,15 +124,15 @@ fn last_release() -> &'static [Row] {
 /// A transaction that has read at the last lock value commits there.
 fn last_read() -> &'static [Row] {
     static ROWS: [Row; 4] = [
-        (Op::Begin, u64::MAX - 1, Access::LoadLock, Outcome::Done),
-        (Op::Read(5), 7, Access::LoadWord(5), Outcome::Going),
+        (Op::Begin, u64::MAX - 1, Access::LoadLock, OpOutcome::Done),
+        (Op::Read(5), 7, Access::LoadWord(5), OpOutcome::Going),
         (
             Op::Read(5),
             u64::MAX - 1,
             Access::LoadLock,
-            Outcome::Read(7),
+            OpOutcome::Read(7),
         ),
-        (Op::Commit, 0, Access::Local, Outcome::Done),
+        (Op::Commit, 0, Access::Local, OpOutcome::Done),
     ];
     &ROWS
 }
@@ -140,8 +140,8 @@ fn last_read() -> &'static [Row] {
 /// An attempt that has written cannot take the lock at its last value.
 fn last_write() -> &'static [Row] {
     static ROWS: [Row; 2] = [
-        (Op::Begin, u64::MAX - 1, Access::LoadLock, Outcome::Done),
-        (Op::Write(5, 9), 0, Access::Local, Outcome::Done),
+        (Op::Begin, u64::MAX - 1, Access::LoadLock, OpOutcome::Done),
+        (Op::Write(5, 9), 0, Access::Local, OpOutcome::Done),
     ];
     &ROWS
 }
@@ -149,11 +149,11 @@ fn last_write() -> &'static [Row] {
 /// The lock is taken early, read under without a check, and released by a trap.
 fn early_lock_rows() -> &'static [Row] {
     static ROWS: [Row; 5] = [
-        (Op::Begin, 2, Access::LoadLock, Outcome::Done),
-        (Op::Irrevocable, 2, Access::Swap(2), Outcome::Done),
-        (Op::Read(5), 7, Access::LoadWord(5), Outcome::Read(7)),
-        (Op::Write(5, 9), 0, Access::Local, Outcome::Done),
-        (Op::Release, 0, Access::StoreLock(4), Outcome::Done),
+        (Op::Begin, 2, Access::LoadLock, OpOutcome::Done),
+        (Op::Irrevocable, 2, Access::Swap(2), OpOutcome::Done),
+        (Op::Read(5), 7, Access::LoadWord(5), OpOutcome::Read(7)),
+        (Op::Write(5, 9), 0, Access::Local, OpOutcome::Done),
+        (Op::Release, 0, Access::StoreLock(4), OpOutcome::Done),
     ];
     &ROWS
 }
@@ -184,7 +184,7 @@ fn is_used_up<A: Allocator + Copy>(core: &mut Core<A>, op: Op) -> bool {
 
 /// A read of what was written, which is in the log.
 fn read_in_place() -> &'static [Row] {
-    static ROWS: [Row; 1] = [(Op::Read(5), 0, Access::Local, Outcome::Read(9))];
+    static ROWS: [Row; 1] = [(Op::Read(5), 0, Access::Local, OpOutcome::Read(9))];
     &ROWS
 }
 
@@ -303,7 +303,7 @@ fn writes_many<A: Allocator + Copy>(core: &mut Core<A>) -> bool {
 /// Whether a commit stores each of 1000 words.
 fn stores_many<A: Allocator + Copy>(core: &mut Core<A>) -> bool {
     for cell in 0..1000u32 {
-        let wanted = (Access::StoreWord(cell, 6), Outcome::Going);
+        let wanted = (Access::StoreWord(cell, 6), OpOutcome::Going);
         if step(core, Op::Commit, 0) != Ok(wanted) {
             return false;
         }
@@ -313,7 +313,7 @@ fn stores_many<A: Allocator + Copy>(core: &mut Core<A>) -> bool {
 
 /// The lock is released after that.
 fn release_rows() -> &'static [Row] {
-    static ROWS: [Row; 1] = [(Op::Commit, 0, Access::StoreLock(4), Outcome::Done)];
+    static ROWS: [Row; 1] = [(Op::Commit, 0, Access::StoreLock(4), OpOutcome::Done)];
     &ROWS
 }
 
@@ -332,7 +332,7 @@ fn reads<A: Allocator + Copy>(
     cell: u32,
     word: u64,
     lock: u64,
-) -> Option<Outcome> {
+) -> Option<OpOutcome> {
     match core.read(cell) {
         ReadStep::Loads => Some(core.take_read(cell, word, lock)),
         ReadStep::Written(_) | ReadStep::Other => None,
@@ -342,8 +342,8 @@ fn reads<A: Allocator + Copy>(
 /// Whether a read is made whole where nothing disturbs it, leaves validation where the lock has moved, and is not made
 /// there.
 fn reads_up_to_validation<A: Allocator + Copy>(core: &mut Core<A>) -> bool {
-    reads(core, 5, 7, 2) == Some(Outcome::Read(7))
-        && reads(core, 6, 7, 4) == Some(Outcome::Going)
+    reads(core, 5, 7, 2) == Some(OpOutcome::Read(7))
+        && reads(core, 6, 7, 4) == Some(OpOutcome::Going)
         && reads(core, 6, 7, 4).is_none()
 }
 
@@ -362,8 +362,8 @@ fn reads_whole<A: Allocator + Copy, B: Allocator>(
 /// Validation after that.
 fn validates() -> &'static [Row] {
     static ROWS: [Row; 2] = [
-        (Op::Read(6), 4, Access::LoadLock, Outcome::Going),
-        (Op::Read(6), 8, Access::LoadWord(5), Outcome::Aborted),
+        (Op::Read(6), 4, Access::LoadLock, OpOutcome::Going),
+        (Op::Read(6), 8, Access::LoadWord(5), OpOutcome::Aborted),
     ];
     &ROWS
 }

@@ -2,17 +2,17 @@
 
 use crate::asserted::assert_that;
 use crate::cores::{Row, answer_to, plays, step};
-use norec_core::{Access, Core, Op, Outcome, Saved, Stop};
-use refusing::Refusing;
+use norec_core::{Access, Core, Op, OpOutcome, Saved, Stop};
 use std::alloc::{Allocator, Global};
+use test_memory::Refusing;
 
 /// What a step comes to: its access, and what comes of the operation.
-type Made = Result<(Access, Outcome), Stop>;
+type Made = Result<(Access, OpOutcome), Stop>;
 
 /// A local step after which the operation is done, or goes on.
-const DONE: Made = Ok((Access::Local, Outcome::Done));
+const DONE: Made = Ok((Access::Local, OpOutcome::Done));
 
-const GOING: Made = Ok((Access::Local, Outcome::Going));
+const GOING: Made = Ok((Access::Local, OpOutcome::Going));
 
 /// How many levels are open, how many of them are cancelled, and whether the lock is kept.
 #[derive(Clone, Copy)]
@@ -25,7 +25,7 @@ struct Cancel {
 /// Whether the begin of this level is made, counted from 1 for the outermost one. It saves its number.
 fn begins<A: Allocator + Copy>(core: &mut Core<A>, level: u32) -> bool {
     match core.prepare(Op::Begin, &[u64::from(level)], 2, level) {
-        Ok(access) => core.told(answer_to(access, 2)) == Outcome::Done,
+        Ok(access) => core.told(answer_to(access, 2)) == OpOutcome::Done,
         Err(_) => false,
     }
 }
@@ -52,7 +52,7 @@ fn opens_each<A: Allocator + Copy>(core: &mut Core<A>, depth: u32) -> bool {
 
 /// Whether all levels begin, with the lock kept where it is to be.
 fn stands<A: Allocator + Copy>(core: &mut Core<A>, cancel: Cancel) -> bool {
-    let keeps = Ok((Access::Swap(2), Outcome::Done));
+    let keeps = Ok((Access::Swap(2), OpOutcome::Done));
     opens_each(core, cancel.depth) && (!cancel.kept || step(core, Op::Irrevocable, 2) == keeps)
 }
 
@@ -68,7 +68,7 @@ fn has_words_of<A: Allocator + Copy>(core: &mut Core<A>, levels: u32) -> bool {
             return false;
         }
     }
-    let last = Ok((Access::Local, Outcome::Read(u64::from(levels))));
+    let last = Ok((Access::Local, OpOutcome::Read(u64::from(levels))));
     step(core, Op::Read(0), 0) == last
 }
 
@@ -175,15 +175,15 @@ fn several_levels_are_cancelled(rt: HostRuntime) {
 /// A read in the innermost of three levels, which two are then cancelled, is compared later.
 fn reads_stay() -> &'static [Row] {
     static ROWS: [Row; 9] = [
-        (Op::Begin, 2, Access::LoadLock, Outcome::Done),
-        (Op::Begin, 0, Access::Local, Outcome::Done),
-        (Op::Begin, 0, Access::Local, Outcome::Done),
-        (Op::Read(5), 7, Access::LoadWord(5), Outcome::Going),
-        (Op::Read(5), 2, Access::LoadLock, Outcome::Read(7)),
-        (Op::CancelOuter(2), 0, Access::Local, Outcome::Done),
-        (Op::Read(6), 1, Access::LoadWord(6), Outcome::Going),
-        (Op::Read(6), 4, Access::LoadLock, Outcome::Going),
-        (Op::Read(6), 4, Access::LoadLock, Outcome::Going),
+        (Op::Begin, 2, Access::LoadLock, OpOutcome::Done),
+        (Op::Begin, 0, Access::Local, OpOutcome::Done),
+        (Op::Begin, 0, Access::Local, OpOutcome::Done),
+        (Op::Read(5), 7, Access::LoadWord(5), OpOutcome::Going),
+        (Op::Read(5), 2, Access::LoadLock, OpOutcome::Read(7)),
+        (Op::CancelOuter(2), 0, Access::Local, OpOutcome::Done),
+        (Op::Read(6), 1, Access::LoadWord(6), OpOutcome::Going),
+        (Op::Read(6), 4, Access::LoadLock, OpOutcome::Going),
+        (Op::Read(6), 4, Access::LoadLock, OpOutcome::Going),
     ];
     &ROWS
 }
@@ -191,7 +191,7 @@ fn reads_stay() -> &'static [Row] {
 /// Whether an entry of a cancelled level whose cell has another word by then drops the attempt.
 fn compares_what_was_read(inner: Global) -> bool {
     let mut core = Core::new(inner);
-    let dropped = Ok((Access::LoadWord(5), Outcome::Aborted));
+    let dropped = Ok((Access::LoadWord(5), OpOutcome::Aborted));
     plays(&mut core, reads_stay()) && step(&mut core, Op::Read(6), 8) == dropped
 }
 

@@ -2,8 +2,8 @@
 
 use crate::asserted::{assert_growths, assert_that};
 use read_log::ReadLog;
-use refusing::{Refusing, growths};
 use std::alloc::{AllocError, Global};
+use test_memory::{Refusing, growths};
 
 /// Pushes a pair, with room that is asked for a second time where it is refused, and says whether it was; none
 /// where the log has not as many pairs before as the cell says, or room is refused again.

@@ -3,8 +3,8 @@
 use crate::asserted::{assert_all, assert_growths, assert_none};
 use lex::token::{Keyword, Kind, Scalar, Span, Token};
 use lex::{lex, place, unescape};
-use refusing::{Refusing, growths};
 use std::alloc::{Allocator, Global};
+use test_memory::{Refusing, growths};
 
 /// A text, the number of its fault, and where the fault's span starts and ends.
 type Refused<'a> = (&'a str, u32, usize, usize);

@@ -1,10 +1,10 @@
 //! What is told of faults.
 
 use crate::asserted::{assert_all, assert_none};
-use faults::{explanation, underline, words};
 use lex::token::Span;
-use refusing::{Refusing, growths};
+use messages::{explanation, underline, words};
 use std::alloc::{AllocError, Allocator, Global};
+use test_memory::{Refusing, growths};
 
 /// A text, where a span of it starts and ends, and what is shown of it.
 type Row = (&'static str, usize, usize, &'static str);

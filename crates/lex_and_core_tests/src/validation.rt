@@ -2,7 +2,7 @@
 
 use crate::asserted::assert_that;
 use crate::cores::step;
-use norec_core::{Core, Op, Outcome};
+use norec_core::{Core, Op, OpOutcome};
 use std::alloc::{Allocator, Global};
 
 /// Whether a read of this cell finds this word and then this lock value, with this outcome.
@@ -11,7 +11,7 @@ fn reads<A: Allocator + Copy>(
     cell: u32,
     word: u64,
     lock: u64,
-    outcome: Outcome,
+    outcome: OpOutcome,
 ) -> bool {
     if step(core, Op::Read(cell), word).is_err() {
         return false;
@@ -25,10 +25,10 @@ fn reads<A: Allocator + Copy>(
 /// Whether an attempt begins at lock value 2, reads three cells, and then one where the lock has changed.
 fn comes_to_validation<A: Allocator + Copy>(core: &mut Core<A>) -> bool {
     step(core, Op::Begin, 2).is_ok()
-        && reads(core, 5, 50, 2, Outcome::Read(50))
-        && reads(core, 6, 60, 2, Outcome::Read(60))
-        && reads(core, 7, 70, 2, Outcome::Read(70))
-        && reads(core, 8, 80, 3, Outcome::Going)
+        && reads(core, 5, 50, 2, OpOutcome::Read(50))
+        && reads(core, 6, 60, 2, OpOutcome::Read(60))
+        && reads(core, 7, 70, 2, OpOutcome::Read(70))
+        && reads(core, 8, 80, 3, OpOutcome::Going)
 }
 
 /// Whether validation loads the lock, this value.
@@ -81,7 +81,7 @@ fn goes_on<A: Allocator + Copy>(core: &mut Core<A>) -> bool {
         && compares(core, None, 4)
         && !core.is_waiting()
         && core.comparing().is_none()
-        && reads(core, 8, 81, 4, Outcome::Read(81))
+        && reads(core, 8, 81, 4, OpOutcome::Read(81))
 }
 
 /// Whether validation drops the attempt at its second entry, and goes back to what was saved.

@@ -3,11 +3,11 @@
 ghost use Rattle.std.specs.Prelude.{◌≡◌, ◌+◌, ◌<◌, ◌≤◌, OnOk, length};
 
 use crate::asserted::{assert_all, assert_growths, assert_that};
-use refusing::{Refusing, growths};
 use std::alloc::{AllocError, Allocator, Global};
 use std::marker::Brand;
 use std::mem::size_of;
 use std::sync::ledger::{Blank, Ledger};
+use test_memory::{Refusing, growths};
 use write_log::{Looks, WriteLog};
 
 /// Makes room, at the second call where the first one is refused, and says whether it was.

@@ -15,13 +15,13 @@ use Rattle.selection.specs.Loops.{in_loops}
 use Rattle.selection.specs.Programs.{no_exits, body_with, body_preloaded, body_better, body_written, nothing_preloaded}
 use Rattle.selection.proofs.Longer.{stmts_longer}
 use Rattle.selection.proofs.stands.Standing.{Grows, IsFront}
-use Rattle.lower_exprs.specs.declared.fault.Failure.{Failure}
+use Rattle.lower_exprs.specs.declared.fault.LowerFailure.{LowerFailure}
 use Rattle.lower_exprs.specs.Limits.{NeedsMore}
 use Rattle.lower_exprs.specs.Fragments.{Adds, of_written}
 use Rattle.lower_exprs.proofs.Adding.{same, needs_more}
 
 -- a body that is made once more, in place of the one that is cut off
-pub made_once_more : {old cut new : List Instr} {a b : Written} {l : Lists} {r : Result ℕ Failure} {n : ℕ} →
+pub made_once_more : {old cut new : List Instr} {a b : Written} {l : Lists} {r : Result ℕ LowerFailure} {n : ℕ} →
     cut ≡ old → a ≡ b → OnOk r (Adds (of_written a) cut new l r) → IfErr r (λ why. NeedsMore why n) → n ≤ b.lists.registers → Adds (of_written b) old new l r
 made_once_more {new = new} {b = b} {l = l} {r = Ok to} ec e k f more = subst (λ (is : List Instr). Adds (of_written b) is new l (Ok to)) ec (same (ap of_written e) k)
 made_once_more {b = b} {r = Err why} {n = n} ec e k f more = record { code = tt; lists = tt; end = tt; fails = needs_more why n b.lists.registers more f }

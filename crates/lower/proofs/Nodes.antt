@@ -21,7 +21,7 @@ use Rattle.lower_spec.specs.Statements.{locals_after}
 use Rattle.selection.specs.declared.locations.Exits.{Exits}
 use Rattle.selection.specs.Lists.{Lists}
 use Rattle.selection.specs.Statements.{stmt_code}
-use Rattle.lower_exprs.specs.declared.fault.Failure.{Failure}
+use Rattle.lower_exprs.specs.declared.fault.LowerFailure.{LowerFailure}
 use Rattle.lower_exprs.specs.Fragments.{Adds, of_written}
 
 module _ {A : Type 0} where
@@ -68,8 +68,8 @@ module _ {A : Type 0} where
 
 module _ {s z : Tree.Stmt} where
   -- a statement's code, and the locals behind it
-  pub code_there : (p : Program) (x : Exits) (scope : LocalScope) (from : ℕ) (l : Lists) {old new : List Instr} {m : Lists} {r : Result ℕ Failure} → s ≡ z → Adds (of_written (stmt_code p z x scope from l)) old new m r → Adds (of_written (stmt_code p s x scope from l)) old new m r
+  pub code_there : (p : Program) (x : Exits) (scope : LocalScope) (from : ℕ) (l : Lists) {old new : List Instr} {m : Lists} {r : Result ℕ LowerFailure} → s ≡ z → Adds (of_written (stmt_code p z x scope from l)) old new m r → Adds (of_written (stmt_code p s x scope from l)) old new m r
   code_there p x scope from l {old = old} {new = new} {m = m} {r = r} is k = subst (λ (y : Tree.Stmt). Adds (of_written (stmt_code p y x scope from l)) old new m r) (sym is) k
 
-  pub scope_there : (before after : LocalScope) (r : Result ℕ Failure) → s ≡ z → OnOk r (after ≡ locals_after z before) → OnOk r (after ≡ locals_after s before)
+  pub scope_there : (before after : LocalScope) (r : Result ℕ LowerFailure) → s ≡ z → OnOk r (after ≡ locals_after z before) → OnOk r (after ≡ locals_after s before)
   scope_there before after r is k = subst (λ (y : Tree.Stmt). OnOk r (after ≡ locals_after y before)) (sym is) k

@@ -15,7 +15,7 @@ use crate::loops::in_loops;
 use crate::stmt::lower_stmts;
 use bytecode::{Instr, MOST_REGISTERS};
 use lex::token::Scalar;
-use lower_exprs::fault::Failure;
+use lower_exprs::fault::LowerFailure;
 use lower_exprs::lists::Lists;
 use lower_exprs::preloaded::set_all;
 use lower_exprs::program::ProgramNames;
@@ -72,7 +72,7 @@ fn lower_body<'p, A: Allocator + Copy>(
     f: &'p Function<A>,
     body: &'p [Stmt<A>],
     from: u32,
-) -> Result<u32, Failure>
+) -> Result<u32, LowerFailure>
     requires { length f.now.parameters ≤ 65535 }
     ensures { AddsWritten (body_with (lists_of lists.old).layout (program_in names.now) (function_of f.now)
         (stmts_of body.now) from (lists_of lists.old)) code.old code.new lists.new result }
@@ -125,7 +125,7 @@ fn lower_plain<'p, A: Allocator + Copy>(
     f: &'p Function<A>,
     body: &'p [Stmt<A>],
     from: u32,
-) -> Result<u32, Failure>
+) -> Result<u32, LowerFailure>
     requires { length f.now.parameters ≤ 65535 }
     ensures { AddsWritten (body_with nothing_preloaded (program_in names.now) (function_of f.now)
         (stmts_of body.now) from
@@ -147,7 +147,7 @@ fn lower_preloaded<'p, A: Allocator + Copy>(
     from: u32,
     writable: u16,
     constants: Vec<u64, A>,
-) -> Result<u32, Failure>
+) -> Result<u32, LowerFailure>
     requires parameters { length f.now.parameters ≤ 65535 }
     requires room { writable + length constants.items ≤ 65535 }
     ensures code { OnOk result
@@ -160,7 +160,7 @@ fn lower_preloaded<'p, A: Allocator + Copy>(
 {
     let count = constants.len() as u32;
     if from > u32::MAX - count {
-        return Err(Failure::OutOfMemory);
+        return Err(LowerFailure::OutOfMemory);
     }
     set_all(code, writable, constants.as_slice())?;
     lists.writable = writable;
@@ -200,7 +200,7 @@ pub(crate) fn lower_function<'p, A: Allocator + Copy>(
     f: &'p Function<A>,
     body: &'p [Stmt<A>],
     from: u32,
-) -> Result<u32, Failure>
+) -> Result<u32, LowerFailure>
     requires { length f.now.parameters ≤ 65535 }
     ensures { AddsWritten (body_written (program_in names.now) (function_of f.now) (stmts_of body.now) from
         (lists_of lists.old)) code.old code.new lists.new result }

@@ -20,7 +20,7 @@ use crate::fault::LowerFault;
 use crate::function::lower_function;
 use bytecode::{Code, FunctionCode, Instr, MOST_INSTRUCTIONS, MOST_REGISTERS, Parts};
 use containers::{Copied, Items};
-use lower_exprs::fault::Failure;
+use lower_exprs::fault::LowerFailure;
 use lower_exprs::lists::Lists;
 use lower_exprs::program::ProgramNames;
 use lower_exprs::tables::names;
@@ -70,8 +70,8 @@ fn lower_definition<'p, A: Allocator + Copy>(
     let from = making.to;
     let to = match lower_function(names, &mut making.lists, &mut making.code, f, body, from) {
         Ok(to) => to,
-        Err(Failure::OutOfMemory) => return Err(LowerFault::OutOfMemory),
-        Err(Failure::Registers) => return Err(LowerFault::TooManyRegisters(f.name.span)),
+        Err(LowerFailure::OutOfMemory) => return Err(LowerFault::OutOfMemory),
+        Err(LowerFailure::Registers) => return Err(LowerFault::TooManyRegisters(f.name.span)),
     };
     if making.lists.registers > MOST_REGISTERS {
         return Err(LowerFault::TooManyRegisters(f.name.span));

@@ -11,7 +11,7 @@ ghost use Rattle.lower.specs.inner.Formats.{text_written, specifier_written};
 use bytecode::Instr;
 use containers::Text;
 use lex::token::Scalar;
-use lower_exprs::fault::Failure;
+use lower_exprs::fault::LowerFailure;
 use lower_exprs::lists::Lists;
 use lower_exprs::put::{after, put};
 use std::alloc::{AllocError, Allocator};
@@ -60,7 +60,7 @@ fn put_text<A: Allocator>(
     code: &mut Vec<Instr, A>,
     bytes: Vec<u8, A>,
     from: u32,
-) -> Result<u32, Failure>
+) -> Result<u32, LowerFailure>
     ensures { AddsWritten (text_written bytes.items from (lists_of lists.old)) code.old code.new lists.new result }
 {
     if bytes.len() == 0 {
@@ -80,7 +80,7 @@ fn put_specifier<A: Allocator>(
     ty: Scalar,
     r: u16,
     from: u32,
-) -> Result<u32, Failure>
+) -> Result<u32, LowerFailure>
     ensures { AddsWritten (specifier_written bytes.items ty r from (lists_of lists.old)) code.old code.new lists.new
         result }
 {
@@ -107,7 +107,7 @@ pub(crate) fn put_pieces<A: Allocator + Copy>(
     format: &[u8],
     registers: &[u16],
     from: u32,
-) -> Result<u32, Failure>
+) -> Result<u32, LowerFailure>
     ensures { AddsWritten (pieces_written (pieces format.now) registers.now from (lists_of lists.old))
         code.old code.new lists.new result }
 {

@@ -23,7 +23,7 @@ use crate::print::put_pieces;
 use bytecode::Instr;
 use lower_exprs::draft::{put_back, put_test};
 use lower_exprs::expr::{lower_all, lower_as, lower_condition};
-use lower_exprs::fault::Failure;
+use lower_exprs::fault::LowerFailure;
 use lower_exprs::lists::Lists;
 use lower_exprs::program::ProgramNames;
 use lower_exprs::put::{after, append, put};
@@ -41,7 +41,7 @@ fn leave<A: Allocator>(
     commits: u32,
     last: Instr,
     from: u32,
-) -> Result<u32, Failure>
+) -> Result<u32, LowerFailure>
     ensures { (l : Plain) → Adds (of_written (statements.left_by commits last from l)) code.old.items code.new.items l
         result }
 {
@@ -114,7 +114,7 @@ fn lower_head<A: Allocator + Copy>(
     drafts: &mut Vec<Draft, A>,
     c: &Expr<A>,
     from: u32,
-) -> Result<ConditionRegister, Failure>
+) -> Result<ConditionRegister, LowerFailure>
     ensures { AddsTest (condition (program_in names.now) (scope_in scope.now) (expr_of c.now) from
         (length (scope_in scope.now)) (lists_of lists.old)) drafts.old drafts.new lists.new result }
 {
@@ -131,7 +131,7 @@ fn lower_back<A: Allocator + Copy>(
     c: &Expr<A>,
     from: u32,
     back: u32,
-) -> Result<u32, Failure>
+) -> Result<u32, LowerFailure>
     ensures { AddsWritten (tested_back
         (condition (program_in names.now) (scope_in scope.now) (expr_of c.now) from (length (scope_in scope.now))
         (lists_of lists.old))
@@ -150,7 +150,7 @@ fn lower_do<A: Allocator + Copy>(
     code: &mut Vec<Instr, A>,
     s: &Simple<A>,
     from: u32,
-) -> Result<u32, Failure>
+) -> Result<u32, LowerFailure>
     ensures { AddsWritten (simple_written (program_in names.now) (scope_in scope.now) (simple_of s.now) from
         (length (scope_in scope.now)) (lists_of lists.old)) code.old code.new lists.new result }
 {
@@ -167,7 +167,7 @@ fn lower_test<A: Allocator + Copy>(
     c: &Option<Expr<A>>,
     back: u32,
     from: u32,
-) -> Result<u32, Failure>
+) -> Result<u32, LowerFailure>
     ensures { AddsWritten (for_test (program_in names.now) (scope_in scope.now) (option_map expr_of c.now) back from
         (lists_of lists.old)) code.old code.new lists.new result }
 {
@@ -188,7 +188,7 @@ fn lower_step<A: Allocator + Copy>(
     code: &mut Vec<Instr, A>,
     step: &Option<Simple<A>>,
     from: u32,
-) -> Result<u32, Failure>
+) -> Result<u32, LowerFailure>
     ensures { AddsWritten (for_step (program_in names.now) (scope_in scope.now) (option_map simple_of step.now) from
         (lists_of lists.old)) code.old code.new lists.new result }
 {
@@ -282,7 +282,7 @@ fn lower_print<A: Allocator + Copy>(
     format: &str,
     args: &[Expr<A>],
     from: u32,
-) -> Result<u32, Failure>
+) -> Result<u32, LowerFailure>
     ensures { AddsWritten (print_written
         (emit_all (program_in names.now) (scope_in scope.now) [] (exprs_of args.now) (from + 1)
         (length (scope_in scope.now)) (lists_of lists.old))
@@ -323,7 +323,7 @@ fn lower_return<A: Allocator + Copy>(
     e: &Option<Expr<A>>,
     exits: Exits,
     from: u32,
-) -> Result<u32, Failure>
+) -> Result<u32, LowerFailure>
     ensures { AddsWritten (return_written (program_in names.now) (scope_in scope.now)
         (option_map expr_of e.now) exits from
         (lists_of lists.old)) code.old code.new lists.new result }
@@ -349,7 +349,7 @@ pub(crate) fn lower_stmt<'p, A: Allocator + Copy>(
     s: &'p Stmt<A>,
     exits: Exits,
     from: u32,
-) -> Result<u32, Failure>
+) -> Result<u32, LowerFailure>
     ensures scope { OnOk result (scope_in scope.new ≡ locals_after (stmt_of s.now) (scope_in scope.old)) }
     ensures code { AddsWritten (stmt_code (program_in names.now) (stmt_of s.now) exits (scope_in scope.old) from
         (lists_of lists.old)) code.old code.new lists.new result }
@@ -494,7 +494,7 @@ fn lower_if<'p, A: Allocator + Copy>(
     c: &Expr<A>,
     exits: Exits,
     from: u32,
-) -> Result<u32, Failure>
+) -> Result<u32, LowerFailure>
     requires test { test.old.items ≡ [] }
     requires branch { branch.old.items ≡ [] }
     ensures scope { OnOk result (scope_in scope.new ≡ scope_in scope.old) }
@@ -525,7 +525,7 @@ fn lower_if_else<'p, A: Allocator + Copy>(
     other: &'p Stmt<A>,
     exits: Exits,
     from: u32,
-) -> Result<u32, Failure>
+) -> Result<u32, LowerFailure>
     requires test { test.old.items ≡ [] }
     requires first { first.old.items ≡ [] }
     requires second { second.old.items ≡ [] }
@@ -556,7 +556,7 @@ fn lower_while<'p, A: Allocator + Copy>(
     c: &Expr<A>,
     exits: Exits,
     from: u32,
-) -> Result<u32, Failure>
+) -> Result<u32, LowerFailure>
     requires { inner.old.items ≡ [] }
     ensures scope { OnOk result (scope_in scope.new ≡ scope_in scope.old) }
     ensures code { AddsWritten (stmt_code (program_in names.now) (Tree.While (expr_of c.now) (stmt_of body.now)) exits
@@ -583,7 +583,7 @@ fn lower_do_while<'p, A: Allocator + Copy>(
     c: &Expr<A>,
     exits: Exits,
     from: u32,
-) -> Result<u32, Failure>
+) -> Result<u32, LowerFailure>
     requires { inner.old.items ≡ [] }
     ensures scope { OnOk result (scope_in scope.new ≡ scope_in scope.old) }
     ensures code { AddsWritten (stmt_code (program_in names.now) (Tree.DoWhile (stmt_of body.now) (expr_of c.now)) exits
@@ -611,7 +611,7 @@ fn lower_transaction<'p, A: Allocator + Copy>(
     kind: TransactionKind,
     exits: Exits,
     from: u32,
-) -> Result<u32, Failure>
+) -> Result<u32, LowerFailure>
     requires { inner.old.items ≡ [] }
     ensures scope { OnOk result (scope_in scope.new ≡ scope_in scope.old) }
     ensures code { AddsWritten (transaction_code
@@ -639,7 +639,7 @@ fn lower_for<'p, A: Allocator + Copy>(
     body: &'p Stmt<A>,
     exits: Exits,
     from: u32,
-) -> Result<u32, Failure>
+) -> Result<u32, LowerFailure>
     requires { inner.old.items ≡ [] }
     ensures scope { OnOk result (scope_in scope.new ≡ scope_in scope.old) }
     ensures code { AddsWritten (stmt_code (program_in names.now)
@@ -671,7 +671,7 @@ fn lower_scoped<'p, A: Allocator + Copy>(
     s: &'p Stmt<A>,
     exits: Exits,
     from: u32,
-) -> Result<u32, Failure>
+) -> Result<u32, LowerFailure>
     ensures scope { OnOk result (scope_in scope.new ≡ scope_in scope.old) }
     ensures code { AddsWritten (stmt_code (program_in names.now) (stmt_of s.now) exits (scope_in scope.old) from
         (lists_of lists.old)) code.old code.new lists.new result }
@@ -692,7 +692,7 @@ fn lower_block<'p, A: Allocator + Copy>(
     body: &'p [Stmt<A>],
     exits: Exits,
     from: u32,
-) -> Result<u32, Failure>
+) -> Result<u32, LowerFailure>
     ensures scope { OnOk result (scope_in scope.new ≡ scope_in scope.old) }
     ensures code { AddsWritten (stmts_code (program_in names.now) (stmts_of body.now) exits (scope_in scope.old) from
         (lists_of lists.old)) code.old code.new lists.new result }
@@ -713,7 +713,7 @@ pub(crate) fn lower_stmts<'p, A: Allocator + Copy>(
     body: &'p [Stmt<A>],
     exits: Exits,
     from: u32,
-) -> Result<u32, Failure>
+) -> Result<u32, LowerFailure>
     ensures scope { OnOk result (scope_in scope.new ≡ locals_at_end (stmts_of body.now) (scope_in scope.old)) }
     ensures code { AddsWritten (stmts_code (program_in names.now) (stmts_of body.now) exits (scope_in scope.old) from
         (lists_of lists.old)) code.old code.new lists.new result }

@@ -14,7 +14,7 @@ use Rattle.selection.specs.Simples.{Aimed, target_code, above_target, home_or, t
 use Rattle.selection.proofs.Growing.{emitted_more}
 use Rattle.selection.proofs.GrowingStmts.{stored_same, expr_fitting_more, changed_more}
 use Rattle.lower_exprs.specs.declared.aim.Aim.{Aim}
-use Rattle.lower_exprs.specs.declared.fault.Failure.{Failure}
+use Rattle.lower_exprs.specs.declared.fault.LowerFailure.{LowerFailure}
 use Rattle.lower_exprs.specs.Fragments.{Adds, of_value, of_written}
 use Rattle.lower_exprs.specs.inner.Stretches.{of_aim}
 use Rattle.lower_exprs.proofs.Adding.{behind, same, in_turn}
@@ -45,10 +45,10 @@ module _ (p : Program) (scope : LocalScope) (lhs : Tree.Expr) (from free : ℕ) 
           let above : later ≡ above_target TargetCode.target free = el ∙ ap (λ (a : Aim). above_target a.target free) k.end in
           λ j. stored_value p scope (k.end j).target e (k.end j).to ((eh ∙ (λ i. home_or (k.end i).target (above i))) j) (above j) (k.lists j)
 
-      pub value_behind : {c2 : List Instr} {l2 : Lists} {r : Result ValueRegister Failure} → Adds (of_value (stored_value p scope a.target e a.to home later l1)) c1 c2 l2 r → Adds (behind (of_aim TargetCode) (of_value Value)) old c2 l2 r
+      pub value_behind : {c2 : List Instr} {l2 : Lists} {r : Result ValueRegister LowerFailure} → Adds (of_value (stored_value p scope a.target e a.to home later l1)) c1 c2 l2 r → Adds (behind (of_aim TargetCode) (of_value Value)) old c2 l2 r
       value_behind v = in_turn k (ap of_value value_is) v
 
-      pub assigned_there : {c2 c3 : List Instr} {l2 : Lists} {h : ValueRegister} {r : Result ℕ Failure} → Adds (of_value (stored_value p scope a.target e a.to home later l1)) c1 c2 l2 (Ok h) → Adds (of_written (target_store a.target h.register h.to l2)) c2 c3 l2 r →
+      pub assigned_there : {c2 c3 : List Instr} {l2 : Lists} {h : ValueRegister} {r : Result ℕ LowerFailure} → Adds (of_value (stored_value p scope a.target e a.to home later l1)) c1 c2 l2 (Ok h) → Adds (of_written (target_store a.target h.register h.to l2)) c2 c3 l2 r →
           Adds (of_written (assignment_code p scope lhs e from free l)) old c3 l2 r
       assigned_there v s =
           in_turn k (λ j. of_written (then_stored (k.end j).target (value_is j)))
@@ -72,10 +72,10 @@ module _ (p : Program) (scope : LocalScope) (lhs : Tree.Expr) (from free : ℕ) 
     target_within = let x = changed_more p scope op by T.target T.to K T.lists in let y = result_within in omega (arith, x, y)
 
     module _ {old c1 : List Instr} {l1 : Lists} {a : Aim} {later : ℕ} (k : Adds (of_aim T) old c1 l1 (Ok a)) (el : later ≡ above_target a.target free) where
-      pub result_there : {c2 : List Instr} {l2 : Lists} {r : Result ValueRegister Failure} → Adds (of_value (compound_value p scope op by a.target a.to later l1)) c1 c2 l2 r → Adds (of_value M) c1 c2 l2 r
+      pub result_there : {c2 : List Instr} {l2 : Lists} {r : Result ValueRegister LowerFailure} → Adds (of_value (compound_value p scope op by a.target a.to later l1)) c1 c2 l2 r → Adds (of_value M) c1 c2 l2 r
       result_there x = same (λ j. of_value (compound_value p scope op by (k.end j).target (k.end j).to ((el ∙ ap (λ (a : Aim). above_target a.target free) k.end) j) (k.lists j))) x
 
-      pub adjusted_there : {c2 c3 : List Instr} {l2 : Lists} {m : ValueRegister} {r : Result ℕ Failure} → Adds (of_value (compound_value p scope op by a.target a.to later l1)) c1 c2 l2 (Ok m) → Adds (of_written (target_store a.target m.register m.to l2)) c2 c3 l2 r →
+      pub adjusted_there : {c2 c3 : List Instr} {l2 : Lists} {m : ValueRegister} {r : Result ℕ LowerFailure} → Adds (of_value (compound_value p scope op by a.target a.to later l1)) c1 c2 l2 (Ok m) → Adds (of_written (target_store a.target m.register m.to l2)) c2 c3 l2 r →
           Adds (of_written (compound_code p scope op lhs by from free l)) old c3 l2 r
       adjusted_there x s =
           let made = result_there x in
@@ -92,5 +92,5 @@ module _ (p : Program) (s : LocalScope) (i : ℕ) (t : Scalar) (e : Tree.Expr) (
   pub first_within : First.lists.registers ≤ (first_written p s i t (Some e) from l).lists.registers
   first_within = let x = stored_same (target.Local i t) First.location.register First.location.to First.lists in omega (arith, x)
 
-  pub first_there : {old c1 c2 : List Instr} {l1 : Lists} {h : ValueRegister} {r : Result ℕ Failure} → Adds (of_value First) old c1 l1 (Ok h) → Adds (of_written (target_store (target.Local i t) h.register h.to l1)) c1 c2 l1 r → Adds (of_written (first_written p s i t (Some e) from l)) old c2 l1 r
+  pub first_there : {old c1 c2 : List Instr} {l1 : Lists} {h : ValueRegister} {r : Result ℕ LowerFailure} → Adds (of_value First) old c1 l1 (Ok h) → Adds (of_written (target_store (target.Local i t) h.register h.to l1)) c1 c2 l1 r → Adds (of_written (first_written p s i t (Some e) from l)) old c2 l1 r
   first_there v s = in_turn v (λ j. of_written (target_store (target.Local i t) (v.end j).register (v.end j).to (v.lists j))) s

@@ -12,13 +12,13 @@ use Rattle.lower_spec.specs.Statements.{with_local, with_declared}
 use Rattle.selection.specs.Lists.{Lists, with_register}
 use Rattle.selection.specs.Simples.{Written, and_then, first_written, declarator_written, declared_written}
 use Rattle.selection.proofs.GrowingStmts.{first_more, declared_more}
-use Rattle.lower_exprs.specs.declared.fault.Failure.{Failure}
+use Rattle.lower_exprs.specs.declared.fault.LowerFailure.{LowerFailure}
 use Rattle.lower_exprs.specs.Fragments.{Fragment, Adds, of_written}
 use Rattle.lower_exprs.proofs.Adding.{written_behind, in_turn}
 
 -- a local that is 0, and its first value behind that
 module _ (p : Program) (t : Scalar) (d : Declarator) (scope : LocalScope) (from : ℕ) (l : Lists) where
-  pub declarator_there : {scope' : LocalScope} {i next : ℕ} {old c1 new : List Instr} {l1 l2 : Lists} {r : Result ℕ Failure} → i ≡ length scope → scope' ≡ with_local scope d.name.text t → c1 ≡ old ++ own.Constant i 0 ∷ [] → l1 ≡ with_register (length scope) l → next ≡ from + 1 →
+  pub declarator_there : {scope' : LocalScope} {i next : ℕ} {old c1 new : List Instr} {l1 l2 : Lists} {r : Result ℕ LowerFailure} → i ≡ length scope → scope' ≡ with_local scope d.name.text t → c1 ≡ old ++ own.Constant i 0 ∷ [] → l1 ≡ with_register (length scope) l → next ≡ from + 1 →
       Adds (of_written (first_written p scope' i t d.first next l1)) c1 new l2 r → Adds (of_written (declarator_written p t d scope from l)) old new l2 r
   declarator_there {next = next} {old = old} {c1 = c1} {l1 = l1} ei es ec el en m =
       let zero : Fragment Instr ℕ = record { code = own.Constant (length scope) 0 ∷ []; lists = with_register (length scope) l; end = from + 1 } in

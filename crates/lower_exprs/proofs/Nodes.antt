@@ -30,7 +30,7 @@ use Rattle.selection.specs.Conditions.{Condition}
 use Rattle.selection.specs.Expressions.{Emitted, constant, converting, converted_by, constant_of, where_same, emitted_type, emit, as_type, own_condition, condition, condition_of}
 use Rattle.selection.proofs.Growing.{converted_more}
 use Rattle.selection.proofs.stands.Kinds.{emitted_is}
-use Rattle.lower_exprs.specs.declared.fault.Failure.{Failure}
+use Rattle.lower_exprs.specs.declared.fault.LowerFailure.{LowerFailure}
 use Rattle.lower_exprs.specs.Fragments.{Adds, of_value, of_test}
 use Rattle.lower_exprs.specs.inner.Stretches.{in_place}
 use Rattle.lower_exprs.proofs.Adding.{behind, same, in_turn}
@@ -73,14 +73,14 @@ module _ {A : Type 0} where
 
 module _ (p : Program) (scope : LocalScope) {e x : Tree.Expr} (from : ℕ) where
   -- the value of a node
-  pub value_there : (into free : ℕ) (l : Lists) {old new : List Instr} {m : Lists} {r : Result ValueRegister Failure} → e ≡ x → Adds (of_value (emit p scope x from into free l)) old new m r → Adds (of_value (emit p scope e from into free l)) old new m r
+  pub value_there : (into free : ℕ) (l : Lists) {old new : List Instr} {m : Lists} {r : Result ValueRegister LowerFailure} → e ≡ x → Adds (of_value (emit p scope x from into free l)) old new m r → Adds (of_value (emit p scope e from into free l)) old new m r
   value_there into free l {old = old} {new = new} {m = m} {r = r} is k = subst (λ (y : Tree.Expr). Adds (of_value (emit p scope y from into free l)) old new m r) (sym is) k
 
   -- and its condition: that of its operator, or the test of its value, where its operator has none
-  pub test_there : (free : ℕ) (l : Lists) {old new : List Draft} {m : Lists} {r : Result ConditionRegister Failure} → e ≡ x → Adds (of_test (condition p scope x from free l)) old new m r → Adds (of_test (condition p scope e from free l)) old new m r
+  pub test_there : (free : ℕ) (l : Lists) {old new : List Draft} {m : Lists} {r : Result ConditionRegister LowerFailure} → e ≡ x → Adds (of_test (condition p scope x from free l)) old new m r → Adds (of_test (condition p scope e from free l)) old new m r
   test_there free l {old = old} {new = new} {m = m} {r = r} is k = subst (λ (y : Tree.Expr). Adds (of_test (condition p scope y from free l)) old new m r) (sym is) k
 
-  pub value_test_there : (free : ℕ) (l : Lists) {old new : List Draft} {m : Lists} {r : Result ConditionRegister Failure} → e ≡ x → own_condition p scope x from free l ≡ None → Adds (of_test (condition_of None (emit p scope e from free free l))) old new m r → Adds (of_test (condition p scope e from free l)) old new m r
+  pub value_test_there : (free : ℕ) (l : Lists) {old new : List Draft} {m : Lists} {r : Result ConditionRegister LowerFailure} → e ≡ x → own_condition p scope x from free l ≡ None → Adds (of_test (condition_of None (emit p scope e from free free l))) old new m r → Adds (of_test (condition p scope e from free l)) old new m r
   value_test_there free l {old = old} {new = new} {m = m} {r = r} is none k =
       subst (λ o. Adds (of_test (condition_of o (emit p scope e from free free l))) old new m r) (sym (ap (λ y. own_condition p scope y from free l) is ∙ none)) k
 
@@ -101,7 +101,7 @@ converted_behind None u e into = λ j. record { code = append-nil e.code j; list
 converted_behind (Some i) u e into = refl
 
 -- of a value that stands there already its type is the expression's
-pub due_there : (p : Program) (scope : LocalScope) (u : Scalar) (e : Tree.Expr) (from into free : ℕ) (l : Lists) → constant_of e ≡ None → {old mid new : List Instr} {l1 l2 : Lists} {h : ValueRegister} {r : Result ValueRegister Failure} → Adds (of_value (emit p scope e from into free l)) old mid l1 (Ok h) → Adds (of_value (converted_by (converting h.ty u) u (in_place h l1) into)) mid new l2 r → Adds (of_value (as_type p scope u e from into free l)) old new l2 r
+pub due_there : (p : Program) (scope : LocalScope) (u : Scalar) (e : Tree.Expr) (from into free : ℕ) (l : Lists) → constant_of e ≡ None → {old mid new : List Instr} {l1 l2 : Lists} {h : ValueRegister} {r : Result ValueRegister LowerFailure} → Adds (of_value (emit p scope e from into free l)) old mid l1 (Ok h) → Adds (of_value (converted_by (converting h.ty u) u (in_place h l1) into)) mid new l2 r → Adds (of_value (as_type p scope u e from into free l)) old new l2 r
 due_there p scope u e from into free l none {new = new} {l2 = l2} {r = r} k m =
     let own = emitted_is p scope e from into free l in
     let whole = in_turn k (λ j. of_value (converted_by (converting ((ap (λ (x : ValueRegister). x.ty) k.end ∙ own) j) u) u (in_place (k.end j) (k.lists j)) into)) m in
@@ -140,7 +140,7 @@ cast_tested p scope u a at from free l none = by (converting (emitted_type p sco
     by None none None = refl
     by (Some i) none o = absurd (cc)
 
-pub cast_test_there : (p : Program) (scope : LocalScope) {e a : Tree.Expr} {t : Scalar} {at : Span} (from free : ℕ) (l : Lists) {old new : List Draft} {m : Lists} {r : Result ConditionRegister Failure} → e ≡ Tree.Cast t a at → is_some (converting (emitted_type p scope a) t) ≡ false → Adds (of_test (condition p scope a from free l)) old new m r → Adds (of_test (condition p scope e from free l)) old new m r
+pub cast_test_there : (p : Program) (scope : LocalScope) {e a : Tree.Expr} {t : Scalar} {at : Span} (from free : ℕ) (l : Lists) {old new : List Draft} {m : Lists} {r : Result ConditionRegister LowerFailure} → e ≡ Tree.Cast t a at → is_some (converting (emitted_type p scope a) t) ≡ false → Adds (of_test (condition p scope a from free l)) old new m r → Adds (of_test (condition p scope e from free l)) old new m r
 cast_test_there p scope {a = a} {t = t} {at = at} from free l is none k = test_there p scope from free l is (same (ap of_test (cast_tested p scope t a at from free l none)) k)
 
 -- and one that is an instruction by its value

@@ -16,7 +16,7 @@ use Rattle.selection.specs.Lists.{Lists}
 use Rattle.selection.specs.Expressions.{Emitted, above, constant, constant_of, converting, converted_by, both, emitted_type, emit, as_type, operand}
 use Rattle.selection.proofs.Growing.{used_more, operand_more}
 use Rattle.selection.proofs.stands.Kinds.{in_type_of, emitted_is}
-use Rattle.lower_exprs.specs.declared.fault.Failure.{Failure}
+use Rattle.lower_exprs.specs.declared.fault.LowerFailure.{LowerFailure}
 use Rattle.lower_exprs.specs.Fragments.{Adds, of_value}
 use Rattle.lower_exprs.specs.inner.Stretches.{in_place}
 use Rattle.lower_exprs.proofs.Adding.{same, in_turn}
@@ -62,7 +62,7 @@ module _ (p : Program) (s : LocalScope) (op : BinaryOp) (a b : Tree.Expr) (at : 
   left_within = let x = operand_more p s U b A.location.to (above free A.location.register) A.lists in let y = right_within in omega (arith, x, y)
 
   module _ {other : Scalar} (et : other ≡ emitted_type p s b) where
-    pub left_there : {old new : List Instr} {m : Lists} {r : Result ValueRegister Failure} → Adds (of_value (as_type p s (operand_type op (emitted_type p s a) other) a from free free l)) old new m r → Adds (of_value A) old new m r
+    pub left_there : {old new : List Instr} {m : Lists} {r : Result ValueRegister LowerFailure} → Adds (of_value (as_type p s (operand_type op (emitted_type p s a) other) a from free free l)) old new m r → Adds (of_value A) old new m r
     left_there k = same (λ j. of_value (as_type p s (operand_type op (emitted_type p s a) (et j)) a from free free l)) k
 
     module _ {old c1 : List Instr} {l1 : Lists} {h : ValueRegister} {later : ℕ} {u : Scalar} (k : Adds (of_value A) old c1 l1 (Ok h)) (en : later ≡ above free h.register) (ev : u ≡ operand_type op other h.ty) where
@@ -72,15 +72,15 @@ module _ (p : Program) (s : LocalScope) (op : BinaryOp) (a b : Tree.Expr) (at : 
       u_is : u ≡ U
       u_is = ev ∙ (λ j. operand_type op (et j) (t_is j)) ∙ due_again op (emitted_type p s a) (emitted_type p s b)
 
-      pub right_there : {c2 : List Instr} {l2 : Lists} {r : Result ValueRegister Failure} → Adds (of_value (operand p s u b h.to later l1)) c1 c2 l2 r → Adds (of_value B) c1 c2 l2 r
+      pub right_there : {c2 : List Instr} {l2 : Lists} {r : Result ValueRegister LowerFailure} → Adds (of_value (operand p s u b h.to later l1)) c1 c2 l2 r → Adds (of_value B) c1 c2 l2 r
       right_there x = same (λ j. of_value (operand p s (u_is j) b (k.end j).to ((en ∙ ap (λ (h : ValueRegister). above free h.register) k.end) j) (k.lists j))) x
 
-      pub whole_there : {c2 c3 : List Instr} {l2 l3 : Lists} {i : ValueRegister} {r : Result ValueRegister Failure} → Adds (of_value B) c1 c2 l2 (Ok i) → Adds (of_value (both op h.ty (in_place h l2) (in_place i l2) into)) c2 c3 l3 r → Adds (of_value Whole) old c3 l3 r
+      pub whole_there : {c2 c3 : List Instr} {l2 l3 : Lists} {i : ValueRegister} {r : Result ValueRegister LowerFailure} → Adds (of_value B) c1 c2 l2 (Ok i) → Adds (of_value (both op h.ty (in_place h l2) (in_place i l2) into)) c2 c3 l3 r → Adds (of_value Whole) old c3 l3 r
       whole_there w x = in_turn (in_turn k (λ j. of_value B) w) (λ j. of_value (both op (t_is j) (in_place (k.end j) (w.lists j)) (in_place (w.end j) (w.lists j)) into)) x
 
 -- the left side in the type that is due: of a constant, and of another expression, whose register tells its own type
 module _ (p : Program) (s : LocalScope) (op : BinaryOp) where
-  pub left_constant : (own other : Scalar) (e : Tree.Expr) (n : ℕ) (from free : ℕ) (l : Lists) → constant_of e ≡ Some (n, own) → {ty : Scalar} {w : ℕ} {old new : List Instr} {m : Lists} {r : Result ValueRegister Failure} → ty ≡ operand_type op own other → w ≡ constant_in ty own n →
+  pub left_constant : (own other : Scalar) (e : Tree.Expr) (n : ℕ) (from free : ℕ) (l : Lists) → constant_of e ≡ Some (n, own) → {ty : Scalar} {w : ℕ} {old new : List Instr} {m : Lists} {r : Result ValueRegister LowerFailure} → ty ≡ operand_type op own other → w ≡ constant_in ty own n →
       Adds (of_value (constant w ty from free l)) old new m r → Adds (of_value (as_type p s (operand_type op (emitted_type p s e) other) e from free free l)) old new m r
   left_constant own other (Tree.Constant n' t at) n from free l is et ew k =
       let parts : (n', t) ≡ (n, own) = ap (λ o. unwrap_or o (n', t)) is in
@@ -90,7 +90,7 @@ module _ (p : Program) (s : LocalScope) (op : BinaryOp) where
       same (λ j. of_value (constant (word j) (due j) from free l)) k
   left_constant own other e n from free l is et ew k = absurd (cc)
 
-  pub left_converted : (other : Scalar) (e : Tree.Expr) (from free : ℕ) (l : Lists) → constant_of e ≡ None → {old mid new : List Instr} {l1 l2 : Lists} {h : ValueRegister} {ty : Scalar} {r : Result ValueRegister Failure} → Adds (of_value (emit p s e from free free l)) old mid l1 (Ok h) → ty ≡ operand_type op h.ty other →
+  pub left_converted : (other : Scalar) (e : Tree.Expr) (from free : ℕ) (l : Lists) → constant_of e ≡ None → {old mid new : List Instr} {l1 l2 : Lists} {h : ValueRegister} {ty : Scalar} {r : Result ValueRegister LowerFailure} → Adds (of_value (emit p s e from free free l)) old mid l1 (Ok h) → ty ≡ operand_type op h.ty other →
       Adds (of_value (converted_by (converting h.ty ty) ty (in_place h l1) free)) mid new l2 r → Adds (of_value (as_type p s (operand_type op (emitted_type p s e) other) e from free free l)) old new l2 r
   left_converted other e from free l none {ty = ty} k et m =
       let due = et ∙ (λ j. operand_type op ((ap (λ (x : ValueRegister). x.ty) k.end ∙ emitted_is p s e from free free l) j) other) in

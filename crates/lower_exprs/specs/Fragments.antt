@@ -8,7 +8,7 @@ use Rattle.selection.specs.Lists.{Lists}
 use Rattle.selection.specs.Conditions.{Condition, test_in}
 use Rattle.selection.specs.Expressions.{Emitted, AllEmitted}
 use Rattle.selection.specs.Simples.{Written}
-use Rattle.lower_exprs.specs.declared.fault.Failure.{Failure}
+use Rattle.lower_exprs.specs.declared.fault.LowerFailure.{LowerFailure}
 use Rattle.lower_exprs.specs.declared.lists.Lists.{Lists as OwnLists}
 use Rattle.lower_exprs.specs.Limits.{NeedsMore}
 use Rattle.lower_exprs.specs.Lists.{lists_of}
@@ -22,7 +22,8 @@ pub record Fragment (I E : Type 0) : Type 0 where
 
 -- a fragment stands behind the old instructions, or it needs more registers than there are where that is why there is
 -- none
-pub record Adds {I E : Type 0} (s : Fragment I E) (old new : List I) (l : Lists) (r : Result E Failure) : Type 0 where
+pub record Adds {I E : Type 0} (s : Fragment I E) (old new : List I) (l : Lists) (r : Result E LowerFailure) :
+    Type 0 where
   pub code : OnOk r (new ≡ old ++ s.code)
   pub lists : OnOk r (l ≡ s.lists)
   pub end : IfOk r (λ e. e ≡ s.end)
@@ -42,14 +43,15 @@ abbrev pub of_values : AllEmitted → Fragment Instr ℕ
 of_values es = record { code = es.code; lists = es.lists; end = es.to }
 
 module _ {A : Type 0} where
-  abbrev pub AddsValue : Emitted → (old new : Vec Instr A) → OwnLists A → Result ValueRegister Failure → Type 0
+  abbrev pub AddsValue : Emitted → (old new : Vec Instr A) → OwnLists A → Result ValueRegister LowerFailure → Type 0
   AddsValue e old new l r = Adds (of_value e) old.items new.items (lists_of l) r
 
-  abbrev pub AddsTest : Condition → (old new : Vec Draft A) → OwnLists A → Result ConditionRegister Failure → Type 0
+  abbrev pub AddsTest : Condition → (old new : Vec Draft A) → OwnLists A →
+      Result ConditionRegister LowerFailure → Type 0
   AddsTest c old new l r = Adds (of_test c) old.items new.items (lists_of l) r
 
-  abbrev pub AddsWritten : Written → (old new : Vec Instr A) → OwnLists A → Result ℕ Failure → Type 0
+  abbrev pub AddsWritten : Written → (old new : Vec Instr A) → OwnLists A → Result ℕ LowerFailure → Type 0
   AddsWritten w old new l r = Adds (of_written w) old.items new.items (lists_of l) r
 
-  abbrev pub AddsValues : AllEmitted → (old new : Vec Instr A) → OwnLists A → Result ℕ Failure → Type 0
+  abbrev pub AddsValues : AllEmitted → (old new : Vec Instr A) → OwnLists A → Result ℕ LowerFailure → Type 0
   AddsValues es old new l r = Adds (of_values es) old.items new.items (lists_of l) r

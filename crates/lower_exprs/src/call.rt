@@ -11,7 +11,7 @@ ghost use Rattle.lower_exprs.specs.Fragments.{AddsValue};
 ghost use Rattle.lower_exprs.specs.inner.Stretches.{all_in_place};
 ghost use Rattle.lower_exprs.specs.inner.Tables.{callee_in};
 
-use crate::fault::Failure;
+use crate::fault::LowerFailure;
 use crate::lists::Lists;
 use crate::names::Callee;
 use crate::put::{put_one, take};
@@ -86,13 +86,13 @@ fn push_arranged<A: Allocator>(
 }
 
 /// Notes that so many registers are used.
-fn with_registers<A: Allocator>(lists: &mut Lists<A>, count: usize) -> Result<u16, Failure>
+fn with_registers<A: Allocator>(lists: &mut Lists<A>, count: usize) -> Result<u16, LowerFailure>
     ensures lists { OnOk result (lists_of lists.new ≡ with_registers count (lists_of lists.old)) }
     ensures count { IfOk result (λ n. n ≡ count) }
     ensures fails { IfErr result (λ why. NeedsMore why (with_registers count (lists_of lists.old)).registers) }
 {
     if count > MOST_REGISTERS as usize {
-        return Err(Failure::Registers);
+        return Err(LowerFailure::Registers);
     }
     if lists.registers < count as u32 {
         lists.registers = count as u32;
@@ -105,7 +105,7 @@ fn hand_over<A: Allocator>(
     lists: &mut Lists<A>,
     parameters: &[Parameter<A>],
     registers: &[u16],
-) -> Result<(u32, u16), Failure>
+) -> Result<(u32, u16), LowerFailure>
     ensures lists { let in_order = argument_order (map parameter_of parameters.now) registers.now in
         let arguments = lists.old.arguments.items ++ in_order in
         OnOk result (lists_of lists.new
@@ -117,7 +117,7 @@ fn hand_over<A: Allocator>(
 {
     let first = lists.arguments.len();
     if first > u32::MAX as usize {
-        return Err(Failure::OutOfMemory);
+        return Err(LowerFailure::OutOfMemory);
     }
     let count = push_arranged(&mut lists.arguments, parameters, registers)?;
     let count = with_registers(lists, count)?;
@@ -132,13 +132,13 @@ pub(crate) fn put_call<A: Allocator + Copy>(
     registers: &[u16],
     from: u32,
     into: usize,
-) -> Result<ValueRegister, Failure>
+) -> Result<ValueRegister, LowerFailure>
     ensures { AddsValue
         (call_code (Some (callee_in f.entry)) (all_in_place registers.now from (lists_of lists.old)) from
         into (lists_of lists.old)) code.old code.new lists.new result }
 {
     if f.number > u32::MAX as usize {
-        return Err(Failure::OutOfMemory);
+        return Err(LowerFailure::OutOfMemory);
     }
     let (first, count) = hand_over(lists, f.parameters, registers)?;
     let register = take(lists, into)?;

@@ -9,7 +9,7 @@ ghost use Rattle.lower_exprs.specs.Lists.{lists_of};
 ghost use Rattle.lower_exprs.specs.Fragments.{AddsValue};
 ghost use Rattle.lower_exprs.specs.inner.Stretches.{in_place};
 
-use crate::fault::Failure;
+use crate::fault::LowerFailure;
 use crate::lists::Lists;
 use crate::preloaded::constant_word;
 use crate::put::{put_one, take};
@@ -49,7 +49,7 @@ fn put_extended<A: Allocator>(
     code: &mut Vec<Instr, A>,
     a: ValueRegister,
     into: usize,
-) -> Result<ValueRegister, Failure>
+) -> Result<ValueRegister, LowerFailure>
     ensures { AddsValue (then_one (in_place a (lists_of lists.old)) (instr.Extend into a.register) into
         (Scalar.LongLong)) code.old code.new lists.new result }
 {
@@ -70,7 +70,7 @@ fn put_low<A: Allocator>(
     a: ValueRegister,
     ty: Scalar,
     into: usize,
-) -> Result<ValueRegister, Failure>
+) -> Result<ValueRegister, LowerFailure>
     ensures { AddsValue (then_one (in_place a (lists_of lists.old)) (instr.Low into a.register) into ty)
         code.old code.new lists.new result }
 {
@@ -86,7 +86,7 @@ pub(crate) fn put_converted<A: Allocator>(
     own: Scalar,
     ty: Scalar,
     into: usize,
-) -> Result<ValueRegister, Failure>
+) -> Result<ValueRegister, LowerFailure>
     ensures { AddsValue (converted_by (converting own ty) ty (in_place a (lists_of lists.old)) into)
         code.old code.new lists.new result }
 {
@@ -116,7 +116,7 @@ pub(crate) fn put_widened<A: Allocator>(
     own: Scalar,
     ty: Scalar,
     into: usize,
-) -> Result<ValueRegister, Failure>
+) -> Result<ValueRegister, LowerFailure>
     ensures { AddsValue (converted_by (widening own ty) ty (in_place a (lists_of lists.old)) into)
         code.old code.new lists.new result }
 {

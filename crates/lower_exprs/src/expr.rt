@@ -23,7 +23,7 @@ use crate::call::put_call;
 use crate::cond::{opposite, zero_test};
 use crate::convert::{constant_in, converts, put_converted};
 use crate::draft::{keep, put_first, turn};
-use crate::fault::Failure;
+use crate::fault::LowerFailure;
 use crate::lists::Lists;
 use crate::names::{Callee, callee_of, global};
 use crate::preloaded::{constant_of, constant_word, preloaded_constant};
@@ -52,7 +52,7 @@ fn put_number<A: Allocator>(
     ty: Scalar,
     from: u32,
     into: usize,
-) -> Result<ValueRegister, Failure>
+) -> Result<ValueRegister, LowerFailure>
     ensures { AddsValue (constant (word_of ty (pos value)) ty from into (lists_of lists.old))
         code.old code.new lists.new result }
 {
@@ -66,7 +66,7 @@ fn put_read<A: Allocator + Copy>(
     g: Shared<'_, A>,
     from: u32,
     into: usize,
-) -> Result<ValueRegister, Failure>
+) -> Result<ValueRegister, LowerFailure>
     requires { g.cell ≤ 4096 }
     ensures { AddsValue (one (instr.Read into g.entry.cell) from into g.entry.global.now.ty (lists_of lists.old))
         code.old code.new lists.new result }
@@ -90,7 +90,7 @@ fn lower_variable<A: Allocator + Copy>(
     x: &str,
     from: u32,
     into: usize,
-) -> Result<ValueRegister, Failure>
+) -> Result<ValueRegister, LowerFailure>
     ensures { AddsValue (variable (Names.newest (scope_in scope.now) x.now)
         (Names.global_of (program_in names.now) x.now) from into (lists_of lists.old))
         code.old code.new lists.new result }
@@ -118,7 +118,7 @@ fn put_read_at<A: Allocator + Copy>(
     g: Shared<'_, A>,
     index: ValueRegister,
     into: usize,
-) -> Result<ValueRegister, Failure>
+) -> Result<ValueRegister, LowerFailure>
     requires { g.cell + Names.cells (global_of g.global.now) ≤ 4096 }
     ensures { AddsValue (element (Some (shared_in g.entry)) (in_place index (lists_of lists.old)) index.to into
         (lists_of lists.old)) code.old code.new lists.new result }
@@ -154,7 +154,7 @@ pub fn lower_expr<A: Allocator + Copy>(
     from: u32,
     into: usize,
     free: usize,
-) -> Result<ValueRegister, Failure>
+) -> Result<ValueRegister, LowerFailure>
     ensures { AddsValue (emit (program_in names.now) (scope_in scope.now) (expr_of e.now) from into free
         (lists_of lists.old)) code.old code.new lists.new result }
 {
@@ -284,7 +284,7 @@ pub fn lower_as<A: Allocator + Copy>(
     from: u32,
     into: usize,
     free: usize,
-) -> Result<ValueRegister, Failure>
+) -> Result<ValueRegister, LowerFailure>
     ensures { AddsValue (as_type (program_in names.now) (scope_in scope.now) ty (expr_of e.now) from into free
         (lists_of lists.old)) code.old code.new lists.new result }
 {
@@ -312,7 +312,7 @@ fn lower_left<A: Allocator + Copy>(
     other: Scalar,
     from: u32,
     free: usize,
-) -> Result<ValueRegister, Failure>
+) -> Result<ValueRegister, LowerFailure>
     ensures { let own = emitted_type (program_in names.now) (scope_in scope.now) (expr_of e.now) in
         AddsValue (as_type (program_in names.now) (scope_in scope.now) (due_type op own other) (expr_of e.now) from free
         free (lists_of lists.old)) code.old code.new lists.new result }
@@ -341,7 +341,7 @@ pub(crate) fn lower_operand<A: Allocator + Copy>(
     ty: Scalar,
     from: u32,
     free: usize,
-) -> Result<ValueRegister, Failure>
+) -> Result<ValueRegister, LowerFailure>
     ensures { AddsValue (operand (program_in names.now) (scope_in scope.now) ty (expr_of e.now) from free
         (lists_of lists.old)) code.old code.new lists.new result }
 {
@@ -364,7 +364,7 @@ fn lower_call<A: Allocator + Copy>(
     from: u32,
     into: usize,
     free: usize,
-) -> Result<ValueRegister, Failure>
+) -> Result<ValueRegister, LowerFailure>
     requires { registers.old.items ≡ [] }
     ensures { AddsValue (call_code (Some (callee_in f.entry))
         (emit_all (program_in names.now) (scope_in scope.now) (taken_types (Some (callee_in f.entry)))
@@ -402,7 +402,7 @@ fn lower_logical<A: Allocator + Copy>(
     from: u32,
     into: usize,
     free: usize,
-) -> Result<ValueRegister, Failure>
+) -> Result<ValueRegister, LowerFailure>
     requires test { test.old.items ≡ [] }
     requires parts { e.now ≡ tree.Logical op left.now right.now at }
     ensures { AddsValue (condition_value
@@ -436,7 +436,7 @@ fn lower_conditional<A: Allocator + Copy>(
     from: u32,
     into: usize,
     free: usize,
-) -> Result<ValueRegister, Failure>
+) -> Result<ValueRegister, LowerFailure>
     requires test { test.old.items ≡ [] }
     requires first { first.old.items ≡ [] }
     requires second { second.old.items ≡ [] }
@@ -469,7 +469,7 @@ fn lower_into<A: Allocator + Copy>(
     from: u32,
     into: usize,
     free: usize,
-) -> Result<ValueRegister, Failure>
+) -> Result<ValueRegister, LowerFailure>
     ensures code { AddsValue (value_into into
         (as_type (program_in names.now) (scope_in scope.now) ty (expr_of e.now) from into free (lists_of lists.old)))
         code.old code.new lists.new result }
@@ -490,7 +490,7 @@ fn lower_in_transaction<A: Allocator + Copy>(
     from: u32,
     into: usize,
     free: usize,
-) -> Result<ValueRegister, Failure>
+) -> Result<ValueRegister, LowerFailure>
     ensures { AddsValue (in_own_transaction
         (emit (program_in names.now) (scope_in scope.now) (expr_of e.now) (from + 1) into free
         (lists_of lists.old)))
@@ -512,7 +512,7 @@ fn lower_value<A: Allocator + Copy>(
     e: &Expr<A>,
     from: u32,
     free: usize,
-) -> Result<ConditionRegister, Failure>
+) -> Result<ConditionRegister, LowerFailure>
     ensures { AddsTest (condition_of None
         (emit (program_in names.now) (scope_in scope.now) (expr_of e.now) from free free (lists_of lists.old)))
         drafts.old drafts.new lists.new result }
@@ -537,7 +537,7 @@ fn lower_opposite<A: Allocator + Copy>(
     e: &Expr<A>,
     from: u32,
     free: usize,
-) -> Result<ConditionRegister, Failure>
+) -> Result<ConditionRegister, LowerFailure>
     ensures { AddsTest (conditions.opposite
         (condition (program_in names.now) (scope_in scope.now) (expr_of e.now) from free (lists_of lists.old)))
         drafts.old drafts.new lists.new result }
@@ -559,7 +559,7 @@ fn lower_first<A: Allocator + Copy>(
     e: &Expr<A>,
     from: u32,
     free: usize,
-) -> Result<u32, Failure>
+) -> Result<u32, LowerFailure>
     ensures { AddsFirst op
         (condition (program_in names.now) (scope_in scope.now) (expr_of e.now) from free (lists_of lists.old))
         drafts.old drafts.new lists.new result }
@@ -579,7 +579,7 @@ pub fn lower_condition<A: Allocator + Copy>(
     e: &Expr<A>,
     from: u32,
     free: usize,
-) -> Result<ConditionRegister, Failure>
+) -> Result<ConditionRegister, LowerFailure>
     ensures { AddsTest (condition (program_in names.now) (scope_in scope.now) (expr_of e.now) from free
         (lists_of lists.old)) drafts.old drafts.new lists.new result }
 {
@@ -631,7 +631,7 @@ fn lower_argument<A: Allocator + Copy>(
     e: &Expr<A>,
     from: u32,
     free: usize,
-) -> Result<ValueRegister, Failure>
+) -> Result<ValueRegister, LowerFailure>
     ensures { AddsValue (argument_value (program_in names.now) (scope_in scope.now)
         (drop number (types_of (map parameter_of parameters.now))) (expr_of e.now) from free (lists_of lists.old))
         code.old code.new lists.new result }
@@ -657,7 +657,7 @@ pub fn lower_all<A: Allocator + Copy>(
     all: &[Expr<A>],
     from: u32,
     free: usize,
-) -> Result<u32, Failure>
+) -> Result<u32, LowerFailure>
     ensures registers { OnOk result (registers.new.items ≡ registers.old.items
         ++ (emit_all (program_in names.now) (scope_in scope.now) (types_of (map parameter_of parameters.now))
         (exprs_of all.now) from free (lists_of lists.old)).registers) }

@@ -1,13 +1,13 @@
 //! Why no code is made.
 
 ghost use Rattle.std.specs.Prelude.{◌≡◌};
-ghost use Rattle.lower_exprs.specs.declared.fault.Failure.TheVariants.{OutOfMemory};
+ghost use Rattle.lower_exprs.specs.declared.fault.LowerFailure.TheVariants.{OutOfMemory};
 
 use std::alloc::AllocError;
 
 /// Why a function's code is not made.
 #[derive(Clone, Copy)]
-pub enum Failure {
+pub enum LowerFailure {
     /// A growth was refused.
     OutOfMemory,
 
@@ -15,10 +15,10 @@ pub enum Failure {
     Registers,
 }
 
-impl From<AllocError> for Failure {
+impl From<AllocError> for LowerFailure {
     ghost from_gives = { λ _ e. e ≡ OutOfMemory };
 
-    fn from(_error: AllocError) -> Failure {
-        Failure::OutOfMemory
+    fn from(_error: AllocError) -> LowerFailure {
+        LowerFailure::OutOfMemory
     }
 }

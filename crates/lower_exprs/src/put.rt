@@ -9,7 +9,7 @@ ghost use Rattle.lower_exprs.specs.Fragments.{Adds, AddsValue, of_value};
 ghost use Rattle.lower_exprs.specs.inner.Stretches.{in_place, standing, test_in_place};
 
 use crate::draft::put_test;
-use crate::fault::Failure;
+use crate::fault::LowerFailure;
 use crate::lists::Lists;
 use bytecode::{Instr, MOST_REGISTERS};
 use lex::token::Scalar;
@@ -54,13 +54,13 @@ pub fn after(place: u32, count: u32) -> Result<u32, AllocError>
 }
 
 /// A register that is used.
-pub(crate) fn take<A: Allocator>(lists: &mut Lists<A>, r: usize) -> Result<u16, Failure>
+pub(crate) fn take<A: Allocator>(lists: &mut Lists<A>, r: usize) -> Result<u16, LowerFailure>
     ensures lists { OnOk result (lists_of lists.new ≡ with_register r (lists_of lists.old)) }
     ensures register { IfOk result (λ n. n ≡ r) }
     ensures fails { IfErr result (λ why. NeedsMore why (with_register r (lists_of lists.old)).registers) }
 {
     if r >= MOST_REGISTERS as usize {
-        return Err(Failure::Registers);
+        return Err(LowerFailure::Registers);
     }
     if lists.registers <= r as u32 {
         lists.registers = r as u32 + 1;
@@ -100,7 +100,7 @@ pub(crate) fn put_constant<A: Allocator>(
     ty: Scalar,
     from: u32,
     into: usize,
-) -> Result<ValueRegister, Failure>
+) -> Result<ValueRegister, LowerFailure>
     ensures { AddsValue (expressions.constant value ty from into (lists_of lists.old))
         code.old code.new lists.new result }
 {
@@ -114,7 +114,7 @@ pub(crate) fn put_into<A: Allocator>(
     code: &mut Vec<Instr, A>,
     location: ValueRegister,
     r: usize,
-) -> Result<ValueRegister, Failure>
+) -> Result<ValueRegister, LowerFailure>
     ensures code { AddsValue (expressions.value_into r (in_place location (lists_of lists.old)))
         code.old code.new lists.new result }
     ensures register { IfOk result (λ now. now.register ≡ r) }
@@ -220,7 +220,7 @@ pub(crate) fn put_both<A: Allocator>(
     a: ValueRegister,
     b: ValueRegister,
     into: usize,
-) -> Result<ValueRegister, Failure>
+) -> Result<ValueRegister, LowerFailure>
     ensures { AddsValue (expressions.both op ty (in_place a (lists_of lists.old)) (in_place b (lists_of lists.old))
         into) code.old code.new lists.new result }
 {
@@ -254,7 +254,7 @@ pub(crate) fn put_negated<A: Allocator>(
     code: &mut Vec<Instr, A>,
     a: ValueRegister,
     into: usize,
-) -> Result<ValueRegister, Failure>
+) -> Result<ValueRegister, LowerFailure>
     ensures { AddsValue (expressions.negation (in_place a (lists_of lists.old)) into)
         code.old code.new lists.new result }
 {
@@ -274,7 +274,7 @@ pub(crate) fn put_complemented<A: Allocator>(
     code: &mut Vec<Instr, A>,
     a: ValueRegister,
     into: usize,
-) -> Result<ValueRegister, Failure>
+) -> Result<ValueRegister, LowerFailure>
     ensures { AddsValue (expressions.complement (in_place a (lists_of lists.old)) into)
         code.old code.new lists.new result }
 {
@@ -295,7 +295,7 @@ pub(crate) fn put_compared<A: Allocator>(
     a: ValueRegister,
     into: usize,
     free: usize,
-) -> Result<ValueRegister, Failure>
+) -> Result<ValueRegister, LowerFailure>
     ensures { AddsValue (expressions.logical_negation (in_place a (lists_of lists.old)) into free)
         code.old code.new lists.new result }
 {
@@ -318,7 +318,7 @@ pub(crate) fn put_answers<A: Allocator>(
     test: &[Draft],
     t: ConditionRegister,
     into: usize,
-) -> Result<ValueRegister, Failure>
+) -> Result<ValueRegister, LowerFailure>
     ensures { AddsValue (expressions.condition_value (test_in_place test.now t (lists_of lists.old)) into)
         code.old code.new lists.new result }
 {
@@ -346,7 +346,7 @@ pub(crate) fn put_chosen<A: Allocator>(
     a: ValueRegister,
     second: &mut Vec<Instr, A>,
     b: ValueRegister,
-) -> Result<ValueRegister, Failure>
+) -> Result<ValueRegister, LowerFailure>
     ensures { (l : Plain) → Adds (of_value (expressions.conditional_value ty (test_in_place test.now t l)
         (standing first.old.items a l) (standing second.old.items b l) b.register)) code.old.items code.new.items l
         result }
@@ -368,7 +368,7 @@ pub(crate) fn put_in_transaction<A: Allocator>(
     code: &mut Vec<Instr, A>,
     operand: &mut Vec<Instr, A>,
     location: ValueRegister,
-) -> Result<ValueRegister, Failure>
+) -> Result<ValueRegister, LowerFailure>
     ensures { (l : Plain) → Adds (of_value (expressions.in_own_transaction (standing operand.old.items location l)))
         code.old.items code.new.items l result }
 {

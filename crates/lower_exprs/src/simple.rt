@@ -22,7 +22,7 @@ ghost use Rattle.lower_exprs.specs.Views.{program_in, scope_in};
 use crate::aim::Aim;
 use crate::convert::{constant_in, put_converted, put_widened};
 use crate::expr::{lower_expr, lower_operand};
-use crate::fault::Failure;
+use crate::fault::LowerFailure;
 use crate::lists::Lists;
 use crate::names::global;
 use crate::preloaded::{constant_of, preloaded};
@@ -51,7 +51,7 @@ fn aim_variable<A: Allocator + Copy>(
     lists: &mut Lists<A>,
     x: &str,
     from: u32,
-) -> Result<Aim, Failure>
+) -> Result<Aim, LowerFailure>
     ensures { (code : List Instr) → Adds (of_aim (variable_target (Names.newest (scope_in scope.now) x.now)
         (Names.global_of (program_in names.now) x.now) from (lists_of lists.old)))
         code code (lists_of lists.new) result }
@@ -74,7 +74,7 @@ fn put_check<A: Allocator + Copy>(
     check: bool,
     g: Shared<'_, A>,
     index: ValueRegister,
-) -> Result<Aim, Failure>
+) -> Result<Aim, LowerFailure>
     requires { g.cell + Names.cells (global_of g.global.now) ≤ 4096 }
     ensures { (l : Plain) → Adds (of_aim (element_target check (Some (shared_in g.entry)) (in_place index l) index.to
         l)) code.old.items code.new.items l result }
@@ -99,7 +99,7 @@ fn aim<A: Allocator + Copy>(
     e: &Expr<A>,
     from: u32,
     free: usize,
-) -> Result<Aim, Failure>
+) -> Result<Aim, LowerFailure>
     ensures { Aims (target_code (program_in names.now) (scope_in scope.now) check (expr_of e.now) from free
         (lists_of lists.old)) code.old code.new lists.new result }
 {
@@ -143,7 +143,7 @@ fn fetch<A: Allocator>(
     target: AssignmentTarget,
     from: u32,
     free: usize,
-) -> Result<ValueRegister, Failure>
+) -> Result<ValueRegister, LowerFailure>
     ensures { AddsValue (target_value target from free (lists_of lists.old)) code.old code.new lists.new result }
 {
     match target {
@@ -174,7 +174,7 @@ fn store<A: Allocator>(
     target: AssignmentTarget,
     a: u16,
     from: u32,
-) -> Result<u32, Failure>
+) -> Result<u32, LowerFailure>
     ensures { (l : Plain) → Adds (of_written (target_store target a from l)) code.old.items code.new.items l result }
 {
     let instr = match target {
@@ -212,7 +212,7 @@ fn put_fitting<A: Allocator>(
     own: Scalar,
     a: ValueRegister,
     into: usize,
-) -> Result<ValueRegister, Failure>
+) -> Result<ValueRegister, LowerFailure>
     ensures { AddsValue (simples.fitting target own (in_place a (lists_of lists.old)) into)
         code.old code.new lists.new result }
 {
@@ -240,7 +240,7 @@ fn lower_fitting<A: Allocator + Copy>(
     from: u32,
     home: usize,
     free: usize,
-) -> Result<ValueRegister, Failure>
+) -> Result<ValueRegister, LowerFailure>
     ensures { AddsValue (simples.stored_value (program_in names.now) (scope_in scope.now) target
         (expr_of e.now) from home
         free (lists_of lists.old)) code.old code.new lists.new result }
@@ -267,7 +267,7 @@ fn lower_assign<A: Allocator + Copy>(
     value: &Expr<A>,
     from: u32,
     free: usize,
-) -> Result<u32, Failure>
+) -> Result<u32, LowerFailure>
     ensures { AddsWritten (assignment_code (program_in names.now) (scope_in scope.now) (expr_of to.now)
         (expr_of value.now) from
         free (lists_of lists.old)) code.old code.new lists.new result }
@@ -288,7 +288,7 @@ fn lower_one<A: Allocator>(
     ty: Scalar,
     from: u32,
     free: usize,
-) -> Result<ValueRegister, Failure>
+) -> Result<ValueRegister, LowerFailure>
     ensures { AddsValue (emitted_one ty from free (lists_of lists.old)) code.old code.new lists.new result }
 {
     match preloaded(lists, 1, ty, from) {
@@ -322,7 +322,7 @@ fn lower_by<A: Allocator + Copy>(
     by: Option<&Expr<A>>,
     from: u32,
     free: usize,
-) -> Result<ValueRegister, Failure>
+) -> Result<ValueRegister, LowerFailure>
     ensures { AddsValue (value_or_one (program_in names.now) (scope_in scope.now) ty
         (option_map expr_of (option_copied by.entry)) from free (lists_of lists.old))
         code.old code.new lists.new result }
@@ -344,7 +344,7 @@ fn lower_changed<'e, A: Allocator + Copy>(
     target: AssignmentTarget,
     from: u32,
     free: usize,
-) -> Result<ValueRegister, Failure>
+) -> Result<ValueRegister, LowerFailure>
     ensures { AddsValue (compound_value (program_in names.now) (scope_in scope.now) op
         (option_map expr_of (option_copied by.entry)) target from free (lists_of lists.old))
         code.old code.new lists.new result }
@@ -373,7 +373,7 @@ fn lower_adjust<'e, A: Allocator + Copy>(
     by: Option<&'e Expr<A>>,
     from: u32,
     free: usize,
-) -> Result<u32, Failure>
+) -> Result<u32, LowerFailure>
     ensures { AddsWritten (compound_code (program_in names.now) (scope_in scope.now) op (expr_of to.now)
         (option_map expr_of (option_copied by.entry)) from free (lists_of lists.old))
         code.old code.new lists.new result }
@@ -393,7 +393,7 @@ pub fn lower_simple<A: Allocator + Copy>(
     s: &Simple<A>,
     from: u32,
     free: usize,
-) -> Result<u32, Failure>
+) -> Result<u32, LowerFailure>
     ensures { AddsWritten (simple_written (program_in names.now) (scope_in scope.now) (simple_of s.now) from free
         (lists_of lists.old)) code.old code.new lists.new result }
 {
@@ -434,7 +434,7 @@ fn lower_first<A: Allocator + Copy>(
     ty: Scalar,
     first: &Option<Expr<A>>,
     from: u32,
-) -> Result<u32, Failure>
+) -> Result<u32, LowerFailure>
     ensures { AddsWritten (first_written (program_in names.now) (scope_in scope.now) register ty
         (option_map expr_of first.now) from (lists_of lists.old)) code.old code.new lists.new result }
 {
@@ -458,7 +458,7 @@ fn lower_declarator<'p, A: Allocator + Copy>(
     ty: Scalar,
     d: &'p Declarator<A>,
     from: u32,
-) -> Result<u32, Failure>
+) -> Result<u32, LowerFailure>
     ensures scope { OnOk result (scope_in scope.new ≡ with_local (scope_in scope.old) d.now.name.text ty) }
     ensures code { AddsWritten
         (declarator_written (program_in names.now) ty (declarator_of d.now) (scope_in scope.old) from
@@ -480,7 +480,7 @@ pub fn lower_declarators<'p, A: Allocator + Copy>(
     ty: Scalar,
     all: &'p [Declarator<A>],
     from: u32,
-) -> Result<u32, Failure>
+) -> Result<u32, LowerFailure>
     ensures scope { OnOk result (scope_in scope.new ≡ with_declared ty (map declarator_of all.now)
         (scope_in scope.old)) }
     ensures code { AddsWritten
@@ -502,7 +502,7 @@ pub fn lower_start<'p, A: Allocator + Copy>(
     code: &mut Vec<Instr, A>,
     start: &'p Start<A>,
     from: u32,
-) -> Result<u32, Failure>
+) -> Result<u32, LowerFailure>
     ensures scope { OnOk result (scope_in scope.new ≡ locals_of_start (start_of start.now) (scope_in scope.old)) }
     ensures code { AddsWritten (start_written (program_in names.now) (start_of start.now) (scope_in scope.old) from
         (lists_of lists.old)) code.old code.new lists.new result }

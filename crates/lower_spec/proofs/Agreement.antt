@@ -1,7 +1,7 @@
 -- A thread of a code does what something of the source does: its outcomes after so many ticks are the thread's outcomes
 -- after so many instructions, and the other way round. Both up to a number, which goes down in a loop.
 use Rattle.std.proofs.Common.{◌≡◌, ◌≢◌, ℕ, zero, suc, ◌≤◌, refl, sym, ap, ◌∙◌, arith}
-use Rattle.syntax.specs.declared.numbers.Halt.TheVariants.{Astray}
+use Rattle.syntax.specs.declared.thread_end.Halt.TheVariants.{Astray}
 use Rattle.syntax.specs.Behaviours.{Outcome, Stopped}
 use Rattle.bytecode.specs.Effects.{Effect}
 use Rattle.bytecode.specs.Sequential.{Sequential, next, steps, outcome_of}

@@ -7,13 +7,13 @@ use Rattle.std.proofs.lemmas.List.{get_or-set_same, get_or-set_other, length-set
 use Rattle.std.proofs.lemmas.Bool.{lt-ltb}
 use Rattle.lex.specs.declared.token.Scalar.{Scalar}
 use Rattle.lex.specs.declared.token.Scalar.TheVariants.{Int, Unsigned, LongLong}
-use Rattle.syntax.specs.declared.numbers.Trap.TheVariants.{Frames}
-use Rattle.syntax.specs.declared.numbers.Value.{Value}
+use Rattle.syntax.specs.declared.thread_end.Trap.TheVariants.{Frames}
+use Rattle.syntax.specs.declared.value.Value.{Value}
 use Rattle.syntax.specs.Tree.{Name, Parameter, Function, Stmts, Program}
 use Rattle.syntax.specs.Numbers.{modulus, number_of, value_in_type, flag}
 use Rattle.syntax.specs.Names.{Local, word_at, definition_of, GlobalCells, global_of, bounds, bounds_of as cell_bounds}
 use Rattle.syntax.specs.Laws.{shape}
-use Rattle.syntax.specs.declared.numbers.Status.TheVariants.{Running}
+use Rattle.syntax.specs.declared.thread_end.Status.TheVariants.{Running}
 use Rattle.syntax.specs.Behaviours.{Memory, IsMemory, Outcome, Ended, Means}
 use Rattle.syntax.specs.Actions.{Outside, Answer, Gives, Action, go_on, ◌>>=◌, ◌>>◌, tick, or_astray, locals, put_locals}
 use Rattle.syntax.specs.Meaning.{Completion, Next, Breaks, Continues, Returns, Cancels, CancelsOuter, stmts, call_locals, result_of, calls}

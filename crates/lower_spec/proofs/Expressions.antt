@@ -15,10 +15,10 @@ use Rattle.bytecode.specs.Code.{FunctionCode}
 use Rattle.syntax.specs.Tree.{Exprs, Stmts, Function, Expr, Variable, Constant, Element, Call, Parenthesized, Cast, Unary, Binary, Logical, Conditional, InTransaction, Program}
 use Rattle.syntax.specs.declared.tree.Mode.{Mode}
 use Rattle.syntax.specs.declared.tree.TransactionKind.TheVariants.{Plain}
-use Rattle.syntax.specs.declared.numbers.Halt.TheVariants.{Wants, Astray}
-use Rattle.syntax.specs.declared.numbers.Trap.{Trap}
-use Rattle.syntax.specs.declared.numbers.Trap.TheVariants.{Index}
-use Rattle.syntax.specs.declared.numbers.Value.{Value}
+use Rattle.syntax.specs.declared.thread_end.Halt.TheVariants.{Wants, Astray}
+use Rattle.syntax.specs.declared.thread_end.Trap.{Trap}
+use Rattle.syntax.specs.declared.thread_end.Trap.TheVariants.{Index}
+use Rattle.syntax.specs.declared.value.Value.{Value}
 use Rattle.syntax.specs.Numbers.{modulus, residue, number, word_of, number_of, common, bitwise_complement, operation_result, typed_result, operand_type, result_type, binary, unary, value_in_type, is_zero, flag, truth}
 use Rattle.syntax.specs.Names.{Local, newest, newest_from, word_at, global_of, cells, GlobalCells}
 use Rattle.syntax.specs.Types.{type_of, running_scope}

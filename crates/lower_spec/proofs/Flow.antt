@@ -11,8 +11,8 @@ use Rattle.syntax.specs.declared.tree.Mode.TheVariants.{Atomic}
 use Rattle.syntax.specs.declared.tree.TransactionKind.{TransactionKind}
 use Rattle.syntax.specs.declared.tree.TransactionKind.TheVariants.{Plain, Outer}
 use Rattle.syntax.specs.Tree.{Expr, Simple, Declarator, Start, Nothing, Declares, Does, Stmt, Stmts, Empty, Declare, Do, Block, Print, If, IfElse, While, DoWhile, For, Break, Continue, Return, Transaction, Cancel, CancelOuter, Program}
-use Rattle.syntax.specs.declared.numbers.Value.{Value}
-use Rattle.syntax.specs.declared.numbers.Halt.TheVariants.{Wants, Astray}
+use Rattle.syntax.specs.declared.value.Value.{Value}
+use Rattle.syntax.specs.declared.thread_end.Halt.TheVariants.{Wants, Astray}
 use Rattle.syntax.specs.Numbers.{value_in_type, is_zero, flag}
 use Rattle.syntax.specs.Names.{Local, word_at}
 use Rattle.syntax.specs.Behaviours.{Memory, Outcome}

@@ -5,8 +5,8 @@ use Rattle.std.specs.Prelude.{◌-◌, drop, option_map}
 use Rattle.syntax.specs.declared.tree.Mode.{Mode}
 use Rattle.syntax.specs.declared.tree.Mode.TheVariants.{Atomic}
 use Rattle.syntax.specs.declared.tree.TransactionKind.TheVariants.{Plain}
-use Rattle.syntax.specs.declared.numbers.Halt.TheVariants.{Spent}
-use Rattle.syntax.specs.declared.numbers.Status.TheVariants.{Running}
+use Rattle.syntax.specs.declared.thread_end.Halt.TheVariants.{Spent}
+use Rattle.syntax.specs.declared.thread_end.Status.TheVariants.{Running}
 use Rattle.syntax.specs.Tree.{Program}
 use Rattle.syntax.specs.Names.{Local}
 use Rattle.syntax.specs.Behaviours.{Memory, Outcome, Stopped}

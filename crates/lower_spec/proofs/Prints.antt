@@ -5,8 +5,8 @@ use Rattle.lower_spec.proofs.Expressions.{CallsFollow, handed, args_follow}
 use Rattle.syntax.specs.declared.tree.Mode.{Mode}
 use Rattle.syntax.specs.declared.tree.Mode.TheVariants.{Atomic, Relaxed}
 use Rattle.syntax.specs.Tree.{Program, Exprs}
-use Rattle.syntax.specs.declared.numbers.Value.{Value}
-use Rattle.syntax.specs.declared.numbers.Halt.TheVariants.{Astray}
+use Rattle.syntax.specs.declared.value.Value.{Value}
+use Rattle.syntax.specs.declared.thread_end.Halt.TheVariants.{Astray}
 use Rattle.syntax.specs.Names.{Local}
 use Rattle.syntax.specs.Behaviours.{Memory, Outcome}
 use Rattle.syntax.specs.Actions.{Inside, State, Answer, Gives, Stops, Action, pure, go_on, ◌>>=◌, ◌>>◌, may_print, may_print_at}

@@ -8,8 +8,8 @@ use Rattle.lex.specs.declared.token.Scalar.{Scalar}
 use Rattle.lex.specs.declared.token.Scalar.TheVariants.{Int, LongLong}
 use Rattle.syntax.specs.declared.tree.BinaryOp.{BinaryOp}
 use Rattle.syntax.specs.Tree.{Expr, Variable, Constant, Element, Simple, Evaluate, Assign, Adjust, Program}
-use Rattle.syntax.specs.declared.numbers.Trap.TheVariants.{Index}
-use Rattle.syntax.specs.declared.numbers.Value.{Value}
+use Rattle.syntax.specs.declared.thread_end.Trap.TheVariants.{Index}
+use Rattle.syntax.specs.declared.value.Value.{Value}
 use Rattle.syntax.specs.Numbers.{modulus, residue, number_of, word_of, value_in_type, operand_type, binary, is_zero}
 use Rattle.syntax.specs.Names.{Local, newest, word_at, with_word, global_of, cells, GlobalCells}
 use Rattle.syntax.specs.Behaviours.{Outcome}

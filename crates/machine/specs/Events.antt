@@ -1,8 +1,8 @@
 -- What an event says of the step that it is told of.
 use Rattle.std.specs.Prelude.{◌≡◌, ◌≢◌, ◌↔◌, ◌⊎◌, ℕ, ◌-◌, drop, false, [], Option, None, Some}
 use Rattle.std.specs.List.{slice_get}
-use Rattle.syntax.specs.declared.numbers.Trap.{Trap}
-use Rattle.syntax.specs.declared.numbers.Status.TheVariants.{Running, Trapped as HasTrapped}
+use Rattle.syntax.specs.declared.thread_end.Trap.{Trap}
+use Rattle.syntax.specs.declared.thread_end.Status.TheVariants.{Running, Trapped as HasTrapped}
 use Rattle.bytecode.specs.Effects.{Effect}
 use Rattle.bytecode.specs.Effects.Effect.{Commit, Cancel, CancelOuter}
 use Rattle.norec_core.specs.Attempts.{Attempt}

@@ -2,7 +2,7 @@
 use Rattle.std.specs.Prelude.{ℕ, Bool, false, List, Some, map}
 use Rattle.write_log.specs.Overlay.{overlay}
 use Rattle.syntax.specs.Behaviours.{Memory}
-use Rattle.syntax.specs.declared.numbers.Status.TheVariants.{Running}
+use Rattle.syntax.specs.declared.thread_end.Status.TheVariants.{Running}
 use Rattle.bytecode.specs.Effects.{Effect, after_cancel}
 use Rattle.bytecode.specs.Sequential.{InnerTransaction, OpenTransaction, Sequential}
 use Rattle.norec_core.specs.Attempts.{Checkpoint}

@@ -1,7 +1,7 @@
 -- Threads that rest between their transactions.
 use Rattle.std.specs.Prelude.{◌≡◌, None}
-use Rattle.syntax.specs.declared.numbers.Status.{Status}
-use Rattle.syntax.specs.declared.numbers.Status.TheVariants.{Running}
+use Rattle.syntax.specs.declared.thread_end.Status.{Status}
+use Rattle.syntax.specs.declared.thread_end.Status.TheVariants.{Running}
 use Rattle.bytecode.specs.Effects.{Effect}
 use Rattle.bytecode.specs.Effects.Effect.{Begin}
 use Rattle.frames.specs.declared.doing.Doing.{Doing}

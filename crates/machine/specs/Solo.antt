@@ -4,8 +4,8 @@ use Rattle.std.specs.Prelude.{◌≤◌, if◌then◌else◌, replicate, slice_s
 use Rattle.std.specs.List.{slice_get}
 use Rattle.syntax.specs.Behaviours.{Memory}
 use Rattle.syntax.specs.Orders.{last_left}
-use Rattle.syntax.specs.declared.numbers.Status.{Status}
-use Rattle.syntax.specs.declared.numbers.Status.TheVariants.{Running}
+use Rattle.syntax.specs.declared.thread_end.Status.{Status}
+use Rattle.syntax.specs.declared.thread_end.Status.TheVariants.{Running}
 use Rattle.bytecode.specs.Effects.{Effect}
 use Rattle.bytecode.specs.Sequential.{Sequential, outside, steps}
 use Rattle.norec_core.specs.Attempts.{Attempt}

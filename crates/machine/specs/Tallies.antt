@@ -3,7 +3,7 @@ use Rattle.std.specs.Prelude.{◌≡◌, ◌≢◌, ◌+◌, ◌-◌, drop, ◌*
 use Rattle.std.specs.Prelude.{◌∷◌, ◌++◌, Option, None, Some, length, if◌then◌else◌}
 use Rattle.std.specs.List.{slice_get}
 use Rattle.syntax.specs.Behaviours.{Memory}
-use Rattle.syntax.specs.declared.numbers.Status.TheVariants.{Running}
+use Rattle.syntax.specs.declared.thread_end.Status.TheVariants.{Running}
 use Rattle.bytecode.specs.Effects.{Effect}
 use Rattle.bytecode.specs.Effects.Effect.{Pure, Print, Begin, Read, Write, Commit, Cancel, CancelOuter, Irrevocable}
 use Rattle.bytecode.specs.Effects.Effect.{Traps, End}

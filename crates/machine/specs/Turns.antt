@@ -1,7 +1,7 @@
 -- Turns of threads that rest between their transactions: each is made by one thread alone.
 use Rattle.std.specs.Prelude.{◌≡◌, ◌<◌, ℕ, zero, suc, List, [], ◌∷◌, ◌++◌, Some, replicate}
 use Rattle.std.specs.List.{slice_get}
-use Rattle.syntax.specs.declared.numbers.Status.TheVariants.{Running}
+use Rattle.syntax.specs.declared.thread_end.Status.TheVariants.{Running}
 use Rattle.bytecode.specs.Effects.{Effect}
 use Rattle.machine.specs.Resting.{IsThreadAtRest}
 use Rattle.machine.specs.Worlds.{Part, World, new_world, run, step}

@@ -3,7 +3,7 @@
 ghost use Rattle.std.specs.Prelude.{◌≡◌, ◌<◌, ◌≤◌, ◌^◌, ◌↔◌, ◌++◌, ◌+◌, ◌-◌, ℕ, true, false, None, Some, IsSomeAnd};
 ghost use Rattle.std.specs.Prelude.{if◌then◌else◌, IfNone, IfOk, IfSome, OnOk, OnErr, length, string_bytes, string_len};
 ghost use Rattle.std.specs.Prelude.{slice_get, string_capacity};
-ghost use Rattle.syntax.specs.declared.numbers.Status.TheVariants.{Running};
+ghost use Rattle.syntax.specs.declared.thread_end.Status.TheVariants.{Running};
 ghost use Rattle.bytecode.specs.Effects.{Effect, after_cancel};
 ghost use Rattle.bytecode.specs.Code.{effect, onward};
 ghost use Rattle.bytecode.specs.Valid.{IsValid};
@@ -31,9 +31,9 @@ use crate::loads::Loads;
 use bytecode::Code;
 use frames::{Doing, Frames, prepare_piece, push_piece};
 use local_steps::Pause;
-use norec_core::{Access, Answer, Core, Op, Outcome, Stop};
+use norec_core::{Access, Answer, Core, Op, OpOutcome, Stop};
 use std::alloc::{AllocError, Allocator};
-use syntax::numbers::Status;
+use syntax::thread_end::Status;
 
 /// What a thread keeps.
 #[derive(Drop)]
@@ -148,10 +148,10 @@ fn finish<A: Allocator + Copy, B: Allocator>(
         (back_done (effect code.now frames.old.configuration)
         (begin_configuration frames.old.configuration core.now.saved)) }
     ensures configuration { frames.new.configuration ≡ resume_spec (effect code.now)
-        (effect code.now frames.old.configuration) frames.old.configuration Outcome.Done
+        (effect code.now frames.old.configuration) frames.old.configuration OpOutcome.Done
         (back_done (effect code.now frames.old.configuration)
         (begin_configuration frames.old.configuration core.now.saved)) }
-    ensures status { status.new ≡ status_after Outcome.Done (effect code.now frames.old.configuration) status.old }
+    ensures status { status.new ≡ status_after OpOutcome.Done (effect code.now frames.old.configuration) status.old }
     ensures event { result ≡ event_done (effect code.now frames.old.configuration) core.now.attempt }
 {
     match doing {
@@ -199,7 +199,7 @@ fn resume<A: Allocator + Copy, B: Allocator>(
     status: &mut Status,
     code: &Code<B>,
     doing: Doing,
-    outcome: Outcome,
+    outcome: OpOutcome,
 ) -> Event
     requires of { IsConfigurationOf code.now frames.old.configuration }
     requires tells { IsDoingAt code.now frames.old.configuration doing }
@@ -214,16 +214,16 @@ fn resume<A: Allocator + Copy, B: Allocator>(
     ensures event { result ≡ event_by (effect code.now frames.old.configuration) outcome core.now.attempt }
 {
     match outcome {
-        Outcome::Going => Event::Quiet,
-        Outcome::Read(word) => {
+        OpOutcome::Going => Event::Quiet,
+        OpOutcome::Read(word) => {
             take(frames, code, doing, word);
             Event::Quiet
         }
-        Outcome::Aborted => {
+        OpOutcome::Aborted => {
             go_back(frames, core);
             Event::Abort
         }
-        Outcome::Done => finish(frames, core, status, code, doing),
+        OpOutcome::Done => finish(frames, core, status, code, doing),
     }
 }
 
@@ -276,11 +276,11 @@ fn make_room<A: Allocator + Copy, B: Allocator>(
 
 /// Whether an operation is asked for again.
 #[inline(always)]
-fn goes_on(outcome: Outcome) -> bool
-    ensures { result ≡ true → outcome ≡ Outcome.Going }
+fn goes_on(outcome: OpOutcome) -> bool
+    ensures { result ≡ true → outcome ≡ OpOutcome.Going }
 {
     match outcome {
-        Outcome::Going => true,
+        OpOutcome::Going => true,
         _ => false,
     }
 }

@@ -6,7 +6,7 @@ ghost use Rattle.std.specs.List.{slice_get};
 ghost use Rattle.syntax.specs.Behaviours.{Memory, IsMemory, Behaviour, Step, Means};
 ghost use Rattle.syntax.specs.Threads.{thread as source};
 ghost use Rattle.syntax.specs.Tree.{Program};
-ghost use Rattle.syntax.specs.declared.numbers.Status.TheVariants.{Running};
+ghost use Rattle.syntax.specs.declared.thread_end.Status.TheVariants.{Running};
 ghost use Rattle.bytecode.specs.Code.{Code as Plain, Configuration, effect};
 ghost use Rattle.bytecode.specs.Effects.{Effect, FitsCells};
 ghost use Rattle.local_steps.specs.Local.{after_local};

@@ -2,7 +2,7 @@
 
 ghost use Rattle.std.specs.Prelude.{◌≡◌, ◌≢◌, ◌+◌, ◌<◌, ◌≤◌, ◌^◌, ◌↔◌, ℕ, [], None, Some, true, false, IfOk, IfNone};
 ghost use Rattle.std.specs.Prelude.{IfSome, OnOk, OnErr, OnSome, length};
-ghost use Rattle.syntax.specs.declared.numbers.Status.TheVariants.{Running};
+ghost use Rattle.syntax.specs.declared.thread_end.Status.TheVariants.{Running};
 ghost use Rattle.bytecode.specs.Beginning.{beginning};
 ghost use Rattle.bytecode.specs.Code.{effect};
 ghost use Rattle.norec_core.specs.Accesses.{IsAnswerTo, cost, stops};
@@ -27,7 +27,7 @@ use frames::{Doing, Frames};
 use norec_core::{Access, Answer, Core, Stop};
 use std::alloc::{AllocError, Allocator, Global};
 use std::marker::Model;
-use syntax::numbers::Status;
+use syntax::thread_end::Status;
 
 /// One thread of the machine. It keeps no code: each call is given the code of `new`.
 ///

@@ -1,7 +1,7 @@
 //! Validation as a thread keeps it, step by step.
 
 ghost use Rattle.std.specs.Prelude.{◌≡◌, ◌≢◌, ◌↔◌, ◌+◌, ◌<◌, ◌^◌, true, None, Some, IsSomeAnd};
-ghost use Rattle.syntax.specs.declared.numbers.Status.TheVariants.{Running};
+ghost use Rattle.syntax.specs.declared.thread_end.Status.TheVariants.{Running};
 ghost use Rattle.bytecode.specs.Code.{effect};
 ghost use Rattle.bytecode.specs.Valid.{IsValid};
 ghost use Rattle.norec_core.specs.declared.step.Answer.TheVariants.{Value};

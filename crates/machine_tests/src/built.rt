@@ -2,7 +2,7 @@
 
 use bytecode::{Code, Instr};
 use std::alloc::Allocator;
-use written_codes::{TEXTS, WrittenCode, X, code_of, second, worker};
+use test_codes::{TEXTS, WrittenCode, X, code_of, second, worker};
 
 /// The code of a `worker` of four registers and these instructions, if it is valid and memory is there.
 pub fn code_of_worker<A: Allocator + Copy>(alloc: A, instructions: &[Instr]) -> Option<Code<A>> {

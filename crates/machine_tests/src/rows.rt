@@ -1,8 +1,8 @@
-//! The steps that threads of the codes of `written_codes` make.
+//! The steps that threads of the codes of `test_codes` make.
 
 use machine::Event;
 use norec_core::Access;
-use syntax::numbers::Trap;
+use syntax::thread_end::Trap;
 
 /// What the lock and the cell have, and the access and what happened; none where the lock has no value left for the
 /// step.

@@ -13,10 +13,10 @@ use bytecode::{Code, Instr};
 use frames::Doing;
 use machine::{Event, Loads, Thread};
 use norec_core::{Access, Answer, Stop};
-use refusing::{Refusing, growths};
 use std::alloc::{Allocator, Global};
-use syntax::numbers::{Status, Trap};
-use written_codes::{adds_five, code_of, over_x, traps};
+use syntax::thread_end::{Status, Trap};
+use test_codes::{adds_five, code_of, over_x, traps};
+use test_memory::{Refusing, growths};
 
 /// The most accesses of a thread here.
 const MOST: u64 = 1_000_000;

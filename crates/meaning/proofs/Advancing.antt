@@ -1,30 +1,30 @@
 -- A thread goes on from where it stands.
 use Rattle.std.proofs.Common.{◌≡◌, ℕ, suc, List, [], ◌∷◌, ◌++◌, Option, Some, None, refl, sym, ap, ◌∙◌, subst, append-nil, append_assoc, map, Vec}
 use Rattle.std.proofs.lemmas.List.{map-append}
-use Rattle.syntax.specs.declared.numbers.Halt.{Halt}
+use Rattle.syntax.specs.declared.thread_end.Halt.{Halt}
 use Rattle.syntax.specs.Behaviours.{Memory, Ended, Stopped}
 use Rattle.syntax.specs.Names.{Local, definition_of}
 use Rattle.syntax.specs.Actions.{Context, Outside, State, Answer, Gives, Stops, Action, go_on, spend, tick, lefts_in, locals, put_locals, pure, or_astray, ◌>>=◌, ◌>>◌}
 use Rattle.syntax.specs.Meaning.{Completion, Next, calls, call_locals, invoke, result_of, stmts}
 use Rattle.syntax.specs.Tree.{Function, Program, Scalar, Stmts, Unsigned}
-use Rattle.syntax.specs.declared.numbers.Value.{Value}
+use Rattle.syntax.specs.declared.value.Value.{Value}
 use Rattle.std.specs.Prelude.{codes}
 use Rattle.syntax.specs.Threads.{outcome_of, first_state, worker_run}
 use Rattle.syntax.specs.Threads.{thread as behaviour}
 use Rattle.meaning.specs.Outcomes.{memories_in}
 use Rattle.meaning.specs.declared.left.Left.{Left}
 use Rattle.meaning.specs.declared.left.Left.TheVariants as left
-use Rattle.meaning.specs.declared.left.Task.{Task}
+use Rattle.meaning.specs.declared.left.Pending.{Pending}
 use Rattle.meaning.specs.declared.left.Stepped.{Stepped}
 use Rattle.meaning.specs.declared.left.Stepped.TheVariants as to
-use Rattle.meaning.specs.declared.machine.StmtCompletion.{StmtCompletion as OwnCompletion}
+use Rattle.meaning.specs.declared.source_thread.StmtCompletion.{StmtCompletion as OwnCompletion}
 use Rattle.meaning.specs.declared.standing.Point.{Point}
-use Rattle.meaning.specs.declared.standing.Shown.{Shown}
-use Rattle.meaning.specs.declared.standing.Thread.{Thread}
+use Rattle.meaning.specs.declared.standing.Observed.{Observed}
+use Rattle.meaning.specs.declared.standing.StandingThread.{StandingThread}
 use Rattle.meaning.specs.declared.standing.StoppedThread.{StoppedThread}
 use Rattle.meaning.specs.declared.program.ProgramTables.{ProgramTables}
-use Rattle.meaning.specs.declared.machine.Local.{Local as OwnLocal}
-use Rattle.meaning.specs.inner.Machine.{completion_of, items_in, local_in, program_in}
+use Rattle.meaning.specs.declared.source_thread.Local.{Local as OwnLocal}
+use Rattle.meaning.specs.inner.SourceThread.{completion_of, items_in, local_in, program_in}
 use Rattle.meaning.specs.Frames.{StateExtension, context_framed, extended_state}
 use Rattle.meaning.specs.inner.Calls.{Begins, begin_call}
 use Rattle.meaning.specs.inner.Going.{Follow, IsStep, call_left, follows, gone_on}
@@ -37,7 +37,7 @@ state n ls founds lefts text = record { ticks = n; locals = ls; context = Outsid
 
 module _ {A : Type 0} (source : ProgramTables A) where
   -- what was shown on the way stands round the new point
-  reached : (founds : List Memory) (shown more all : Shown A) (at : Point A) → all.lefts.items ≡ shown.lefts.items ++ more.lefts.items → all.text.items ≡ shown.text.items ++ more.text.items →
+  reached : (founds : List Memory) (shown more all : Observed A) (at : Point A) → all.lefts.items ≡ shown.lefts.items ++ more.lefts.items → all.text.items ≡ shown.text.items ++ more.text.items →
       extended_state (frame_of founds shown) (state_at at more) ≡ extended_state (frame_of founds all) (bare at)
   reached founds shown more all at lefts text =
       let many = sym (map-append (λ v. v.items) shown.lefts.items more.lefts.items) ∙ sym (ap memories_in lefts) ∙ sym (append-nil (memories_in all.lefts.items)) in
@@ -59,18 +59,18 @@ module _ {A : Type 0} (source : ProgramTables A) where
   pub puts_end : (ls : List (Left A)) (e : OwnCompletion) (next : Stepped A) (s : State) → next ≡ to.Ends e → left_gone_on source ls (completion_of e) s ≡ go_on (follows (follow_of source next) s) (left_gone_on source ls)
   puts_end ls e next s is = ap (λ n. go_on (follows (follow_of source n) s) (left_gone_on source ls)) (sym is)
 
-  pub puts_task : (ls new : List (Left A)) (t : Task A) (next : Stepped A) (s : State) → next ≡ to.Goes t → new ≡ ls ++ left.Next t ∷ [] → left_gone_on source new Next s ≡ go_on (follows (follow_of source next) s) (left_gone_on source ls)
+  pub puts_task : (ls new : List (Left A)) (t : Pending A) (next : Stepped A) (s : State) → next ≡ to.Goes t → new ≡ ls ++ left.Next t ∷ [] → left_gone_on source new Next s ≡ go_on (follows (follow_of source next) s) (left_gone_on source ls)
   puts_task ls new t next s is put =
       ap (λ ks. left_gone_on source ks Next s) put ∙ last_goes ls (left.Next t) Next s ∙ ap (λ n. go_on (follows (follow_of source n) s) (left_gone_on source ls)) (sym is)
 
-  pub puts_both : (ls mid new : List (Left A)) (l : Left A) (t : Task A) (next : Stepped A) (s : State) → next ≡ to.Nests l t → mid ≡ ls ++ l ∷ [] → new ≡ mid ++ left.Next t ∷ [] →
+  pub puts_both : (ls mid new : List (Left A)) (l : Left A) (t : Pending A) (next : Stepped A) (s : State) → next ≡ to.Nests l t → mid ≡ ls ++ l ∷ [] → new ≡ mid ++ left.Next t ∷ [] →
       left_gone_on source new Next s ≡ go_on (follows (follow_of source next) s) (left_gone_on source ls)
   puts_both ls mid new l t next s is outer put =
       ap (λ ks. left_gone_on source ks Next s) put ∙ last_goes mid (left.Next t) Next s ∙ ap (λ ks. go_on (does_task source t s) (left_gone_on source ks)) outer
       ∙ behind ls l (does_task source t s) ∙ ap (λ n. go_on (follows (follow_of source n) s) (left_gone_on source ls)) (sym is)
 
   -- a thread that has made a step has the same left to do
-  pub advanced : (thread new : Thread A) (l : Left A) (ls : List (Left A)) (run : Action Follow) (next : Stepped A) (at : Point A) (more : Shown A) →
+  pub advanced : (thread new : StandingThread A) (l : Left A) (ls : List (Left A)) (run : Action Follow) (next : Stepped A) (at : Point A) (more : Observed A) →
       thread.left.items ≡ ls ++ l ∷ [] → IsStep (continue_with source l) (completion_of thread.end) run → run (bare thread.at) ≡ Gives (follow_of source next) (state_at at more) →
       ((s : State) → left_gone_on source new.left.items (completion_of new.end) s ≡ go_on (follows (follow_of source next) s) (left_gone_on source ls)) → new.at ≡ at →
       new.shown.lefts.items ≡ thread.shown.lefts.items ++ more.lefts.items → new.shown.text.items ≡ thread.shown.text.items ++ more.text.items →
@@ -89,7 +89,7 @@ module _ {A : Type 0} (source : ProgramTables A) where
   shown_by why f s founds lefts text there printed = λ i. record { lefts = lefts_in (context_framed f (there i)); text = f.text ++ printed i; end = Stopped why }
 
   -- a thread that stops at a step
-  pub stops_at : (thread : Thread A) (l : Left A) (ls : List (Left A)) (run : Action Follow) (why : Halt) (more : Shown A) (s : State) (founds : List Memory) →
+  pub stops_at : (thread : StandingThread A) (l : Left A) (ls : List (Left A)) (run : Action Follow) (why : Halt) (more : Observed A) (s : State) (founds : List Memory) →
       thread.left.items ≡ ls ++ l ∷ [] → IsStep (continue_with source l) (completion_of thread.end) run → run (bare thread.at) ≡ Stops why s →
       s.context ≡ Outside founds (memories_in more.lefts.items) → s.text ≡ more.text.items → (stop : StoppedThread A) → stop.why ≡ Some why → stop.shown ≡ more → IsStop source thread stop
   stops_at thread l ls run why more s founds last step h there printed stop is what =
@@ -99,14 +99,14 @@ module _ {A : Type 0} (source : ProgramTables A) where
       ∙ (λ i. record { lefts = f.lefts ++ memories_in (sym what i).lefts.items; text = f.text ++ (sym what i).text.items; end = end_by (sym is i) })
 
   -- a thread that finds a memory finds it before what it finds further
-  pub finds : (thread new : Thread A) (m : Memory) → new.left ≡ thread.left → new.end ≡ thread.end → new.shown ≡ thread.shown → new.at.ticks ≡ thread.at.ticks → new.at.locals ≡ thread.at.locals →
+  pub finds : (thread new : StandingThread A) (m : Memory) → new.left ≡ thread.left → new.end ≡ thread.end → new.shown ≡ thread.shown → new.at.ticks ≡ thread.at.ticks → new.at.locals ≡ thread.at.locals →
       memories_in new.at.due.items ≡ memories_in thread.at.due.items ++ m ∷ [] → (further : List Memory) → rest source new further ≡ rest source thread (m ∷ further)
   finds thread new m left end shown ticks locals due further =
       let all = ap (λ ms. ms ++ further) due ∙ append_assoc (memories_in thread.at.due.items) (m ∷ []) further in
       λ i. go_on (left_gone_on source (left i).items (completion_of (end i)) (state (ticks i) (items_in (locals i)) (all i) (memories_in (shown i).lefts.items ++ []) ((shown i).text.items ++ []))) (λ _. tick)
 
   -- what is known of a thread from its beginning on
-  module _ (p : Program) (ticks t : ℕ) (thread : Thread A) (founds : List Memory) (stands : (further : List Memory) → rest source thread further ≡ worker_run p t (first_state (founds ++ further) ticks)) where
+  module _ (p : Program) (ticks t : ℕ) (thread : StandingThread A) (founds : List Memory) (stands : (further : List Memory) → rest source thread further ≡ worker_run p t (first_state (founds ++ further) ticks)) where
     pub seen_is : (stop : StoppedThread A) → IsStop source thread stop → seen_of thread stop ≡ behaviour p t founds ticks
     seen_is stop h = sym h ∙ ap outcome_of (stands []) ∙ ap (λ fs. outcome_of (worker_run p t (first_state fs ticks))) (append-nil founds)
 
@@ -154,14 +154,14 @@ ends_call ty (Stops why s) = refl
 
 module _ {A : Type 0} (source : ProgramTables A) where
   -- a call of which all is still to do
-  pub begins_left : (first second third : List (Left A)) (ty : Option Scalar) (outer : Vec OwnLocal A) (t : Task A) → first ≡ [] → second ≡ first ++ left.Call ty outer ∷ [] → third ≡ second ++ left.Next t ∷ [] → outer.items ≡ [] →
+  pub begins_left : (first second third : List (Left A)) (ty : Option Scalar) (outer : Vec OwnLocal A) (t : Pending A) → first ≡ [] → second ≡ first ++ left.Call ty outer ∷ [] → third ≡ second ++ left.Next t ∷ [] → outer.items ≡ [] →
       (now : State) → left_gone_on source third Next now ≡ go_on (does_task source t now) (call_left ty [])
   begins_left first second third ty outer t none call all outside now =
       ap (λ ls. left_gone_on source ls Next now) (all ∙ ap (λ ls. ls ++ left.Next t ∷ []) (call ∙ ap (λ ls. ls ++ left.Call ty outer ∷ []) none))
       ∙ ap (λ ls. go_on (does_task source t now) (call_left ty ls)) (ap (map local_in) outside)
 
   -- a thread before its first tick
-  pub begins_so : (thread : Thread A) (ticks t : ℕ) (b : Begins) (s s1 : State) → begin_call (program_in source) (codes "worker") (record { ty = Unsigned; word = t } ∷ []) s ≡ Gives b s1 →
+  pub begins_so : (thread : StandingThread A) (ticks t : ℕ) (b : Begins) (s s1 : State) → begin_call (program_in source) (codes "worker") (record { ty = Unsigned; word = t } ∷ []) s ≡ Gives b s1 →
       ((now : State) → left_gone_on source thread.left.items (completion_of thread.end) now ≡ go_on (stmts (program_in source) (calls (program_in source) 63) b.body now) (call_left b.ty [])) →
       thread.at.ticks ≡ ticks → items_in thread.at.locals ≡ b.mine → memories_in thread.at.due.items ≡ [] → memories_in thread.shown.lefts.items ≡ [] → thread.shown.text.items ≡ [] →
       (founds : List Memory) → rest source thread founds ≡ worker_run (program_in source) t (first_state founds ticks)
@@ -173,12 +173,12 @@ module _ {A : Type 0} (source : ProgramTables A) where
       ∙ ends_call b.ty (stmts p (calls p 63) b.body (state ticks b.mine founds [] []))
       ∙ ap (λ r. go_on r (λ _. tick)) (sym (invoke_is p 63 (codes "worker") (record { ty = Unsigned; word = t } ∷ []) b s s1 h (first_state founds ticks)))
 
--- a machine that is made at a point, and the point that a machine leaves
+-- a thread that is made at a point, and the point that a thread leaves
 module _ {A : Type 0} where
   pub stands_bare : (at : Point A) (ls : List Local) (due left : List Memory) (text : List ℕ) → ls ≡ items_in at.locals → due ≡ memories_in at.due.items → left ≡ [] → text ≡ [] → state at.ticks ls due left text ≡ bare at
   stands_bare at ls due left text a b c d = λ i. state at.ticks (a i) (b i) (c i) (d i)
 
-  pub stands_at : (f : Follow) (at : Point A) (shown : Shown A) (there : Context) (founds : List Memory) → there ≡ Outside founds (memories_in shown.lefts.items) → memories_in at.due.items ≡ founds →
+  pub stands_at : (f : Follow) (at : Point A) (shown : Observed A) (there : Context) (founds : List Memory) → there ≡ Outside founds (memories_in shown.lefts.items) → memories_in at.due.items ≡ founds →
       Gives f (record { ticks = at.ticks; locals = items_in at.locals; context = there; text = shown.text.items }) ≡ Gives f (state_at at shown)
   stands_at f at shown there founds is due =
       ap (λ k. Gives f (record { ticks = at.ticks; locals = items_in at.locals; context = k; text = shown.text.items })) (is ∙ ap (λ ms. Outside ms (memories_in shown.lefts.items)) (sym due))

@@ -2,10 +2,10 @@
 use Rattle.std.proofs.Common.{◌≡◌, ℕ, zero, suc, List, Option, refl, sym, ap, ◌∙◌}
 use Rattle.lex.specs.declared.token.Scalar.{Scalar}
 use Rattle.syntax.specs.Tree.{Program, Exprs}
-use Rattle.syntax.specs.declared.numbers.Value.{Value}
-use Rattle.syntax.specs.declared.numbers.Halt.{Halt}
-use Rattle.syntax.specs.declared.numbers.Halt.TheVariants.{Trapped}
-use Rattle.syntax.specs.declared.numbers.Trap.TheVariants.{Frames}
+use Rattle.syntax.specs.declared.value.Value.{Value}
+use Rattle.syntax.specs.declared.thread_end.Halt.{Halt}
+use Rattle.syntax.specs.declared.thread_end.Halt.TheVariants.{Trapped}
+use Rattle.syntax.specs.declared.thread_end.Trap.TheVariants.{Frames}
 use Rattle.syntax.specs.Names.{Local}
 use Rattle.syntax.specs.Actions.{State, Answer, Gives, Stops, Action, pure, stop, go_on, tick, put_locals, ◌>>=◌, ◌>>◌}
 use Rattle.syntax.specs.Meaning.{Completion, Next, calls, exprs, result_of, stmts}

@@ -1,10 +1,10 @@
 -- An index that is tested.
 use Rattle.std.proofs.Common.{◌≡◌, ℕ, List, Some, Bool, false, ap, ◌∙◌}
 use Rattle.std.specs.Prelude.{nat_lt, if◌then◌else◌, ◌+◌}
-use Rattle.syntax.specs.declared.numbers.Value.{Value}
+use Rattle.syntax.specs.declared.value.Value.{Value}
 use Rattle.syntax.specs.Tree.{Program}
 use Rattle.syntax.specs.Names.{GlobalCells, global_of, cells}
-use Rattle.syntax.specs.declared.numbers.Trap.TheVariants.{Index}
+use Rattle.syntax.specs.declared.thread_end.Trap.TheVariants.{Index}
 use Rattle.syntax.specs.Actions.{State, pure, trap, go_on, or_astray}
 use Rattle.syntax.specs.Meaning.{Caller, InCell, element}
 

@@ -6,11 +6,11 @@ use Rattle.syntax.specs.declared.tree.Name.{Name as OwnName}
 use Rattle.syntax.specs.Views.{parameter_of, name_of}
 use Rattle.syntax.specs.Tree.{Parameter}
 use Rattle.syntax.specs.Names.{Local}
-use Rattle.syntax.specs.declared.numbers.Value.{Value}
+use Rattle.syntax.specs.declared.value.Value.{Value}
 use Rattle.syntax.specs.Numbers.{value_in_type}
 use Rattle.syntax.specs.Meaning.{parameter_local, call_locals}
-use Rattle.meaning.specs.declared.machine.Local as L
-use Rattle.meaning.specs.inner.Machine.{local_in}
+use Rattle.meaning.specs.declared.source_thread.Local as L
+use Rattle.meaning.specs.inner.SourceThread.{local_in}
 
 pushed_local : (ls ks : List L.Local) (l : L.Local) → ks ≡ ls ++ l ∷ [] → map local_in ks ≡ map local_in ls ++ local_in l ∷ []
 pushed_local ls ks l e = ap (map local_in) e ∙ map-append local_in ls (l ∷ [])

@@ -5,7 +5,7 @@ use Rattle.syntax.specs.declared.tree.Mode.TheVariants.{Atomic, Relaxed}
 use Rattle.syntax.specs.declared.tree.TransactionKind.{TransactionKind}
 use Rattle.syntax.specs.declared.tree.TransactionKind.TheVariants.{Plain, Outer}
 use Rattle.syntax.specs.Names.{Local}
-use Rattle.syntax.specs.declared.numbers.Halt.TheVariants.{Trapped, Wants, Spent, Astray}
+use Rattle.syntax.specs.declared.thread_end.Halt.TheVariants.{Trapped, Wants, Spent, Astray}
 use Rattle.syntax.specs.Behaviours.{Memory}
 use Rattle.syntax.specs.Actions.{Context, Outside, Inside, State, Answer, Gives, Stops, Action, go_on, ◌>>=◌, spend, tick, load_at, store_at, may_print_at, memory_in, write}
 use Rattle.syntax.specs.Meaning.{Completion, after_turn, turns, Left, undoes, left_or, left_by, leave_inner, close_inner, inner, close, enter, mode_of, begin_at}

@@ -2,8 +2,8 @@
 use Rattle.std.proofs.Common.{ℕ, zero, suc, List, [], ◌∷◌, ◌++◌, length, Option, Some, None, true, false, refl}
 use Rattle.lex.specs.declared.token.Scalar.{Scalar}
 use Rattle.syntax.specs.Tree as tree
-use Rattle.syntax.specs.declared.numbers.Value.{Value}
-use Rattle.syntax.specs.declared.numbers.Trap.TheVariants.{Frames}
+use Rattle.syntax.specs.declared.value.Value.{Value}
+use Rattle.syntax.specs.declared.thread_end.Trap.TheVariants.{Frames}
 use Rattle.syntax.specs.Tree.{Program, Stmt, Expr, Exprs, Simple, Start, Declarator}
 use Rattle.syntax.specs.Names.{Local, definition_of}
 use Rattle.syntax.specs.Actions.{Action, pure, locals, put_locals, tick, or_astray, ◌>>=◌, ◌>>◌}

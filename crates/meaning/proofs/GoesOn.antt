@@ -1,7 +1,7 @@
 -- A thread that stands somewhere goes on: a step of its innermost piece, whatever stands round it, is the first of all that is left.
 use Rattle.std.proofs.Common.{◌≡◌, List, [], ◌∷◌, ◌++◌, sym, ap, ◌∙◌, subst}
-use Rattle.syntax.specs.declared.numbers.Halt.{Halt}
-use Rattle.syntax.specs.declared.numbers.Halt.TheVariants.{Trapped, Wants, Spent, Astray}
+use Rattle.syntax.specs.declared.thread_end.Halt.{Halt}
+use Rattle.syntax.specs.declared.thread_end.Halt.TheVariants.{Trapped, Wants, Spent, Astray}
 use Rattle.syntax.specs.Actions.{State, Answer, Gives, Stops, Action, go_on}
 use Rattle.syntax.specs.Meaning.{Completion}
 use Rattle.meaning.specs.Frames.{StateExtension, extended_state, Alike}

@@ -4,7 +4,7 @@ use Rattle.std.specs.Prelude.{if◌then◌else◌, not}
 use Rattle.syntax.specs.Tree as tree
 use Rattle.syntax.specs.Tree.{Program, Stmt, Stmts, Expr, Start}
 use Rattle.syntax.specs.Numbers.{is_zero}
-use Rattle.syntax.specs.declared.numbers.Value.{Value}
+use Rattle.syntax.specs.declared.value.Value.{Value}
 use Rattle.syntax.specs.Actions.{State, Answer, Gives, Stops, Action, pure, go_on, tick, ◌>>=◌, ◌>>◌}
 use Rattle.syntax.specs.Meaning.{Caller, Completion, Next, expr, stmt, stmts, in_scope, after_body, after_turn, turns, loop, for_condition, optional_step, start_with}
 use Rattle.meaning.specs.inner.Does.{if_of, loop_condition}

@@ -4,8 +4,8 @@ use Rattle.std.proofs.lemmas.List.{take_more, map-append, length-map}
 use Rattle.std.specs.Prelude.{bytes_eq, if◌then◌else◌}
 use Rattle.std.specs.Option.{option_or}
 use Rattle.lex.specs.declared.token.Scalar.{Scalar}
-use Rattle.meaning.specs.declared.machine.Local as L
-use Rattle.meaning.specs.inner.Machine.{local_in}
+use Rattle.meaning.specs.declared.source_thread.Local as L
+use Rattle.meaning.specs.inner.SourceThread.{local_in}
 use Rattle.syntax.specs.Names.{Local, newest_from, newest, with_word}
 
 or_none : (a : Option (ℕ × Scalar)) → option_or a None ≡ a

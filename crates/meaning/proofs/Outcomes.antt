@@ -3,8 +3,8 @@ use Rattle.std.proofs.Common.{◌≡◌, ◌≢◌, ℕ, List, [], Option, Some,
 use Rattle.std.proofs.Math.Logic.{∥∥₁_elim}
 use Rattle.syntax.specs.Tree.{Program}
 use Rattle.syntax.specs.Names.{Local}
-use Rattle.syntax.specs.declared.numbers.Halt.{Halt}
-use Rattle.syntax.specs.declared.numbers.Halt.TheVariants.{Astray}
+use Rattle.syntax.specs.declared.thread_end.Halt.{Halt}
+use Rattle.syntax.specs.declared.thread_end.Halt.TheVariants.{Astray}
 use Rattle.std.specs.List.{AllByRecursion}
 use Rattle.syntax.specs.Names.{bounds}
 use Rattle.syntax.specs.Typing.{IsTypedProgram}
@@ -13,7 +13,7 @@ use Rattle.syntax.specs.Behaviours.{Memory, IsMemory, Outcome, Ended, Stopped}
 use Rattle.syntax.specs.Actions.{State, Gives, Stops, Outside, lefts_in}
 use Rattle.separation.specs.Touching.{IsAccepted}
 use Rattle.separation.specs.Laws.{NeverAstray}
-use Rattle.meaning.specs.inner.Machine.{Happened}
+use Rattle.meaning.specs.inner.SourceThread.{Happened}
 use Rattle.syntax.specs.Threads.{outcome_of, first_state, worker_run, thread}
 
 pub starts : (n : ℕ) (ls : List Local) (founds os : List Memory) (text : List ℕ) → ls ≡ [] → os ≡ [] → text ≡ [] → record { ticks = n; locals = ls; context = Outside founds os; text = text } ≡ first_state founds n

@@ -8,8 +8,8 @@ use Rattle.syntax.specs.Actions.{State, pure, go_on, tick}
 use Rattle.syntax.specs.Meaning.{Caller, Completion, Next, stmt, stmts, in_scope, on_next, after_body, after_turn, loop}
 use Rattle.meaning.specs.declared.left.Direction.{Direction}
 use Rattle.meaning.specs.declared.left.Direction.TheVariants as way
-use Rattle.meaning.specs.declared.left.Task.{Task}
-use Rattle.meaning.specs.declared.left.Task.TheVariants as task
+use Rattle.meaning.specs.declared.left.Pending.{Pending}
+use Rattle.meaning.specs.declared.left.Pending.TheVariants as task
 use Rattle.meaning.specs.declared.left.Left.{Left}
 use Rattle.meaning.specs.declared.left.Left.TheVariants as left
 use Rattle.meaning.specs.declared.left.StmtParts.{StmtParts}
@@ -17,7 +17,7 @@ use Rattle.meaning.specs.declared.left.StmtParts.TheVariants as parts
 use Rattle.meaning.specs.declared.loops.Loop.{Loop}
 use Rattle.meaning.specs.declared.loops.Loop.TheVariants as kind
 use Rattle.meaning.specs.declared.program.ProgramTables.{ProgramTables}
-use Rattle.meaning.specs.inner.Machine.{program_in, items_in}
+use Rattle.meaning.specs.inner.SourceThread.{program_in, items_in}
 use Rattle.meaning.specs.inner.Does.{caller_in, does_stmts}
 use Rattle.meaning.specs.Frames.{IsFramed}
 use Rattle.meaning.specs.inner.Going.{Ends, Nests, apart_begun, follows, drop_names, call_alone, call_begun, call_left, scope_begun, loop_begun, turn_of, turn_end_of, follow_turn, IsStep}
@@ -46,7 +46,7 @@ module _ {A : Type 0} (source : ProgramTables A) where
   by_framed way.Scoped frames s = scope_framed _
   by_framed (way.Turns n) frames s = turns_framed (program_in source) frames s n
 
-  begun_framed : (t : Task A) → IsFramed (first_step_of source t)
+  begun_framed : (t : Pending A) → IsFramed (first_step_of source t)
   begun_framed (task.Apart frames ss) = pure_framed _
   begun_framed (task.Alone w frames s) = by_framed w frames (stmt_of s.now)
 
@@ -61,7 +61,7 @@ module _ {A : Type 0} (source : ProgramTables A) where
   by_is way.Scoped frames st s = refl
   by_is (way.Turns n) frames st s = turns_is (program_in source) (caller_in source frames) st n s
 
-  task_is : (t : Task A) (s : State) → does_task source t s ≡ go_on (first_step_of source t s) follows
+  task_is : (t : Pending A) (s : State) → does_task source t s ≡ go_on (first_step_of source t s) follows
   task_is (task.Apart frames ss) s = apart_is (program_in source) (caller_in source frames) (stmts_of ss.now) s
   task_is (task.Alone w frames st) s = by_is w frames (stmt_of st.now) s
 
@@ -101,7 +101,7 @@ module _ {A : Type 0} (source : ProgramTables A) where
     parted_is (parts.Either c a b) s = either_is (program_in source) (caller_in source frames) (expr_of c.now) (stmt_of a.now) (option_map stmt_of b.now) s
     parted_is (parts.Repeats w) s = looped_is w s
 
-    pub open_step : (l : Left A) (t : Task A) (st : Stmt) (q : StmtParts A) (e : Completion) → l ≡ left.Next t → e ≡ Next → does_task source t ≡ stmt (program_in source) (caller_in source frames) st → st ≡ stmt_in q → IsStep (continue_with source l) e (first_step source frames st q)
+    pub open_step : (l : Left A) (t : Pending A) (st : Stmt) (q : StmtParts A) (e : Completion) → l ≡ left.Next t → e ≡ Next → does_task source t ≡ stmt (program_in source) (caller_in source frames) st → st ≡ stmt_in q → IsStep (continue_with source l) e (first_step source frames st q)
     open_step l t st q e is next does parts = record {
       does = λ s.
           ap (λ k. continue_with source k e s) is ∙ ap (λ d. continue_with source (left.Next t) d s) next ∙ ap (λ run. run s) does
@@ -110,7 +110,7 @@ module _ {A : Type 0} (source : ProgramTables A) where
     }
 
     -- one that is nothing but a call
-    pub call_step : (l : Left A) (t : Task A) (st : Stmt) (x : List ℕ) (es : Exprs) (e : Completion) → l ≡ left.Next t → e ≡ Next → does_task source t ≡ stmt (program_in source) (caller_in source frames) st → stmt (program_in source) (caller_in source frames) st ≡ call_alone (program_in source) (caller_in source frames) x es → IsStep (continue_with source l) e (call_begun (program_in source) frames x es)
+    pub call_step : (l : Left A) (t : Pending A) (st : Stmt) (x : List ℕ) (es : Exprs) (e : Completion) → l ≡ left.Next t → e ≡ Next → does_task source t ≡ stmt (program_in source) (caller_in source frames) st → stmt (program_in source) (caller_in source frames) st ≡ call_alone (program_in source) (caller_in source frames) x es → IsStep (continue_with source l) e (call_begun (program_in source) frames x es)
     call_step l t st x es e is next does calls = record {
       does = λ s.
           ap (λ k. continue_with source k e s) is ∙ ap (λ d. continue_with source (left.Next t) d s) next ∙ ap (λ run. run s) (does ∙ calls)

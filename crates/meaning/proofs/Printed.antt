@@ -2,8 +2,8 @@
 use Rattle.std.proofs.Common.{◌≡◌, ℕ, ◌+◌, List, [], ◌∷◌, ◌++◌, drop, Bool, true, false, refl, sym, ap, ◌∙◌, append_assoc}
 use Rattle.std.proofs.lemmas.List.{drop-drop}
 use Rattle.syntax.specs.Tree.{Scalar}
-use Rattle.syntax.specs.declared.numbers.Value.{Value}
-use Rattle.syntax.specs.declared.numbers.Halt.{Halt}
+use Rattle.syntax.specs.declared.value.Value.{Value}
+use Rattle.syntax.specs.declared.thread_end.Halt.{Halt}
 use Rattle.syntax.specs.Actions.{State, Answer, Gives, Stops, go_on, tick, write, ◌>>◌}
 use Rattle.syntax.specs.Formats.{Piece, Literal, Specifier, literal, pieces}
 use Rattle.syntax.specs.Meaning.{print_pieces}

@@ -5,17 +5,17 @@ use Rattle.std.proofs.lemmas.List.{at_drop_more, at_drop_all, length-map, append
 use Rattle.syntax.specs.declared.tree.Expr as E
 use Rattle.syntax.specs.declared.tree.Stmt as S
 use Rattle.syntax.specs.declared.tree.Declarator as R
-use Rattle.syntax.specs.declared.numbers.Value.{Value}
-use Rattle.syntax.specs.declared.numbers.Halt.{Halt}
+use Rattle.syntax.specs.declared.value.Value.{Value}
+use Rattle.syntax.specs.declared.thread_end.Halt.{Halt}
 use Rattle.syntax.specs.Numbers.{is_zero}
 use Rattle.syntax.specs.Tree.{Program, Scalar, Expr, Stmt}
 use Rattle.syntax.specs.Views.{expr_of, exprs_of, stmt_of, stmts_of, declarator_of}
 use Rattle.syntax.specs.Names.{Local}
 use Rattle.syntax.specs.Actions.{State, Answer, Gives, Stops, Action, pure, go_on, tick, ◌>>=◌}
 use Rattle.syntax.specs.Meaning.{Caller, Completion, Next, expr, exprs, stmt, stmts, declare, in_scope, on_next, after_body, after_turn, turns}
-use Rattle.meaning.specs.declared.machine.StmtCompletion.{StmtCompletion as OwnCompletion}
-use Rattle.meaning.specs.declared.machine.StmtCompletion.TheVariants as end
-use Rattle.meaning.specs.inner.Machine.{completion_of}
+use Rattle.meaning.specs.declared.source_thread.StmtCompletion.{StmtCompletion as OwnCompletion}
+use Rattle.meaning.specs.declared.source_thread.StmtCompletion.TheVariants as end
+use Rattle.meaning.specs.inner.SourceThread.{completion_of}
 use Rattle.meaning.specs.inner.Does.{declared_one, joined_to, left_or, loop_condition, while_turn}
 
 -- a part that gives something, and one that stops

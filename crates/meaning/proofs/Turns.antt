@@ -3,19 +3,19 @@ use Rattle.std.proofs.Common.{◌≡◌, ◌≢◌, ℕ, zero, suc, ◌+◌, ◌
 use Rattle.std.proofs.lemmas.List.{map-append, length-map, at_drop_more, take-append-drop, drop-append-le, length-take-le, replicate-append-replicate, length-replicate, set-get_or, get_or-map, map-set}
 use Rattle.std.proofs.lemmas.Simd.{map-map}
 use Rattle.std.proofs.lemmas.Grind.{common_steps}
-use Rattle.syntax.specs.declared.numbers.Halt.TheVariants.{Wants}
+use Rattle.syntax.specs.declared.thread_end.Halt.TheVariants.{Wants}
 use Rattle.syntax.specs.Names.{initial_memory}
 use Rattle.syntax.specs.Behaviours.{Memory, Behaviour, ThreadEnd, Stopped}
 use Rattle.syntax.specs.Orders.{Progress, last_left, finds, if_wanting, entry, entries, outcomes, in_order}
 use Rattle.syntax.specs.Threads.{first_state, thread, worker_run}
 use Rattle.meaning.specs.declared.outcome.SourceOutcome.{SourceOutcome}
 use Rattle.meaning.specs.declared.orders.Standing.{Standing}
-use Rattle.meaning.specs.declared.standing.Thread.{Thread}
+use Rattle.meaning.specs.declared.standing.StandingThread.{StandingThread}
 use Rattle.meaning.specs.declared.standing.StoppedThread.{StoppedThread}
 use Rattle.meaning.specs.Outcomes.{memories_in, thread_end_in}
 use Rattle.meaning.specs.InOrder.{IsInOrder, report_in, text_and_end}
 use Rattle.meaning.specs.declared.program.ProgramTables.{ProgramTables}
-use Rattle.meaning.specs.inner.Machine.{program_in}
+use Rattle.meaning.specs.inner.SourceThread.{program_in}
 use Rattle.meaning.specs.inner.Standing.{IsStop, end_by, rest}
 use Rattle.meaning.proofs.Advancing.{seen_is}
 use Rattle.meaning.specs.inner.Turns.{AreKnown, IsKnown, TakesTurn, does_in, founds_in, seen_in}
@@ -113,7 +113,7 @@ module _ {A : Type 0} (source : ProgramTables A) (ticks : ℕ) where
   }
 
   -- where a thread that has found one memory more goes on
-  pub stands_on : (t : ℕ) (s : Standing A) (m : Memory) (mid new : Thread A) (founds : List Memory) → IsKnown source ticks t s → ((further : List Memory) → rest source mid further ≡ rest source s.thread (m ∷ further)) →
+  pub stands_on : (t : ℕ) (s : Standing A) (m : Memory) (mid new : StandingThread A) (founds : List Memory) → IsKnown source ticks t s → ((further : List Memory) → rest source mid further ≡ rest source s.thread (m ∷ further)) →
       ((further : List Memory) → rest source new further ≡ rest source mid further) → founds ≡ memories_in s.founds.items ++ m ∷ [] →
       (further : List Memory) → rest source new further ≡ worker_run (program_in source) t (first_state (founds ++ further) ticks)
   stands_on t s m mid new founds known finds same more further =

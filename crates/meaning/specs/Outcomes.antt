@@ -1,6 +1,6 @@
 -- What is seen of a thread.
 use Rattle.std.specs.Prelude.{Vec, ℕ, List, map}
-use Rattle.syntax.specs.declared.numbers.Halt.TheVariants as halt
+use Rattle.syntax.specs.declared.thread_end.Halt.TheVariants as halt
 use Rattle.syntax.specs.Behaviours as Behaviours
 use Rattle.std.specs.List.{AllByRecursion}
 use Rattle.syntax.specs.Tree.{Program}

@@ -5,8 +5,8 @@ pub mod File
 pub mod Tables
 -- the value that two registers stand for
 pub mod Word
--- the state that a machine holds, and what answers say
-pub mod Machine
+-- the state that a thread of the source holds, and what answers say
+pub mod SourceThread
 -- how a call begins
 pub mod Calls
 -- what the trees do
@@ -17,7 +17,7 @@ pub mod Printing
 pub mod Turns
 -- what a thread has still to do
 pub mod Going
--- what a thread has still to do, as its machine has it
+-- what a thread has still to do, as code has it
 pub mod Left
 -- how a thread stands
 pub mod Standing

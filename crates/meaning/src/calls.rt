@@ -9,21 +9,22 @@ ghost use Rattle.meaning.specs.inner.Calls.{begin_call, begun_in};
 ghost use Rattle.syntax.specs.Tree as tree;
 ghost use Rattle.syntax.specs.Tree.{Int};
 ghost use Rattle.meaning.specs.inner.Does.{caller_in};
-ghost use Rattle.meaning.specs.inner.Machine.{completion_of, MeansAs, MeansWord, MeansWords, items_in, program_in};
-ghost use Rattle.meaning.specs.inner.Machine.{state_in};
+ghost use Rattle.meaning.specs.inner.SourceThread.{completion_of, MeansAs, MeansWord, MeansWords, items_in, program_in};
+ghost use Rattle.meaning.specs.inner.SourceThread.{state_in};
 
 use crate::arithmetic::convert;
 use crate::expr::eval;
-use crate::machine::{Halted, Local, Machine, StmtCompletion, tick, trap};
 use crate::names::definition;
 use crate::program::ProgramTables;
+use crate::source_thread::{Halted, Local, SourceThread, StmtCompletion, tick, trap};
 use crate::stmt::stmts;
 use crate::word::{Word, convert_word, flag, unpack};
 use lex::token::Scalar;
 use std::alloc::{AllocError, Allocator};
 use std::mem;
-use syntax::numbers::{Halt, Trap, Value};
+use syntax::thread_end::{Halt, Trap};
 use syntax::tree::{Expr, Name, Parameter, Stmt};
+use syntax::value::Value;
 
 /// The locals that a call begins with, where each parameter has its argument.
 fn locals_of<'p, A: Allocator + Copy>(
@@ -65,7 +66,7 @@ fn type_or_int(ty: Option<Scalar>) -> Scalar
 
 /// The value of a call, of the function's own type.
 pub(crate) fn result_of<A: Allocator>(
-    m: &mut Machine<A>,
+    m: &mut SourceThread<A>,
     ty: Option<Scalar>,
     end: StmtCompletion,
 ) -> Result<Word, Halted>
@@ -94,7 +95,7 @@ pub(crate) fn begin<'p, A: Allocator + Copy>(
     source: &ProgramTables<'p, A>,
     f: &str,
     values: &[Value],
-    m: &mut Machine<'p, '_, A>,
+    m: &mut SourceThread<'p, '_, A>,
 ) -> Result<Begun<'p, A>, Halted>
     ensures value { MeansAs begun_in result (begin_call (program_in source.now) f.now values.now (state_in m.old))
         m.new }
@@ -126,7 +127,7 @@ pub(crate) fn call<'p, A: Allocator + Copy>(
     frames: u64,
     f: &Name<A>,
     args: &'p [Expr<A>],
-    m: &mut Machine<'p, '_, A>,
+    m: &mut SourceThread<'p, '_, A>,
 ) -> Result<Word, Halted>
     ensures { (at : Span)
         → MeansWord result (meaning.expr (program_in source.now) (caller_in source.now frames)
@@ -143,7 +144,7 @@ pub(crate) fn values<'p, A: Allocator + Copy>(
     source: &ProgramTables<'p, A>,
     frames: u64,
     args: &'p [Expr<A>],
-    m: &mut Machine<'p, '_, A>,
+    m: &mut SourceThread<'p, '_, A>,
 ) -> Result<Vec<Value, A>, Halted>
     ensures { MeansWords result
         (meaning.exprs (program_in source.now) (caller_in source.now frames) (exprs_of args.now) (state_in m.old))
@@ -167,7 +168,7 @@ pub(crate) fn enter_function<'p, A: Allocator + Copy>(
     frames: u64,
     f: &str,
     values: &[Value],
-    m: &mut Machine<'p, '_, A>,
+    m: &mut SourceThread<'p, '_, A>,
 ) -> Result<Word, Halted>
     ensures { MeansWord result (caller_in source.now frames f.now values.now (state_in m.old)) m.new }
 {

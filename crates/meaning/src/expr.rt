@@ -5,13 +5,13 @@ ghost use Rattle.syntax.specs.Views.{expr_of};
 ghost use Rattle.syntax.specs.Tree as tree;
 ghost use Rattle.syntax.specs.Actions as act;
 ghost use Rattle.syntax.specs.Meaning as meaning;
-ghost use Rattle.meaning.specs.inner.Machine.{MeansLvalue, MeansWord, program_in, state_in};
+ghost use Rattle.meaning.specs.inner.SourceThread.{MeansLvalue, MeansWord, program_in, state_in};
 ghost use Rattle.meaning.specs.inner.Does.{caller_in, does_expr};
 
 use crate::calls::call;
 use crate::lvalues::{common_value, element_cell, variable};
-use crate::machine::{Halted, Lvalue, Machine, fetch, operate, operate_unary};
 use crate::program::ProgramTables;
+use crate::source_thread::{Halted, Lvalue, SourceThread, fetch, operate, operate_unary};
 use crate::transactions::value_transaction;
 use crate::word::{Word, constant, convert_word, flag, is_zero};
 use std::alloc::Allocator;
@@ -23,7 +23,7 @@ pub(crate) fn eval<'p, A: Allocator + Copy>(
     source: &ProgramTables<'p, A>,
     frames: u64,
     e: &'p Expr<A>,
-    m: &mut Machine<'p, '_, A>,
+    m: &mut SourceThread<'p, '_, A>,
 ) -> Result<Word, Halted>
     ensures { MeansWord result (does_expr source.now frames e.now (state_in m.old)) m.new }
 {
@@ -63,7 +63,7 @@ fn logical<'p, A: Allocator + Copy>(
     op: LogicalOp,
     a: &'p Expr<A>,
     b: &'p Expr<A>,
-    m: &mut Machine<'p, '_, A>,
+    m: &mut SourceThread<'p, '_, A>,
 ) -> Result<Word, Halted>
     ensures { (at : Span)
         → MeansWord result (meaning.expr (program_in source.now) (caller_in source.now frames)
@@ -97,7 +97,7 @@ fn conditional<'p, A: Allocator + Copy>(
     c: &'p Expr<A>,
     a: &'p Expr<A>,
     b: &'p Expr<A>,
-    m: &mut Machine<'p, '_, A>,
+    m: &mut SourceThread<'p, '_, A>,
 ) -> Result<Word, Halted>
     ensures { (at : Span)
         → MeansWord result (meaning.expr (program_in source.now) (caller_in source.now frames)
@@ -119,7 +119,7 @@ pub(crate) fn element<'p, A: Allocator + Copy>(
     frames: u64,
     x: &Name<A>,
     i: &'p Expr<A>,
-    m: &mut Machine<'p, '_, A>,
+    m: &mut SourceThread<'p, '_, A>,
 ) -> Result<Lvalue, Halted>
     ensures { MeansLvalue result
         (act.go_on (does_expr source.now frames i.now (state_in m.old))

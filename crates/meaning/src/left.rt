@@ -3,22 +3,23 @@
 ghost use Rattle.std.specs.Prelude.{◌≡◌, map, option_map, IfSome};
 ghost use Rattle.syntax.specs.Actions as act;
 ghost use Rattle.syntax.specs.Meaning as meaning;
-ghost use Rattle.syntax.specs.declared.numbers.Trap.TheVariants.{Frames};
+ghost use Rattle.syntax.specs.declared.thread_end.Trap.TheVariants.{Frames};
 ghost use Rattle.syntax.specs.Tree.{Program};
 ghost use Rattle.syntax.specs.Views.{expr_of, exprs_of, start_of, stmt_of, stmts_of};
 ghost use Rattle.meaning.specs.inner.Going as going;
 ghost use Rattle.meaning.specs.inner.Going.{call_left};
 ghost use Rattle.meaning.specs.inner.Left as lefts;
 ghost use Rattle.meaning.specs.inner.Left.{MeansStepped, follow_of};
-ghost use Rattle.meaning.specs.inner.Machine.{Means, MeansCompletion, MeansTurn, completion_of, local_in, program_in};
-ghost use Rattle.meaning.specs.inner.Machine.{state_in};
+ghost use Rattle.meaning.specs.inner.SourceThread.{Means, MeansCompletion, MeansTurn, completion_of, local_in};
+ghost use Rattle.meaning.specs.inner.SourceThread.{program_in};
+ghost use Rattle.meaning.specs.inner.SourceThread.{state_in};
 ghost use Rattle.meaning.specs.inner.Does.{caller_in, does_turn};
 
 use crate::calls::{Begun, begin as begin_body, result_of, values};
 use crate::expr::eval;
 use crate::loops::{Loop, for_condition, for_start, for_step, left_by_body, loop_test};
-use crate::machine::{Halted, Local, Machine, StmtCompletion, tick};
 use crate::program::ProgramTables;
+use crate::source_thread::{Halted, Local, SourceThread, StmtCompletion, tick};
 use crate::stmt::stmt;
 use crate::transactions::copy_locals;
 use crate::word::is_zero;
@@ -26,8 +27,9 @@ use containers::Boxed;
 use lex::token::Scalar;
 use std::alloc::Allocator;
 use std::mem;
-use syntax::numbers::{Halt, Trap, Value};
+use syntax::thread_end::{Halt, Trap};
 use syntax::tree::{Expr, Name, Simple, Start, Stmt};
+use syntax::value::Value;
 
 /// How a statement is to be done.
 #[derive(Clone, Copy)]
@@ -42,7 +44,7 @@ pub(crate) enum Direction {
 
 /// What is to be done, where so many further frames may come to live.
 #[derive(Clone, Copy)]
-pub(crate) enum Task<'p, A: Allocator> {
+pub(crate) enum Pending<'p, A: Allocator> {
     /// Statements one after another, in steps.
     Apart(u64, &'p [Stmt<A>]),
     /// A statement.
@@ -53,7 +55,7 @@ pub(crate) enum Task<'p, A: Allocator> {
 #[derive(Drop)]
 pub(crate) enum Left<'p, A: Allocator> {
     /// What comes behind statements that lead on to the next one.
-    Next(Task<'p, A>),
+    Next(Pending<'p, A>),
     /// What comes behind the body of a loop's turn, and then at most so many turns.
     Body(u64, &'p Stmt<A>, u64),
     /// The names behind so many go.
@@ -66,8 +68,8 @@ pub(crate) enum Left<'p, A: Allocator> {
 #[derive(Drop)]
 pub(crate) enum Stepped<'p, A: Allocator> {
     Ends(StmtCompletion),
-    Goes(Task<'p, A>),
-    Nests(Left<'p, A>, Task<'p, A>),
+    Goes(Pending<'p, A>),
+    Nests(Left<'p, A>, Pending<'p, A>),
 }
 
 /// A statement that is made of others, by its parts.
@@ -109,8 +111,8 @@ fn begin_apart<'p, A: Allocator>(frames: u64, ss: &'p [Stmt<A>]) -> Stepped<'p, 
 {
     match ss {
         [s, rest @ ..] => Stepped::Nests(
-            Left::Next(Task::Apart(frames, rest)),
-            Task::Alone(Direction::Whole, frames, s),
+            Left::Next(Pending::Apart(frames, rest)),
+            Pending::Alone(Direction::Whole, frames, s),
         ),
         [] => Stepped::Ends(StmtCompletion::Next),
     }
@@ -123,7 +125,7 @@ fn begin_either<'p, A: Allocator + Copy>(
     c: &'p Expr<A>,
     a: &'p Stmt<A>,
     b: &'p Option<Boxed<Stmt<A>, A>>,
-    m: &mut Machine<'p, '_, A>,
+    m: &mut SourceThread<'p, '_, A>,
 ) -> Result<Stepped<'p, A>, Halted>
     ensures { MeansStepped source.now result
         (going.either_begun (program_in source.now) (caller_in source.now frames) (expr_of c.now) (stmt_of a.now)
@@ -131,10 +133,10 @@ fn begin_either<'p, A: Allocator + Copy>(
 {
     let v = eval(source, frames, c, m)?;
     if !is_zero(v) {
-        return Ok(Stepped::Goes(Task::Alone(Direction::Scoped, frames, a)));
+        return Ok(Stepped::Goes(Pending::Alone(Direction::Scoped, frames, a)));
     }
     match b {
-        Some(b) => Ok(Stepped::Goes(Task::Alone(Direction::Scoped, frames, b.get()))),
+        Some(b) => Ok(Stepped::Goes(Pending::Alone(Direction::Scoped, frames, b.get()))),
         None => Ok(Stepped::Ends(StmtCompletion::Next)),
     }
 }
@@ -145,7 +147,7 @@ fn begin_for<'p, A: Allocator + Copy>(
     frames: u64,
     start: &'p Start<A>,
     s: &'p Stmt<A>,
-    m: &mut Machine<'p, '_, A>,
+    m: &mut SourceThread<'p, '_, A>,
 ) -> Result<Stepped<'p, A>, Halted>
     ensures { MeansStepped source.now result
         (going.for_begun (program_in source.now) (caller_in source.now frames) (start_of start.now)
@@ -155,7 +157,7 @@ fn begin_for<'p, A: Allocator + Copy>(
     for_start(source, frames, start, m)?;
     Ok(Stepped::Nests(
         Left::Scope(outer),
-        Task::Alone(Direction::Turns(m.ticks), frames, s),
+        Pending::Alone(Direction::Turns(m.ticks), frames, s),
     ))
 }
 
@@ -165,7 +167,7 @@ fn begin_loop<'p, A: Allocator + Copy>(
     frames: u64,
     which: &Loop<'p, A>,
     s: &'p Stmt<A>,
-    m: &mut Machine<'p, '_, A>,
+    m: &mut SourceThread<'p, '_, A>,
 ) -> Result<Stepped<'p, A>, Halted>
     ensures { MeansStepped source.now result
         (lefts.loop_opened source.now frames
@@ -176,7 +178,7 @@ fn begin_loop<'p, A: Allocator + Copy>(
     match which {
         Loop::For(head, _) => begin_for(source, frames, &head.start, s, m),
         Loop::While(_, _) | Loop::DoWhile(_, _) => {
-            Ok(Stepped::Goes(Task::Alone(Direction::Turns(m.ticks), frames, s)))
+            Ok(Stepped::Goes(Pending::Alone(Direction::Turns(m.ticks), frames, s)))
         }
     }
 }
@@ -187,7 +189,7 @@ pub(crate) fn open<'p, A: Allocator + Copy>(
     frames: u64,
     s: &'p Stmt<A>,
     parts: &StmtParts<'p, A>,
-    m: &mut Machine<'p, '_, A>,
+    m: &mut SourceThread<'p, '_, A>,
 ) -> Result<Stepped<'p, A>, Halted>
     ensures { MeansStepped source.now result
         (lefts.first_step source.now frames (stmt_of s.now) parts.now (state_in m.old))
@@ -197,7 +199,7 @@ pub(crate) fn open<'p, A: Allocator + Copy>(
     match parts {
         StmtParts::Block(ss) => Ok(Stepped::Nests(
             Left::Scope(m.locals.len()),
-            Task::Apart(frames, ss),
+            Pending::Apart(frames, ss),
         )),
         StmtParts::Either(c, a, b) => begin_either(source, frames, c, a, b, m),
         StmtParts::Repeats(which) => begin_loop(source, frames, which, s, m),
@@ -233,7 +235,7 @@ pub(crate) fn call_alone<'p, A: Allocator + Copy>(
 }
 
 /// There is no frame for a call: the trap takes a tick.
-fn trap_frames<'p, A: Allocator>(m: &mut Machine<'p, '_, A>) -> Result<Stepped<'p, A>, Halted>
+fn trap_frames<'p, A: Allocator>(m: &mut SourceThread<'p, '_, A>) -> Result<Stepped<'p, A>, Halted>
     ensures { (source : ProgramTables A)
         → MeansStepped source result (act.trap {A = going.Follow} Frames (state_in m.old)) m.new }
 {
@@ -248,7 +250,7 @@ fn begin_frame<'p, A: Allocator + Copy>(
     frames: u64,
     f: &str,
     values: &[Value],
-    m: &mut Machine<'p, '_, A>,
+    m: &mut SourceThread<'p, '_, A>,
 ) -> Result<Stepped<'p, A>, Halted>
     ensures { MeansStepped source.now result
         (going.frame_begun (program_in source.now) frames f.now values.now (state_in m.old)) m.new }
@@ -258,7 +260,7 @@ fn begin_frame<'p, A: Allocator + Copy>(
     }
     let Begun { ty, body, mine } = begin_body(source, f, values, m)?;
     let outer = mem::replace(&mut m.locals, mine);
-    Ok(Stepped::Nests(Left::Call(ty, outer), Task::Apart(frames - 1, body)))
+    Ok(Stepped::Nests(Left::Call(ty, outer), Pending::Apart(frames - 1, body)))
 }
 
 /// The first step of a statement that is nothing but a call.
@@ -267,7 +269,7 @@ pub(crate) fn open_call<'p, A: Allocator + Copy>(
     frames: u64,
     f: &Name<A>,
     args: &'p [Expr<A>],
-    m: &mut Machine<'p, '_, A>,
+    m: &mut SourceThread<'p, '_, A>,
 ) -> Result<Stepped<'p, A>, Halted>
     ensures { MeansStepped source.now result
         (going.call_begun (program_in source.now) frames f.now.text (exprs_of args.now) (state_in m.old)) m.new }
@@ -283,7 +285,7 @@ fn goes<'p, A: Allocator + Copy>(
     source: &ProgramTables<'p, A>,
     frames: u64,
     which: &Loop<'p, A>,
-    m: &mut Machine<'p, '_, A>,
+    m: &mut SourceThread<'p, '_, A>,
 ) -> Result<bool, Halted>
     ensures { Means result (going.test_of (program_in source.now) (caller_in source.now frames)
         (lefts.loop_in which.now)
@@ -316,7 +318,7 @@ fn begin_turns<'p, A: Allocator + Copy>(
     frames: u64,
     s: &'p Stmt<A>,
     turns: u64,
-    m: &mut Machine<'p, '_, A>,
+    m: &mut SourceThread<'p, '_, A>,
 ) -> Result<Stepped<'p, A>, Halted>
     ensures { MeansStepped source.now result
         (going.turns_begun (program_in source.now) (caller_in source.now frames) (stmt_of s.now) turns (state_in m.old))
@@ -334,7 +336,7 @@ fn begin_turns<'p, A: Allocator + Copy>(
     if goes(source, frames, &which, m)? {
         Ok(Stepped::Nests(
             Left::Body(frames, s, turns - 1),
-            Task::Alone(Direction::Scoped, frames, body_of(&which)),
+            Pending::Alone(Direction::Scoped, frames, body_of(&which)),
         ))
     } else {
         Ok(Stepped::Ends(StmtCompletion::Next))
@@ -346,7 +348,7 @@ fn turn_end<'p, A: Allocator + Copy>(
     source: &ProgramTables<'p, A>,
     frames: u64,
     which: &Loop<'p, A>,
-    m: &mut Machine<'p, '_, A>,
+    m: &mut SourceThread<'p, '_, A>,
 ) -> Result<Option<StmtCompletion>, Halted>
     ensures { MeansTurn result
         (going.turn_end_of (program_in source.now) (caller_in source.now frames) (lefts.loop_in which.now)
@@ -366,7 +368,7 @@ fn after_body<'p, A: Allocator + Copy>(
     frames: u64,
     s: &'p Stmt<A>,
     end: StmtCompletion,
-    m: &mut Machine<'p, '_, A>,
+    m: &mut SourceThread<'p, '_, A>,
 ) -> Result<Option<StmtCompletion>, Halted>
     ensures { MeansTurn result
         (meaning.after_body (going.turn_end_of (program_in source.now) (caller_in source.now frames) (stmt_of s.now))
@@ -389,14 +391,14 @@ fn leave_body<'p, A: Allocator + Copy>(
     s: &'p Stmt<A>,
     turns: u64,
     end: StmtCompletion,
-    m: &mut Machine<'p, '_, A>,
+    m: &mut SourceThread<'p, '_, A>,
 ) -> Result<Stepped<'p, A>, Halted>
     ensures { MeansStepped source.now result
         (lefts.body_step source.now frames (stmt_of s.now) turns (completion_of end) (state_in m.old)) m.new }
 {
     match after_body(source, frames, s, end, m)? {
         Some(end) => Ok(Stepped::Ends(end)),
-        None => Ok(Stepped::Goes(Task::Alone(Direction::Turns(turns), frames, s))),
+        None => Ok(Stepped::Goes(Pending::Alone(Direction::Turns(turns), frames, s))),
     }
 }
 
@@ -406,7 +408,7 @@ fn leave_call<'p, A: Allocator + Copy>(
     ty: Option<Scalar>,
     outer: &[Local<'p>],
     end: StmtCompletion,
-    m: &mut Machine<'p, '_, A>,
+    m: &mut SourceThread<'p, '_, A>,
 ) -> Result<StmtCompletion, Halted>
     ensures { MeansCompletion result (call_left ty (map local_in outer.now) (completion_of end) (state_in m.old))
         m.new }
@@ -426,7 +428,7 @@ fn begin_alone<'p, A: Allocator + Copy>(
     way: Direction,
     frames: u64,
     s: &'p Stmt<A>,
-    m: &mut Machine<'p, '_, A>,
+    m: &mut SourceThread<'p, '_, A>,
 ) -> Result<Stepped<'p, A>, Halted>
     ensures { MeansStepped source.now result (lefts.begun_by source.now way frames (stmt_of s.now) (state_in m.old))
         m.new }
@@ -438,7 +440,7 @@ fn begin_alone<'p, A: Allocator + Copy>(
         }
         Direction::Scoped => Ok(Stepped::Nests(
             Left::Scope(m.locals.len()),
-            Task::Alone(Direction::Whole, frames, s),
+            Pending::Alone(Direction::Whole, frames, s),
         )),
         Direction::Turns(turns) => begin_turns(source, frames, s, turns, m),
     }
@@ -447,14 +449,14 @@ fn begin_alone<'p, A: Allocator + Copy>(
 /// A task's first step.
 fn begin<'p, A: Allocator + Copy>(
     source: &ProgramTables<'p, A>,
-    task: &Task<'p, A>,
-    m: &mut Machine<'p, '_, A>,
+    task: &Pending<'p, A>,
+    m: &mut SourceThread<'p, '_, A>,
 ) -> Result<Stepped<'p, A>, Halted>
     ensures { MeansStepped source.now result (lefts.first_step_of source.now task.now (state_in m.old)) m.new }
 {
     match task {
-        Task::Apart(frames, ss) => Ok(begin_apart(*frames, ss)),
-        Task::Alone(way, frames, s) => begin_alone(source, *way, *frames, s, m),
+        Pending::Apart(frames, ss) => Ok(begin_apart(*frames, ss)),
+        Pending::Alone(way, frames, s) => begin_alone(source, *way, *frames, s, m),
     }
 }
 
@@ -463,7 +465,7 @@ pub(crate) fn step<'p, A: Allocator + Copy>(
     source: &ProgramTables<'p, A>,
     left: &Left<'p, A>,
     end: StmtCompletion,
-    m: &mut Machine<'p, '_, A>,
+    m: &mut SourceThread<'p, '_, A>,
 ) -> Result<Stepped<'p, A>, Halted>
     ensures { MeansStepped source.now result (lefts.step_of source.now left.now (completion_of end) (state_in m.old))
         m.new }

@@ -1,7 +1,7 @@
 //! What a program's threads do, computed from the tree: the plain program beside the source's meaning.
 //!
-//! A thread's state is a machine, and each function does with it what the source's meaning says of the same thing.
-//! Where memory is refused, nothing is said of the machine.
+//! A thread's state is a `SourceThread`, and each function does with it what the source's meaning says of the same
+//! thing. Where memory is refused, nothing is said of it.
 #![tactic(auto)]
 
 mod arithmetic;
@@ -11,7 +11,6 @@ pub mod laws;
 mod left;
 mod loops;
 mod lvalues;
-mod machine;
 mod memory;
 mod names;
 mod orders;
@@ -19,6 +18,7 @@ mod outcome;
 mod print;
 mod program;
 mod simple;
+mod source_thread;
 mod standing;
 mod stmt;
 mod tables;

@@ -5,18 +5,19 @@ ghost use Rattle.syntax.specs.Views.{expr_of, simple_of, start_of, stmt_of};
 ghost use Rattle.syntax.specs.Actions as act;
 ghost use Rattle.syntax.specs.Actions.{State};
 ghost use Rattle.syntax.specs.Meaning as meaning;
-ghost use Rattle.meaning.specs.inner.Machine.{Means, MeansCompletion, MeansTurn, completion_of, program_in, state_in};
+ghost use Rattle.meaning.specs.inner.SourceThread.{Means, MeansCompletion, MeansTurn, completion_of, program_in};
+ghost use Rattle.meaning.specs.inner.SourceThread.{state_in};
 ghost use Rattle.meaning.specs.inner.Does.{caller_in, does_turn, do_turn, for_all, for_turn, left_or};
 ghost use Rattle.meaning.specs.inner.Does.{loop_condition as tested_due, while_turn};
 
 use crate::expr::eval;
-use crate::machine::{Halted, Machine, StmtCompletion, tick};
 use crate::program::ProgramTables;
 use crate::simple::{declare, simple};
+use crate::source_thread::{Halted, SourceThread, StmtCompletion, tick};
 use crate::stmt::scoped_stmt;
 use crate::word::is_zero;
 use std::alloc::Allocator;
-use syntax::numbers::Halt;
+use syntax::thread_end::Halt;
 use syntax::tree::{Expr, ForHead, Simple, Start, Stmt};
 
 /// A loop, by its parts.
@@ -46,7 +47,7 @@ pub(crate) fn repeat<'p, A: Allocator + Copy>(
     source: &ProgramTables<'p, A>,
     frames: u64,
     which: &Loop<'p, A>,
-    m: &mut Machine<'p, '_, A>,
+    m: &mut SourceThread<'p, '_, A>,
 ) -> Result<StmtCompletion, Halted>
     ensures { MeansCompletion result (meaning.loop (does_turn source.now frames which.now) (state_in m.old)) m.new }
 {
@@ -67,7 +68,7 @@ fn turn<'p, A: Allocator + Copy>(
     source: &ProgramTables<'p, A>,
     frames: u64,
     which: &Loop<'p, A>,
-    m: &mut Machine<'p, '_, A>,
+    m: &mut SourceThread<'p, '_, A>,
 ) -> Result<Option<StmtCompletion>, Halted>
     ensures { MeansTurn result (does_turn source.now frames which.now (state_in m.old)) m.new }
 {
@@ -85,7 +86,7 @@ fn turn_while<'p, A: Allocator + Copy>(
     frames: u64,
     c: &'p Expr<A>,
     a: &'p Stmt<A>,
-    m: &mut Machine<'p, '_, A>,
+    m: &mut SourceThread<'p, '_, A>,
 ) -> Result<Option<StmtCompletion>, Halted>
     ensures { MeansTurn result
         (while_turn (program_in source.now) (caller_in source.now frames) (expr_of c.now) (stmt_of a.now)
@@ -105,7 +106,7 @@ pub(crate) fn loop_test<'p, A: Allocator + Copy>(
     source: &ProgramTables<'p, A>,
     frames: u64,
     c: &'p Expr<A>,
-    m: &mut Machine<'p, '_, A>,
+    m: &mut SourceThread<'p, '_, A>,
 ) -> Result<Option<StmtCompletion>, Halted>
     ensures { MeansTurn result
         (tested_due (program_in source.now) (caller_in source.now frames) (expr_of c.now) (state_in m.old)) m.new }
@@ -124,7 +125,7 @@ fn turn_do<'p, A: Allocator + Copy>(
     frames: u64,
     a: &'p Stmt<A>,
     c: &'p Expr<A>,
-    m: &mut Machine<'p, '_, A>,
+    m: &mut SourceThread<'p, '_, A>,
 ) -> Result<Option<StmtCompletion>, Halted>
     ensures { MeansTurn result
         (do_turn (program_in source.now) (caller_in source.now frames) (stmt_of a.now) (expr_of c.now) (state_in m.old))
@@ -144,7 +145,7 @@ fn turn_for<'p, A: Allocator + Copy>(
     frames: u64,
     head: &'p ForHead<A>,
     a: &'p Stmt<A>,
-    m: &mut Machine<'p, '_, A>,
+    m: &mut SourceThread<'p, '_, A>,
 ) -> Result<Option<StmtCompletion>, Halted>
     ensures { MeansTurn result
         (for_turn (program_in source.now) (caller_in source.now frames) (option_map expr_of head.now.condition)
@@ -167,7 +168,7 @@ pub(crate) fn for_condition<'p, A: Allocator + Copy>(
     source: &ProgramTables<'p, A>,
     frames: u64,
     c: &'p Option<Expr<A>>,
-    m: &mut Machine<'p, '_, A>,
+    m: &mut SourceThread<'p, '_, A>,
 ) -> Result<bool, Halted>
     ensures { Means result (meaning.for_condition (program_in source.now) (caller_in source.now frames)
         (option_map expr_of c.now)
@@ -188,7 +189,7 @@ pub(crate) fn for_step<'p, A: Allocator + Copy>(
     source: &ProgramTables<'p, A>,
     frames: u64,
     step: &'p Option<Simple<A>>,
-    m: &mut Machine<'p, '_, A>,
+    m: &mut SourceThread<'p, '_, A>,
 ) -> Result<Option<StmtCompletion>, Halted>
     ensures { MeansTurn result
         (meaning.optional_step (program_in source.now) (caller_in source.now frames) (option_map simple_of step.now)
@@ -211,7 +212,7 @@ pub(crate) fn for_scoped<'p, A: Allocator + Copy>(
     frames: u64,
     head: &'p ForHead<A>,
     a: &'p Stmt<A>,
-    m: &mut Machine<'p, '_, A>,
+    m: &mut SourceThread<'p, '_, A>,
 ) -> Result<StmtCompletion, Halted>
     ensures { MeansCompletion result
         (meaning.in_scope (for_all (program_in source.now) (caller_in source.now frames) (start_of head.now.start)
@@ -231,7 +232,7 @@ fn for_run<'p, A: Allocator + Copy>(
     frames: u64,
     head: &'p ForHead<A>,
     a: &'p Stmt<A>,
-    m: &mut Machine<'p, '_, A>,
+    m: &mut SourceThread<'p, '_, A>,
 ) -> Result<StmtCompletion, Halted>
     ensures { MeansCompletion result
         (for_all (program_in source.now) (caller_in source.now frames) (start_of head.now.start)
@@ -248,7 +249,7 @@ pub(crate) fn for_start<'p, A: Allocator + Copy>(
     source: &ProgramTables<'p, A>,
     frames: u64,
     start: &'p Start<A>,
-    m: &mut Machine<'p, '_, A>,
+    m: &mut SourceThread<'p, '_, A>,
 ) -> Result<StmtCompletion, Halted>
     ensures { MeansCompletion result
         (meaning.start_with (program_in source.now) (caller_in source.now frames) (start_of start.now) (state_in m.old))

@@ -7,16 +7,16 @@ ghost use Rattle.syntax.specs.Tree as tree;
 ghost use Rattle.syntax.specs.Types.{common_of, type_of as type_due, running_scope};
 ghost use Rattle.syntax.specs.Numbers.{value_in_type};
 ghost use Rattle.syntax.specs.Views.{expr_of, name_of};
-ghost use Rattle.meaning.specs.inner.Machine.{MeansLvalue, MeansWord, program_in, state_in};
+ghost use Rattle.meaning.specs.inner.SourceThread.{MeansLvalue, MeansWord, program_in, state_in};
 ghost use Rattle.meaning.specs.inner.Does.{caller_in};
 ghost use Rattle.meaning.specs.inner.Word.{value_of};
 
-use crate::machine::{Halted, Lvalue, Machine, fetch, lvalue_trap, newest};
 use crate::names::{global, type_of};
 use crate::program::ProgramTables;
+use crate::source_thread::{Halted, Lvalue, SourceThread, fetch, lvalue_trap, newest};
 use crate::word::{Word, convert_word, unpack};
 use std::alloc::Allocator;
-use syntax::numbers::{Halt, Trap};
+use syntax::thread_end::{Halt, Trap};
 use syntax::tree::{Expr, Name};
 use syntax::types::common_of;
 
@@ -24,7 +24,7 @@ use syntax::types::common_of;
 pub(crate) fn name_lvalue<'p, A: Allocator + Copy>(
     source: &ProgramTables<'p, A>,
     x: &Name<A>,
-    m: &mut Machine<'p, '_, A>,
+    m: &mut SourceThread<'p, '_, A>,
 ) -> Result<Lvalue, Halted>
     ensures { MeansLvalue result
         (meaning.lvalue_of_name (program_in source.now) (caller_in source.now 0) x.now.text (state_in m.old))
@@ -46,7 +46,7 @@ pub(crate) fn name_lvalue<'p, A: Allocator + Copy>(
 pub(crate) fn variable<'p, A: Allocator + Copy>(
     source: &ProgramTables<'p, A>,
     x: &Name<A>,
-    m: &mut Machine<'p, '_, A>,
+    m: &mut SourceThread<'p, '_, A>,
 ) -> Result<Word, Halted>
     ensures { MeansWord result
         (meaning.expr (program_in source.now) (caller_in source.now 0) (tree.Variable (name_of x.now)) (state_in m.old))
@@ -61,7 +61,7 @@ pub(crate) fn element_cell<'p, A: Allocator + Copy>(
     source: &ProgramTables<'p, A>,
     x: &Name<A>,
     index: Word,
-    m: &mut Machine<'p, '_, A>,
+    m: &mut SourceThread<'p, '_, A>,
 ) -> Result<Lvalue, Halted>
     ensures { MeansLvalue result
         (meaning.element (program_in source.now) (caller_in source.now 0) x.now.text (value_of index) (state_in m.old))
@@ -85,7 +85,7 @@ pub(crate) fn common_value<'p, A: Allocator + Copy>(
     a: &Expr<A>,
     b: &Expr<A>,
     w: Word,
-    m: &mut Machine<'p, '_, A>,
+    m: &mut SourceThread<'p, '_, A>,
 ) -> Result<Word, Halted>
     ensures { MeansWord result
         (act.go_on

@@ -7,12 +7,12 @@ ghost use Rattle.syntax.specs.Names as Names;
 ghost use Rattle.syntax.specs.Types as Types;
 ghost use Rattle.syntax.specs.Types.{running_scope, file_scope};
 ghost use Rattle.syntax.specs.Views.{expr_of, item_of};
-ghost use Rattle.meaning.specs.inner.Machine.{local_in, program_in};
+ghost use Rattle.meaning.specs.inner.SourceThread.{local_in, program_in};
 ghost use Rattle.meaning.specs.inner.File.{defined_in, known_of};
 ghost use Rattle.global_tables.specs.Tables.{shared_in};
 
-use crate::machine::{Local, newest};
 use crate::program::ProgramTables;
+use crate::source_thread::{Local, newest};
 use global_tables::{Shared, look_up};
 use lex::token::Scalar;
 use std::alloc::Allocator;

@@ -4,7 +4,7 @@ ghost use Rattle.std.specs.Prelude.{◌≡◌};
 ghost use Rattle.meaning.specs.InOrder.{number_in};
 
 use std::alloc::Allocator;
-use syntax::numbers::Trap;
+use syntax::thread_end::Trap;
 use thiserror::Error;
 
 /// How a thread of an accepted program is found after its ticks.

@@ -6,20 +6,21 @@ ghost use Rattle.syntax.specs.Actions as act;
 ghost use Rattle.syntax.specs.Formats.{pieces};
 ghost use Rattle.syntax.specs.Meaning as meaning;
 ghost use Rattle.syntax.specs.Numbers as numbers;
-ghost use Rattle.meaning.specs.inner.Machine.{Means, state_in};
+ghost use Rattle.meaning.specs.inner.SourceThread.{Means, state_in};
 ghost use Rattle.meaning.specs.inner.Printing.{push_byte, specifier};
 
-use crate::machine::{Context, Halted, Machine, tick};
+use crate::source_thread::{Context, Halted, SourceThread, tick};
 use itoa::Buffer;
 use lex::token::Scalar;
 use std::alloc::Allocator;
 use syntax::format::{FormatDirective, directive_at};
 use syntax::number::number;
-use syntax::numbers::{Halt, Value};
+use syntax::thread_end::Halt;
 use syntax::tree::Mode;
+use syntax::value::Value;
 
 /// Inside an atomic transaction nothing is printed.
-pub(crate) fn may_print<A: Allocator>(m: &mut Machine<A>) -> Result<(), Halted>
+pub(crate) fn may_print<A: Allocator>(m: &mut SourceThread<A>) -> Result<(), Halted>
     ensures { Means result (act.may_print (state_in m.old)) m.new }
 {
     match &m.context {
@@ -35,7 +36,7 @@ pub(crate) fn may_print<A: Allocator>(m: &mut Machine<A>) -> Result<(), Halted>
 }
 
 /// One byte of a literal piece: the piece's tick goes before its first byte.
-fn put_byte<A: Allocator>(m: &mut Machine<A>, begun: bool, c: u8) -> Result<(), Halted>
+fn put_byte<A: Allocator>(m: &mut SourceThread<A>, begun: bool, c: u8) -> Result<(), Halted>
     ensures { Means result (push_byte begun c (state_in m.old)) m.new }
 {
     if !begun {
@@ -49,7 +50,7 @@ fn put_byte<A: Allocator>(m: &mut Machine<A>, begun: bool, c: u8) -> Result<(), 
 }
 
 /// The number that a specifier prints, as a piece of its own.
-fn put_number<A: Allocator>(m: &mut Machine<A>, ty: Scalar, v: Value) -> Result<(), Halted>
+fn put_number<A: Allocator>(m: &mut SourceThread<A>, ty: Scalar, v: Value) -> Result<(), Halted>
     ensures { Means result (act.print_piece (signed_decimal (numbers.number ty v.word)) (state_in m.old)) m.new }
 {
     tick(m)?;
@@ -64,7 +65,7 @@ fn put_number<A: Allocator>(m: &mut Machine<A>, ty: Scalar, v: Value) -> Result<
 
 /// The next value of a specifier.
 fn put_specifier<A: Allocator>(
-    m: &mut Machine<A>,
+    m: &mut SourceThread<A>,
     ty: Scalar,
     values: &[Value],
     k: usize,
@@ -82,7 +83,7 @@ fn put_specifier<A: Allocator>(
 
 /// The pieces of a format, with these values for its specifiers.
 pub(crate) fn print_pieces<A: Allocator>(
-    m: &mut Machine<A>,
+    m: &mut SourceThread<A>,
     format: &[u8],
     values: &[Value],
 ) -> Result<(), Halted>

@@ -6,23 +6,26 @@ ghost use Rattle.syntax.specs.Tree as tree;
 ghost use Rattle.syntax.specs.Actions as act;
 ghost use Rattle.syntax.specs.Meaning as meaning;
 ghost use Rattle.syntax.specs.Numbers.{binary};
-ghost use Rattle.meaning.specs.inner.Machine.{Means, MeansCompletion, MeansLvalue, program_in, lvalue_of, state_in};
+ghost use Rattle.meaning.specs.inner.SourceThread.{Means, MeansCompletion, MeansLvalue, program_in, lvalue_of};
+ghost use Rattle.meaning.specs.inner.SourceThread.{state_in};
 ghost use Rattle.meaning.specs.inner.Word.{value_of};
 ghost use Rattle.meaning.specs.inner.Does.{caller_in, declared_one};
 
 use crate::expr::{element, eval};
 use crate::lvalues::name_lvalue;
-use crate::machine::{Halted, Local, Lvalue, Machine, StmtCompletion, assign, fetch, operate};
 use crate::program::ProgramTables;
+use crate::source_thread::{
+    Halted, Local, Lvalue, SourceThread, StmtCompletion, assign, fetch, operate,
+};
 use crate::word::{Word, flag};
 use lex::token::Scalar;
 use std::alloc::Allocator;
-use syntax::numbers::Halt;
+use syntax::thread_end::Halt;
 use syntax::tree::{BinaryOp, Declarator, Expr, Simple};
 
 /// Writes what an operator gives of an old value and another one in the old one's place.
 fn rewrite<A: Allocator>(
-    m: &mut Machine<A>,
+    m: &mut SourceThread<A>,
     at: Lvalue,
     op: BinaryOp,
     old: Word,
@@ -43,7 +46,7 @@ fn target<'p, A: Allocator + Copy>(
     source: &ProgramTables<'p, A>,
     frames: u64,
     e: &'p Expr<A>,
-    m: &mut Machine<'p, '_, A>,
+    m: &mut SourceThread<'p, '_, A>,
 ) -> Result<Lvalue, Halted>
     ensures { MeansLvalue result
         (meaning.lvalue (program_in source.now) (caller_in source.now frames) (expr_of e.now) (state_in m.old)) m.new }
@@ -65,7 +68,7 @@ fn simple_assignment<'p, A: Allocator + Copy>(
     frames: u64,
     to: &'p Expr<A>,
     e: &'p Expr<A>,
-    m: &mut Machine<'p, '_, A>,
+    m: &mut SourceThread<'p, '_, A>,
 ) -> Result<StmtCompletion, Halted>
     ensures { MeansCompletion result
         (meaning.simple (program_in source.now) (caller_in source.now frames)
@@ -85,7 +88,7 @@ fn compound_assignment<'p, A: Allocator + Copy>(
     to: &'p Expr<A>,
     op: BinaryOp,
     e: &'p Expr<A>,
-    m: &mut Machine<'p, '_, A>,
+    m: &mut SourceThread<'p, '_, A>,
 ) -> Result<StmtCompletion, Halted>
     ensures { MeansCompletion result
         (meaning.simple (program_in source.now) (caller_in source.now frames)
@@ -103,7 +106,7 @@ pub(crate) fn simple<'p, A: Allocator + Copy>(
     source: &ProgramTables<'p, A>,
     frames: u64,
     s: &'p Simple<A>,
-    m: &mut Machine<'p, '_, A>,
+    m: &mut SourceThread<'p, '_, A>,
 ) -> Result<StmtCompletion, Halted>
     ensures { MeansCompletion result
         (meaning.simple (program_in source.now) (caller_in source.now frames) (simple_of s.now) (state_in m.old))
@@ -133,7 +136,7 @@ pub(crate) fn declare<'p, A: Allocator + Copy>(
     frames: u64,
     ty: Scalar,
     ds: &'p [Declarator<A>],
-    m: &mut Machine<'p, '_, A>,
+    m: &mut SourceThread<'p, '_, A>,
 ) -> Result<StmtCompletion, Halted>
     ensures { MeansCompletion result
         (meaning.declare (program_in source.now) (caller_in source.now frames) ty (map declarator_of ds.now)
@@ -152,7 +155,7 @@ fn declare_one<'p, A: Allocator + Copy>(
     frames: u64,
     ty: Scalar,
     d: &'p Declarator<A>,
-    m: &mut Machine<'p, '_, A>,
+    m: &mut SourceThread<'p, '_, A>,
 ) -> Result<(), Halted>
     ensures { Means result (declared_one (program_in source.now) (caller_in source.now frames) ty (declarator_of d.now)
         (state_in m.old)) m.new }

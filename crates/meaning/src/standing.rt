@@ -8,25 +8,26 @@ ghost use Rattle.meaning.specs.Outcomes.{memories_in};
 ghost use Rattle.syntax.specs.Meaning as meaning;
 ghost use Rattle.syntax.specs.Views.{exprs_of, stmt_of};
 ghost use Rattle.meaning.specs.declared.left.Left.TheVariants as lefts;
-ghost use Rattle.meaning.specs.declared.left.Task.TheVariants as tasks;
+ghost use Rattle.meaning.specs.declared.left.Pending.TheVariants as tasks;
 ghost use Rattle.meaning.specs.declared.left.Direction.TheVariants as ways;
 ghost use Rattle.meaning.specs.inner.Going.{Follow, IsStep, call_begun, follows};
 ghost use Rattle.meaning.specs.inner.Left.{follow_of, left_gone_on, first_step, continue_with, step_of};
-ghost use Rattle.meaning.specs.inner.Machine.{Happened, completion_of, halt_of, program_in, state_in};
+ghost use Rattle.meaning.specs.inner.SourceThread.{Happened, completion_of, halt_of, program_in, state_in};
 ghost use Rattle.meaning.specs.inner.Standing.{IsGone, IsStop, bare, rest};
 
 use crate::calls::{Begun, begin};
 use crate::left::{
-    Direction, Left, Stepped, StmtParts, Task, call_alone, open, open_call, parts_of, step,
+    Direction, Left, Pending, Stepped, StmtParts, call_alone, open, open_call, parts_of, step,
 };
-use crate::machine::{Context, Local, Machine, StmtCompletion};
 use crate::program::ProgramTables;
+use crate::source_thread::{Context, Local, SourceThread, StmtCompletion};
 use crate::threads::start;
 use crate::transactions::{copy_locals, copy_memory};
 use lex::token::Scalar;
 use std::alloc::{AllocError, Allocator};
-use syntax::numbers::{Halt, Value};
+use syntax::thread_end::Halt;
 use syntax::tree::{Expr, Name, Stmt};
+use syntax::value::Value;
 
 /// Where a thread stands outside transactions: its ticks, its locals, and the memories that are still to be found.
 #[derive(Drop)]
@@ -38,18 +39,18 @@ pub(crate) struct Point<'p, A: Allocator> {
 
 /// What is left and printed.
 #[derive(Drop)]
-pub(crate) struct Shown<A: Allocator> {
+pub(crate) struct Observed<A: Allocator> {
     pub lefts: Vec<Vec<u64, A>, A>,
     pub text: Vec<u8, A>,
 }
 
 /// A thread that stands at a point: what it has still to do, the end of what it did last, and what it has shown so far.
 #[derive(Drop)]
-pub(crate) struct Thread<'p, A: Allocator> {
+pub(crate) struct StandingThread<'p, A: Allocator> {
     pub left: Vec<Left<'p, A>, A>,
     pub end: StmtCompletion,
     pub at: Point<'p, A>,
-    pub shown: Shown<A>,
+    pub shown: Observed<A>,
 }
 
 /// A thread that goes no further than its point: why, if it has not come to its end, and what it has shown behind the
@@ -57,15 +58,15 @@ pub(crate) struct Thread<'p, A: Allocator> {
 #[derive(Drop)]
 pub(crate) struct StoppedThread<A: Allocator> {
     pub why: Option<Halt>,
-    pub shown: Shown<A>,
+    pub shown: Observed<A>,
 }
 
 /// What a step comes to: how the thread goes on from which point, and what it has shown on the way; or why it goes no
 /// further.
 #[derive(Drop)]
 pub(crate) enum Gone<'p, A: Allocator> {
-    Went(Stepped<'p, A>, Point<'p, A>, Shown<A>),
-    Stopped(Halt, Shown<A>),
+    Went(Stepped<'p, A>, Point<'p, A>, Observed<A>),
+    Stopped(Halt, Observed<A>),
 }
 
 /// Copies memories.
@@ -83,15 +84,15 @@ fn copy_memories<A: Allocator + Copy>(
     Ok(copies)
 }
 
-/// A machine at a point.
-fn machine<'p, 'f, A: Allocator + Copy>(
+/// A thread at a point.
+fn thread_at<'p, 'f, A: Allocator + Copy>(
     alloc: A,
     at: &'f Point<'p, A>,
-) -> Result<Machine<'p, 'f, A>, AllocError>
+) -> Result<SourceThread<'p, 'f, A>, AllocError>
     ensures { IfOk result (λ m. state_in m ≡ bare at.now) }
 {
     let locals = copy_locals(alloc, at.locals.as_slice())?;
-    Ok(Machine {
+    Ok(SourceThread {
         ticks: at.ticks,
         why: None,
         locals,
@@ -100,16 +101,16 @@ fn machine<'p, 'f, A: Allocator + Copy>(
     })
 }
 
-/// How a machine goes on that has made a step.
+/// How a thread goes on that has made a step.
 fn went<'p, A: Allocator + Copy>(
     alloc: A,
     next: Stepped<'p, A>,
-    m: Machine<'p, '_, A>,
+    m: SourceThread<'p, '_, A>,
 ) -> Result<Gone<'p, A>, AllocError>
     ensures { (source : ProgramTables A)
         → IfOk result (λ g. IsGone source g (act.Gives (follow_of source next.entry) (state_in m.entry))) }
 {
-    let Machine {
+    let SourceThread {
         ticks,
         why: _,
         locals,
@@ -120,19 +121,19 @@ fn went<'p, A: Allocator + Copy>(
         Context::Outside(founds, lefts) => {
             let due = copy_memories(alloc, founds)?; // mostly none
             let at = Point { ticks, locals, due };
-            Ok(Gone::Went(next, at, Shown { lefts, text }))
+            Ok(Gone::Went(next, at, Observed { lefts, text }))
         }
         Context::Inside(_, _) => Err(AllocError), // never so: what begins outside ends outside
     }
 }
 
-/// A machine that goes no further.
-fn stop_machine<'p, A: Allocator>(m: Machine<'p, '_, A>) -> Result<Gone<'p, A>, AllocError>
+/// A thread that goes no further.
+fn stop_thread<'p, A: Allocator>(m: SourceThread<'p, '_, A>) -> Result<Gone<'p, A>, AllocError>
     ensures { (source : ProgramTables A)
         → IfOk result (λ g. Happened m.entry.why
         × IsGone source g (act.Stops (halt_of m.entry.why) (state_in m.entry))) }
 {
-    let Machine {
+    let SourceThread {
         ticks: _,
         why,
         locals: _locals,
@@ -143,7 +144,7 @@ fn stop_machine<'p, A: Allocator>(m: Machine<'p, '_, A>) -> Result<Gone<'p, A>, 
         return Err(AllocError);
     };
     match context {
-        Context::Outside(_, lefts) => Ok(Gone::Stopped(why, Shown { lefts, text })),
+        Context::Outside(_, lefts) => Ok(Gone::Stopped(why, Observed { lefts, text })),
         Context::Inside(_, _) => Err(AllocError), // never so: what begins outside stops outside
     }
 }
@@ -157,10 +158,10 @@ fn go<'p, A: Allocator + Copy>(
 ) -> Result<Gone<'p, A>, AllocError>
     ensures { IfOk result (λ g. IsGone source.now g (step_of source.now left.now (completion_of end) (bare at.now))) }
 {
-    let mut m = machine(source.alloc, at)?;
+    let mut m = thread_at(source.alloc, at)?;
     match step(source, left, end, &mut m) {
         Ok(next) => went(source.alloc, next, m),
-        Err(_) => stop_machine(m),
+        Err(_) => stop_thread(m),
     }
 }
 
@@ -175,10 +176,10 @@ fn go_open<'p, A: Allocator + Copy>(
     ensures { IfOk result
         (λ g. IsGone source.now g (first_step source.now frames (stmt_of s.now) parts.now (bare at.now))) }
 {
-    let mut m = machine(source.alloc, at)?;
+    let mut m = thread_at(source.alloc, at)?;
     match open(source, frames, s, parts, &mut m) {
         Ok(next) => went(source.alloc, next, m),
-        Err(_) => stop_machine(m),
+        Err(_) => stop_thread(m),
     }
 }
 
@@ -194,10 +195,10 @@ fn go_call<'p, A: Allocator + Copy>(
         (λ g. IsGone source.now g
         (call_begun (program_in source.now) frames f.now.text (exprs_of args.now) (bare at.now))) }
 {
-    let mut m = machine(source.alloc, at)?;
+    let mut m = thread_at(source.alloc, at)?;
     match open_call(source, frames, f, args, &mut m) {
         Ok(next) => went(source.alloc, next, m),
-        Err(_) => stop_machine(m),
+        Err(_) => stop_thread(m),
     }
 }
 
@@ -226,10 +227,10 @@ fn push_next<'p, A: Allocator + Copy>(
 
 /// A thread goes on from this point, with what comes next behind what is left.
 fn arrive<'p, A: Allocator + Copy>(
-    thread: &mut Thread<'p, A>,
+    thread: &mut StandingThread<'p, A>,
     next: Stepped<'p, A>,
     at: Point<'p, A>,
-    shown: Shown<A>,
+    shown: Observed<A>,
 ) -> Result<(), AllocError>
     ensures left { (source : ProgramTables A)
         → OnOk result ((s : act.State) → left_gone_on source thread.new.left.items (completion_of thread.new.end) s
@@ -255,8 +256,11 @@ fn wanting<'p, A: Allocator + Copy>(
     ensures end { IfSome result (λ w. completion_of end ≡ meaning.Next) }
 {
     match (left, end, why) {
-        (Left::Next(Task::Alone(Direction::Whole, frames, s)), StmtCompletion::Next, Halt::Wants) =>
-            Some((*frames, s)),
+        (
+            Left::Next(Pending::Alone(Direction::Whole, frames, s)),
+            StmtCompletion::Next,
+            Halt::Wants,
+        ) => Some((*frames, s)),
         _ => None,
     }
 }
@@ -295,11 +299,11 @@ fn try_step<'p, A: Allocator + Copy>(
 
 /// The tick of a thread's end.
 fn at_end<A: Allocator + Copy>(alloc: A, ticks: u64) -> StoppedThread<A>
-    ensures { (source : ProgramTables A) (thread : Thread A) → thread.at.ticks ≡ ticks → thread.left.items ≡ []
+    ensures { (source : ProgramTables A) (thread : StandingThread A) → thread.at.ticks ≡ ticks → thread.left.items ≡ []
         → IsStop source thread result }
 {
     let why = if ticks == 0 { Some(Halt::Spent) } else { None };
-    let shown = Shown {
+    let shown = Observed {
         lefts: Vec::new(alloc),
         text: Vec::new(alloc),
     };
@@ -309,7 +313,7 @@ fn at_end<A: Allocator + Copy>(alloc: A, ticks: u64) -> StoppedThread<A>
 /// One step of a thread, or why it goes no further.
 fn advance<'p, A: Allocator + Copy>(
     source: &ProgramTables<'p, A>,
-    thread: &mut Thread<'p, A>,
+    thread: &mut StandingThread<'p, A>,
 ) -> Result<Option<StoppedThread<A>>, AllocError>
     ensures same { OnOk result ((founds : List Memory)
         → rest source.now thread.new founds ≡ rest source.now thread.old founds) }
@@ -336,7 +340,7 @@ fn advance<'p, A: Allocator + Copy>(
 /// A thread goes on to where it goes no further.
 pub(crate) fn run<'p, A: Allocator + Copy>(
     source: &ProgramTables<'p, A>,
-    thread: &mut Thread<'p, A>,
+    thread: &mut StandingThread<'p, A>,
 ) -> Result<StoppedThread<A>, AllocError>
     ensures same { OnOk result ((founds : List Memory)
         → rest source.now thread.new founds ≡ rest source.now thread.old founds) }
@@ -356,7 +360,7 @@ pub(crate) fn stand<'p, A: Allocator + Copy>(
     source: &ProgramTables<'p, A>,
     ticks: u64,
     t: u32,
-) -> Result<Thread<'p, A>, AllocError>
+) -> Result<StandingThread<'p, A>, AllocError>
     ensures { IfOk result (λ th. (founds : List Memory)
         → rest source.now th founds ≡ worker_run (program_in source.now) t (first_state founds ticks)) }
 {
@@ -370,8 +374,8 @@ pub(crate) fn stand<'p, A: Allocator + Copy>(
     };
     let mut left = Vec::new(source.alloc);
     left.push(Left::Call(ty, Vec::new(source.alloc)))?;
-    left.push(Left::Next(Task::Apart(63, body)))?;
-    Ok(Thread {
+    left.push(Left::Next(Pending::Apart(63, body)))?;
+    Ok(StandingThread {
         left,
         end: StmtCompletion::Next,
         at: Point {
@@ -379,7 +383,7 @@ pub(crate) fn stand<'p, A: Allocator + Copy>(
             locals: mine,
             due: Vec::new(source.alloc),
         },
-        shown: Shown {
+        shown: Observed {
             lefts: Vec::new(source.alloc),
             text: Vec::new(source.alloc),
         },

@@ -6,16 +6,16 @@ ghost use Rattle.syntax.specs.Views.{expr_of, exprs_of, stmt_of};
 ghost use Rattle.syntax.specs.Tree as tree;
 ghost use Rattle.syntax.specs.Actions as act;
 ghost use Rattle.syntax.specs.Meaning as meaning;
-ghost use Rattle.meaning.specs.inner.Machine.{MeansCompletion, program_in, state_in};
+ghost use Rattle.meaning.specs.inner.SourceThread.{MeansCompletion, program_in, state_in};
 ghost use Rattle.meaning.specs.inner.Does.{caller_in, does_stmt, does_stmts, if_of};
 
 use crate::calls::values;
 use crate::expr::eval;
 use crate::loops::{Loop, for_scoped, repeat};
-use crate::machine::{Halted, Machine, StmtCompletion, tick};
 use crate::print::{may_print, print_pieces};
 use crate::program::ProgramTables;
 use crate::simple::{declare, simple};
+use crate::source_thread::{Halted, SourceThread, StmtCompletion, tick};
 use crate::transactions::{Body, transaction};
 use crate::word::{flag, is_zero};
 use containers::Boxed;
@@ -28,7 +28,7 @@ pub(crate) fn stmt<'p, A: Allocator + Copy>(
     source: &ProgramTables<'p, A>,
     frames: u64,
     s: &'p Stmt<A>,
-    m: &mut Machine<'p, '_, A>,
+    m: &mut SourceThread<'p, '_, A>,
 ) -> Result<StmtCompletion, Halted>
     ensures { MeansCompletion result (does_stmt source.now frames s.now (state_in m.old)) m.new }
 {
@@ -68,7 +68,7 @@ pub(crate) fn stmts<'p, A: Allocator + Copy>(
     source: &ProgramTables<'p, A>,
     frames: u64,
     ss: &'p [Stmt<A>],
-    m: &mut Machine<'p, '_, A>,
+    m: &mut SourceThread<'p, '_, A>,
 ) -> Result<StmtCompletion, Halted>
     ensures { MeansCompletion result (does_stmts source.now frames ss.now (state_in m.old)) m.new }
 {
@@ -87,7 +87,7 @@ pub(crate) fn block<'p, A: Allocator + Copy>(
     source: &ProgramTables<'p, A>,
     frames: u64,
     ss: &'p [Stmt<A>],
-    m: &mut Machine<'p, '_, A>,
+    m: &mut SourceThread<'p, '_, A>,
 ) -> Result<StmtCompletion, Halted>
     ensures { MeansCompletion result (meaning.in_scope (does_stmts source.now frames ss.now) (state_in m.old)) m.new }
 {
@@ -103,7 +103,7 @@ pub(crate) fn scoped_stmt<'p, A: Allocator + Copy>(
     source: &ProgramTables<'p, A>,
     frames: u64,
     s: &'p Stmt<A>,
-    m: &mut Machine<'p, '_, A>,
+    m: &mut SourceThread<'p, '_, A>,
 ) -> Result<StmtCompletion, Halted>
     ensures { MeansCompletion result (meaning.in_scope (does_stmt source.now frames s.now) (state_in m.old)) m.new }
 {
@@ -121,7 +121,7 @@ fn print_output<'p, A: Allocator + Copy>(
     frames: u64,
     format: &[u8],
     args: &'p [Expr<A>],
-    m: &mut Machine<'p, '_, A>,
+    m: &mut SourceThread<'p, '_, A>,
 ) -> Result<StmtCompletion, Halted>
     ensures { (at format_at : Span) (begun : act.State) → act.tick begun ≡ act.Gives tt (state_in m.old)
         → MeansCompletion result (meaning.stmt (program_in source.now) (caller_in source.now frames)
@@ -141,7 +141,7 @@ fn either<'p, A: Allocator + Copy>(
     c: &'p Expr<A>,
     a: &'p Stmt<A>,
     b: &'p Option<Boxed<Stmt<A>, A>>,
-    m: &mut Machine<'p, '_, A>,
+    m: &mut SourceThread<'p, '_, A>,
 ) -> Result<StmtCompletion, Halted>
     ensures { (begun : act.State) → act.tick begun ≡ act.Gives tt (state_in m.old)
         → MeansCompletion result (meaning.stmt (program_in source.now) (caller_in source.now frames)
@@ -163,7 +163,7 @@ fn return_end<'p, A: Allocator + Copy>(
     source: &ProgramTables<'p, A>,
     frames: u64,
     e: &'p Option<Expr<A>>,
-    m: &mut Machine<'p, '_, A>,
+    m: &mut SourceThread<'p, '_, A>,
 ) -> Result<StmtCompletion, Halted>
     ensures { (at : Span) (begun : act.State) → act.tick begun ≡ act.Gives tt (state_in m.old)
         → MeansCompletion result (meaning.stmt (program_in source.now) (caller_in source.now frames)

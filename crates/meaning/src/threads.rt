@@ -1,32 +1,33 @@
 //! A thread of the source, from its first tick to its end.
 
 ghost use Rattle.std.specs.Prelude.{◌≡◌, ◌≢◌, IfOk, IfSome};
-ghost use Rattle.syntax.specs.declared.numbers.Halt.TheVariants.{Astray};
+ghost use Rattle.syntax.specs.declared.thread_end.Halt.TheVariants.{Astray};
 ghost use Rattle.syntax.specs.Behaviours.{Stopped};
 ghost use Rattle.syntax.specs.Actions.{lefts_in};
 ghost use Rattle.syntax.specs.Threads.{first_state, thread as thread_due, worker_run};
 ghost use Rattle.syntax.specs.Views.{program_of};
 ghost use Rattle.meaning.specs.Outcomes.{AreMemories, memories_in, outcome_in, thread_end_in};
 ghost use Rattle.meaning.specs.inner.Standing.{end_by as end_by_due};
-ghost use Rattle.meaning.specs.inner.Machine.{Means, context_in, program_in, state_in};
+ghost use Rattle.meaning.specs.inner.SourceThread.{Means, context_in, program_in, state_in};
 
 use crate::calls::enter_function;
-use crate::machine::{Context, Halted, Machine, tick};
 use crate::outcome::{ThreadEnd, ThreadOutcome};
 use crate::program::ProgramTables;
+use crate::source_thread::{Context, Halted, SourceThread, tick};
 use crate::tables::source;
 use lex::token::Scalar;
 use separation::Accepted;
 use separation::laws::never_astray;
 use std::alloc::{AllocError, Allocator};
 use syntax::laws::threads_leave_memories;
-use syntax::numbers::{Halt, Value};
+use syntax::thread_end::Halt;
+use syntax::value::Value;
 
 /// `worker(t)`, in the first of 64 frames, and then the tick of the thread's end.
 fn work<'p, A: Allocator + Copy>(
     source: &ProgramTables<'p, A>,
     t: u32,
-    m: &mut Machine<'p, '_, A>,
+    m: &mut SourceThread<'p, '_, A>,
 ) -> Result<(), Halted>
     ensures { Means result (worker_run (program_in source.now) t (state_in m.old)) m.new }
 {
@@ -49,7 +50,7 @@ fn memories_left<A: Allocator + Copy>(alloc: A, context: Context<A>) -> Vec<Vec<
 }
 
 /// What is seen of a thread that has come to this end.
-fn finish<A: Allocator + Copy>(alloc: A, end: ThreadEnd, m: Machine<A>) -> ThreadOutcome<A>
+fn finish<A: Allocator + Copy>(alloc: A, end: ThreadEnd, m: SourceThread<A>) -> ThreadOutcome<A>
     ensures { outcome_in result ≡ record {
       lefts = lefts_in (state_in m.entry).context;
       text = (state_in m.entry).text;
@@ -68,10 +69,10 @@ pub(crate) fn start<'p, 'f, A: Allocator + Copy>(
     alloc: A,
     founds: &'f [Vec<u64, A>],
     ticks: u64,
-) -> Machine<'p, 'f, A>
+) -> SourceThread<'p, 'f, A>
     ensures { state_in result ≡ first_state (memories_in founds.now) ticks }
 {
-    Machine {
+    SourceThread {
         ticks,
         why: None,
         locals: Vec::new(alloc),

@@ -7,18 +7,19 @@ ghost use Rattle.syntax.specs.Meaning as meaning;
 ghost use Rattle.syntax.specs.Names as Names;
 ghost use Rattle.meaning.specs.Outcomes.{memories_in};
 ghost use Rattle.meaning.specs.inner.Does.{does_body, does_expr, is_forbidden as is_forbidden_due};
-ghost use Rattle.meaning.specs.inner.Machine.{local_in, completion_of, Means, MeansCompletion, MeansWord, context_in};
-ghost use Rattle.meaning.specs.inner.Machine.{state_in};
-ghost use Rattle.meaning.specs.inner.Machine.{items_in, left_too, Happened, halt_of};
+ghost use Rattle.meaning.specs.inner.SourceThread.{local_in, completion_of, Means, MeansCompletion, MeansWord};
+ghost use Rattle.meaning.specs.inner.SourceThread.{context_in};
+ghost use Rattle.meaning.specs.inner.SourceThread.{state_in};
+ghost use Rattle.meaning.specs.inner.SourceThread.{items_in, left_too, Happened, halt_of};
 
 use crate::expr::eval;
-use crate::machine::{Context, Halted, Local, Machine, StmtCompletion, tick};
 use crate::program::ProgramTables;
+use crate::source_thread::{Context, Halted, Local, SourceThread, StmtCompletion, tick};
 use crate::stmt::block;
 use crate::word::Word;
 use std::alloc::{AllocError, Allocator};
 use std::mem;
-use syntax::numbers::Halt;
+use syntax::thread_end::Halt;
 use syntax::tree::{Expr, Mode, Stmt, TransactionKind};
 
 /// What a transaction does: its statements, or its operand where it is an expression.
@@ -58,7 +59,7 @@ pub(crate) fn copy_memory<A: Allocator + Copy>(
 }
 
 /// Adds a memory to those left, outside transactions.
-fn add_left<A: Allocator>(m: &mut Machine<A>, memory: Vec<u64, A>) -> Result<(), AllocError>
+fn add_left<A: Allocator>(m: &mut SourceThread<A>, memory: Vec<u64, A>) -> Result<(), AllocError>
     ensures left { IfOk result (λ _. state_in m.new ≡ left_too memory.items (state_in m.old)) }
     ensures why { m.new.why ≡ m.old.why }
 {
@@ -110,7 +111,7 @@ fn leave_inner<'p, A: Allocator + Copy>(
     before: Vec<Local<'p>, A>,
     found: Vec<u64, A>,
     end: StmtCompletion,
-    m: &mut Machine<'p, '_, A>,
+    m: &mut SourceThread<'p, '_, A>,
 ) -> StmtCompletion
     ensures { meaning.leave_inner outer
         (meaning.left_by kind (items_in before.entry) found.items (completion_of end) (state_in m.old)) (state_in m.old)
@@ -135,7 +136,7 @@ fn leave<'p, 'f, A: Allocator + Copy>(
     mine: Vec<Local<'p>, A>,
     found: &[u64],
     end: StmtCompletion,
-    m: &mut Machine<'p, 'f, A>,
+    m: &mut SourceThread<'p, 'f, A>,
 ) -> Result<StmtCompletion, Halted>
     ensures { MeansCompletion result
         (meaning.leave (memories_in founds.now) (memories_in lefts.items)
@@ -171,7 +172,7 @@ fn leave<'p, 'f, A: Allocator + Copy>(
 fn leave_found<A: Allocator + Copy>(
     alloc: A,
     found: &[u64],
-    m: &mut Machine<A>,
+    m: &mut SourceThread<A>,
 ) -> Result<(), AllocError>
     ensures left { IfOk result (λ _. state_in m.new ≡ left_too found.now (state_in m.old)) }
     ensures why { m.new.why ≡ m.old.why }
@@ -186,7 +187,7 @@ fn close_stopped<'p, 'f, A: Allocator + Copy>(
     founds: &'f [Vec<u64, A>],
     lefts: Vec<Vec<u64, A>, A>,
     found: &[u64],
-    m: &mut Machine<'p, 'f, A>,
+    m: &mut SourceThread<'p, 'f, A>,
 )
     ensures known { Happened m.new.why → Happened m.old.why }
     ensures value { Happened m.new.why → (kind : TransactionKind) (mine : List Names.Local) →
@@ -215,7 +216,7 @@ fn is_forbidden(outer: Mode, mode: Mode) -> bool
 }
 
 /// Outside transactions a transaction that is an expression takes a tick before its memory is wanted.
-fn begin_value<A: Allocator>(m: &mut Machine<A>) -> Result<(), Halted>
+fn begin_value<A: Allocator>(m: &mut SourceThread<A>) -> Result<(), Halted>
     ensures { Means result (meaning.begin_value (state_in m.old)) m.new }
 {
     if let Context::Outside(_, _) = &m.context {
@@ -225,7 +226,7 @@ fn begin_value<A: Allocator>(m: &mut Machine<A>) -> Result<(), Halted>
 }
 
 /// What an expression gives that is a transaction, by its body's end.
-fn value_at<A: Allocator>(m: &mut Machine<A>, end: StmtCompletion) -> Result<Word, Halted>
+fn value_at<A: Allocator>(m: &mut SourceThread<A>, end: StmtCompletion) -> Result<Word, Halted>
     ensures { MeansWord result (meaning.value_at (completion_of end) (state_in m.old)) m.new }
 {
     match end {
@@ -245,7 +246,7 @@ pub(crate) fn value_transaction<'p, A: Allocator + Copy>(
     frames: u64,
     mode: Mode,
     e: &'p Expr<A>,
-    m: &mut Machine<'p, '_, A>,
+    m: &mut SourceThread<'p, '_, A>,
 ) -> Result<Word, Halted>
     ensures { MeansWord result
         (meaning.value_transaction mode (does_expr source.now frames e.now) (state_in m.old))
@@ -270,7 +271,7 @@ pub(crate) fn transaction<'p, A: Allocator + Copy>(
     frames: u64,
     kind: TransactionKind,
     body: &Body<'p, A>,
-    m: &mut Machine<'p, '_, A>,
+    m: &mut SourceThread<'p, '_, A>,
 ) -> Result<StmtCompletion, Halted>
     ensures { MeansCompletion result (meaning.transaction kind (does_body source.now frames body.now) (state_in m.old))
         m.new }
@@ -294,7 +295,7 @@ fn outermost<'p, 'f, A: Allocator + Copy>(
     founds: &'f [Vec<u64, A>],
     lefts: Vec<Vec<u64, A>, A>,
     body: &Body<'p, A>,
-    m: &mut Machine<'p, 'f, A>,
+    m: &mut SourceThread<'p, 'f, A>,
 ) -> Result<StmtCompletion, Halted>
     ensures { MeansCompletion result (let before = act.Outside (memories_in founds.now) (memories_in lefts.items)
         in meaning.enter before kind (does_body source.now frames body.now)
@@ -342,7 +343,7 @@ fn nested_transaction<'p, A: Allocator + Copy>(
     found: Vec<u64, A>,
     kind: TransactionKind,
     body: &Body<'p, A>,
-    m: &mut Machine<'p, '_, A>,
+    m: &mut SourceThread<'p, '_, A>,
 ) -> Result<StmtCompletion, Halted>
     ensures { MeansCompletion result (let before = act.Inside outer found.items
         in meaning.enter before kind (does_body source.now frames body.now)
@@ -373,7 +374,7 @@ fn run_body<'p, A: Allocator + Copy>(
     source: &ProgramTables<'p, A>,
     frames: u64,
     body: &Body<'p, A>,
-    m: &mut Machine<'p, '_, A>,
+    m: &mut SourceThread<'p, '_, A>,
 ) -> Result<StmtCompletion, Halted>
     ensures { MeansCompletion result (does_body source.now frames body.now (state_in m.old)) m.new }
 {

@@ -7,7 +7,7 @@ ghost use Rattle.meaning.specs.inner.Word.{value_of};
 use crate::arithmetic::convert;
 use lex::token::Scalar;
 use syntax::number::word_of;
-use syntax::numbers::Value;
+use syntax::value::Value;
 
 /// A value in 128 bits without a gap: its word, and above it 0 for `int`, 1 for `unsigned` and 2 for `long long`.
 #[derive(Clone, Copy)]

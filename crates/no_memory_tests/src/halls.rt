@@ -8,7 +8,7 @@ use crate::seen::Seen;
 use bytecode::Code;
 use norec_core::Stop;
 use std::alloc::{AllocError, Allocator};
-use workers::{CloseFault, CloseReason, Hall, Outcome, Status, Worker};
+use workers::{CloseFault, CloseReason, Hall, HallReport, RunEnd, Worker};
 
 /// The most steps of a worker.
 const MOST: u64 = 100_000;
@@ -65,13 +65,13 @@ fn put<A: Allocator + Copy>(
 }
 
 /// The rest of a worker's steps.
-fn run<A: Allocator + Copy>(hall: &Hall<A>, worker: &mut Worker<A>) -> Result<Status, Stop>
+fn run<A: Allocator + Copy>(hall: &Hall<A>, worker: &mut Worker<A>) -> Result<RunEnd, Stop>
     requires { IsWorkerOf hall.now.table.shared.table_id hall.now.setup worker.old }
     ensures { IsWorkerOf hall.now.table.shared.table_id hall.now.setup worker.new }
 {
     let steps = worker.steps();
     if steps > MOST {
-        return Ok(Status::Budget);
+        return Ok(RunEnd::Budget);
     }
     worker.run(hall, MOST - steps)
 }
@@ -82,9 +82,9 @@ fn ends<A: Allocator + Copy>(hall: &Hall<A>, worker: &mut Worker<A>) -> bool
     ensures { IsWorkerOf hall.now.table.shared.table_id hall.now.setup worker.new }
 {
     match run(hall, worker) {
-        Ok(status) => status != Status::Budget,
+        Ok(status) => status != RunEnd::Budget,
         Err(stop) => {
-            let goes_on = matches!(run(hall, worker), Ok(Status::Ended | Status::Trapped(_)));
+            let goes_on = matches!(run(hall, worker), Ok(RunEnd::Ended | RunEnd::Trapped(_)));
             goes_on && stop.number() == 0
         }
     }
@@ -149,7 +149,7 @@ fn close_hall<A: Allocator + Copy>(
     alloc: A,
     hall: Hall<A>,
     workers: Vec<Worker<A>, A>,
-) -> Option<Outcome<A>>
+) -> Option<HallReport<A>>
     requires { AreWorkersOf hall.table.shared.table_id hall.setup workers.items }
 {
     match hall.close(alloc, workers) {

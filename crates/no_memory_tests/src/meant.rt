@@ -10,7 +10,7 @@ use bytecode::Code;
 use meaning::{MeaningFault, SourceOutcome, ThreadEnd, ThreadOutcome, run_order, thread};
 use separation::Accepted;
 use std::alloc::{AllocError, Allocator};
-use syntax::numbers::Status;
+use syntax::thread_end::Status;
 
 /// How many ticks a thread of the source has, and how many instructions one of the code.
 const MOST: u64 = 100_000;

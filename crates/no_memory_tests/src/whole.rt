@@ -8,10 +8,10 @@ use crate::seen::Seen;
 use crate::steps::make;
 use bytecode::Code;
 use lower::lower;
-use refusing::{Refusing, growths};
 use separation::Accepted;
 use std::alloc::{Allocator, Global};
 use std::process::Abort;
+use test_memory::{Refusing, growths};
 
 /// A program, how many transactions its thread 1 makes, the order of its threads as single steps, a schedule, and some
 /// lines of what is seen of its meaning and of its code.
@@ -236,7 +236,7 @@ fn show_refused<'a>(
 /// What is seen on half of the way of a program, with growth `nth` of it refused.
 fn seen_at(inner: Global, alloc: &Refusing<Global>, row: &Row, half: Half, nth: u64) -> Seen {
     let mut seen = Seen::new(inner);
-    if let Some(wanted) = written_programs::accepted_of(alloc, row.text) {
+    if let Some(wanted) = test_programs::accepted_of(alloc, row.text) {
         let _end = show_refused(alloc, row, half, &wanted, nth, &mut seen);
     }
     seen

@@ -2,7 +2,7 @@
 use Rattle.std.proofs.Common.{◌≡◌, ◌<◌, ℕ, Bool, List, [], ◌∷◌, Some, refl, ◌∙◌, ap, length, arith}
 use Rattle.nesting.specs.Begins.{Saved}
 use Rattle.nesting.specs.Nests.{OpenBegins, Nest, IsCancelled}
-use Rattle.norec_core.specs.declared.step.Outcome.TheVariants as outcome
+use Rattle.norec_core.specs.declared.step.OpOutcome.TheVariants as outcome
 use Rattle.norec_core.specs.declared.step.Phase.{Phase}
 use Rattle.norec_core.specs.Attempts.{Attempt, Checkpoint}
 use Rattle.norec_core.specs.Phases.{core_cancel}

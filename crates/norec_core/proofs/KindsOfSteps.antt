@@ -7,8 +7,8 @@ use Rattle.norec_core.specs.declared.step.Op.TheVariants as op
 use Rattle.norec_core.specs.declared.step.Access.TheVariants.{Swap, StoreWord}
 use Rattle.norec_core.specs.declared.step.Answer.{Answer}
 use Rattle.norec_core.specs.declared.step.Answer.TheVariants.{Done, Value, Won, Lost}
-use Rattle.norec_core.specs.declared.step.Outcome.{Outcome}
-use Rattle.norec_core.specs.declared.step.Outcome.TheVariants as outcome
+use Rattle.norec_core.specs.declared.step.OpOutcome.{OpOutcome}
+use Rattle.norec_core.specs.declared.step.OpOutcome.TheVariants as outcome
 use Rattle.norec_core.specs.declared.step.Phase.{Phase}
 use Rattle.norec_core.specs.declared.step.Phase.TheVariants.{AtOperation, ReadsLock, ValidatesTime, ValidatesEntry, Stores}
 use Rattle.norec_core.specs.Attempts.{Checkpoint, Attempt}
@@ -63,7 +63,7 @@ module _ {S : Type 0} (a : Attempt S) (o : Op) (y : Answer) where
   store i at e (Some p) g = goes (record a { phase = Stores (suc i) })
       (subst (λ (j : ℕ). Kind a o y (record a { phase = Stores (suc j) })) at (stores p (ap (slice_get a.writes) at ∙ g) (e ∙ ap (store_access a.snapshot) g)))
 
-  swap : (c : Attempt S) (p : Outcome) (z : Answer) → (z ≡ Won → Kind a o y c) → Goes (core_swap a c p z)
+  swap : (c : Attempt S) (p : OpOutcome) (z : Answer) → (z ≡ Won → Kind a o y c) → Goes (core_swap a c p z)
   swap c p Won k = goes c (k refl)
   swap c p (Lost n) k = goes _ validates
   swap c p Done k = goes a stays

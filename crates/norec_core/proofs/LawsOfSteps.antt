@@ -6,8 +6,8 @@ use Rattle.norec_core.specs.declared.step.Op.TheVariants as op
 use Rattle.norec_core.specs.declared.step.Access.TheVariants.{Local, Swap, StoreWord, StoreLock}
 use Rattle.norec_core.specs.declared.step.Answer.{Answer}
 use Rattle.norec_core.specs.declared.step.Answer.TheVariants.{Done, Value, Won, Lost}
-use Rattle.norec_core.specs.declared.step.Outcome.{Outcome}
-use Rattle.norec_core.specs.declared.step.Outcome.TheVariants as outcome
+use Rattle.norec_core.specs.declared.step.OpOutcome.{OpOutcome}
+use Rattle.norec_core.specs.declared.step.OpOutcome.TheVariants as outcome
 use Rattle.norec_core.specs.declared.step.Phase.{Phase}
 use Rattle.norec_core.specs.declared.step.Phase.TheVariants.{AtOperation, ReadsLock, ValidatesTime, ValidatesEntry, Stores}
 use Rattle.norec_core.specs.Attempts.{Checkpoint, Attempt, Completed}
@@ -152,7 +152,7 @@ module _ {S : Type 0} (now : S) (a : Attempt S) (y : Answer) where
   no_value o (Some v) = none o
   no_value o None = no_word o a.kept y
 
-  swapped : (o : Op) (c : Attempt S) (p : Outcome) (z : Answer) → Completes o (core_swap a c p z)
+  swapped : (o : Op) (c : Attempt S) (p : OpOutcome) (z : Answer) → Completes o (core_swap a c p z)
   swapped o c p Won = none o
   swapped o c p (Lost n) = none o
   swapped o c p Done = none o

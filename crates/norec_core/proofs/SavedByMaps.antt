@@ -6,8 +6,8 @@ use Rattle.norec_core.specs.declared.step.Op.{Op}
 use Rattle.norec_core.specs.declared.step.Op.TheVariants as op
 use Rattle.norec_core.specs.declared.step.Answer.{Answer}
 use Rattle.norec_core.specs.declared.step.Answer.TheVariants.{Done, Value, Won, Lost}
-use Rattle.norec_core.specs.declared.step.Outcome.{Outcome}
-use Rattle.norec_core.specs.declared.step.Outcome.TheVariants as outcome
+use Rattle.norec_core.specs.declared.step.OpOutcome.{OpOutcome}
+use Rattle.norec_core.specs.declared.step.OpOutcome.TheVariants as outcome
 use Rattle.norec_core.specs.declared.step.Phase.{Phase}
 use Rattle.norec_core.specs.declared.step.Phase.TheVariants.{AtOperation, ReadsLock, ValidatesTime, ValidatesEntry, Stores}
 use Rattle.norec_core.specs.Attempts.{Checkpoint, Attempt}
@@ -75,7 +75,7 @@ module _ {S T : Type 0} (f : S → T) where
   store a i None = refl
   store a i (Some p) = refl
 
-  swap : (a b : Attempt S) (o : Outcome) (x : Answer) → core_swap (seen a) (seen b) o x ≡ to (core_swap a b o x)
+  swap : (a b : Attempt S) (o : OpOutcome) (x : Answer) → core_swap (seen a) (seen b) o x ≡ to (core_swap a b o x)
   swap a b o Won = refl
   swap a b o (Lost n) = refl
   swap a b o Done = refl

@@ -7,8 +7,8 @@ use Rattle.norec_core.specs.declared.step.Op.TheVariants as op
 use Rattle.norec_core.specs.declared.step.Access.TheVariants.{Local}
 use Rattle.norec_core.specs.declared.step.Answer.{Answer}
 use Rattle.norec_core.specs.declared.step.Answer.TheVariants.{Done}
-use Rattle.norec_core.specs.declared.step.Outcome.{Outcome}
-use Rattle.norec_core.specs.declared.step.Outcome.TheVariants as outcome
+use Rattle.norec_core.specs.declared.step.OpOutcome.{OpOutcome}
+use Rattle.norec_core.specs.declared.step.OpOutcome.TheVariants as outcome
 use Rattle.norec_core.specs.declared.step.Phase.{Phase}
 use Rattle.norec_core.specs.declared.step.Phase.TheVariants.{AtOperation, ReadsLock, ValidatesTime, ValidatesEntry}
 use Rattle.norec_core.specs.declared.step.Phase.TheVariants.{Stores}
@@ -72,7 +72,7 @@ abbrev pub stepped_twice : CoreState → Op → (first second : Answer) → Core
 stepped_twice c op first second = core_step c.saved (core_step c.saved c.attempt op first).attempt op second
 
 -- a step without an access, in which the operation is done with this outcome, and after which nothing is gone back to
-pub record IsDoneLocally (c : CoreState) (op : Op) (result : Outcome) (d : CoreState) : Type 0 where
+pub record IsDoneLocally (c : CoreState) (op : Op) (result : OpOutcome) (d : CoreState) : Type 0 where
   pub access : core_access c.attempt op ≡ Local
   pub attempt : d.attempt ≡ (core_step c.saved c.attempt op Done).attempt
   pub outcome : (core_step c.saved c.attempt op Done).outcome ≡ result

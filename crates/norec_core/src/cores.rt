@@ -12,7 +12,7 @@ ghost use Rattle.norec_core.specs.declared.step.Answer.{Answer as Reply};
 ghost use Rattle.norec_core.specs.declared.step.Op.{Op as Operation};
 ghost use Rattle.norec_core.specs.declared.step.Answer.TheVariants.{Value};
 
-use super::step::{Access, Answer, Op, Outcome, ReadStep, Stop};
+use super::step::{Access, Answer, Op, OpOutcome, ReadStep, Stop};
 use super::steps::CoreSteps;
 use nesting::Saved;
 use std::alloc::{Allocator, Global};
@@ -102,7 +102,7 @@ impl<A: Allocator + Copy> Core<A> {
     }
 
     /// Makes the step that was prepared, with the answer to its access. It takes no memory.
-    pub fn told(&mut self, answer: Answer) -> Outcome
+    pub fn told(&mut self, answer: Answer) -> OpOutcome
         requires { IsAnswered self.old answer }
         ensures attempt { self.new.attempt ≡ (core_step_with self.old answer).attempt }
         ensures outcome { result ≡ (core_step_with self.old answer).outcome }
@@ -112,13 +112,13 @@ impl<A: Allocator + Copy> Core<A> {
         if self.is_asked {
             self.told_as(self.op, answer)
         } else {
-            Outcome::Going
+            OpOutcome::Going
         }
     }
 
     /// `told`, by the operation that was prepared.
     #[inline(always)]
-    pub fn told_as(&mut self, op: Op, answer: Answer) -> Outcome
+    pub fn told_as(&mut self, op: Op, answer: Answer) -> OpOutcome
         requires asked { self.old.asked ≡ Some op }
         requires answered { IsAnswered self.old answer }
         ensures attempt { self.new.attempt ≡ (core_step_with self.old answer).attempt }
@@ -136,7 +136,7 @@ impl<A: Allocator + Copy> Core<A> {
     #[inline(always)]
     pub fn read(&mut self, cell: u32) -> ReadStep
         ensures written { (word : ℕ) → result ≡ ReadStep.Written word
-            → IsDoneLocally self.old (Op.Read cell) (Outcome.Read word) self.new }
+            → IsDoneLocally self.old (Op.Read cell) (OpOutcome.Read word) self.new }
         ensures loads { result ≡ ReadStep.Loads → IsSomeAnd self.old.attempt (λ a. LoadsBoth a cell) }
         ensures room { result ≡ ReadStep.Loads → 0 < self.new.read_room }
         ensures full { result ≡ ReadStep.Other → IsSomeAnd self.old.attempt (λ a. IsUnlocked a)
@@ -156,7 +156,7 @@ impl<A: Allocator + Copy> Core<A> {
     /// Makes both steps of a read that were prepared, with the word and the lock's value that were loaded. It takes no
     /// memory.
     #[inline(always)]
-    pub fn take_read(&mut self, cell: u32, word: u64, lock: u64) -> Outcome
+    pub fn take_read(&mut self, cell: u32, word: u64, lock: u64) -> OpOutcome
         requires loads { IsSomeAnd self.old.attempt (λ a. LoadsBoth a cell) }
         requires room { 0 < self.old.read_room }
         ensures attempt { self.new.attempt ≡ (stepped_twice self.old (Op.Read cell) (Value word) (Value lock)).attempt }
@@ -171,7 +171,7 @@ impl<A: Allocator + Copy> Core<A> {
     /// the room that the write needs; where that is refused nothing changes.
     #[inline(always)]
     pub fn write(&mut self, cell: u32, word: u64) -> bool
-        ensures done { result ≡ true → IsDoneLocally self.old (Op.Write cell word) Outcome.Done self.new }
+        ensures done { result ≡ true → IsDoneLocally self.old (Op.Write cell word) OpOutcome.Done self.new }
         ensures not_done { result ≡ false → self.new.attempt ≡ self.old.attempt }
         ensures full { result ≡ false → IsSomeAnd self.old.attempt (λ a. IsUnlocked a) → self.old.write_room ≡ 0 }
     {
@@ -187,7 +187,7 @@ impl<A: Allocator + Copy> Core<A> {
     /// that wrote nothing: whether it did. It takes no memory.
     #[inline(always)]
     pub fn commit(&mut self) -> bool
-        ensures done { result ≡ true → IsDoneLocally self.old Op.Commit Outcome.Done self.new }
+        ensures done { result ≡ true → IsDoneLocally self.old Op.Commit OpOutcome.Done self.new }
         ensures not_done { result ≡ false → self.new.attempt ≡ self.old.attempt }
         ensures locally { result ≡ false → IsSomeAnd self.old.attempt (λ a. CommitsLocally a) → ⊥ }
     {
@@ -220,7 +220,7 @@ impl<A: Allocator + Copy> Core<A> {
     /// Makes the step of an outermost begin that was prepared, with the lock's value that was loaded. It takes no
     /// memory.
     #[inline(always)]
-    pub fn take_begin(&mut self, lock: u64) -> Outcome
+    pub fn take_begin(&mut self, lock: u64) -> OpOutcome
         requires { self.old.attempt ≡ None }
         ensures attempt { self.new.attempt ≡ (core_step self.old.saved self.old.attempt Op.Begin (Value lock)).attempt }
         ensures outcome { result ≡ (core_step self.old.saved self.old.attempt Op.Begin (Value lock)).outcome }
@@ -257,7 +257,7 @@ impl<A: Allocator + Copy> Core<A> {
     /// Makes the step of a commit that swaps the lock from this value, which was not prepared, with the swap's answer.
     /// It takes no memory.
     #[inline(always)]
-    pub fn take_swap(&mut self, from: u64, answer: Answer) -> Outcome
+    pub fn take_swap(&mut self, from: u64, answer: Answer) -> OpOutcome
         requires swaps { core_access self.old.attempt Op.Commit ≡ Access.Swap from }
         requires goes_on { stops (Access.Swap from) ≡ false }
         ensures attempt { self.new.attempt ≡ (core_step self.old.saved self.old.attempt Op.Commit answer).attempt }
@@ -290,7 +290,7 @@ impl<A: Allocator + Copy> Core<A> {
 
     /// Makes the step in which a commit stores a pair or the lock, whose access was made. It takes no memory.
     #[inline(always)]
-    pub fn take_store(&mut self, index: usize) -> Outcome
+    pub fn take_store(&mut self, index: usize) -> OpOutcome
         requires { IsSomeAnd self.old.attempt (λ a. IsStoring index a) }
         ensures attempt { (answer : Reply)
             → self.new.attempt ≡ (core_step self.old.saved self.old.attempt Op.Commit answer).attempt }

@@ -13,7 +13,7 @@ ghost use Rattle.norec_core.specs.declared.step.Phase.TheVariants.{ReadsLock};
 ghost use Rattle.norec_core.specs.inner.Runs.{attempt_of, IsStep, IsWritten, GainsRoom, HasRoom, IsPlain, CanRelease};
 ghost use Rattle.norec_core.specs.inner.Runs.{SwapsLock};
 
-use super::step::{Access, Answer, Op, Outcome, Phase, ReadStep};
+use super::step::{Access, Answer, Op, OpOutcome, Phase, ReadStep};
 use nesting::{Attempt, Saved};
 use std::alloc::{AllocError, Allocator};
 use std::marker::Model;
@@ -163,7 +163,7 @@ impl<A: Allocator + Copy> CoreSteps<A> {
 
     /// Both steps of a read that loads the cell's word and then the lock.
     #[inline(always)]
-    pub(crate) fn take_read(&mut self, cell: u32, word: u64, lock: u64) -> Outcome
+    pub(crate) fn take_read(&mut self, cell: u32, word: u64, lock: u64) -> OpOutcome
         requires begun { self.old.begun ≡ true }
         requires loads { LoadsBoth self.old.attempt cell }
         requires room { 0 < self.old.read_room }
@@ -172,11 +172,11 @@ impl<A: Allocator + Copy> CoreSteps<A> {
     {
         if self.snapshot == lock {
             self.logs.log_read(cell, word);
-            return Outcome::Read(word);
+            return OpOutcome::Read(word);
         }
         self.plain = false;
         self.phase = Phase::ValidatesTime;
-        Outcome::Going
+        OpOutcome::Going
     }
 
     /// Whether the attempt stands at an operation without the lock.
@@ -266,7 +266,7 @@ impl<A: Allocator + Copy> CoreSteps<A> {
 
     /// The step of a commit that swaps the lock from this value, with the swap's answer.
     #[inline(always)]
-    pub(crate) fn take_swap(&mut self, from: u64, answer: Answer) -> Outcome
+    pub(crate) fn take_swap(&mut self, from: u64, answer: Answer) -> OpOutcome
         requires begun { self.old.begun ≡ true }
         requires swaps { SwapsLock from self.old }
         requires goes_on { stops (Access.Swap from) ≡ false }
@@ -304,7 +304,7 @@ impl<A: Allocator + Copy> CoreSteps<A> {
 
     /// A commit goes on whose store of this pair, or past the last one of the lock, was made.
     #[inline(always)]
-    pub(crate) fn take_store(&mut self, index: usize) -> Outcome
+    pub(crate) fn take_store(&mut self, index: usize) -> OpOutcome
         requires begun { self.old.begun ≡ true }
         requires phase { self.old.attempt.phase ≡ Phase.Stores index }
         ensures { IsStep (core_store self.old.attempt index (slice_get self.old.attempt.writes index)) result self.new }
@@ -392,7 +392,7 @@ impl<A: Allocator + Copy> CoreSteps<A> {
 
     /// Makes the step with the answer to its access. It takes no memory.
     #[inline(always)]
-    pub(crate) fn told(&mut self, op: Op, answer: Answer) -> Outcome
+    pub(crate) fn told(&mut self, op: Op, answer: Answer) -> OpOutcome
         requires room { HasRoom op self.old }
         requires goes_on { stops (core_access (attempt_of self.old) op) ≡ false }
         ensures { IsStep (core_step self.old.aside (attempt_of self.old) op answer) result self.new }
@@ -403,12 +403,12 @@ impl<A: Allocator + Copy> CoreSteps<A> {
         if let Op::Begin = op {
             return self.told_begin(answer);
         }
-        Outcome::Going
+        OpOutcome::Going
     }
 
     /// An outermost begin: an even lock value is the snapshot.
     #[inline(always)]
-    pub(crate) fn told_begin(&mut self, answer: Answer) -> Outcome
+    pub(crate) fn told_begin(&mut self, answer: Answer) -> OpOutcome
         requires { self.old.begun ≡ false }
         ensures { IsStep (core_step self.old.aside None Op.Begin answer) result self.new }
     {
@@ -420,14 +420,14 @@ impl<A: Allocator + Copy> CoreSteps<A> {
                 self.first = lock;
                 self.snapshot = lock;
                 self.phase = Phase::AtOperation;
-                return Outcome::Done;
+                return OpOutcome::Done;
             }
         }
-        Outcome::Going
+        OpOutcome::Going
     }
 
     #[inline(always)]
-    fn told_inside(&mut self, op: Op, answer: Answer) -> Outcome
+    fn told_inside(&mut self, op: Op, answer: Answer) -> OpOutcome
         requires begun { self.old.begun ≡ true }
         requires room { HasRoom op self.old }
         requires goes_on { stops (core_access (attempt_of self.old) op) ≡ false }
@@ -439,13 +439,13 @@ impl<A: Allocator + Copy> CoreSteps<A> {
             (Phase::ValidatesTime, _) => self.told_time(answer),
             (Phase::ValidatesEntry(time, index), _) => self.told_compare(time, index, answer),
             (Phase::Stores(index), Op::Commit) => self.told_store(index),
-            _ => Outcome::Going,
+            _ => OpOutcome::Going,
         }
     }
 
     /// The first step of an operation.
     #[inline(always)]
-    fn told_operation(&mut self, op: Op, answer: Answer) -> Outcome
+    fn told_operation(&mut self, op: Op, answer: Answer) -> OpOutcome
         requires begun { self.old.begun ≡ true }
         requires phase { self.old.attempt.phase ≡ Phase.AtOperation }
         requires room { HasRoom op self.old }
@@ -462,32 +462,32 @@ impl<A: Allocator + Copy> CoreSteps<A> {
             Op::Irrevocable => return self.told_irrevocable(answer),
             Op::Release => self.end(),
         }
-        Outcome::Done
+        OpOutcome::Done
     }
 
     #[inline(always)]
-    fn told_read(&mut self, cell: u32, answer: Answer) -> Outcome
+    fn told_read(&mut self, cell: u32, answer: Answer) -> OpOutcome
         requires begun { self.old.begun ≡ true }
         requires phase { self.old.attempt.phase ≡ Phase.AtOperation }
         ensures { IsStep (core_read self.old.attempt (overlay_word cell self.old.attempt.writes) answer) result
             self.new }
     {
         if let Some(word) = self.logs.written_word(cell) {
-            return Outcome::Read(word);
+            return OpOutcome::Read(word);
         }
         if let Answer::Value(word) = answer {
             let unlogged = self.logs.is_kept();
             if unlogged {
-                return Outcome::Read(word);
+                return OpOutcome::Read(word);
             }
             self.plain = false;
             self.phase = Phase::ReadsLock(word);
         }
-        Outcome::Going
+        OpOutcome::Going
     }
 
     #[inline(always)]
-    fn told_commit(&mut self, answer: Answer) -> Outcome
+    fn told_commit(&mut self, answer: Answer) -> OpOutcome
         requires begun { self.old.begun ≡ true }
         requires phase { self.old.attempt.phase ≡ Phase.AtOperation }
         requires goes_on { stops
@@ -499,59 +499,59 @@ impl<A: Allocator + Copy> CoreSteps<A> {
     {
         if self.logs.depth() > 0 {
             self.logs.commit_inner();
-            return Outcome::Done;
+            return OpOutcome::Done;
         }
         if self.logs.is_kept() {
             return self.told_store(0);
         }
         if self.logs.write_at(0).is_none() {
             self.end();
-            return Outcome::Done;
+            return OpOutcome::Done;
         }
         self.after_swap(answer)
     }
 
     /// A commit has swapped the lock: where the swap was won it stores next, where it was lost it validates.
     #[inline(always)]
-    fn after_swap(&mut self, answer: Answer) -> Outcome
+    fn after_swap(&mut self, answer: Answer) -> OpOutcome
         requires begun { self.old.begun ≡ true }
         requires kept { self.old.attempt.kept ≡ false }
         requires goes_on { stops (Access.Swap self.old.attempt.snapshot) ≡ false }
         ensures { IsStep
-            (core_swap self.old.attempt (record self.old.attempt { phase = Phase.Stores 0 }) Outcome.Going answer)
+            (core_swap self.old.attempt (record self.old.attempt { phase = Phase.Stores 0 }) OpOutcome.Going answer)
             result self.new }
     {
         match answer {
             Answer::Won => self.phase = Phase::Stores(0),
             Answer::Lost(_) => self.phase = Phase::ValidatesTime,
-            _ => return Outcome::Going,
+            _ => return OpOutcome::Going,
         }
         self.plain = false;
-        Outcome::Going
+        OpOutcome::Going
     }
 
     /// The write log goes back to the begin, the read log stays. With the lock kept the outermost one stands still.
     #[inline(never)]
-    fn told_cancel(&mut self) -> Outcome
+    fn told_cancel(&mut self) -> OpOutcome
         requires { self.old.begun ≡ true }
         ensures { IsStep (core_cancel self.old.attempt self.old.attempt.inner self.old.attempt.kept) result self.new }
     {
         if self.logs.depth() > 0 {
             self.logs.cancel();
-            return Outcome::Done;
+            return OpOutcome::Done;
         }
         if self.logs.is_kept() {
-            return Outcome::Going;
+            return OpOutcome::Going;
         }
         self.logs.abort();
         self.end();
-        Outcome::Done
+        OpOutcome::Done
     }
 
     /// A cancel of several levels, or of all that are open where these are fewer: the log and the lock as at a cancel
     /// of one.
     #[inline(never)]
-    fn told_cancel_outer(&mut self, levels: u32) -> Outcome
+    fn told_cancel_outer(&mut self, levels: u32) -> OpOutcome
         requires { self.old.begun ≡ true }
         ensures { IsStep (core_cancel self.old.attempt (drop (levels - 1) self.old.attempt.inner) self.old.attempt.kept)
             result self.new }
@@ -563,44 +563,44 @@ impl<A: Allocator + Copy> CoreSteps<A> {
         }
         let is_outermost = inner < open;
         if is_outermost && self.logs.is_kept() {
-            return Outcome::Going;
+            return OpOutcome::Going;
         }
         self.logs.cancel_outer(open);
         if is_outermost {
             self.end();
         }
-        Outcome::Done
+        OpOutcome::Done
     }
 
     #[inline(never)]
-    fn told_irrevocable(&mut self, answer: Answer) -> Outcome
+    fn told_irrevocable(&mut self, answer: Answer) -> OpOutcome
         requires begun { self.old.begun ≡ true }
         requires phase { self.old.attempt.phase ≡ Phase.AtOperation }
         requires goes_on { stops (operation_access self.old.attempt Op.Irrevocable) ≡ false }
         ensures { IsStep (core_operation self.old.aside self.old.attempt Op.Irrevocable answer) result self.new }
     {
         if self.logs.is_kept() {
-            return Outcome::Done;
+            return OpOutcome::Done;
         }
         match answer {
             Answer::Won => {
                 self.plain = false;
                 self.logs.keep();
-                Outcome::Done
+                OpOutcome::Done
             }
             Answer::Lost(_) => {
                 self.plain = false;
                 self.phase = Phase::ValidatesTime;
-                Outcome::Going
+                OpOutcome::Going
             }
-            _ => Outcome::Going,
+            _ => OpOutcome::Going,
         }
     }
 
     /// The word at an index of the write log, or past the last one the lock, was stored. What has the lock is not
     /// plain.
     #[inline(always)]
-    fn told_store(&mut self, index: usize) -> Outcome
+    fn told_store(&mut self, index: usize) -> OpOutcome
         requires begun { self.old.begun ≡ true }
         requires lock { CanRelease self.old.attempt.snapshot }
         requires has { holds_lock self.old.attempt.kept self.old.attempt.phase ≡ true }
@@ -608,15 +608,15 @@ impl<A: Allocator + Copy> CoreSteps<A> {
     {
         if self.logs.write_at(index).is_some() {
             self.phase = Phase::Stores(index + 1);
-            return Outcome::Going;
+            return OpOutcome::Going;
         }
         self.begun = false;
-        Outcome::Done
+        OpOutcome::Done
     }
 
     /// A read that has its word is logged where the lock is still the snapshot.
     #[inline(always)]
-    fn told_check(&mut self, cell: u32, word: u64, answer: Answer) -> Outcome
+    fn told_check(&mut self, cell: u32, word: u64, answer: Answer) -> OpOutcome
         requires begun { self.old.begun ≡ true }
         requires phase { self.old.attempt.phase ≡ Phase.ReadsLock word }
         requires room { 0 < self.old.read_room }
@@ -627,16 +627,16 @@ impl<A: Allocator + Copy> CoreSteps<A> {
                 self.logs.log_read(cell, word);
                 self.plain = true;
                 self.phase = Phase::AtOperation;
-                return Outcome::Read(word);
+                return OpOutcome::Read(word);
             }
             self.phase = Phase::ValidatesTime;
         }
-        Outcome::Going
+        OpOutcome::Going
     }
 
     /// Validation begins at an even lock.
     #[inline(never)]
-    fn told_time(&mut self, answer: Answer) -> Outcome
+    fn told_time(&mut self, answer: Answer) -> OpOutcome
         requires begun { self.old.begun ≡ true }
         requires phase { self.old.attempt.phase ≡ Phase.ValidatesTime }
         ensures { IsStep (core_time self.old.attempt answer) result self.new }
@@ -645,13 +645,13 @@ impl<A: Allocator + Copy> CoreSteps<A> {
             Answer::Value(lock) if lock % 2 == 0 => self.phase = Phase::ValidatesEntry(lock, 0),
             _ => {}
         }
-        Outcome::Going
+        OpOutcome::Going
     }
 
     /// An entry with another word drops the attempt. Past the last entry the lock, unchanged since the time, is the new
     /// snapshot.
     #[inline(never)]
-    fn told_compare(&mut self, time: u64, index: usize, answer: Answer) -> Outcome
+    fn told_compare(&mut self, time: u64, index: usize, answer: Answer) -> OpOutcome
         requires begun { self.old.begun ≡ true }
         requires phase { self.old.attempt.phase ≡ Phase.ValidatesEntry time index }
         ensures { IsStep (core_compare self.old.attempt time index (slice_get self.old.attempt.reads index) answer)
@@ -665,7 +665,7 @@ impl<A: Allocator + Copy> CoreSteps<A> {
                 Some(_) => {
                     self.logs.abort();
                     self.begun = false;
-                    return Outcome::Aborted;
+                    return OpOutcome::Aborted;
                 }
                 None if found == time => {
                     self.snapshot = time;
@@ -675,7 +675,7 @@ impl<A: Allocator + Copy> CoreSteps<A> {
                 None => self.phase = Phase::ValidatesTime,
             }
         }
-        Outcome::Going
+        OpOutcome::Going
     }
 
     /// Whether validation loads the lock next, until it is even.
@@ -695,7 +695,7 @@ impl<A: Allocator + Copy> CoreSteps<A> {
     pub(crate) fn take_wait(&mut self, lock: u64)
         requires begun { self.old.begun ≡ true }
         requires phase { self.old.attempt.phase ≡ Phase.ValidatesTime }
-        ensures { IsStep (core_time self.old.attempt (Value lock)) Outcome.Going self.new }
+        ensures { IsStep (core_time self.old.attempt (Value lock)) OpOutcome.Going self.new }
     {
         if lock % 2 == 1 {
             return;
@@ -759,7 +759,7 @@ impl<A: Allocator + Copy> CoreSteps<A> {
     pub(crate) fn take_validation(&mut self, time: u64, index: usize, lock: u64)
         requires begun { self.old.begun ≡ true }
         requires phase { self.old.attempt.phase ≡ Phase.ValidatesEntry time index }
-        ensures { IsStep (core_compare self.old.attempt time index None (Value lock)) Outcome.Going self.new }
+        ensures { IsStep (core_compare self.old.attempt time index None (Value lock)) OpOutcome.Going self.new }
     {
         if lock == time {
             self.snapshot = time;

@@ -13,7 +13,7 @@ ghost use Rattle.operators.specs.inner.Checked.{word_or_trap};
 
 use lex::token::Scalar;
 use syntax::number::number;
-use syntax::numbers::Trap;
+use syntax::thread_end::Trap;
 use syntax::tree::BinaryOp;
 
 /// A result's word, or a trap where a signed one is out of range.

@@ -5,8 +5,8 @@ use Rattle.std.proofs.lemmas.Option.{none-some}
 use Rattle.syntax.specs.Behaviours.{IsMemory, Memory, Stopped}
 use Rattle.syntax.specs.Names.{bounds, initial_memory}
 use Rattle.syntax.specs.Tree.{Program}
-use Rattle.syntax.specs.declared.numbers.Halt.TheVariants.{Wants}
-use Rattle.syntax.specs.declared.numbers.Status.TheVariants.{Running}
+use Rattle.syntax.specs.declared.thread_end.Halt.TheVariants.{Wants}
+use Rattle.syntax.specs.declared.thread_end.Status.TheVariants.{Running}
 use Rattle.bytecode.specs.Effects.{Effect, FitsCells}
 use Rattle.bytecode.specs.Effects.Effect.{Begin as BeginEffect}
 use Rattle.bytecode.specs.Sequential.{Sequential, end_of, start, steps}

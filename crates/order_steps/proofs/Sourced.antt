@@ -11,9 +11,9 @@ use Rattle.syntax.specs.Names.{bounds, initial_memory}
 use Rattle.syntax.specs.Orders.{Progress, entry, finds, if_wanting, last_left, outcomes}
 use Rattle.syntax.specs.Threads.{thread}
 use Rattle.syntax.specs.Tree.{Program}
-use Rattle.syntax.specs.declared.numbers.Halt.TheVariants.{Spent, Trapped, Wants}
-use Rattle.syntax.specs.declared.numbers.Status.{Status}
-use Rattle.syntax.specs.declared.numbers.Status.TheVariants.{Running, Ended as HasEnded, Trapped as HasTrapped}
+use Rattle.syntax.specs.declared.thread_end.Halt.TheVariants.{Spent, Trapped, Wants}
+use Rattle.syntax.specs.declared.thread_end.Status.{Status}
+use Rattle.syntax.specs.declared.thread_end.Status.TheVariants.{Running, Ended as HasEnded, Trapped as HasTrapped}
 use Rattle.bytecode.specs.Effects.{Effect, FitsCells}
 use Rattle.bytecode.proofs.Tables.{some_same}
 use Rattle.bytecode.specs.Sequential.{Sequential, end_of, meaning, next, outcome_of, outside, start, steps}

@@ -2,9 +2,9 @@
 use Rattle.std.specs.Prelude.{◌≡◌, ◌⊎◌, ℕ, ◌%◌, ◌≤◌, ◌+◌, ◌-◌, ◌<◌, ◌^◌, List, Some, length, map, replicate, slice_set}
 use Rattle.std.specs.List.{AllByRecursion, slice_get}
 use Rattle.syntax.specs.Behaviours.{Ended, Means, Memory, Stopped, ThreadEnd}
-use Rattle.syntax.specs.declared.numbers.Halt.TheVariants.{Trapped, Wants}
-use Rattle.syntax.specs.declared.numbers.Status.{Status}
-use Rattle.syntax.specs.declared.numbers.Status.TheVariants.{Running, Ended as HasEnded, Trapped as HasTrapped}
+use Rattle.syntax.specs.declared.thread_end.Halt.TheVariants.{Trapped, Wants}
+use Rattle.syntax.specs.declared.thread_end.Status.{Status}
+use Rattle.syntax.specs.declared.thread_end.Status.TheVariants.{Running, Ended as HasEnded, Trapped as HasTrapped}
 use Rattle.syntax.specs.Names.{bounds, initial_memory}
 use Rattle.syntax.specs.Threads.{thread}
 use Rattle.syntax.specs.Tree.{Program}

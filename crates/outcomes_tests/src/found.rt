@@ -4,10 +4,10 @@
 use crate::asserted::assert_that;
 use meaning::{MeaningFault, SourceOutcome, ThreadReport, run_order};
 use outcomes::{Listed, Outcomes, outcomes_of};
-use refusing::{Refusing, growths};
 use separation::Accepted;
 use std::alloc::{Allocator, Global};
-use written_programs::accepted_of;
+use test_memory::{Refusing, growths};
+use test_programs::accepted_of;
 
 const ADDS: &str = "int x; void worker(int self) { __transaction_atomic { x = x + 1; } }";
 

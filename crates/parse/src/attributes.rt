@@ -12,7 +12,7 @@ ghost use Rattle.parse.specs.inner.Items.{words, bracket_attributes, gnu_attribu
 ghost use Rattle.parse.specs.inner.Items.{attributes};
 
 use crate::cursor::{count_tokens, expect, expect_close, is_next};
-use crate::fault::Failure;
+use crate::fault::ParseFailure;
 use crate::list::{Element, comma_list};
 use containers::Items;
 use lex::token::{Fixed, Keyword, Kind, Punctuator, Token};
@@ -35,18 +35,20 @@ fn attribute_of(text: &str) -> Option<Attribute>
 }
 
 /// A word that names an attribute: `transaction_safe`, `transaction_unsafe` or `transaction_callable`
-fn word<'t, 'a>(tokens: &'t [Token<'a>]) -> Result<(Attribute, &'t [Token<'a>]), Failure<'t, 'a>>
+fn word<'t, 'a>(
+    tokens: &'t [Token<'a>],
+) -> Result<(Attribute, &'t [Token<'a>]), ParseFailure<'t, 'a>>
     ensures { Gives (λ x. (x.0, toks x.1.now)) result (take the_attribute (toks tokens.now)) }
 {
     let [first, rest @ ..] = tokens else {
-        return Err(Failure::Wrong(tokens));
+        return Err(ParseFailure::Wrong(tokens));
     };
     let Kind::Name(text) = first.kind else {
-        return Err(Failure::Wrong(tokens));
+        return Err(ParseFailure::Wrong(tokens));
     };
     match attribute_of(text) {
         Some(word) => Ok((word, rest)),
-        None => Err(Failure::Wrong(tokens)),
+        None => Err(ParseFailure::Wrong(tokens)),
     }
 }
 
@@ -66,7 +68,7 @@ impl Element<Attribute> for EachWord {
     fn read<'t, 'a>(
         &self,
         tokens: &'t [Token<'a>],
-    ) -> Result<(Attribute, &'t [Token<'a>]), Failure<'t, 'a>> {
+    ) -> Result<(Attribute, &'t [Token<'a>]), ParseFailure<'t, 'a>> {
         word(tokens)
     }
 }
@@ -75,7 +77,7 @@ impl Element<Attribute> for EachWord {
 fn words<'t, 'a, A: Allocator + Copy>(
     alloc: A,
     tokens: &'t [Token<'a>],
-) -> Result<ReadAttributes<'t, 'a, A>, Failure<'t, 'a>>
+) -> Result<ReadAttributes<'t, 'a, A>, ParseFailure<'t, 'a>>
     ensures { Gives (λ x. (x.0, toks x.1.now)) result (words (toks tokens.now)) }
 {
     comma_list(alloc, &EachWord {}, tokens)
@@ -87,7 +89,7 @@ fn doubly_enclosed_words<'t, 'a, A: Allocator + Copy>(
     tokens: &'t [Token<'a>],
     opening: Fixed,
     closing: Fixed,
-) -> Result<ReadAttributes<'t, 'a, A>, Failure<'t, 'a>>
+) -> Result<ReadAttributes<'t, 'a, A>, ParseFailure<'t, 'a>>
     ensures { Gives (λ x. (x.0, toks x.1.now)) result
         (behind opening (behind opening (before closing (before closing words))) (toks tokens.now)) }
 {
@@ -100,7 +102,7 @@ fn doubly_enclosed_words<'t, 'a, A: Allocator + Copy>(
 fn bracket_attributes<'t, 'a, A: Allocator + Copy>(
     alloc: A,
     tokens: &'t [Token<'a>],
-) -> Result<ReadAttributes<'t, 'a, A>, Failure<'t, 'a>>
+) -> Result<ReadAttributes<'t, 'a, A>, ParseFailure<'t, 'a>>
     ensures { Gives (λ x. (x.0, toks x.1.now)) result (bracket_attributes (toks tokens.now)) }
 {
     doubly_enclosed_words(
@@ -115,7 +117,7 @@ fn bracket_attributes<'t, 'a, A: Allocator + Copy>(
 fn gnu_attributes<'t, 'a, A: Allocator + Copy>(
     alloc: A,
     tokens: &'t [Token<'a>],
-) -> Result<ReadAttributes<'t, 'a, A>, Failure<'t, 'a>>
+) -> Result<ReadAttributes<'t, 'a, A>, ParseFailure<'t, 'a>>
     ensures { Gives (λ x. (x.0, toks x.1.now)) result (gnu_attributes (toks tokens.now)) }
 {
     let rest = expect(tokens, Fixed::Keyword(Keyword::Attribute))?;
@@ -131,7 +133,7 @@ fn gnu_attributes<'t, 'a, A: Allocator + Copy>(
 fn attribute_list<'t, 'a, A: Allocator + Copy>(
     alloc: A,
     tokens: &'t [Token<'a>],
-) -> Result<ReadAttributes<'t, 'a, A>, Failure<'t, 'a>>
+) -> Result<ReadAttributes<'t, 'a, A>, ParseFailure<'t, 'a>>
     ensures { Gives (λ x. (x.0, toks x.1.now)) result (attribute_list (toks tokens.now)) }
 {
     if is_next(tokens, Fixed::Punctuator(Punctuator::OpenBracket)) {
@@ -165,7 +167,7 @@ pub fn append_attributes<A: Allocator>(
 pub fn attributes<'t, 'a, A: Allocator + Copy>(
     alloc: A,
     tokens: &'t [Token<'a>],
-) -> Result<ReadAttributes<'t, 'a, A>, Failure<'t, 'a>>
+) -> Result<ReadAttributes<'t, 'a, A>, ParseFailure<'t, 'a>>
     ensures { Gives (λ x. (x.0, toks x.1.now)) result (attributes (toks tokens.now)) }
 {
     let (mut rest, count) = count_tokens(tokens);
@@ -181,6 +183,6 @@ pub fn attributes<'t, 'a, A: Allocator + Copy>(
     if is_plain(rest) {
         Ok((all, rest))
     } else {
-        Err(Failure::Wrong(rest))
+        Err(ParseFailure::Wrong(rest))
     }
 }

@@ -7,7 +7,7 @@ ghost use Rattle.syntax.specs.Views.{name_of};
 ghost use Rattle.syntax.specs.Grammar.{the_name};
 ghost use Rattle.parse.specs.inner.Reading.{Gives, GivesBefore, GivesBehind, expect, expect_span, take, is_next, head};
 
-use crate::fault::Failure;
+use crate::fault::ParseFailure;
 use containers::Text;
 use lex::token::{Fixed, Kind, Span, Token};
 use std::alloc::Allocator;
@@ -36,15 +36,15 @@ fn is(kind: Kind, fixed: Fixed) -> bool
 pub fn expect<'t, 'a>(
     tokens: &'t [Token<'a>],
     fixed: Fixed,
-) -> Result<&'t [Token<'a>], Failure<'t, 'a>>
+) -> Result<&'t [Token<'a>], ParseFailure<'t, 'a>>
     ensures { Gives (λ x. (tt, toks x.now)) result (expect fixed (toks tokens.now)) }
 {
     match tokens {
         [first, rest @ ..] => match first.kind {
             kind if is(kind, fixed) => Ok(rest),
-            _ => Err(Failure::Wrong(tokens)),
+            _ => Err(ParseFailure::Wrong(tokens)),
         },
-        [] => Err(Failure::Wrong(tokens)),
+        [] => Err(ParseFailure::Wrong(tokens)),
     }
 }
 
@@ -65,9 +65,9 @@ pub fn eat<'t, 'a>(tokens: &'t [Token<'a>], fixed: Fixed) -> Option<&'t [Token<'
 /// before it and one behind it is dearer to prove. What was read is dropped here where the token is missing: written
 /// out at each caller, the drop of a tree is dear too.
 pub fn expect_close<'t, 'a, T: Drop>(
-    read: Result<(T, &'t [Token<'a>]), Failure<'t, 'a>>,
+    read: Result<(T, &'t [Token<'a>]), ParseFailure<'t, 'a>>,
     fixed: Fixed,
-) -> Result<(T, &'t [Token<'a>]), Failure<'t, 'a>>
+) -> Result<(T, &'t [Token<'a>]), ParseFailure<'t, 'a>>
     ensures { GivesBefore fixed read.entry result }
 {
     match read {
@@ -85,7 +85,7 @@ pub fn closed_at<'t, 'a, T: Drop>(
     read: T,
     tokens: &'t [Token<'a>],
     fixed: Fixed,
-) -> Result<((T, Span), &'t [Token<'a>]), Failure<'t, 'a>>
+) -> Result<((T, Span), &'t [Token<'a>]), ParseFailure<'t, 'a>>
     ensures value { IfOk result (λ x. x.0.0 ≡ read) }
     ensures rest { Gives (λ x. (x.0.1, toks x.1.now)) result (expect_span fixed (toks tokens.now)) }
 {
@@ -99,15 +99,15 @@ pub fn closed_at<'t, 'a, T: Drop>(
 pub fn expect_span<'t, 'a>(
     tokens: &'t [Token<'a>],
     fixed: Fixed,
-) -> Result<(Span, &'t [Token<'a>]), Failure<'t, 'a>>
+) -> Result<(Span, &'t [Token<'a>]), ParseFailure<'t, 'a>>
     ensures { Gives (λ x. (x.0, toks x.1.now)) result (expect_span fixed (toks tokens.now)) }
 {
     match tokens {
         [first, rest @ ..] => match first.kind {
             kind if is(kind, fixed) => Ok((first.span, rest)),
-            _ => Err(Failure::Wrong(tokens)),
+            _ => Err(ParseFailure::Wrong(tokens)),
         },
-        [] => Err(Failure::Wrong(tokens)),
+        [] => Err(ParseFailure::Wrong(tokens)),
     }
 }
 
@@ -125,7 +125,7 @@ pub fn is_next(tokens: &[Token], fixed: Fixed) -> bool
 pub fn name<'t, 'a, A: Allocator + Copy>(
     alloc: A,
     tokens: &'t [Token<'a>],
-) -> Result<(Name<A>, &'t [Token<'a>]), Failure<'t, 'a>>
+) -> Result<(Name<A>, &'t [Token<'a>]), ParseFailure<'t, 'a>>
     ensures { Gives (λ x. (name_of x.0, toks x.1.now)) result (take the_name (toks tokens.now)) }
 {
     match tokens {
@@ -137,8 +137,8 @@ pub fn name<'t, 'a, A: Allocator + Copy>(
                 },
                 rest,
             )),
-            _ => Err(Failure::Wrong(tokens)),
+            _ => Err(ParseFailure::Wrong(tokens)),
         },
-        [] => Err(Failure::Wrong(tokens)),
+        [] => Err(ParseFailure::Wrong(tokens)),
     }
 }

@@ -18,7 +18,7 @@ ghost use Rattle.parse.specs.inner.Expressions.{transaction};
 ghost use Rattle.parse.specs.inner.Expressions.{whole_at};
 
 use crate::cursor::{closed_at, count_tokens, eat, expect, expect_span, is_next, name};
-use crate::fault::Failure;
+use crate::fault::ParseFailure;
 use crate::lead::{Infix, Operand, infix_of, mode_keyword, operand_at, precedence};
 use crate::node;
 use crate::scalar::{scalar, starts_type};
@@ -44,13 +44,13 @@ pub fn starts_expr(tokens: &[Token]) -> bool
 }
 
 /// Why no expression is read where no depth is left.
-fn too_deep<'t, 'a>(tokens: &'t [Token<'a>]) -> Failure<'t, 'a>
+fn too_deep<'t, 'a>(tokens: &'t [Token<'a>]) -> ParseFailure<'t, 'a>
     ensures { Fails result (too_deep_at {A = E.Expr} starts_expr (toks tokens.now)) }
 {
     if starts_expr(tokens) {
-        Failure::Deep(tokens)
+        ParseFailure::Deep(tokens)
     } else {
-        Failure::Wrong(tokens)
+        ParseFailure::Wrong(tokens)
     }
 }
 
@@ -74,7 +74,7 @@ fn next_op<'t, 'a>(tokens: &'t [Token<'a>], min: usize) -> Option<(Infix, &'t [T
 /// A constant.
 fn constant<'t, 'a, A: Allocator>(
     tokens: &'t [Token<'a>],
-) -> Result<ReadExpr<'t, 'a, A>, Failure<'t, 'a>>
+) -> Result<ReadExpr<'t, 'a, A>, ParseFailure<'t, 'a>>
     ensures value { Gives (λ x. (expr_of x.0, toks x.2.now)) result (take the_constant (toks tokens.now)) }
     ensures deep { IfOk result (λ x. x.1 ≡ expr_depth (expr_of x.0)) }
     ensures flat { IfOk result (λ x. x.1 ≡ 1) }
@@ -82,16 +82,16 @@ fn constant<'t, 'a, A: Allocator>(
     match tokens {
         [first, rest @ ..] => match first.kind {
             Kind::Constant(n, ty) => Ok((Expr::Constant(n, ty, first.span), 1, rest)),
-            _ => Err(Failure::Wrong(tokens)),
+            _ => Err(ParseFailure::Wrong(tokens)),
         },
-        [] => Err(Failure::Wrong(tokens)),
+        [] => Err(ParseFailure::Wrong(tokens)),
     }
 }
 
 /// `-`, `+`, `!` or `~`, and where it stands.
 fn prefix<'t, 'a>(
     tokens: &'t [Token<'a>],
-) -> Result<((UnaryOp, Span), &'t [Token<'a>]), Failure<'t, 'a>>
+) -> Result<((UnaryOp, Span), &'t [Token<'a>]), ParseFailure<'t, 'a>>
     ensures { Gives (λ x. (x.0, toks x.1.now)) result (take the_prefix (toks tokens.now)) }
 {
     match tokens {
@@ -103,9 +103,9 @@ fn prefix<'t, 'a>(
                 (UnaryOp::Complement, first.span),
                 rest,
             )),
-            _ => Err(Failure::Wrong(tokens)),
+            _ => Err(ParseFailure::Wrong(tokens)),
         },
-        [] => Err(Failure::Wrong(tokens)),
+        [] => Err(ParseFailure::Wrong(tokens)),
     }
 }
 
@@ -115,7 +115,7 @@ fn prefix_operation<'t, 'a, A: Allocator + Copy>(
     alloc: A,
     tokens: &'t [Token<'a>],
     depth: usize,
-) -> Result<ReadExpr<'t, 'a, A>, Failure<'t, 'a>>
+) -> Result<ReadExpr<'t, 'a, A>, ParseFailure<'t, 'a>>
     requires { depth < 2 ^ 32 }
     ensures value { Gives (λ x. (expr_of x.0, toks x.2.now)) result
         (prefix_expr (whole_at depth) (expr_at depth 11) (toks tokens.now)) }
@@ -133,7 +133,7 @@ fn cast_or_group<'t, 'a, A: Allocator + Copy>(
     alloc: A,
     tokens: &'t [Token<'a>],
     depth: usize,
-) -> Result<ReadExpr<'t, 'a, A>, Failure<'t, 'a>>
+) -> Result<ReadExpr<'t, 'a, A>, ParseFailure<'t, 'a>>
     requires { depth < 2 ^ 32 }
     ensures value { Gives (λ x. (expr_of x.0, toks x.2.now)) result
         (cast_or_group_expr (whole_at depth) (expr_at depth 11) (toks tokens.now)) }
@@ -159,7 +159,7 @@ fn transaction<'t, 'a, A: Allocator + Copy>(
     tokens: &'t [Token<'a>],
     mode: Mode,
     depth: usize,
-) -> Result<ReadExpr<'t, 'a, A>, Failure<'t, 'a>>
+) -> Result<ReadExpr<'t, 'a, A>, ParseFailure<'t, 'a>>
     requires { depth < 2 ^ 32 }
     ensures value { Gives (λ x. (expr_of x.0, toks x.2.now)) result
         (transaction (whole_at depth) (expr_at depth 11) mode (toks tokens.now)) }
@@ -183,7 +183,7 @@ fn behind<'t, 'a, A: Allocator + Copy>(
     tokens: &'t [Token<'a>],
     fixed: Fixed,
     depth: usize,
-) -> Result<ReadExpr<'t, 'a, A>, Failure<'t, 'a>>
+) -> Result<ReadExpr<'t, 'a, A>, ParseFailure<'t, 'a>>
     requires { depth < 2 ^ 32 }
     ensures value { Gives (λ x. (expr_of x.0, toks x.2.now)) result (behind fixed (whole_at depth) (toks tokens.now)) }
     ensures deep { IfOk result (λ x. x.1 ≡ expr_depth (expr_of x.0)) }
@@ -201,7 +201,7 @@ fn extend<'t, 'a, A: Allocator + Copy>(
     deep: usize,
     tokens: &'t [Token<'a>],
     depth: usize,
-) -> Result<Listed<'t, 'a, A>, Failure<'t, 'a>>
+) -> Result<Listed<'t, 'a, A>, ParseFailure<'t, 'a>>
     requires fits { depth < 2 ^ 32 }
     requires measured { deep ≡ deepest (exprs_of read) }
     requires shallow { deep ≤ depth }
@@ -226,7 +226,7 @@ fn extend<'t, 'a, A: Allocator + Copy>(
         rest = after;
     }
     if is_next(rest, Fixed::Punctuator(Punctuator::Comma)) {
-        return Err(Failure::Wrong(rest));
+        return Err(ParseFailure::Wrong(rest));
     }
     Ok((all, most, rest))
 }
@@ -237,7 +237,7 @@ fn arguments<'t, 'a, A: Allocator + Copy>(
     alloc: A,
     tokens: &'t [Token<'a>],
     depth: usize,
-) -> Result<Listed<'t, 'a, A>, Failure<'t, 'a>>
+) -> Result<Listed<'t, 'a, A>, ParseFailure<'t, 'a>>
     requires { depth < 2 ^ 32 }
     ensures value { Gives (λ x. (map expr_of x.0, toks x.2.now)) result
         (arguments (whole_at depth) (expr_at depth 11) (toks tokens.now)) }
@@ -259,7 +259,7 @@ fn name_expr<'t, 'a, A: Allocator + Copy>(
     alloc: A,
     tokens: &'t [Token<'a>],
     depth: usize,
-) -> Result<ReadExpr<'t, 'a, A>, Failure<'t, 'a>>
+) -> Result<ReadExpr<'t, 'a, A>, ParseFailure<'t, 'a>>
     requires { depth < 2 ^ 32 }
     ensures value { Gives (λ x. (expr_of x.0, toks x.2.now)) result
         (name_or_call (whole_at depth) (expr_at depth 11) (toks tokens.now)) }
@@ -294,7 +294,7 @@ fn operand<'t, 'a, A: Allocator + Copy>(
     alloc: A,
     tokens: &'t [Token<'a>],
     depth: usize,
-) -> Result<ReadExpr<'t, 'a, A>, Failure<'t, 'a>>
+) -> Result<ReadExpr<'t, 'a, A>, ParseFailure<'t, 'a>>
     requires { depth < 2 ^ 32 }
     ensures value { Gives (λ x. (expr_of x.0, toks x.2.now)) result
         (operand (whole_at depth) (expr_at depth 11) (toks tokens.now)) }
@@ -307,7 +307,7 @@ fn operand<'t, 'a, A: Allocator + Copy>(
         Operand::Open => cast_or_group(alloc, tokens, depth),
         Operand::Prefix => prefix_operation(alloc, tokens, depth),
         Operand::Transaction(mode) => transaction(alloc, tokens, mode, depth),
-        Operand::None => Err(Failure::Wrong(tokens)),
+        Operand::None => Err(ParseFailure::Wrong(tokens)),
     }
 }
 
@@ -319,7 +319,7 @@ fn climb<'t, 'a, A: Allocator + Copy>(
     tokens: &'t [Token<'a>],
     depth: usize,
     min: usize,
-) -> Result<ReadExpr<'t, 'a, A>, Failure<'t, 'a>>
+) -> Result<ReadExpr<'t, 'a, A>, ParseFailure<'t, 'a>>
     requires fits { depth < 2 ^ 32 }
     requires operators { 1 ≤ min }
     ensures value { Gives (λ x. (expr_of x.0, toks x.2.now)) result (expr_at depth min (toks tokens.now)) }
@@ -337,7 +337,7 @@ fn climb<'t, 'a, A: Allocator + Copy>(
         };
         if deep >= depth {
             drop(left);
-            return Err(Failure::Deep(rest));
+            return Err(ParseFailure::Deep(rest));
         }
         match climb(alloc, after, below, precedence(op) + 1) {
             Ok((right, right_deep, after)) => {
@@ -354,7 +354,7 @@ fn climb<'t, 'a, A: Allocator + Copy>(
     match next_op(rest, min) {
         Some(_) => {
             drop(left);
-            Err(Failure::Deep(rest))
+            Err(ParseFailure::Deep(rest))
         }
         None => Ok((left, deep, rest)),
     }
@@ -366,7 +366,7 @@ fn outcomes<'t, 'a, A: Allocator + Copy>(
     alloc: A,
     tokens: &'t [Token<'a>],
     depth: usize,
-) -> Result<(Expr<A>, Expr<A>, usize, &'t [Token<'a>]), Failure<'t, 'a>>
+) -> Result<(Expr<A>, Expr<A>, usize, &'t [Token<'a>]), ParseFailure<'t, 'a>>
     requires { depth < 2 ^ 32 }
     ensures value { Gives (λ x. ((expr_of x.0, expr_of x.1), toks x.3.now)) result
         (outcomes (whole_at depth) (toks tokens.now)) }
@@ -392,7 +392,7 @@ fn conditional<'t, 'a, A: Allocator + Copy>(
     deep: usize,
     tokens: &'t [Token<'a>],
     depth: usize,
-) -> Result<ReadExpr<'t, 'a, A>, Failure<'t, 'a>>
+) -> Result<ReadExpr<'t, 'a, A>, ParseFailure<'t, 'a>>
     requires fits { depth < 2 ^ 32 }
     requires measured { deep ≡ expr_depth (expr_of condition) }
     requires shallow { deep ≤ depth + 1 }
@@ -406,7 +406,7 @@ fn conditional<'t, 'a, A: Allocator + Copy>(
     }
     if deep > depth {
         drop(condition);
-        return Err(Failure::Deep(tokens));
+        return Err(ParseFailure::Deep(tokens));
     }
     match outcomes(alloc, tokens, depth) {
         Ok((then, other, most, rest)) => {
@@ -426,7 +426,7 @@ fn whole<'t, 'a, A: Allocator + Copy>(
     alloc: A,
     tokens: &'t [Token<'a>],
     depth: usize,
-) -> Result<ReadExpr<'t, 'a, A>, Failure<'t, 'a>>
+) -> Result<ReadExpr<'t, 'a, A>, ParseFailure<'t, 'a>>
     requires { depth < 2 ^ 32 }
     ensures value { Gives (λ x. (expr_of x.0, toks x.2.now)) result (whole_at depth (toks tokens.now)) }
     ensures deep { IfOk result (λ x. x.1 ≡ expr_depth (expr_of x.0)) }
@@ -444,7 +444,7 @@ pub fn expression<'t, 'a, A: Allocator + Copy>(
     alloc: A,
     tokens: &'t [Token<'a>],
     depth: usize,
-) -> Result<(Expr<A>, &'t [Token<'a>]), Failure<'t, 'a>>
+) -> Result<(Expr<A>, &'t [Token<'a>]), ParseFailure<'t, 'a>>
     requires { depth < 2 ^ 32 }
     ensures { Gives (λ x. (expr_of x.0, toks x.1.now)) result (whole_at depth (toks tokens.now)) }
 {
@@ -457,7 +457,7 @@ pub fn further<'t, 'a, A: Allocator + Copy>(
     alloc: A,
     tokens: &'t [Token<'a>],
     depth: usize,
-) -> Result<(Items<Expr<A>, A>, &'t [Token<'a>]), Failure<'t, 'a>>
+) -> Result<(Items<Expr<A>, A>, &'t [Token<'a>]), ParseFailure<'t, 'a>>
     requires { depth < 2 ^ 32 }
     ensures { Gives (λ x. (map expr_of x.0, toks x.1.now)) result
         (many_until (is_other (token.Punctuator punct.Comma)) (behind (token.Punctuator punct.Comma) (whole_at depth))

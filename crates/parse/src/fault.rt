@@ -1,7 +1,7 @@
 //! Why a list of tokens is no program, and what stops the parser in the middle of one.
 
 ghost use Rattle.std.specs.Prelude.{◌≡◌};
-ghost use Rattle.parse.specs.declared.fault.Failure.TheVariants.{Memory};
+ghost use Rattle.parse.specs.declared.fault.ParseFailure.TheVariants.{Memory};
 ghost use Rattle.parse.specs.Faults.{number_of, span_of};
 
 use lex::token::{Span, Token};
@@ -55,24 +55,24 @@ impl ParseFault {
 
 /// What stops a descent, with the tokens from the place where it stops.
 #[derive(Drop)]
-pub enum Failure<'t, 'a> {
+pub enum ParseFailure<'t, 'a> {
     Memory,
     Wrong(&'t [Token<'a>]),
     Deep(&'t [Token<'a>]),
 }
 
-impl<'t, 'a> From<AllocError> for Failure<'t, 'a> {
+impl<'t, 'a> From<AllocError> for ParseFailure<'t, 'a> {
     ghost from_gives = { λ _ e. e ≡ Memory };
 
-    fn from(_e: AllocError) -> Failure<'t, 'a> {
-        Failure::Memory
+    fn from(_e: AllocError) -> ParseFailure<'t, 'a> {
+        ParseFailure::Memory
     }
 }
 
-impl<'t, 'a, T: Drop> From<AllocFailed<T>> for Failure<'t, 'a> {
+impl<'t, 'a, T: Drop> From<AllocFailed<T>> for ParseFailure<'t, 'a> {
     ghost from_gives = { λ _ e. e ≡ Memory };
 
-    fn from(_e: AllocFailed<T>) -> Failure<'t, 'a> {
-        Failure::Memory
+    fn from(_e: AllocFailed<T>) -> ParseFailure<'t, 'a> {
+        ParseFailure::Memory
     }
 }

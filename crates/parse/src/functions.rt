@@ -17,7 +17,7 @@ ghost use Rattle.parse.specs.inner.Headings.{heading_of};
 
 use crate::attributes::{append_attributes, attributes};
 use crate::cursor::{eat, expect, expect_close, is_next, name};
-use crate::fault::Failure;
+use crate::fault::ParseFailure;
 use crate::list::{Element, comma_list};
 use crate::scalar::scalar;
 use crate::stmt::block;
@@ -39,7 +39,7 @@ pub struct Heading<A: Allocator> {
 /// `void` or `type`: the type of a function's value.
 fn result<'t, 'a>(
     tokens: &'t [Token<'a>],
-) -> Result<(Option<Scalar>, &'t [Token<'a>]), Failure<'t, 'a>>
+) -> Result<(Option<Scalar>, &'t [Token<'a>]), ParseFailure<'t, 'a>>
     ensures { Gives (λ x. (x.0, toks x.1.now)) result (items.result (toks tokens.now)) }
 {
     if let Some(rest) = eat(tokens, Fixed::Keyword(Keyword::Void)) {
@@ -53,7 +53,7 @@ fn result<'t, 'a>(
 pub fn header<'t, 'a, A: Allocator + Copy>(
     alloc: A,
     tokens: &'t [Token<'a>],
-) -> Result<(Heading<A>, &'t [Token<'a>]), Failure<'t, 'a>>
+) -> Result<(Heading<A>, &'t [Token<'a>]), ParseFailure<'t, 'a>>
     ensures { Gives (λ x. (heading_of x.0, toks x.1.now)) result (header (toks tokens.now)) }
 {
     let (attributes, rest) = attributes(alloc, tokens)?;
@@ -83,7 +83,7 @@ fn is_name(tokens: &[Token]) -> bool
 fn parameter<'t, 'a, A: Allocator + Copy>(
     alloc: A,
     tokens: &'t [Token<'a>],
-) -> Result<(Parameter<A>, &'t [Token<'a>]), Failure<'t, 'a>>
+) -> Result<(Parameter<A>, &'t [Token<'a>]), ParseFailure<'t, 'a>>
     ensures { Gives (λ x. (parameter_of x.0, toks x.1.now)) result (parameter (toks tokens.now)) }
 {
     let (ty, rest) = scalar(tokens)?;
@@ -113,7 +113,7 @@ impl<A: Allocator + Copy> Element<Parameter<A>> for EachParameter<A> {
     fn read<'t, 'a>(
         &self,
         tokens: &'t [Token<'a>],
-    ) -> Result<(Parameter<A>, &'t [Token<'a>]), Failure<'t, 'a>> {
+    ) -> Result<(Parameter<A>, &'t [Token<'a>]), ParseFailure<'t, 'a>> {
         parameter(self.alloc, tokens)
     }
 }
@@ -122,7 +122,7 @@ impl<A: Allocator + Copy> Element<Parameter<A>> for EachParameter<A> {
 fn parameter_list<'t, 'a, A: Allocator + Copy>(
     alloc: A,
     tokens: &'t [Token<'a>],
-) -> Result<(Items<Parameter<A>, A>, &'t [Token<'a>]), Failure<'t, 'a>>
+) -> Result<(Items<Parameter<A>, A>, &'t [Token<'a>]), ParseFailure<'t, 'a>>
     ensures { Gives (λ x. (map parameter_of x.0, toks x.1.now)) result (parameter_list (toks tokens.now)) }
 {
     if is_next(tokens, Fixed::Punctuator(Punctuator::CloseParen)) {
@@ -138,7 +138,7 @@ fn parameter_list<'t, 'a, A: Allocator + Copy>(
 fn parameters<'t, 'a, A: Allocator + Copy>(
     alloc: A,
     tokens: &'t [Token<'a>],
-) -> Result<(Items<Parameter<A>, A>, &'t [Token<'a>]), Failure<'t, 'a>>
+) -> Result<(Items<Parameter<A>, A>, &'t [Token<'a>]), ParseFailure<'t, 'a>>
     ensures { Gives (λ x. (map parameter_of x.0, toks x.1.now)) result (parameters (toks tokens.now)) }
 {
     let rest = expect(tokens, Fixed::Punctuator(Punctuator::OpenParen))?;
@@ -161,7 +161,7 @@ fn body<'t, 'a, A: Allocator + Copy>(
     tokens: &'t [Token<'a>],
     depth: usize,
     parameters: &[Parameter<A>],
-) -> Result<(Option<Items<Stmt<A>, A>>, &'t [Token<'a>]), Failure<'t, 'a>>
+) -> Result<(Option<Items<Stmt<A>, A>>, &'t [Token<'a>]), ParseFailure<'t, 'a>>
     requires { depth < 2 ^ 32 }
     ensures { Gives (λ x. (option_map stmts_of x.0, toks x.1.now)) result
         (body_at depth (map parameter_of parameters.now) (toks tokens.now)) }
@@ -171,7 +171,7 @@ fn body<'t, 'a, A: Allocator + Copy>(
         return Ok((None, rest));
     }
     if !are_named(parameters) {
-        return Err(Failure::Wrong(tokens));
+        return Err(ParseFailure::Wrong(tokens));
     }
     let (body, rest) = block(alloc, tokens, depth)?;
     Ok((Some(body), rest))
@@ -183,7 +183,7 @@ pub fn function<'t, 'a, A: Allocator + Copy>(
     tokens: &'t [Token<'a>],
     depth: usize,
     heading: Heading<A>,
-) -> Result<(Item<A>, &'t [Token<'a>]), Failure<'t, 'a>>
+) -> Result<(Item<A>, &'t [Token<'a>]), ParseFailure<'t, 'a>>
     requires { depth < 2 ^ 32 }
     ensures { Gives (λ x. (item_of x.0, toks x.1.now)) result
         (function_at depth (heading_of heading) (toks tokens.now)) }

@@ -14,7 +14,7 @@ ghost use Rattle.parse.specs.inner.Items.{global};
 ghost use Rattle.parse.specs.inner.Items.{value_list, several, globals_from};
 
 use crate::cursor::{eat, expect, expect_close, expect_span, is_next, name};
-use crate::fault::Failure;
+use crate::fault::ParseFailure;
 use crate::list::{Element, further, one};
 use containers::Items;
 use lex::token::{Fixed, Kind, Punctuator, Scalar, Span, Token};
@@ -34,37 +34,37 @@ type Sized<'t, 'a, A> = (
 );
 
 /// A constant, with its type and its span.
-fn constant<'t, 'a>(tokens: &'t [Token<'a>]) -> Result<Placed<'t, 'a>, Failure<'t, 'a>>
+fn constant<'t, 'a>(tokens: &'t [Token<'a>]) -> Result<Placed<'t, 'a>, ParseFailure<'t, 'a>>
     ensures { Gives (λ x. (x.0, toks x.1.now)) result (take value_with_span (toks tokens.now)) }
 {
     match tokens {
         [first, rest @ ..] => match first.kind {
             Kind::Constant(n, ty) => Ok((((n, ty), first.span), rest)),
-            _ => Err(Failure::Wrong(tokens)),
+            _ => Err(ParseFailure::Wrong(tokens)),
         },
-        [] => Err(Failure::Wrong(tokens)),
+        [] => Err(ParseFailure::Wrong(tokens)),
     }
 }
 
 /// An array's length, and where it stands.
 fn length<'t, 'a>(
     tokens: &'t [Token<'a>],
-) -> Result<((u64, Span), &'t [Token<'a>]), Failure<'t, 'a>>
+) -> Result<((u64, Span), &'t [Token<'a>]), ParseFailure<'t, 'a>>
     ensures { Gives (λ x. (x.0, toks x.1.now)) result (take the_length (toks tokens.now)) }
 {
     match tokens {
         [first, rest @ ..] => match first.kind {
             Kind::Constant(n, _) => Ok(((n, first.span), rest)),
-            _ => Err(Failure::Wrong(tokens)),
+            _ => Err(ParseFailure::Wrong(tokens)),
         },
-        [] => Err(Failure::Wrong(tokens)),
+        [] => Err(ParseFailure::Wrong(tokens)),
     }
 }
 
 /// `[ length ]`
 fn array_length<'t, 'a>(
     tokens: &'t [Token<'a>],
-) -> Result<((u64, Span), &'t [Token<'a>]), Failure<'t, 'a>>
+) -> Result<((u64, Span), &'t [Token<'a>]), ParseFailure<'t, 'a>>
     ensures { Gives (λ x. (x.0, toks x.1.now)) result
         (behind (token.Punctuator punct.OpenBracket) (before (token.Punctuator punct.CloseBracket) (take the_length))
         (toks tokens.now)) }
@@ -76,7 +76,7 @@ fn array_length<'t, 'a>(
 /// `[-] constant`
 fn initialiser<'t, 'a>(
     tokens: &'t [Token<'a>],
-) -> Result<(Initialiser, &'t [Token<'a>]), Failure<'t, 'a>>
+) -> Result<(Initialiser, &'t [Token<'a>]), ParseFailure<'t, 'a>>
     ensures { Gives (λ x. (x.0, toks x.1.now)) result (initialiser (toks tokens.now)) }
 {
     if !is_next(tokens, Fixed::Punctuator(Punctuator::Minus)) {
@@ -107,7 +107,7 @@ fn initialiser<'t, 'a>(
 fn first_value<'t, 'a, A: Allocator + Copy>(
     alloc: A,
     tokens: &'t [Token<'a>],
-) -> Result<Firsts<'t, 'a, A>, Failure<'t, 'a>>
+) -> Result<Firsts<'t, 'a, A>, ParseFailure<'t, 'a>>
     ensures { Gives (λ x. (x.0, toks x.1.now)) result (first_value (toks tokens.now)) }
 {
     let Some(rest) = eat(tokens, Fixed::Punctuator(Punctuator::Assign)) else {
@@ -121,7 +121,7 @@ fn first_value<'t, 'a, A: Allocator + Copy>(
 fn value_list<'t, 'a, A: Allocator + Copy>(
     alloc: A,
     tokens: &'t [Token<'a>],
-) -> Result<Firsts<'t, 'a, A>, Failure<'t, 'a>>
+) -> Result<Firsts<'t, 'a, A>, ParseFailure<'t, 'a>>
     ensures { Gives (λ x. (x.0, toks x.1.now)) result (value_list (toks tokens.now)) }
 {
     let (first, inner) = initialiser(tokens)?;
@@ -140,7 +140,7 @@ fn value_list<'t, 'a, A: Allocator + Copy>(
         rest = after;
     }
     if is_next(rest, Fixed::Punctuator(Punctuator::Comma)) {
-        return Err(Failure::Wrong(rest));
+        return Err(ParseFailure::Wrong(rest));
     }
     Ok((all, rest))
 }
@@ -149,7 +149,7 @@ fn value_list<'t, 'a, A: Allocator + Copy>(
 fn first_values<'t, 'a, A: Allocator + Copy>(
     alloc: A,
     tokens: &'t [Token<'a>],
-) -> Result<Firsts<'t, 'a, A>, Failure<'t, 'a>>
+) -> Result<Firsts<'t, 'a, A>, ParseFailure<'t, 'a>>
     ensures { Gives (λ x. (x.0, toks x.1.now)) result (first_values (toks tokens.now)) }
 {
     let Some(rest) = eat(tokens, Fixed::Punctuator(Punctuator::Assign)) else {
@@ -166,7 +166,7 @@ fn first_values<'t, 'a, A: Allocator + Copy>(
 fn global_tail<'t, 'a, A: Allocator + Copy>(
     alloc: A,
     tokens: &'t [Token<'a>],
-) -> Result<Sized<'t, 'a, A>, Failure<'t, 'a>>
+) -> Result<Sized<'t, 'a, A>, ParseFailure<'t, 'a>>
     ensures { Gives (λ x. ((x.0.0, x.0.1), toks x.1.now)) result (global_tail (toks tokens.now)) }
 {
     if !is_next(tokens, Fixed::Punctuator(Punctuator::OpenBracket)) {
@@ -197,7 +197,7 @@ impl<A: Allocator + Copy> Element<Global<A>> for EachGlobal<A> {
     fn read<'t, 'a>(
         &self,
         tokens: &'t [Token<'a>],
-    ) -> Result<(Global<A>, &'t [Token<'a>]), Failure<'t, 'a>> {
+    ) -> Result<(Global<A>, &'t [Token<'a>]), ParseFailure<'t, 'a>> {
         let (name, rest) = name(self.alloc, tokens)?;
         let ((length, first), rest) = global_tail(self.alloc, rest)?;
         let ty = self.ty;
@@ -219,7 +219,7 @@ fn several<'t, 'a, A: Allocator + Copy>(
     tokens: &'t [Token<'a>],
     ty: Scalar,
     name: Name<A>,
-) -> Result<(Items<Global<A>, A>, &'t [Token<'a>]), Failure<'t, 'a>>
+) -> Result<(Items<Global<A>, A>, &'t [Token<'a>]), ParseFailure<'t, 'a>>
     ensures { Gives (λ x. (map global_of x.0, toks x.1.now)) result (several ty (name_of name) (toks tokens.now)) }
 {
     let ((length, first), rest) = global_tail(alloc, tokens)?;
@@ -239,7 +239,7 @@ pub fn globals<'t, 'a, A: Allocator + Copy>(
     tokens: &'t [Token<'a>],
     ty: Scalar,
     name: Name<A>,
-) -> Result<(Item<A>, &'t [Token<'a>]), Failure<'t, 'a>>
+) -> Result<(Item<A>, &'t [Token<'a>]), ParseFailure<'t, 'a>>
     ensures { Gives (λ x. (item_of x.0, toks x.1.now)) result (globals_from ty (name_of name) (toks tokens.now)) }
 {
     let (all, rest) = expect_close(

@@ -7,7 +7,7 @@ ghost use Rattle.lex.specs.declared.token.Punctuator.TheVariants as punct;
 ghost use Rattle.parse.specs.inner.Reading.{Gives, Parser, behind, is_other, comma_list, many_until, map_parser};
 
 use crate::cursor::{count_tokens, eat, is_next};
-use crate::fault::Failure;
+use crate::fault::ParseFailure;
 use containers::Items;
 use lex::token::{Fixed, Punctuator, Token};
 use std::alloc::{AllocError, Allocator};
@@ -23,7 +23,10 @@ pub trait Element<T> {
     ghost reads: { Self → Parser Plain };
 
     /// The element at the front.
-    fn read<'t, 'a>(&self, tokens: &'t [Token<'a>]) -> Result<(T, &'t [Token<'a>]), Failure<'t, 'a>>
+    fn read<'t, 'a>(
+        &self,
+        tokens: &'t [Token<'a>],
+    ) -> Result<(T, &'t [Token<'a>]), ParseFailure<'t, 'a>>
         requires { can self.now }
         ensures { Gives (λ x. (plain x.0, toks x.1.now)) result (reads self.now (toks tokens.now)) };
 }
@@ -43,7 +46,7 @@ pub fn further<'t, 'a, T: Drop, E: Element<T>, A: Allocator>(
     element: &E,
     read: Items<T, A>,
     tokens: &'t [Token<'a>],
-) -> Result<(Items<T, A>, &'t [Token<'a>]), Failure<'t, 'a>>
+) -> Result<(Items<T, A>, &'t [Token<'a>]), ParseFailure<'t, 'a>>
     requires { E.can element.now }
     ensures { Gives (λ x. (map E.plain x.0, toks x.1.now)) result
         (map_parser (λ xs. map E.plain read ++ xs)
@@ -62,7 +65,7 @@ pub fn further<'t, 'a, T: Drop, E: Element<T>, A: Allocator>(
         rest = after;
     }
     if is_next(rest, Fixed::Punctuator(Punctuator::Comma)) {
-        return Err(Failure::Wrong(rest));
+        return Err(ParseFailure::Wrong(rest));
     }
     Ok((all, rest))
 }
@@ -72,7 +75,7 @@ pub fn comma_list<'t, 'a, T: Drop, E: Element<T>, A: Allocator + Copy>(
     alloc: A,
     element: &E,
     tokens: &'t [Token<'a>],
-) -> Result<(Items<T, A>, &'t [Token<'a>]), Failure<'t, 'a>>
+) -> Result<(Items<T, A>, &'t [Token<'a>]), ParseFailure<'t, 'a>>
     requires { E.can element.now }
     ensures { Gives (λ x. (map E.plain x.0, toks x.1.now)) result (comma_list (E.reads element.now) (toks tokens.now)) }
 {

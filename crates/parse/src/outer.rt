@@ -8,7 +8,7 @@ ghost use Rattle.parse.specs.inner.Statements.{enclosed_outer, begins_outer_attr
 ghost use Rattle.parse.specs.inner.Statements.{outer_attribute};
 
 use crate::cursor::{expect, is_next};
-use crate::fault::Failure;
+use crate::fault::ParseFailure;
 use lex::token::{Fixed, Keyword, Kind, Punctuator, Token};
 
 /// Whether a name is `outer`.
@@ -22,19 +22,19 @@ fn is_outer(text: &str) -> bool
 }
 
 /// `outer`
-fn outer<'t, 'a>(tokens: &'t [Token<'a>]) -> Result<&'t [Token<'a>], Failure<'t, 'a>>
+fn outer<'t, 'a>(tokens: &'t [Token<'a>]) -> Result<&'t [Token<'a>], ParseFailure<'t, 'a>>
     ensures { Gives (λ x. (tt, toks x.now)) result (take the_outer (toks tokens.now)) }
 {
     let [first, rest @ ..] = tokens else {
-        return Err(Failure::Wrong(tokens));
+        return Err(ParseFailure::Wrong(tokens));
     };
     let Kind::Name(text) = first.kind else {
-        return Err(Failure::Wrong(tokens));
+        return Err(ParseFailure::Wrong(tokens));
     };
     if is_outer(text) {
         Ok(rest)
     } else {
-        Err(Failure::Wrong(tokens))
+        Err(ParseFailure::Wrong(tokens))
     }
 }
 
@@ -43,7 +43,7 @@ fn enclosed_outer<'t, 'a>(
     tokens: &'t [Token<'a>],
     opening: Fixed,
     closing: Fixed,
-) -> Result<&'t [Token<'a>], Failure<'t, 'a>>
+) -> Result<&'t [Token<'a>], ParseFailure<'t, 'a>>
     ensures { Gives (λ x. (tt, toks x.now)) result (enclosed_outer opening closing (toks tokens.now)) }
 {
     let rest = expect(tokens, opening)?;
@@ -54,7 +54,7 @@ fn enclosed_outer<'t, 'a>(
 }
 
 /// `[[ outer ]]` or `__attribute__ (( outer ))`
-fn outer_attribute<'t, 'a>(tokens: &'t [Token<'a>]) -> Result<&'t [Token<'a>], Failure<'t, 'a>>
+fn outer_attribute<'t, 'a>(tokens: &'t [Token<'a>]) -> Result<&'t [Token<'a>], ParseFailure<'t, 'a>>
     ensures { Gives (λ x. (tt, toks x.now)) result (outer_attribute (toks tokens.now)) }
 {
     if is_next(tokens, Fixed::Punctuator(Punctuator::OpenBracket)) {
@@ -83,7 +83,7 @@ fn begins_outer_attribute(tokens: &[Token]) -> bool
 /// `[outer]`: whether it stands here.
 pub fn has_outer_attribute<'t, 'a>(
     tokens: &'t [Token<'a>],
-) -> Result<(bool, &'t [Token<'a>]), Failure<'t, 'a>>
+) -> Result<(bool, &'t [Token<'a>]), ParseFailure<'t, 'a>>
     ensures { Gives (λ x. (x.0, toks x.1.now)) result (outer_attribute_if_any (toks tokens.now)) }
 {
     if !begins_outer_attribute(tokens) {

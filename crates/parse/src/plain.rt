@@ -13,7 +13,7 @@ ghost use Rattle.parse.specs.inner.Statements.{simple_at, print_arguments, print
 
 use crate::cursor::{expect, expect_close, expect_span};
 use crate::expr::further;
-use crate::fault::Failure;
+use crate::fault::ParseFailure;
 use crate::outer::has_outer_attribute;
 use crate::simple::{last_expression, simple_before};
 use containers::{Items, Text};
@@ -25,7 +25,7 @@ use syntax::tree::{Expr, Stmt};
 /// `;`
 pub fn empty_stmt<'t, 'a, A: Allocator + Copy>(
     tokens: &'t [Token<'a>],
-) -> Result<(Stmt<A>, &'t [Token<'a>]), Failure<'t, 'a>>
+) -> Result<(Stmt<A>, &'t [Token<'a>]), ParseFailure<'t, 'a>>
     ensures { Gives (λ x. (stmt_of x.0, toks x.1.now)) result
         (map_parser (λ _. Empty) (expect (token.Punctuator punct.Semicolon)) (toks tokens.now)) }
 {
@@ -38,7 +38,7 @@ pub fn simple_stmt<'t, 'a, A: Allocator + Copy>(
     alloc: A,
     tokens: &'t [Token<'a>],
     depth: usize,
-) -> Result<(Stmt<A>, &'t [Token<'a>]), Failure<'t, 'a>>
+) -> Result<(Stmt<A>, &'t [Token<'a>]), ParseFailure<'t, 'a>>
     requires { depth < 2 ^ 32 }
     ensures { Gives (λ x. (stmt_of x.0, toks x.1.now)) result
         (map_parser Do (before (token.Punctuator punct.Semicolon) (simple_at depth)) (toks tokens.now)) }
@@ -56,14 +56,14 @@ pub fn simple_stmt<'t, 'a, A: Allocator + Copy>(
 fn text<'t, 'a, A: Allocator + Copy>(
     alloc: A,
     tokens: &'t [Token<'a>],
-) -> Result<((Text<A>, Span), &'t [Token<'a>]), Failure<'t, 'a>>
+) -> Result<((Text<A>, Span), &'t [Token<'a>]), ParseFailure<'t, 'a>>
     ensures { Gives (λ x. (x.0, toks x.1.now)) result (take the_text (toks tokens.now)) }
 {
     let [first, rest @ ..] = tokens else {
-        return Err(Failure::Wrong(tokens));
+        return Err(ParseFailure::Wrong(tokens));
     };
     let Kind::StringLiteral(written) = first.kind else {
-        return Err(Failure::Wrong(tokens));
+        return Err(ParseFailure::Wrong(tokens));
     };
     let text = unescape(alloc, written)?;
     Ok(((Text::from_string(text), first.span), rest))
@@ -74,7 +74,7 @@ fn print_tail<'t, 'a, A: Allocator + Copy>(
     alloc: A,
     tokens: &'t [Token<'a>],
     depth: usize,
-) -> Result<(Items<Expr<A>, A>, &'t [Token<'a>]), Failure<'t, 'a>>
+) -> Result<(Items<Expr<A>, A>, &'t [Token<'a>]), ParseFailure<'t, 'a>>
     requires { depth < 2 ^ 32 }
     ensures { Gives (λ x. (map expr_of x.0, toks x.1.now)) result (print_arguments depth (toks tokens.now)) }
 {
@@ -92,7 +92,7 @@ pub fn print_stmt<'t, 'a, A: Allocator + Copy>(
     alloc: A,
     tokens: &'t [Token<'a>],
     depth: usize,
-) -> Result<(Stmt<A>, &'t [Token<'a>]), Failure<'t, 'a>>
+) -> Result<(Stmt<A>, &'t [Token<'a>]), ParseFailure<'t, 'a>>
     requires { depth < 2 ^ 32 }
     ensures { Gives (λ x. (stmt_of x.0, toks x.1.now)) result (print_stmt depth (toks tokens.now)) }
 {
@@ -107,7 +107,7 @@ pub fn print_stmt<'t, 'a, A: Allocator + Copy>(
 fn alone<'t, 'a>(
     tokens: &'t [Token<'a>],
     fixed: Fixed,
-) -> Result<(Span, &'t [Token<'a>]), Failure<'t, 'a>>
+) -> Result<(Span, &'t [Token<'a>]), ParseFailure<'t, 'a>>
     ensures { Gives (λ x. (x.0, toks x.1.now)) result
         (before (token.Punctuator punct.Semicolon) (expect_span fixed) (toks tokens.now)) }
 {
@@ -120,7 +120,7 @@ fn alone<'t, 'a>(
 /// `break ;`
 pub fn break_stmt<'t, 'a, A: Allocator + Copy>(
     tokens: &'t [Token<'a>],
-) -> Result<(Stmt<A>, &'t [Token<'a>]), Failure<'t, 'a>>
+) -> Result<(Stmt<A>, &'t [Token<'a>]), ParseFailure<'t, 'a>>
     ensures { Gives (λ x. (stmt_of x.0, toks x.1.now)) result
         (map_parser Break (before (token.Punctuator punct.Semicolon) (expect_span (token.Keyword key.Break)))
         (toks tokens.now)) }
@@ -132,7 +132,7 @@ pub fn break_stmt<'t, 'a, A: Allocator + Copy>(
 /// `continue ;`
 pub fn continue_stmt<'t, 'a, A: Allocator + Copy>(
     tokens: &'t [Token<'a>],
-) -> Result<(Stmt<A>, &'t [Token<'a>]), Failure<'t, 'a>>
+) -> Result<(Stmt<A>, &'t [Token<'a>]), ParseFailure<'t, 'a>>
     ensures { Gives (λ x. (stmt_of x.0, toks x.1.now)) result
         (map_parser Continue (before (token.Punctuator punct.Semicolon) (expect_span (token.Keyword key.Continue)))
         (toks tokens.now)) }
@@ -144,7 +144,7 @@ pub fn continue_stmt<'t, 'a, A: Allocator + Copy>(
 /// `__transaction_cancel [outer] ;`
 pub fn cancel_stmt<'t, 'a, A: Allocator + Copy>(
     tokens: &'t [Token<'a>],
-) -> Result<(Stmt<A>, &'t [Token<'a>]), Failure<'t, 'a>>
+) -> Result<(Stmt<A>, &'t [Token<'a>]), ParseFailure<'t, 'a>>
     ensures { Gives (λ x. (stmt_of x.0, toks x.1.now)) result (cancel_stmt (toks tokens.now)) }
 {
     let (span, rest) = expect_span(tokens, Fixed::Keyword(Keyword::Cancel))?;
@@ -162,7 +162,7 @@ pub fn return_stmt<'t, 'a, A: Allocator + Copy>(
     alloc: A,
     tokens: &'t [Token<'a>],
     depth: usize,
-) -> Result<(Stmt<A>, &'t [Token<'a>]), Failure<'t, 'a>>
+) -> Result<(Stmt<A>, &'t [Token<'a>]), ParseFailure<'t, 'a>>
     requires { depth < 2 ^ 32 }
     ensures { Gives (λ x. (stmt_of x.0, toks x.1.now)) result (return_stmt depth (toks tokens.now)) }
 {

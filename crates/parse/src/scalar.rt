@@ -6,7 +6,7 @@ ghost use Rattle.parse.specs.inner.Reading.{Gives, take, head};
 ghost use Rattle.parse.specs.inner.Expressions.{the_type_word, starts_type, longer, long_long, type_from, scalar};
 
 use crate::cursor::{eat, expect};
-use crate::fault::Failure;
+use crate::fault::ParseFailure;
 use lex::token::{Fixed, Keyword, Kind, Scalar, Token};
 
 /// Whether a type begins here.
@@ -35,7 +35,7 @@ pub enum TypeWord {
 /// The word that a type begins with.
 fn type_word<'t, 'a>(
     tokens: &'t [Token<'a>],
-) -> Result<(TypeWord, &'t [Token<'a>]), Failure<'t, 'a>>
+) -> Result<(TypeWord, &'t [Token<'a>]), ParseFailure<'t, 'a>>
     ensures { Gives (λ x. (x.0, toks x.1.now)) result (take the_type_word (toks tokens.now)) }
 {
     match tokens {
@@ -44,9 +44,9 @@ fn type_word<'t, 'a>(
             Kind::Keyword(Keyword::Signed) => Ok((TypeWord::Signed, rest)),
             Kind::Keyword(Keyword::Unsigned) => Ok((TypeWord::Unsigned, rest)),
             Kind::Keyword(Keyword::Long) => Ok((TypeWord::Long, rest)),
-            _ => Err(Failure::Wrong(tokens)),
+            _ => Err(ParseFailure::Wrong(tokens)),
         },
-        [] => Err(Failure::Wrong(tokens)),
+        [] => Err(ParseFailure::Wrong(tokens)),
     }
 }
 
@@ -54,7 +54,7 @@ fn type_word<'t, 'a>(
 fn longer<'t, 'a>(
     ty: Scalar,
     tokens: &'t [Token<'a>],
-) -> Result<(Scalar, &'t [Token<'a>]), Failure<'t, 'a>>
+) -> Result<(Scalar, &'t [Token<'a>]), ParseFailure<'t, 'a>>
     ensures { Gives (λ x. (x.0, toks x.1.now)) result (longer ty (toks tokens.now)) }
 {
     match eat(tokens, Fixed::Keyword(Keyword::Int)) {
@@ -64,7 +64,9 @@ fn longer<'t, 'a>(
 }
 
 /// The second word of `long long`, and what stands behind it.
-fn long_long<'t, 'a>(tokens: &'t [Token<'a>]) -> Result<(Scalar, &'t [Token<'a>]), Failure<'t, 'a>>
+fn long_long<'t, 'a>(
+    tokens: &'t [Token<'a>],
+) -> Result<(Scalar, &'t [Token<'a>]), ParseFailure<'t, 'a>>
     ensures { Gives (λ x. (x.0, toks x.1.now)) result (long_long (toks tokens.now)) }
 {
     let rest = expect(tokens, Fixed::Keyword(Keyword::Long))?;
@@ -75,7 +77,7 @@ fn long_long<'t, 'a>(tokens: &'t [Token<'a>]) -> Result<(Scalar, &'t [Token<'a>]
 fn type_from<'t, 'a>(
     word: TypeWord,
     tokens: &'t [Token<'a>],
-) -> Result<(Scalar, &'t [Token<'a>]), Failure<'t, 'a>>
+) -> Result<(Scalar, &'t [Token<'a>]), ParseFailure<'t, 'a>>
     ensures { Gives (λ x. (x.0, toks x.1.now)) result (type_from word (toks tokens.now)) }
 {
     match word {
@@ -90,7 +92,9 @@ fn type_from<'t, 'a>(
 }
 
 /// `int | signed [int] | unsigned [int] | [signed] long long [int]`
-pub fn scalar<'t, 'a>(tokens: &'t [Token<'a>]) -> Result<(Scalar, &'t [Token<'a>]), Failure<'t, 'a>>
+pub fn scalar<'t, 'a>(
+    tokens: &'t [Token<'a>],
+) -> Result<(Scalar, &'t [Token<'a>]), ParseFailure<'t, 'a>>
     ensures { Gives (λ x. (x.0, toks x.1.now)) result (scalar (toks tokens.now)) }
 {
     let (word, rest) = type_word(tokens)?;

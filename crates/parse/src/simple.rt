@@ -15,7 +15,7 @@ ghost use Rattle.parse.specs.inner.Statements.{declaration, declaration_at, star
 
 use crate::cursor::{eat, expect_close, name};
 use crate::expr::{expression, starts_expr};
-use crate::fault::Failure;
+use crate::fault::ParseFailure;
 use crate::list::{Element, comma_list};
 use crate::scalar::{scalar, starts_type};
 use containers::Items;
@@ -87,7 +87,7 @@ fn simple_from<'t, 'a, A: Allocator + Copy>(
     to: Expr<A>,
     tokens: &'t [Token<'a>],
     depth: usize,
-) -> Result<(Simple<A>, &'t [Token<'a>]), Failure<'t, 'a>>
+) -> Result<(Simple<A>, &'t [Token<'a>]), ParseFailure<'t, 'a>>
     requires { depth < 2 ^ 32 }
     ensures { Gives (λ x. (simple_of x.0, toks x.1.now)) result
         (simple_from (whole_at depth) (expr_of to) (toks tokens.now)) }
@@ -112,7 +112,7 @@ fn simple_over<'t, 'a, A: Allocator + Copy>(
     alloc: A,
     tokens: &'t [Token<'a>],
     depth: usize,
-) -> Result<(Simple<A>, &'t [Token<'a>]), Failure<'t, 'a>>
+) -> Result<(Simple<A>, &'t [Token<'a>]), ParseFailure<'t, 'a>>
     requires { depth < 2 ^ 32 }
     ensures { Gives (λ x. (simple_of x.0, toks x.1.now)) result (simple (whole_at depth) (toks tokens.now)) }
 {
@@ -129,15 +129,15 @@ pub fn simple<'t, 'a, A: Allocator + Copy>(
     alloc: A,
     tokens: &'t [Token<'a>],
     depth: usize,
-) -> Result<(Simple<A>, &'t [Token<'a>]), Failure<'t, 'a>>
+) -> Result<(Simple<A>, &'t [Token<'a>]), ParseFailure<'t, 'a>>
     requires { depth < 2 ^ 32 }
     ensures { Gives (λ x. (simple_of x.0, toks x.1.now)) result (simple_at depth (toks tokens.now)) }
 {
     if depth == 0 {
         if starts_simple(tokens) {
-            return Err(Failure::Deep(tokens));
+            return Err(ParseFailure::Deep(tokens));
         }
-        return Err(Failure::Wrong(tokens));
+        return Err(ParseFailure::Wrong(tokens));
     }
     simple_over(alloc, tokens, depth - 1)
 }
@@ -148,7 +148,7 @@ pub fn simple_before<'t, 'a, A: Allocator + Copy>(
     tokens: &'t [Token<'a>],
     depth: usize,
     fixed: Fixed,
-) -> Result<(Simple<A>, &'t [Token<'a>]), Failure<'t, 'a>>
+) -> Result<(Simple<A>, &'t [Token<'a>]), ParseFailure<'t, 'a>>
     requires { depth < 2 ^ 32 }
     ensures { Gives (λ x. (simple_of x.0, toks x.1.now)) result (before fixed (simple_at depth) (toks tokens.now)) }
 {
@@ -160,7 +160,7 @@ fn first_value<'t, 'a, A: Allocator + Copy>(
     alloc: A,
     tokens: &'t [Token<'a>],
     depth: usize,
-) -> Result<(Option<Expr<A>>, &'t [Token<'a>]), Failure<'t, 'a>>
+) -> Result<(Option<Expr<A>>, &'t [Token<'a>]), ParseFailure<'t, 'a>>
     requires { depth < 2 ^ 32 }
     ensures { Gives (λ x. (option_map expr_of x.0, toks x.1.now)) result
         (perhaps (token.Punctuator punct.Assign) (behind (token.Punctuator punct.Assign) (whole_at depth))
@@ -178,7 +178,7 @@ fn declarator<'t, 'a, A: Allocator + Copy>(
     alloc: A,
     tokens: &'t [Token<'a>],
     depth: usize,
-) -> Result<(Declarator<A>, &'t [Token<'a>]), Failure<'t, 'a>>
+) -> Result<(Declarator<A>, &'t [Token<'a>]), ParseFailure<'t, 'a>>
     requires { depth < 2 ^ 32 }
     ensures { Gives (λ x. (declarator_of x.0, toks x.1.now)) result (declarator (whole_at depth) (toks tokens.now)) }
 {
@@ -211,7 +211,7 @@ impl<A: Allocator + Copy> Element<Declarator<A>> for EachDeclarator<A> {
     fn read<'t, 'a>(
         &self,
         tokens: &'t [Token<'a>],
-    ) -> Result<(Declarator<A>, &'t [Token<'a>]), Failure<'t, 'a>> {
+    ) -> Result<(Declarator<A>, &'t [Token<'a>]), ParseFailure<'t, 'a>> {
         declarator(self.alloc, tokens, self.depth)
     }
 }
@@ -221,7 +221,7 @@ fn declarators<'t, 'a, A: Allocator + Copy>(
     alloc: A,
     tokens: &'t [Token<'a>],
     depth: usize,
-) -> Result<(Items<Declarator<A>, A>, &'t [Token<'a>]), Failure<'t, 'a>>
+) -> Result<(Items<Declarator<A>, A>, &'t [Token<'a>]), ParseFailure<'t, 'a>>
     requires { depth < 2 ^ 32 }
     ensures { Gives (λ x. (map declarator_of x.0, toks x.1.now)) result
         (before (token.Punctuator punct.Semicolon) (comma_list (declarator (whole_at depth))) (toks tokens.now)) }
@@ -238,7 +238,7 @@ fn declaration_over<'t, 'a, A: Allocator + Copy>(
     alloc: A,
     tokens: &'t [Token<'a>],
     depth: usize,
-) -> Result<(Declaration<A>, &'t [Token<'a>]), Failure<'t, 'a>>
+) -> Result<(Declaration<A>, &'t [Token<'a>]), ParseFailure<'t, 'a>>
     requires { depth < 2 ^ 32 }
     ensures { Gives (λ x. (declaration_of x.0, toks x.1.now)) result (declaration (whole_at depth) (toks tokens.now)) }
 {
@@ -252,15 +252,15 @@ pub fn declaration<'t, 'a, A: Allocator + Copy>(
     alloc: A,
     tokens: &'t [Token<'a>],
     depth: usize,
-) -> Result<(Declaration<A>, &'t [Token<'a>]), Failure<'t, 'a>>
+) -> Result<(Declaration<A>, &'t [Token<'a>]), ParseFailure<'t, 'a>>
     requires { depth < 2 ^ 32 }
     ensures { Gives (λ x. (declaration_of x.0, toks x.1.now)) result (declaration_at depth (toks tokens.now)) }
 {
     if depth == 0 {
         if starts_type(tokens) {
-            return Err(Failure::Deep(tokens));
+            return Err(ParseFailure::Deep(tokens));
         }
-        return Err(Failure::Wrong(tokens));
+        return Err(ParseFailure::Wrong(tokens));
     }
     declaration_over(alloc, tokens, depth - 1)
 }
@@ -270,7 +270,7 @@ pub fn start<'t, 'a, A: Allocator + Copy>(
     alloc: A,
     tokens: &'t [Token<'a>],
     depth: usize,
-) -> Result<(Start<A>, &'t [Token<'a>]), Failure<'t, 'a>>
+) -> Result<(Start<A>, &'t [Token<'a>]), ParseFailure<'t, 'a>>
     requires { depth < 2 ^ 32 }
     ensures { Gives (λ x. (start_of x.0, toks x.1.now)) result (start depth (toks tokens.now)) }
 {
@@ -295,7 +295,7 @@ pub fn last_simple<'t, 'a, A: Allocator + Copy>(
     alloc: A,
     tokens: &'t [Token<'a>],
     depth: usize,
-) -> Result<(Option<Simple<A>>, &'t [Token<'a>]), Failure<'t, 'a>>
+) -> Result<(Option<Simple<A>>, &'t [Token<'a>]), ParseFailure<'t, 'a>>
     requires { depth < 2 ^ 32 }
     ensures { Gives (λ x. (option_map simple_of x.0, toks x.1.now)) result
         (before (token.Punctuator punct.CloseParen) (unless (token.Punctuator punct.CloseParen) (simple_at depth))
@@ -318,7 +318,7 @@ pub fn last_expression<'t, 'a, A: Allocator + Copy>(
     alloc: A,
     tokens: &'t [Token<'a>],
     depth: usize,
-) -> Result<(Option<Expr<A>>, &'t [Token<'a>]), Failure<'t, 'a>>
+) -> Result<(Option<Expr<A>>, &'t [Token<'a>]), ParseFailure<'t, 'a>>
     requires { depth < 2 ^ 32 }
     ensures { Gives (λ x. (option_map expr_of x.0, toks x.1.now)) result
         (before (token.Punctuator punct.Semicolon) (unless (token.Punctuator punct.Semicolon) (whole_at depth))

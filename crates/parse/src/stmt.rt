@@ -16,7 +16,7 @@ ghost use Rattle.parse.specs.inner.Statements.{starts_stmt, stmt_at, block_at};
 
 use crate::cursor::{eat, expect, expect_close, expect_span, is_next};
 use crate::expr::expression;
-use crate::fault::Failure;
+use crate::fault::ParseFailure;
 use crate::lead::{Lead, lead_at, mode_keyword};
 use crate::outer::has_outer_attribute;
 use crate::plain::{
@@ -41,7 +41,7 @@ fn in_parens<'t, 'a, A: Allocator + Copy>(
     alloc: A,
     tokens: &'t [Token<'a>],
     depth: usize,
-) -> Result<(Expr<A>, &'t [Token<'a>]), Failure<'t, 'a>>
+) -> Result<(Expr<A>, &'t [Token<'a>]), ParseFailure<'t, 'a>>
     requires { depth < 2 ^ 32 }
     ensures { Gives (λ x. (expr_of x.0, toks x.1.now)) result (in_parens (whole_at depth) (toks tokens.now)) }
 {
@@ -57,7 +57,7 @@ fn rest_of_head<'t, 'a, A: Allocator + Copy>(
     alloc: A,
     tokens: &'t [Token<'a>],
     depth: usize,
-) -> Result<((Option<Expr<A>>, Option<Simple<A>>), &'t [Token<'a>]), Failure<'t, 'a>>
+) -> Result<((Option<Expr<A>>, Option<Simple<A>>), &'t [Token<'a>]), ParseFailure<'t, 'a>>
     requires { depth < 2 ^ 32 }
     ensures { Gives (λ x. ((option_map expr_of x.0.0, option_map simple_of x.0.1), toks x.1.now)) result
         (rest_of_head depth (toks tokens.now)) }
@@ -77,7 +77,7 @@ fn head_of_for<'t, 'a, A: Allocator + Copy>(
     alloc: A,
     tokens: &'t [Token<'a>],
     depth: usize,
-) -> Result<(ForHead<A>, &'t [Token<'a>]), Failure<'t, 'a>>
+) -> Result<(ForHead<A>, &'t [Token<'a>]), ParseFailure<'t, 'a>>
     requires { depth < 2 ^ 32 }
     ensures { Gives
         (λ x. ((start_of x.0.start, (option_map expr_of x.0.condition, option_map simple_of x.0.step)), toks x.1.now))
@@ -106,7 +106,7 @@ fn boxed_head<'t, 'a, A: Allocator + Copy>(
     alloc: A,
     tokens: &'t [Token<'a>],
     depth: usize,
-) -> Result<(Boxed<ForHead<A>, A>, &'t [Token<'a>]), Failure<'t, 'a>>
+) -> Result<(Boxed<ForHead<A>, A>, &'t [Token<'a>]), ParseFailure<'t, 'a>>
     requires { depth < 2 ^ 32 }
     ensures { Gives
         (λ x. ((start_of x.0.start, (option_map expr_of x.0.condition, option_map simple_of x.0.step)), toks x.1.now))
@@ -121,7 +121,7 @@ fn end_of_do<'t, 'a, A: Allocator + Copy>(
     alloc: A,
     tokens: &'t [Token<'a>],
     depth: usize,
-) -> Result<(Expr<A>, &'t [Token<'a>]), Failure<'t, 'a>>
+) -> Result<(Expr<A>, &'t [Token<'a>]), ParseFailure<'t, 'a>>
     requires { depth < 2 ^ 32 }
     ensures { Gives (λ x. (expr_of x.0, toks x.1.now)) result (end_of_do depth (toks tokens.now)) }
 {
@@ -136,8 +136,8 @@ fn end_of_do<'t, 'a, A: Allocator + Copy>(
 /// reads, what was read before is dropped where the rest fails: in the cycle itself that is dear to prove.
 fn box_stmt<'t, 'a, A: Allocator + Copy>(
     alloc: A,
-    read: Result<(Stmt<A>, &'t [Token<'a>]), Failure<'t, 'a>>,
-) -> Result<(Boxed<Stmt<A>, A>, &'t [Token<'a>]), Failure<'t, 'a>>
+    read: Result<(Stmt<A>, &'t [Token<'a>]), ParseFailure<'t, 'a>>,
+) -> Result<(Boxed<Stmt<A>, A>, &'t [Token<'a>]), ParseFailure<'t, 'a>>
     ensures { GivesOn stmt_of stmt_of (λ s. s) read.entry result }
 {
     match read {
@@ -149,8 +149,8 @@ fn box_stmt<'t, 'a, A: Allocator + Copy>(
 /// What an `if` chooses from, of its first branch and what was read of the other.
 fn choice_of<'t, 'a, A: Allocator + Copy>(
     then: Boxed<Stmt<A>, A>,
-    read: Result<(Option<Boxed<Stmt<A>, A>>, &'t [Token<'a>]), Failure<'t, 'a>>,
-) -> Result<(Choice<A>, &'t [Token<'a>]), Failure<'t, 'a>>
+    read: Result<(Option<Boxed<Stmt<A>, A>>, &'t [Token<'a>]), ParseFailure<'t, 'a>>,
+) -> Result<(Choice<A>, &'t [Token<'a>]), ParseFailure<'t, 'a>>
     ensures { GivesOn (option_map stmt_of) branches_of (λ b. (stmt_of then, b)) read.entry result }
 {
     match read {
@@ -162,8 +162,8 @@ fn choice_of<'t, 'a, A: Allocator + Copy>(
 /// An `if` of its condition and what was read behind it.
 fn if_of<'t, 'a, A: Allocator + Copy>(
     condition: Expr<A>,
-    read: Result<(Choice<A>, &'t [Token<'a>]), Failure<'t, 'a>>,
-) -> Result<(Stmt<A>, &'t [Token<'a>]), Failure<'t, 'a>>
+    read: Result<(Choice<A>, &'t [Token<'a>]), ParseFailure<'t, 'a>>,
+) -> Result<(Stmt<A>, &'t [Token<'a>]), ParseFailure<'t, 'a>>
     ensures { GivesOn branches_of stmt_of (λ b. if_tree (expr_of condition, b)) read.entry result }
 {
     match read {
@@ -181,8 +181,8 @@ fn if_of<'t, 'a, A: Allocator + Copy>(
 /// A `while` of its condition and what was read behind it.
 fn while_of<'t, 'a, A: Allocator + Copy>(
     condition: Expr<A>,
-    read: Result<(Boxed<Stmt<A>, A>, &'t [Token<'a>]), Failure<'t, 'a>>,
-) -> Result<(Stmt<A>, &'t [Token<'a>]), Failure<'t, 'a>>
+    read: Result<(Boxed<Stmt<A>, A>, &'t [Token<'a>]), ParseFailure<'t, 'a>>,
+) -> Result<(Stmt<A>, &'t [Token<'a>]), ParseFailure<'t, 'a>>
     ensures { GivesOn stmt_of stmt_of (λ s. While (expr_of condition) s) read.entry result }
 {
     match read {
@@ -197,8 +197,8 @@ fn while_of<'t, 'a, A: Allocator + Copy>(
 /// A `for` of its head and what was read behind it.
 fn for_of<'t, 'a, A: Allocator + Copy>(
     head: Boxed<ForHead<A>, A>,
-    read: Result<(Boxed<Stmt<A>, A>, &'t [Token<'a>]), Failure<'t, 'a>>,
-) -> Result<(Stmt<A>, &'t [Token<'a>]), Failure<'t, 'a>>
+    read: Result<(Boxed<Stmt<A>, A>, &'t [Token<'a>]), ParseFailure<'t, 'a>>,
+) -> Result<(Stmt<A>, &'t [Token<'a>]), ParseFailure<'t, 'a>>
     ensures { GivesOn stmt_of stmt_of
         (λ s. For (start_of head.start) (option_map expr_of head.condition) (option_map simple_of head.step) s)
         read.entry result }
@@ -215,7 +215,7 @@ fn do_of<'t, 'a, A: Allocator + Copy>(
     body: Boxed<Stmt<A>, A>,
     tokens: &'t [Token<'a>],
     depth: usize,
-) -> Result<(Stmt<A>, &'t [Token<'a>]), Failure<'t, 'a>>
+) -> Result<(Stmt<A>, &'t [Token<'a>]), ParseFailure<'t, 'a>>
     requires { depth < 2 ^ 32 }
     ensures { Gives (λ x. (stmt_of x.0, toks x.1.now)) result
         (map_parser (DoWhile (stmt_of body)) (end_of_do depth) (toks tokens.now)) }
@@ -229,8 +229,8 @@ fn do_of<'t, 'a, A: Allocator + Copy>(
 /// What was read of a statement, behind those that were read before.
 fn append_stmt<'t, 'a, A: Allocator + Copy>(
     mut all: Items<Stmt<A>, A>,
-    read: Result<(Stmt<A>, &'t [Token<'a>]), Failure<'t, 'a>>,
-) -> Result<(Items<Stmt<A>, A>, &'t [Token<'a>]), Failure<'t, 'a>>
+    read: Result<(Stmt<A>, &'t [Token<'a>]), ParseFailure<'t, 'a>>,
+) -> Result<(Items<Stmt<A>, A>, &'t [Token<'a>]), ParseFailure<'t, 'a>>
     ensures { GivesOn stmt_of (λ ss. map stmt_of ss) (λ s. map stmt_of all ++ s ∷ []) read.entry result }
 {
     match read {
@@ -246,7 +246,7 @@ fn append_stmt<'t, 'a, A: Allocator + Copy>(
 fn block_tail<'t, 'a, A: Allocator + Copy>(
     all: Items<Stmt<A>, A>,
     tokens: &'t [Token<'a>],
-) -> Result<(Items<Stmt<A>, A>, &'t [Token<'a>]), Failure<'t, 'a>>
+) -> Result<(Items<Stmt<A>, A>, &'t [Token<'a>]), ParseFailure<'t, 'a>>
     ensures value { IfOk result (λ x. x.0 ≡ all) }
     ensures rest { Gives (λ x. (tt, toks x.1.now)) result
         (expect (token.Punctuator punct.CloseBrace) (toks tokens.now)) }
@@ -260,7 +260,7 @@ fn boxed_stmt<'t, 'a, A: Allocator + Copy>(
     alloc: A,
     tokens: &'t [Token<'a>],
     depth: usize,
-) -> Result<(Boxed<Stmt<A>, A>, &'t [Token<'a>]), Failure<'t, 'a>>
+) -> Result<(Boxed<Stmt<A>, A>, &'t [Token<'a>]), ParseFailure<'t, 'a>>
     requires { depth < 2 ^ 32 }
     ensures { Gives (λ x. (stmt_of x.0, toks x.1.now)) result (stmt_at depth (toks tokens.now)) }
 {
@@ -273,7 +273,7 @@ fn else_part<'t, 'a, A: Allocator + Copy>(
     alloc: A,
     tokens: &'t [Token<'a>],
     depth: usize,
-) -> Result<(Option<Boxed<Stmt<A>, A>>, &'t [Token<'a>]), Failure<'t, 'a>>
+) -> Result<(Option<Boxed<Stmt<A>, A>>, &'t [Token<'a>]), ParseFailure<'t, 'a>>
     requires { depth < 2 ^ 32 }
     ensures { Gives (λ x. (option_map stmt_of x.0, toks x.1.now)) result
         (perhaps (token.Keyword key.Else) (behind (token.Keyword key.Else) (stmt_at depth)) (toks tokens.now)) }
@@ -291,7 +291,7 @@ fn branches<'t, 'a, A: Allocator + Copy>(
     alloc: A,
     tokens: &'t [Token<'a>],
     depth: usize,
-) -> Result<(Choice<A>, &'t [Token<'a>]), Failure<'t, 'a>>
+) -> Result<(Choice<A>, &'t [Token<'a>]), ParseFailure<'t, 'a>>
     requires { depth < 2 ^ 32 }
     ensures { Gives (λ x. (branches_of x.0, toks x.1.now)) result (branches (stmt_at depth) (toks tokens.now)) }
 {
@@ -305,7 +305,7 @@ fn if_stmt<'t, 'a, A: Allocator + Copy>(
     alloc: A,
     tokens: &'t [Token<'a>],
     depth: usize,
-) -> Result<(Stmt<A>, &'t [Token<'a>]), Failure<'t, 'a>>
+) -> Result<(Stmt<A>, &'t [Token<'a>]), ParseFailure<'t, 'a>>
     requires { depth < 2 ^ 32 }
     ensures { Gives (λ x. (stmt_of x.0, toks x.1.now)) result
         (if_stmt depth (stmt_at depth) (block_at depth) (toks tokens.now)) }
@@ -321,7 +321,7 @@ fn while_stmt<'t, 'a, A: Allocator + Copy>(
     alloc: A,
     tokens: &'t [Token<'a>],
     depth: usize,
-) -> Result<(Stmt<A>, &'t [Token<'a>]), Failure<'t, 'a>>
+) -> Result<(Stmt<A>, &'t [Token<'a>]), ParseFailure<'t, 'a>>
     requires { depth < 2 ^ 32 }
     ensures { Gives (λ x. (stmt_of x.0, toks x.1.now)) result
         (while_stmt depth (stmt_at depth) (block_at depth) (toks tokens.now)) }
@@ -337,7 +337,7 @@ fn do_stmt<'t, 'a, A: Allocator + Copy>(
     alloc: A,
     tokens: &'t [Token<'a>],
     depth: usize,
-) -> Result<(Stmt<A>, &'t [Token<'a>]), Failure<'t, 'a>>
+) -> Result<(Stmt<A>, &'t [Token<'a>]), ParseFailure<'t, 'a>>
     requires { depth < 2 ^ 32 }
     ensures { Gives (λ x. (stmt_of x.0, toks x.1.now)) result
         (do_stmt depth (stmt_at depth) (block_at depth) (toks tokens.now)) }
@@ -353,7 +353,7 @@ fn for_stmt<'t, 'a, A: Allocator + Copy>(
     alloc: A,
     tokens: &'t [Token<'a>],
     depth: usize,
-) -> Result<(Stmt<A>, &'t [Token<'a>]), Failure<'t, 'a>>
+) -> Result<(Stmt<A>, &'t [Token<'a>]), ParseFailure<'t, 'a>>
     requires { depth < 2 ^ 32 }
     ensures { Gives (λ x. (stmt_of x.0, toks x.1.now)) result
         (for_stmt depth (stmt_at depth) (block_at depth) (toks tokens.now)) }
@@ -367,7 +367,7 @@ fn for_stmt<'t, 'a, A: Allocator + Copy>(
 fn kind<'t, 'a>(
     tokens: &'t [Token<'a>],
     mode: Mode,
-) -> Result<(TransactionKind, &'t [Token<'a>]), Failure<'t, 'a>>
+) -> Result<(TransactionKind, &'t [Token<'a>]), ParseFailure<'t, 'a>>
     ensures { Gives (λ x. (x.0, toks x.1.now)) result (kind mode (toks tokens.now)) }
 {
     match mode {
@@ -390,7 +390,7 @@ fn transaction_stmt<'t, 'a, A: Allocator + Copy>(
     tokens: &'t [Token<'a>],
     mode: Mode,
     depth: usize,
-) -> Result<(Stmt<A>, &'t [Token<'a>]), Failure<'t, 'a>>
+) -> Result<(Stmt<A>, &'t [Token<'a>]), ParseFailure<'t, 'a>>
     requires { depth + 1 < 2 ^ 32 }
     ensures { Gives (λ x. (stmt_of x.0, toks x.1.now)) result
         (transaction_stmt depth (stmt_at depth) (block_at depth) mode (toks tokens.now)) }
@@ -398,7 +398,7 @@ fn transaction_stmt<'t, 'a, A: Allocator + Copy>(
     let (span, rest) = expect_span(tokens, mode_keyword(mode))?;
     if is_next(rest, Fixed::Punctuator(Punctuator::OpenParen)) {
         if depth == 0 {
-            return Err(Failure::Deep(rest));
+            return Err(ParseFailure::Deep(rest));
         }
         return simple_stmt(alloc, tokens, depth + 1);
     }
@@ -413,7 +413,7 @@ fn entry<'t, 'a, A: Allocator + Copy>(
     alloc: A,
     tokens: &'t [Token<'a>],
     depth: usize,
-) -> Result<(Stmt<A>, &'t [Token<'a>]), Failure<'t, 'a>>
+) -> Result<(Stmt<A>, &'t [Token<'a>]), ParseFailure<'t, 'a>>
     requires { depth < 2 ^ 32 }
     ensures { Gives (λ x. (stmt_of x.0, toks x.1.now)) result (entry depth (stmt_at depth) (toks tokens.now)) }
 {
@@ -430,13 +430,13 @@ pub fn block<'t, 'a, A: Allocator + Copy>(
     alloc: A,
     tokens: &'t [Token<'a>],
     depth: usize,
-) -> Result<(Items<Stmt<A>, A>, &'t [Token<'a>]), Failure<'t, 'a>>
+) -> Result<(Items<Stmt<A>, A>, &'t [Token<'a>]), ParseFailure<'t, 'a>>
     requires { depth < 2 ^ 32 }
     ensures { Gives (λ x. (map stmt_of x.0, toks x.1.now)) result (block_at depth (toks tokens.now)) }
 {
     let inner = expect(tokens, Fixed::Punctuator(Punctuator::OpenBrace))?;
     if depth == 0 {
-        return Err(Failure::Deep(tokens));
+        return Err(ParseFailure::Deep(tokens));
     }
     let below = depth - 1;
     let mut rest = inner;
@@ -469,15 +469,15 @@ pub fn stmt<'t, 'a, A: Allocator + Copy>(
     alloc: A,
     tokens: &'t [Token<'a>],
     depth: usize,
-) -> Result<(Stmt<A>, &'t [Token<'a>]), Failure<'t, 'a>>
+) -> Result<(Stmt<A>, &'t [Token<'a>]), ParseFailure<'t, 'a>>
     requires { depth < 2 ^ 32 }
     ensures { Gives (λ x. (stmt_of x.0, toks x.1.now)) result (stmt_at depth (toks tokens.now)) }
 {
     if depth == 0 {
         if starts_stmt(tokens) {
-            return Err(Failure::Deep(tokens));
+            return Err(ParseFailure::Deep(tokens));
         }
-        return Err(Failure::Wrong(tokens));
+        return Err(ParseFailure::Wrong(tokens));
     }
     let below = depth - 1;
     match lead_at(tokens) {

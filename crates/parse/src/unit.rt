@@ -12,7 +12,7 @@ ghost use Rattle.parse.specs.Faults.{IsParseFaultOf, Finds, source_of};
 ghost use Rattle.parse.specs.Keys.{key_of};
 
 use crate::cursor::{count_tokens, is_next};
-use crate::fault::{Failure, ParseFault};
+use crate::fault::{ParseFailure, ParseFault};
 use crate::functions::{Heading, function, header};
 use crate::globals::globals;
 use containers::Items;
@@ -29,15 +29,15 @@ fn shared_globals<'t, 'a, A: Allocator + Copy>(
     alloc: A,
     tokens: &'t [Token<'a>],
     heading: Heading<A>,
-) -> Result<(Item<A>, &'t [Token<'a>]), Failure<'t, 'a>>
+) -> Result<(Item<A>, &'t [Token<'a>]), ParseFailure<'t, 'a>>
     ensures { Gives (λ x. (item_of x.0, toks x.1.now)) result (shared_from (heading_of heading) (toks tokens.now)) }
 {
     if !heading.attributes.is_empty() {
-        return Err(Failure::Wrong(tokens));
+        return Err(ParseFailure::Wrong(tokens));
     }
     match heading.result {
         Some(ty) => globals(alloc, tokens, ty, heading.name),
-        None => Err(Failure::Wrong(tokens)),
+        None => Err(ParseFailure::Wrong(tokens)),
     }
 }
 
@@ -46,7 +46,7 @@ fn item<'t, 'a, A: Allocator + Copy>(
     alloc: A,
     tokens: &'t [Token<'a>],
     depth: usize,
-) -> Result<(Item<A>, &'t [Token<'a>]), Failure<'t, 'a>>
+) -> Result<(Item<A>, &'t [Token<'a>]), ParseFailure<'t, 'a>>
     requires { depth < 2 ^ 32 }
     ensures { Gives (λ x. (item_of x.0, toks x.1.now)) result (item_at depth (toks tokens.now)) }
 {
@@ -62,7 +62,7 @@ fn program<'t, 'a, A: Allocator + Copy>(
     alloc: A,
     tokens: &'t [Token<'a>],
     depth: usize,
-) -> Result<Items<Item<A>, A>, Failure<'t, 'a>>
+) -> Result<Items<Item<A>, A>, ParseFailure<'t, 'a>>
     requires { depth < 2 ^ 32 }
     ensures { Gives (λ x. map item_of x) result (whole_program depth (toks tokens.now)) }
 {
@@ -79,7 +79,7 @@ fn program<'t, 'a, A: Allocator + Copy>(
     if rest.is_empty() {
         Ok(all)
     } else {
-        Err(Failure::Wrong(rest))
+        Err(ParseFailure::Wrong(rest))
     }
 }
 
@@ -132,14 +132,14 @@ pub fn parse<A: Allocator + Copy>(alloc: A, tokens: &[Token<'_>]) -> Result<Unit
             end: end_of(tokens),
             key: key_of(tokens),
         }),
-        Err(Failure::Memory) => Err(ParseFault::OutOfMemory),
-        Err(Failure::Wrong([])) => {
+        Err(ParseFailure::Memory) => Err(ParseFault::OutOfMemory),
+        Err(ParseFailure::Wrong([])) => {
             let end = end_of(tokens);
             Err(ParseFault::Unfinished(Span { start: end, end }))
         }
-        Err(Failure::Wrong([token, ..])) => Err(ParseFault::Unexpected(token.span)),
-        Err(Failure::Deep([token, ..])) => Err(ParseFault::TooDeep(token.span)),
-        Err(Failure::Deep([])) => unreachable!(),
+        Err(ParseFailure::Wrong([token, ..])) => Err(ParseFault::Unexpected(token.span)),
+        Err(ParseFailure::Deep([token, ..])) => Err(ParseFault::TooDeep(token.span)),
+        Err(ParseFailure::Deep([])) => unreachable!(),
     }
 }
 

@@ -1,8 +1,8 @@
 -- The titles of the glyphs of a replay.
 use Rattle.std.specs.Prelude.{ℕ, List, Option, Some, flat_map, map}
 use Rattle.std.specs.List.{slice_get}
-use Rattle.syntax.specs.declared.numbers.Status.{Status}
-use Rattle.syntax.specs.declared.numbers.Status.TheVariants.{Running}
+use Rattle.syntax.specs.declared.thread_end.Status.{Status}
+use Rattle.syntax.specs.declared.thread_end.Status.TheVariants.{Running}
 use Rattle.bytecode.specs.Code.{Code, Instr}
 use Rattle.machine.specs.declared.event.StepShown.{StepShown}
 use Rattle.report.specs.Timeline.{step_words}

@@ -12,7 +12,7 @@ pub(crate) struct Load {
 
 /// What the next load of the lock is for.
 #[derive(Clone, Copy)]
-pub(crate) enum Phase {
+pub(crate) enum NextLoad {
     /// Nothing: no load follows.
     Open,
     /// Whether a word that was loaded is of the attempt's moment.
@@ -25,14 +25,14 @@ pub(crate) enum Phase {
 
 /// An attempt at an outermost transaction.
 #[derive(Drop)]
-pub(crate) struct Attempt<A: Allocator = Global> {
+pub(crate) struct KnownAttempt<A: Allocator = Global> {
     /// The row of the attempt's begin.
     pub row: u64,
     /// The even lock of whose moment the attempt's reads are.
     pub snapshot: u64,
     /// What the attempt has read, of each cell the first load.
     pub reads: Vec<Load, A>,
-    pub phase: Phase,
+    pub phase: NextLoad,
     /// The rows of the begins of inner transactions that are open.
     pub inner: Vec<u64, A>,
     /// Whether the attempt has the lock.
@@ -42,7 +42,7 @@ pub(crate) struct Attempt<A: Allocator = Global> {
 /// A thread, as it is drawn.
 #[derive(Drop)]
 pub(crate) struct Lane<A: Allocator = Global> {
-    pub open: Option<Attempt<A>>,
+    pub open: Option<KnownAttempt<A>>,
     /// Attempts at the transaction that is under way.
     pub tries: u64,
     /// Attempts that were dropped, to which an arrow leads.

@@ -1,6 +1,6 @@
 //! Boxes: what has become of attempts, and of transactions inside them.
 
-use crate::attempt::Attempt;
+use crate::attempt::KnownAttempt;
 use crate::glyph::Look;
 use crate::layout::{BOX, ROW, inset, lane, top};
 use crate::pieces::{put_line, put_rectangle};
@@ -82,7 +82,7 @@ impl<'p, A: Allocator + Copy> Sheet<'p, A> {
         &mut self,
         alloc: A,
         thread: u32,
-        attempt: &Attempt<A>,
+        attempt: &KnownAttempt<A>,
         row: u64,
         fate: Fate,
     ) -> Result<(), AllocError> {

@@ -1,6 +1,6 @@
 //! What is drawn of an access to the lock or to a word.
 
-use crate::attempt::{Attempt, Load, Phase};
+use crate::attempt::{KnownAttempt, Load, NextLoad};
 use crate::glyph::Look;
 use crate::layout::{BOX, lane, middle};
 use crate::pieces::{Piece, push_pieces, put_line};
@@ -34,13 +34,13 @@ fn last_store(stores: &[Store], cell: u32) -> Option<Store> {
 
 impl<'p, A: Allocator + Copy> Sheet<'p, A> {
     /// What a thread's next load of the lock is for, and the moment of its attempt, where it is in one.
-    fn phase(&self, thread: u32) -> Option<(Phase, u64)> {
+    fn phase(&self, thread: u32) -> Option<(NextLoad, u64)> {
         let attempt = self.lanes.get(thread as usize)?.open.as_ref()?;
         Some((attempt.phase, attempt.snapshot))
     }
 
     /// Sets what a thread's next load of the lock is for.
-    fn set_phase(&mut self, thread: u32, phase: Phase) {
+    fn set_phase(&mut self, thread: u32, phase: NextLoad) {
         let Some(lane) = self.lane(thread) else {
             return;
         };
@@ -75,11 +75,11 @@ impl<'p, A: Allocator + Copy> Sheet<'p, A> {
         )?;
         let row = self.last();
         if let Some(lane) = self.lane(step.thread) {
-            lane.open = Some(Attempt {
+            lane.open = Some(KnownAttempt {
                 row,
                 snapshot: value,
                 reads: Vec::new(alloc),
-                phase: Phase::Open,
+                phase: NextLoad::Open,
                 inner: Vec::new(alloc),
                 is_kept: false,
             });
@@ -100,7 +100,7 @@ impl<'p, A: Allocator + Copy> Sheet<'p, A> {
         to: &mut Vec<u8, A>,
         step: &Step<A>,
         what: &[Piece<'_>],
-        phase: Phase,
+        phase: NextLoad,
     ) -> Result<(), AllocError> {
         self.set_phase(step.thread, phase);
         let said = words(alloc, what)?;
@@ -126,7 +126,7 @@ impl<'p, A: Allocator + Copy> Sheet<'p, A> {
                 }
             }
         }
-        self.set_phase(step.thread, Phase::Open);
+        self.set_phase(step.thread, NextLoad::Open);
         let value = self.snapshot(step.thread);
         let said = words(alloc, &[Piece::Plain(b"lock = "), Piece::Number(value)])?;
         let look = Look::new(b"lock", said.as_slice(), b"g", Some(step.accesses));
@@ -151,7 +151,7 @@ impl<'p, A: Allocator + Copy> Sheet<'p, A> {
             Piece::Number(value),
             Piece::Plain(b", goes on"),
         ];
-        self.see_lock(alloc, to, step, &what, Phase::Open)
+        self.see_lock(alloc, to, step, &what, NextLoad::Open)
     }
 
     /// A load of the lock.
@@ -167,25 +167,25 @@ impl<'p, A: Allocator + Copy> Sheet<'p, A> {
         match self.phase(step.thread) {
             None if is_odd => self.wait(to, step),
             None => self.begin(alloc, to, step, value),
-            Some((Phase::Check(load), moment)) if value == moment => self.end_read(
+            Some((NextLoad::Check(load), moment)) if value == moment => self.end_read(
                 alloc, to, step, load,
             ),
-            Some((Phase::Compare(time), _)) if value == time => self.end_validation(
+            Some((NextLoad::Compare(time), _)) if value == time => self.end_validation(
                 alloc, to, step, value,
             ),
-            Some((Phase::Check(_), seen)) | Some((Phase::Compare(seen), _)) => {
+            Some((NextLoad::Check(_), seen)) | Some((NextLoad::Compare(seen), _)) => {
                 let what = [
                     lock,
                     Piece::Number(value),
                     Piece::Plain(b", not "),
                     Piece::Number(seen),
                 ];
-                self.see_lock(alloc, to, step, &what, Phase::Wait)
+                self.see_lock(alloc, to, step, &what, NextLoad::Wait)
             }
             Some(_) if is_odd => self.wait(to, step),
             Some(_) => {
                 let what = [lock, Piece::Number(value), Piece::Plain(b", compares")];
-                self.see_lock(alloc, to, step, &what, Phase::Compare(value))
+                self.see_lock(alloc, to, step, &what, NextLoad::Compare(value))
             }
         }
     }
@@ -209,7 +209,7 @@ impl<'p, A: Allocator + Copy> Sheet<'p, A> {
             )?;
             return self.drop_attempt(alloc, to, step, cell, word);
         }
-        if let Some((Phase::Compare(_), _)) = self.phase(thread) {
+        if let Some((NextLoad::Compare(_), _)) = self.phase(thread) {
             let look = Look::new(b"load", b"same", b"g", Some(step.accesses));
             return self.draw_glyph(to, thread, look.fold(Fold::Same(thread)));
         }
@@ -223,7 +223,7 @@ impl<'p, A: Allocator + Copy> Sheet<'p, A> {
         };
         if let Some(attempt) = &mut lane.open {
             if !attempt.is_kept {
-                attempt.phase = Phase::Check(Load { cell, row, word });
+                attempt.phase = NextLoad::Check(Load { cell, row, word });
             }
         }
         Ok(())
@@ -325,7 +325,7 @@ impl<'p, A: Allocator + Copy> Sheet<'p, A> {
     ) -> Result<(), AllocError> {
         let swap = Piece::Plain(b"swap ");
         if let Answer::Lost(value) = step.answer {
-            self.set_phase(step.thread, Phase::Wait);
+            self.set_phase(step.thread, NextLoad::Wait);
             let said = words(
                 alloc,
                 &[

@@ -14,7 +14,7 @@ use machine::StepShown;
 use replay::timeline;
 use report::step_text;
 use std::alloc::{AllocError, Allocator};
-use syntax::numbers::Status;
+use syntax::thread_end::Status;
 use syntax::tree::Unit;
 use world::World;
 

@@ -12,7 +12,7 @@ use crate::words::words;
 use machine::Event;
 use norec_core::{Access, Answer};
 use std::alloc::{AllocError, Allocator, Global};
-use syntax::numbers::Trap;
+use syntax::thread_end::Trap;
 
 /// The accesses that are drawn.
 pub(crate) const MOST_ACCESSES: u64 = 400;

@@ -14,7 +14,7 @@ use crate::sheet::{Cell, Effect, Sheet};
 use crate::step::{MOST_ACCESSES, Step};
 use crate::words::words;
 use std::alloc::{AllocError, Allocator};
-use syntax::numbers::Status;
+use syntax::thread_end::Status;
 
 /// Whether a step is drawn: it has a glyph, and is made up to the last access that is drawn.
 fn is_drawn<A: Allocator>(step: &Step<A>) -> bool

@@ -12,7 +12,7 @@ use bytecode::Code;
 use machine::Event;
 use norec_core::Stop;
 use std::alloc::{AllocError, Allocator};
-use syntax::numbers::Status;
+use syntax::thread_end::Status;
 use world::{Report, StopReason, World, WorldFault};
 
 /// What happened in which step: the accesses to the lock or the words that all threads had made with it, and its

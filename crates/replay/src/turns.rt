@@ -12,7 +12,7 @@ use crate::line::{Line, MOST_STEPS};
 use bytecode::Code;
 use norec_core::Stop;
 use std::alloc::Allocator;
-use syntax::numbers::Status;
+use syntax::thread_end::Status;
 use thiserror::Error;
 use world::{World, WorldFault};
 

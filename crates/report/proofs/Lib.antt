@@ -1,2 +1,4 @@
 -- one step of a loop that adds lines
 mod Lines
+-- one step of a loop that adds outcomes
+mod OutcomeList

@@ -2,6 +2,8 @@
 pub mod Printed
 -- the text of a report
 pub mod Report
+-- the text of a list of outcomes
+pub mod OutcomeList
 -- the text of a timeline
 pub mod Timeline
 -- the Rust types as plain ones

@@ -1,7 +1,7 @@
 -- The text of a timeline: a line for each step.
 use Rattle.std.specs.Prelude.{ℕ, List, [], ◌++◌, codes, decimal, flat_map, option_map, unwrap_or}
-use Rattle.syntax.specs.declared.numbers.Status.{Status}
-use Rattle.syntax.specs.declared.numbers.Status.TheVariants.{Running, Ended as HasEnded, Trapped as HasTrapped}
+use Rattle.syntax.specs.declared.thread_end.Status.{Status}
+use Rattle.syntax.specs.declared.thread_end.Status.TheVariants.{Running, Ended as HasEnded, Trapped as HasTrapped}
 use Rattle.bytecode.specs.Code.{Code}
 use Rattle.bytecode.specs.Listing.{text_at}
 use Rattle.norec_core.specs.declared.step.Access.{Access}

@@ -4,6 +4,8 @@ use Rattle.report.specs.Printed as plain
 use Rattle.report.specs.declared.printed.ThreadShown.{ThreadShown}
 use Rattle.report.specs.declared.printed.Shown.{Shown}
 use Rattle.report.specs.declared.printed.Printed.{Printed}
+use Rattle.report.specs.OutcomeList as lists
+use Rattle.report.specs.declared.outcome_list.OutcomeShown.{OutcomeShown}
 
 module _ {A : Type 0} where
   abbrev pub thread_of : ThreadShown A → plain.ThreadShown
@@ -19,3 +21,6 @@ module _ {A : Type 0} where
     globals = map shown_of p.globals;
     holder = p.holder;
   }
+
+  abbrev pub outcome_of : OutcomeShown A → lists.OutcomeShown
+  outcome_of o = record { order = o.order; shown = printed_of o.shown }

@@ -4,7 +4,7 @@ use containers::{Items, Text};
 use lex::token::Scalar;
 use machine::Event;
 use std::alloc::Allocator;
-use syntax::numbers::Trap;
+use syntax::thread_end::Trap;
 
 /// How a thread is found.
 #[derive(Clone, Copy, PartialEq, Eq)]

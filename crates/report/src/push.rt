@@ -11,7 +11,7 @@ use lex::token::Scalar;
 use machine::Event;
 use std::alloc::{AllocError, Allocator};
 use syntax::number::number;
-use syntax::numbers::Trap;
+use syntax::thread_end::Trap;
 
 /// Adds bytes.
 pub(crate) fn push_bytes<A: Allocator>(

@@ -11,7 +11,7 @@ use bytecode::{Code, instruction_text};
 use machine::{Event, StepShown};
 use norec_core::{Access, Answer};
 use std::alloc::{AllocError, Allocator};
-use syntax::numbers::Status;
+use syntax::thread_end::Status;
 
 /// Adds the place at which a thread stands, and the instruction there.
 fn push_instruction<A: Allocator + Copy>(

@@ -8,10 +8,10 @@ use Rattle.syntax.specs.declared.tree.TransactionKind.{TransactionKind}
 use Rattle.syntax.specs.declared.tree.TransactionKind.TheVariants.{Plain, Outer}
 use Rattle.syntax.specs.declared.tree.Mode.{Mode}
 use Rattle.syntax.specs.declared.tree.Mode.TheVariants.{Atomic, Relaxed}
-use Rattle.syntax.specs.declared.numbers.Trap.{Trap}
-use Rattle.syntax.specs.declared.numbers.Halt.{Halt}
-use Rattle.syntax.specs.declared.numbers.Halt.TheVariants.{Trapped, Wants, Spent, Astray}
-use Rattle.syntax.specs.declared.numbers.Value.{Value}
+use Rattle.syntax.specs.declared.thread_end.Trap.{Trap}
+use Rattle.syntax.specs.declared.thread_end.Halt.{Halt}
+use Rattle.syntax.specs.declared.thread_end.Halt.TheVariants.{Trapped, Wants, Spent, Astray}
+use Rattle.syntax.specs.declared.value.Value.{Value}
 use Rattle.syntax.specs.Numbers.{number, value_in_type}
 use Rattle.syntax.specs.Names.{Local, word_at, with_word}
 use Rattle.syntax.specs.Formats.{Piece, Literal, Specifier, specifiers}

@@ -12,9 +12,9 @@ use Rattle.syntax.specs.declared.tree.LogicalOp.TheVariants.{AndThen, OrElse}
 use Rattle.syntax.specs.declared.tree.TransactionKind.TheVariants.{Plain, Outer}
 use Rattle.syntax.specs.declared.tree.Mode.{Mode}
 use Rattle.syntax.specs.declared.tree.Mode.TheVariants.{Atomic, Relaxed}
-use Rattle.syntax.specs.declared.numbers.Trap.TheVariants.{Index, Frames}
-use Rattle.syntax.specs.declared.numbers.Halt.TheVariants.{Astray}
-use Rattle.syntax.specs.declared.numbers.Value.{Value}
+use Rattle.syntax.specs.declared.thread_end.Trap.TheVariants.{Index, Frames}
+use Rattle.syntax.specs.declared.thread_end.Halt.TheVariants.{Astray}
+use Rattle.syntax.specs.declared.value.Value.{Value}
 use Rattle.syntax.specs.Tree as Tree
 use Rattle.syntax.specs.Tree.{Name, Expr, Exprs, Variable, Constant, Element, Call, Parenthesized, Cast, Unary, Binary, Logical, Conditional, InTransaction, Simple, Evaluate, Assign, Adjust, Declarator, Start, Nothing, Declares, Does, Stmt, Stmts, Empty, Declare, Do, Block, Print, If, IfElse, While, DoWhile, For, Break, Continue, Return, Transaction, Cancel, CancelOuter, Parameter, Function, Program}
 use Rattle.syntax.specs.Numbers.{word_of, value_in_type, flag, is_zero, unary, binary}

@@ -1,7 +1,7 @@
 -- Laws of touching functions, and of accepted programs.
 use Rattle.std.specs.Prelude.{◌≢◌, ℕ, List, codes}
 use Rattle.syntax.specs.Tree.{Span, Program}
-use Rattle.syntax.specs.declared.numbers.Halt.TheVariants.{Astray}
+use Rattle.syntax.specs.declared.thread_end.Halt.TheVariants.{Astray}
 use Rattle.syntax.specs.Behaviours.{Memory, Stopped}
 use Rattle.syntax.specs.Threads.{thread}
 use Rattle.separation.specs.Touching.{IsTouchingSet, IsTouching, IsAccepted, IsSeparationFault}

@@ -2,7 +2,7 @@
 use Rattle.std.proofs.Common.{ℕ, List}
 use Rattle.syntax.specs.Views.{program_of}
 use Rattle.parse.specs.Faults.{source_of}
-use Rattle.serving.specs.declared.compiled.Compiled.{Compiled}
+use Rattle.serving.specs.declared.program.Compiled.{Compiled}
 use Rattle.serving.specs.Codes.{Compiles, IsCodeOf}
 use Rattle.bytecode.specs.Code.{Code}
 use Rattle.serving.specs.Checks.{Accepts, IsSourceOf}

@@ -11,7 +11,7 @@ use Rattle.syntax.specs.Behaviours.{Behaviour, Means}
 use Rattle.syntax.specs.Threads.{thread}
 use Rattle.bytecode.specs.Code.{Code}
 use Rattle.bytecode.specs.Valid.{bounds_of}
-use Rattle.seats.specs.Saying.{code_does}
+use Rattle.shared_words.specs.Saying.{code_does}
 use Rattle.report.specs.Printed.{Printed}
 use Rattle.workers.specs.Driving.{Ran}
 use Rattle.workers.specs.declared.run.RunReport.{RunReport}

@@ -5,9 +5,9 @@ use Rattle.std.specs.Prelude.{if◌then◌else◌}
 use Rattle.report.specs.declared.printed.End.{End}
 use Rattle.report.specs.declared.printed.ThreadShown.{ThreadShown}
 use Rattle.report.specs.Printed as plain
-use Rattle.outcome_lists.specs.declared.shown.OutcomeShown.{OutcomeShown}
-use Rattle.outcome_lists.specs.Lists as lists
-use Rattle.outcome_lists.specs.Views.{outcome_of}
+use Rattle.report.specs.declared.outcome_list.OutcomeShown.{OutcomeShown}
+use Rattle.report.specs.OutcomeList as lists
+use Rattle.report.specs.Views.{outcome_of}
 use Rattle.report.specs.Views.{thread_of}
 use Rattle.serving.specs.Reports.{exit_status, has_stopped, has_trapped, is_stopped, is_trapped}
 

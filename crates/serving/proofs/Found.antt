@@ -14,7 +14,7 @@ use Rattle.machine.specs.Answered.{Heard, StepsHearing}
 use Rattle.machine.specs.States.{first_thread}
 use Rattle.machine.specs.Threads.{Thread}
 use Rattle.machine.specs.Worlds.{Part, World}
-use Rattle.seats.specs.Setup.{Setup}
+use Rattle.shared_words.specs.Setup.{Setup}
 use Rattle.workers.specs.Closing.{AreThere, HasWorkerFor, NoWorker, finished_back}
 use Rattle.workers.specs.Driving.{AreEnded, EndsBy, Ran}
 use Rattle.workers.specs.Workers.{AreWorkersOf}

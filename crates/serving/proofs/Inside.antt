@@ -2,9 +2,9 @@
 use Rattle.std.proofs.Common.{◌≡◌, ◌≢◌, ◌⊎◌, inl, inr, ◌==◌, ◌%◌, ℕ, Bool, true, false, List, [], ◌∷◌, Option, None, Some, slice_get, set, refl, sym, ap, subst, ◌∙◌}
 use Rattle.std.specs.Prelude.{if◌then◌else◌}
 use Rattle.std.proofs.lemmas.Bool.Decides.{eqb_tells}
-use Rattle.syntax.specs.declared.numbers.Status.{Status}
-use Rattle.syntax.specs.declared.numbers.Status.TheVariants.{Running, Ended as HasEnded, Trapped as HasTrapped}
-use Rattle.syntax.specs.declared.numbers.Trap.{Trap}
+use Rattle.syntax.specs.declared.thread_end.Status.{Status}
+use Rattle.syntax.specs.declared.thread_end.Status.TheVariants.{Running, Ended as HasEnded, Trapped as HasTrapped}
+use Rattle.syntax.specs.declared.thread_end.Trap.{Trap}
 use Rattle.syntax.specs.Behaviours.{Memory}
 use Rattle.bytecode.specs.Effects.{Effect}
 use Rattle.bytecode.specs.Effects.Effect.{Pure, Print, Begin, Read, Write, Commit, Cancel, CancelOuter, Irrevocable, Traps, End}
@@ -12,8 +12,8 @@ use Rattle.norec_core.specs.declared.step.Answer.{Answer}
 use Rattle.norec_core.specs.declared.step.Answer.TheVariants as answers
 use Rattle.norec_core.specs.declared.step.Op.{Op}
 use Rattle.norec_core.specs.declared.step.Op.TheVariants as op
-use Rattle.norec_core.specs.declared.step.Outcome.{Outcome}
-use Rattle.norec_core.specs.declared.step.Outcome.TheVariants as outcome
+use Rattle.norec_core.specs.declared.step.OpOutcome.{OpOutcome}
+use Rattle.norec_core.specs.declared.step.OpOutcome.TheVariants as outcome
 use Rattle.norec_core.specs.declared.step.Phase.{Phase}
 use Rattle.norec_core.specs.declared.step.Phase.TheVariants.{AtOperation, ReadsLock, ValidatesTime, ValidatesEntry, Stores}
 use Rattle.norec_core.specs.Attempts.{Attempt}
@@ -77,7 +77,7 @@ module _ {C : Type 0} (code : C → Effect C) where
     after_done (Traps cause) other = absurd (other cause refl)
     after_done End other = refl
 
-    after_any : (o : Outcome) (x : Effect C) → ((cause : Trap) → x ≡ Traps cause → ⊥) → status_after o x th.status ≡ th.status
+    after_any : (o : OpOutcome) (x : Effect C) → ((cause : Trap) → x ≡ Traps cause → ⊥) → status_after o x th.status ≡ th.status
     after_any outcome.Done x other = after_done x other
     after_any outcome.Going x other = refl
     after_any (outcome.Read v) x other = refl
@@ -91,7 +91,7 @@ module _ {C : Type 0} (code : C → Effect C) where
 
     releases : (cause : Trap) (n : CoreStep C) → th.status ≡ Running → EndsOrGoes n → RunsInside (resume_next code th (at_trap cause) n).thread
     releases cause n is (inl gone) a e = let f : None ≡ Some a = sym gone ∙ e in absurd (cc)
-    releases cause n is (inr goes) a e = ap (λ (o : Outcome). status_after o (at_trap cause) th.status) goes ∙ is
+    releases cause n is (inr goes) a e = ap (λ (o : OpOutcome). status_after o (at_trap cause) th.status) goes ∙ is
 
     own : (a : Attempt C) (x : Effect C) → th.status ≡ Running → RunsInside (own_step th a x).thread
     own a (Pure c) is b e = is

@@ -4,7 +4,7 @@ use Rattle.std.proofs.Math.Seq.{take-add}
 use Rattle.std.proofs.lemmas.List.{append-nil, length-drop, take_rest}
 use Rattle.std.specs.Io.KnownBytes.{Appends, Keeps}
 use Rattle.serving.specs.Written.{WritesPart}
-use Rattle.serving.proofs.Replays.{appends_more}
+use Rattle.serving.proofs.ReplayRuns.{appends_more}
 
 -- more of a text is written, of what is left of it
 pub part_more : (a b c : Option (List ℕ)) (n m : ℕ) (text : List ℕ) → Appends a b (take n text) → Appends b c (take m (take (length text - n) (drop n text))) → Appends a c (take (n + m) text)

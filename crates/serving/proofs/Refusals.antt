@@ -10,8 +10,8 @@ use Rattle.lex.specs.declared.fault.LexFault.TheVariants.{FileTooLong}
 use Rattle.lex.specs.declared.lexer.TheConstants.{MOST_BYTES}
 use Rattle.lower.specs.Faults.{IsLowerFaultOf}
 use Rattle.lower.specs.declared.fault.LowerFault.{LowerFault}
-use Rattle.serving.specs.declared.run.SourceFault.{SourceFault}
-use Rattle.serving.specs.declared.run.SourceFault.TheVariants.{OutOfMemory, Lex, Parse, IllTyped, Unsafe, NotSeparate, NoCode}
+use Rattle.serving.specs.declared.program.SourceFault.{SourceFault}
+use Rattle.serving.specs.declared.program.SourceFault.TheVariants.{OutOfMemory, Lex, Parse, IllTyped, Unsafe, NotSeparate, NoCode}
 use Rattle.serving.specs.Answers.{Answers}
 use Rattle.serving.specs.Checks.{IsSourceOf}
 use Rattle.serving.specs.Limits.{HasNoCode, IsFaultOfText, PassesLimit}

@@ -8,9 +8,9 @@ use Rattle.std.proofs.lemmas.Option.{slice_get_within}
 use mathlib.Core.Option.{some, some-ne-none, some-injective}
 use lib.ListN.{get_elem?}
 use Rattle.atomic_table.specs.Seated.{TableId}
-use Rattle.syntax.specs.declared.numbers.Halt.TheVariants.{Trapped}
-use Rattle.syntax.specs.declared.numbers.Status.{Status}
-use Rattle.syntax.specs.declared.numbers.Status.TheVariants.{Running, Ended as HasEnded, Trapped as HasTrapped}
+use Rattle.syntax.specs.declared.thread_end.Halt.TheVariants.{Trapped}
+use Rattle.syntax.specs.declared.thread_end.Status.{Status}
+use Rattle.syntax.specs.declared.thread_end.Status.TheVariants.{Running, Ended as HasEnded, Trapped as HasTrapped}
 use Rattle.syntax.specs.Tree.{Program}
 use Rattle.syntax.specs.Names.{globals, initial_from, initial_memory}
 use Rattle.syntax.specs.Behaviours as Behaviours
@@ -29,7 +29,7 @@ use Rattle.machine.specs.Standing.{IsStanding, IsThreadOf}
 use Rattle.machine.specs.States.{attempt_has_lock, thread_has_lock}
 use Rattle.machine.specs.Threads.{Thread}
 use Rattle.machine.specs.Worlds.{Part, World}
-use Rattle.seats.specs.Setup.{Setup}
+use Rattle.shared_words.specs.Setup.{Setup}
 use Rattle.workers.specs.Closing.{AreThere, NoneHolds}
 use Rattle.workers.specs.Driving.{IsMemoryOf}
 use Rattle.workers.specs.Workers.{AreWorkersOf}
@@ -37,7 +37,7 @@ use Rattle.workers.specs.declared.run.RunMemory.{RunMemory}
 use Rattle.workers.specs.declared.run.RunMemory.TheVariants.{LockHeld, Words}
 use Rattle.workers.specs.declared.run.RunReport.{RunReport}
 use Rattle.workers.specs.declared.worker.Worker.{Worker}
-use Rattle.world.specs.declared.report.End.{End as WorldEnd}
+use Rattle.world.specs.declared.report.WorldEnd.{WorldEnd}
 use Rattle.world.specs.declared.stop.StopReason.{StopReason}
 use Rattle.world.specs.declared.stop.StopReason.TheVariants as reason
 use Rattle.world.specs.declared.stop.WorldStop.{WorldStop}

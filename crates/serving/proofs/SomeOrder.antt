@@ -6,7 +6,7 @@ use Rattle.std.proofs.lemmas.List.{length-map}
 use Rattle.std.proofs.lemmas.Option.{slice_get-map, slice_get_within}
 use Rattle.syntax.specs.Tree.{Program}
 use Rattle.syntax.specs.Names.{globals, initial_memory}
-use Rattle.syntax.specs.declared.numbers.Halt.TheVariants.{Spent}
+use Rattle.syntax.specs.declared.thread_end.Halt.TheVariants.{Spent}
 use Rattle.syntax.specs.Behaviours.{ThreadEnd, Stopped, Step, founds_of, lefts_of, of_thread}
 use Rattle.syntax.specs.Orders.{OrderOutcome, in_order}
 use Rattle.syntax.specs.Threads.{thread}

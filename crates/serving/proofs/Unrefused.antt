@@ -27,13 +27,13 @@ use Rattle.safety.specs.Laws.{SafeHasNoFault}
 use Rattle.separation.specs.Answers as separation
 use Rattle.separation.specs.Laws.{FaultTouches}
 use Rattle.separation.specs.Touching.{IsSeparationFault}
-use Rattle.serving.specs.declared.run.SourceFault.{SourceFault}
-use Rattle.serving.specs.declared.run.SourceFault.TheVariants.{OutOfMemory, Lex, Parse, IllTyped, Unsafe, NotSeparate, NoCode}
+use Rattle.serving.specs.declared.program.SourceFault.{SourceFault}
+use Rattle.serving.specs.declared.program.SourceFault.TheVariants.{OutOfMemory, Lex, Parse, IllTyped, Unsafe, NotSeparate, NoCode}
 use Rattle.serving.specs.Checks.{Accepts}
 use Rattle.serving.specs.Laws.{AcceptedAreNotRefused, AcceptedPassLimits}
 use Rattle.serving.specs.Limits.{IsFaultOfText, PassesLimit}
 use Rattle.serving.specs.Refusals.{IsFaultOfSource, span_of_source}
-use Rattle.serving.proofs.Listing.{one_source}
+use Rattle.serving.proofs.ListedOutcomes.{one_source}
 use Rattle.lower.specs.Answers as lower
 use Rattle.lower.specs.declared.fault.LowerFault.{LowerFault}
 

@@ -7,7 +7,7 @@ use Rattle.world.specs.declared.stop.WorldStop.{WorldStop}
 use Rattle.replay.specs.declared.line.Line.{Line}
 use Rattle.command.specs.declared.request.Steps.{Steps}
 use Rattle.report.specs.Printed.{Printed}
-use Rattle.outcome_lists.specs.Lists.{OutcomeShown}
+use Rattle.report.specs.OutcomeList.{OutcomeShown}
 use Rattle.lower.specs.Answers.{span_of}
 use Rattle.lower.specs.declared.fault.LowerFault.{LowerFault}
 use Rattle.serving.specs.Checks.{Accepts}

@@ -4,8 +4,8 @@ use Rattle.syntax.specs.Grammar.{ParsedSource}
 use Rattle.separation.specs.Touching.{IsAccepted}
 use Rattle.lower.specs.Faults.{IsLowerFaultOf}
 use Rattle.lower.specs.declared.fault.LowerFault.{LowerFault}
-use Rattle.serving.specs.declared.run.SourceFault.{SourceFault}
-use Rattle.serving.specs.declared.run.SourceFault.TheVariants.{NoCode}
+use Rattle.serving.specs.declared.program.SourceFault.{SourceFault}
+use Rattle.serving.specs.declared.program.SourceFault.TheVariants.{NoCode}
 use Rattle.serving.specs.Checks.{IsSourceOf}
 use Rattle.serving.specs.Refusals.{IsFaultOfSource, IsFaulty}
 

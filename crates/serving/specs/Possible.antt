@@ -20,7 +20,7 @@ use Rattle.serving.specs.Codes.{IsCodeOf}
 use Rattle.serving.specs.Replays.{IsReplayOf, behind_events, world_shown}
 use Rattle.serving.specs.Outcomes.{AreOutcomesOf}
 use Rattle.outcomes.specs.Outcomes.{NeverSpent}
-use Rattle.outcome_lists.specs.Lists.{OutcomeShown}
+use Rattle.report.specs.OutcomeList.{OutcomeShown}
 use Rattle.world.specs.Simulations.{IsHolder, world_of}
 use Rattle.replay.specs.Replays.{simulation_after}
 use Rattle.replay.specs.Schedules.{counts}

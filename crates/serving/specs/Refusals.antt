@@ -18,12 +18,13 @@ use Rattle.separation.specs.Touching.{IsSeparationFault}
 use Rattle.separation.specs.Answers as separation
 use Rattle.parse.specs.Faults.{IsParseFaultOf as IsParseFault}
 use Rattle.meaning.specs.InOrder.{IsFaultOfOrder, number_in as order_number}
-use Rattle.serving.specs.declared.run.SourceFault.{SourceFault}
-use Rattle.serving.specs.declared.run.SourceFault.TheVariants.{OutOfMemory, Lex, Parse, IllTyped, Unsafe, NotSeparate}
-use Rattle.serving.specs.declared.run.SourceFault.TheVariants.{NoCode}
+use Rattle.serving.specs.declared.program.SourceFault.{SourceFault}
+use Rattle.serving.specs.declared.program.SourceFault.TheVariants.{OutOfMemory, Lex, Parse, IllTyped, Unsafe}
+use Rattle.serving.specs.declared.program.SourceFault.TheVariants.{NotSeparate}
+use Rattle.serving.specs.declared.program.SourceFault.TheVariants.{NoCode}
 use Rattle.lower.specs.Answers as lower
-use Rattle.serving.specs.declared.order.OrderFault.{OrderFault}
-use Rattle.serving.specs.declared.order.OrderFault.TheVariants.{Source as OfSource, Order as OfOrder}
+use Rattle.serving.specs.declared.source.OrderFault.{OrderFault}
+use Rattle.serving.specs.declared.source.OrderFault.TheVariants.{Source as OfSource, Order as OfOrder}
 use Rattle.serving.specs.Checks.{Accepts, IsSourceOf}
 
 -- the tokens of a text are wrong in this way

@@ -15,8 +15,8 @@ use Rattle.bytecode.specs.Valid.{bounds_of}
 use Rattle.machine.specs.Serializable.{IsOpaque}
 use Rattle.world.specs.declared.stop.StopReason.{StopReason}
 use Rattle.world.specs.declared.stop.WorldStop.{WorldStop}
-use Rattle.world.specs.declared.report.End.{End as WorldEnd}
-use Rattle.world.specs.declared.report.End.TheVariants as world
+use Rattle.world.specs.declared.report.WorldEnd.{WorldEnd}
+use Rattle.world.specs.declared.report.WorldEnd.TheVariants as world
 use Rattle.world.specs.Reports.{stop_with, threads_shown}
 use Rattle.world.specs.Simulations.{IsHolder, Simulation, world_of}
 use Rattle.replay.specs.declared.line.Line.{Line}

@@ -2,7 +2,7 @@
 use Rattle.std.specs.Prelude.{ℕ, List, [], ◌∷◌, map, take, drop, None}
 use Rattle.syntax.specs.Tree.{Global, Program}
 use Rattle.syntax.specs.Names.{cells, globals}
-use Rattle.syntax.specs.declared.numbers.Halt.TheVariants.{Trapped, Wants}
+use Rattle.syntax.specs.declared.thread_end.Halt.TheVariants.{Trapped, Wants}
 use Rattle.syntax.specs.Behaviours.{Memory, Outcome, ThreadEnd, Ended, Stopped}
 use Rattle.syntax.specs.Orders.{OrderOutcome}
 use Rattle.report.specs.Printed.{Shown, ThreadShown, Printed}

@@ -8,13 +8,11 @@ ghost use Rattle.serving.specs.Orders.{IsOrderOf};
 ghost use Rattle.serving.specs.Refusals.{IsRefused};
 ghost use Rattle.serving.specs.Written.{IsReportOf, WritesPart};
 
-use crate::opened::Files;
-use crate::order::order_accepted;
-use crate::request::{print_text, text_of};
-use crate::run::read_accepted;
-use crate::tell::{
-    Detail, cannot_write, not_read, out_of_memory, print, refuse, refuse_order, unusable,
-};
+use crate::files::{Files, text_of};
+use crate::print::{print, print_text};
+use crate::program::read_accepted;
+use crate::source::order_accepted;
+use crate::tell::{Detail, cannot_write, not_read, out_of_memory, refuse, refuse_order, unusable};
 use command::{Claim, listed_order};
 use differences::difference;
 use meaning::MeaningFault;

@@ -1,66 +1,187 @@
-//! Reading a source, and a schedule.
+//! `txc source`: threads of a source in an order.
 
-ghost use Rattle.std.specs.Prelude.{◌≡◌, IfOk, IfSome, string_bytes, take};
-ghost use Rattle.serving.specs.inner.Read.{IsTextOf};
+ghost use Rattle.std.specs.Prelude.{◌≡◌, ◌≤◌, IfOk, IfErr, OnOk, map};
+ghost use Rattle.serving.specs.Checks.{Accepts};
+ghost use Rattle.serving.specs.Orders.{RunsInOrder, IsOrderOf};
+ghost use Rattle.serving.specs.Refusals.{IsRefused, IsFaultInOrder, number_of_order};
+ghost use Rattle.serving.specs.Reports.{PrintsReport};
+ghost use Rattle.serving.specs.Written.{IsReportOf, WritesPart};
+ghost use Rattle.syntax.specs.Views.{program_of};
+ghost use Rattle.report.specs.Views.{printed_of, thread_of};
+ghost use Rattle.meaning.specs.InOrder.{IsFaultOfOrder};
+ghost use Rattle.meaning.specs.Outcomes.{thread_end_in};
+ghost use Rattle.serving.specs.Shows.{program_shown, order_end};
+ghost use Rattle.serving.specs.inner.ThreadReports.{report_shown};
 
-use lex::MOST_BYTES;
-use std::alloc::Allocator;
-use std::io;
-use std::io::Read;
+use crate::globals::globals_shown;
+use crate::print::print_report;
+use crate::program::{SourceFault, read_accepted, unit_of};
+use crate::tell::{Detail, refuse, refuse_order};
+use containers::Items;
+use meaning::{MeaningFault, SourceOutcome, ThreadEnd, ThreadReport, run_order};
+use report::{End, Printed, ThreadShown};
+use separation::Accepted;
+use std::alloc::{AllocError, Allocator};
+use std::io::Write;
+use syntax::tree::Unit;
+use thiserror::Error;
 
-/// One byte more than a source may have.
-const BEYOND_MOST_BYTES: u64 = MOST_BYTES as u64 + 1;
-
-/// What a file holds.
-#[derive(Drop)]
-pub(crate) enum SourceText<A: Allocator> {
-    Text(String<A>),
-    NotText,
-    TooLong,
-}
-
-/// Reads to the end, or to one byte past the most that a source may have.
-fn read_bytes<A: Allocator, R: Read + Drop>(alloc: A, source: R) -> io::Result<Vec<u8, A>>
-    ensures { IfOk result (λ v. IfSome (R.remaining source) (λ bytes. v.items ≡ take BEYOND_MOST_BYTES bytes)) }
+/// Runs threads of a source in an order and prints their report.
+pub(crate) fn in_order<A: Allocator + Copy, W: Write, E: Write>(
+    alloc: A,
+    text: &str,
+    threads: u32,
+    order: &[u32],
+    ticks: u64,
+    detail: Detail<'_>,
+    out: &mut W,
+    err: &mut E,
+) -> u8
+    ensures status { result ≤ 4 }
+    ensures report { PrintsReport (λ shown. RunsInOrder threads ticks order.now text.now shown × Accepts text.now)
+        result (W.contents out.old) (W.contents out.new) }
+    ensures refused { result ≡ 1 → IsRefused text.now }
+    ensures written { WritesPart
+        (IsReportOf (λ shown. RunsInOrder threads ticks order.now text.now shown × Accepts text.now))
+        (W.contents out.old) (W.contents out.new) }
+    ensures untouched { result ≡ 1 → W.contents out.new ≡ W.contents out.old }
 {
-    let mut bytes = Vec::new(alloc);
-    source.take(BEYOND_MOST_BYTES).read_to_end(&mut bytes)?;
-    Ok(bytes)
-}
-
-/// What bytes are as a source.
-fn source_of<A: Allocator>(bytes: Vec<u8, A>) -> SourceText<A>
-    ensures { IsTextOf bytes.items result }
-{
-    match String::from_utf8(bytes) {
-        Ok(text) => SourceText::Text(text),
-        Err(_) => SourceText::NotText,
+    match run_in_order(alloc, text, threads, order, ticks) {
+        Ok(printed) => print_report(alloc, &printed, out, err),
+        Err(OrderFault::Source(fault)) => refuse(alloc, text, fault, detail, err),
+        Err(OrderFault::Order(fault)) => refuse_order(fault, detail, err),
     }
 }
 
-/// Reads a source: all of it, where it is a text.
-pub(crate) fn read_source<A: Allocator, R: Read + Drop>(
-    alloc: A,
-    source: R,
-) -> io::Result<SourceText<A>>
-    ensures { IfOk result (λ s. IfSome (R.remaining source) (λ bytes. IsTextOf bytes s)) }
-{
-    let bytes = read_bytes(alloc, source)?;
-    if bytes.len() > MOST_BYTES {
-        Ok(SourceText::TooLong)
-    } else {
-        Ok(source_of(bytes))
+/// Why threads of a source do not run in an order.
+#[derive(Clone, Copy, Debug, Error)]
+pub enum OrderFault {
+    /// The source is refused.
+    #[error("{0}")]
+    Source(SourceFault),
+    /// The order is.
+    #[error("{0}")]
+    Order(MeaningFault),
+}
+
+impl OrderFault {
+    /// The fault's number: that of the source's or of the order's.
+    pub fn number(&self) -> u32
+        ensures { result ≡ number_of_order self.now }
+    {
+        match self {
+            OrderFault::Source(fault) => fault.number(),
+            OrderFault::Order(fault) => fault.number(),
+        }
     }
 }
 
-/// Reads a text to its end. There is none where the bytes are not UTF-8.
-pub(crate) fn read_text<A: Allocator, R: Read + Drop>(
+/// Runs threads of a source's text in an order, and gives what their report shows. The order is looked at last.
+pub fn run_in_order<A: Allocator + Copy>(
     alloc: A,
-    mut reader: R,
-) -> io::Result<Option<String<A>>>
-    ensures { IfOk result (λ o. IfSome o (λ s. IfSome (R.remaining reader) (λ bytes. string_bytes s ≡ bytes))) }
+    text: &str,
+    threads: u32,
+    order: &[u32],
+    ticks: u64,
+) -> Result<Printed<A>, OrderFault>
+    ensures ok { IfOk result (λ r. RunsInOrder threads ticks order.now text.now (printed_of r)) }
+    ensures accepted { OnOk result (Accepts text.now) }
+    ensures err { IfErr result (λ f. IsFaultInOrder text.now threads order.now f) }
 {
-    let mut bytes = Vec::new(alloc);
-    reader.read_to_end(&mut bytes)?;
-    Ok(String::from_utf8(bytes).ok())
+    match read_accepted(alloc, text) {
+        Ok(accepted) => match order_accepted(alloc, &accepted, threads, order, ticks) {
+            Ok(printed) => Ok(printed),
+            Err(fault) => Err(OrderFault::Order(fault)),
+        },
+        Err(fault) => Err(OrderFault::Source(fault)),
+    }
+}
+
+/// Runs threads of an accepted program in an order.
+pub(crate) fn order_accepted<A: Allocator + Copy>(
+    alloc: A,
+    accepted: &Accepted<A>,
+    threads: u32,
+    order: &[u32],
+    ticks: u64,
+) -> Result<Printed<A>, MeaningFault>
+    ensures ok { IfOk result
+        (λ r. IsOrderOf (program_of accepted.now.safe.typed.unit) threads ticks order.now (printed_of r)) }
+    ensures err { IfErr result (λ f. IsFaultOfOrder threads order.now f) }
+{
+    let ran = run_order(alloc, accepted, threads, order, ticks)?;
+    match shown_in_order(alloc, unit_of(accepted), ran) {
+        Ok(printed) => Ok(printed),
+        Err(_) => Err(MeaningFault::OutOfMemory),
+    }
+}
+
+/// What a report shows of this memory, and of threads after their turns.
+pub(crate) fn shown_with<A: Allocator + Copy>(
+    alloc: A,
+    unit: &Unit<A>,
+    memory: &[u64],
+    threads: Vec<ThreadReport<A>, A>,
+) -> Result<Printed<A>, AllocError>
+    ensures { IfOk result (λ r. printed_of r ≡ program_shown (program_of unit.now)
+        (map report_shown threads.items) memory.now) }
+{
+    let globals = globals_shown(alloc, unit, memory)?;
+    let threads = threads_shown(alloc, threads)?;
+    Ok(Printed {
+        events: None,
+        threads,
+        globals,
+        holder: None,
+    })
+}
+
+/// What the report of threads in an order shows.
+fn shown_in_order<A: Allocator + Copy>(
+    alloc: A,
+    unit: &Unit<A>,
+    ran: SourceOutcome<A>,
+) -> Result<Printed<A>, AllocError>
+    ensures { IfOk result (λ r. printed_of r ≡ program_shown (program_of unit.now)
+        (map report_shown ran.threads.items) ran.memory.items) }
+{
+    let SourceOutcome { memory, threads } = ran;
+    let shown = shown_with(alloc, unit, memory.as_slice(), threads)?;
+    Ok(shown)
+}
+
+/// What is shown of threads after their turns.
+fn threads_shown<A: Allocator + Copy>(
+    alloc: A,
+    reports: Vec<ThreadReport<A>, A>,
+) -> Result<Items<ThreadShown<A>, A>, AllocError>
+    ensures { IfOk result (λ v. map thread_of v ≡ map report_shown reports.items) }
+{
+    let mut threads = Items::new(alloc);
+    'reports: for report in reports {
+        threads.push(thread_shown(report))?;
+    }
+    Ok(threads)
+}
+
+/// What is shown of a thread after its turns.
+fn thread_shown<A: Allocator>(report: ThreadReport<A>) -> ThreadShown<A>
+    ensures { thread_of result ≡ report_shown report }
+{
+    ThreadShown {
+        end: end_in_order(report.end),
+        text: Items::from_vec(report.text),
+    }
+}
+
+/// How a thread is found after its turns in an order.
+fn end_in_order(end: ThreadEnd) -> End
+    ensures { result ≡ order_end (thread_end_in end) }
+{
+    match end {
+        ThreadEnd::Ended => End::Ended,
+        ThreadEnd::Trapped(trap) => End::Trapped(trap),
+        ThreadEnd::Wants => End::Waits,
+        ThreadEnd::Spent => End::Spent,
+    }
 }

@@ -1,21 +1,18 @@
 //! What standard error is told.
 
-ghost use Rattle.std.specs.Prelude.{◌≡◌, ◌≢◌, ◌≤◌, ◌⊎◌, OnOk, is_some, true};
+ghost use Rattle.std.specs.Prelude.{◌≡◌, ◌≢◌, ◌≤◌, ◌⊎◌, is_some, true};
 ghost use Rattle.serving.specs.Refusals.{span_of_source};
-ghost use Rattle.std.specs.Io.KnownBytes.{Appends};
 ghost use Rattle.std.specs.IoError.{error_kind};
 ghost use Rattle.serving.specs.Usage.{IsHelp, IsWrong};
-ghost use Rattle.serving.specs.Written.{AppendsBeginning};
 
-use crate::concurrent_shown::thread_numbered;
-use crate::run::SourceFault;
-use crate::status::{ENDED, REFUSED, STOPPED, UNUSABLE};
+use crate::print::{ENDED, REFUSED, STOPPED, UNUSABLE, print};
+use crate::program::SourceFault;
+use crate::run::thread_numbered;
 use command::{Format, UsageFault};
-use faults::{underline, words};
-use hints::hints;
 use lex::place;
 use lex::token::Span;
 use meaning::MeaningFault;
+use messages::{hints, underline, words};
 use replay::ScheduleFault;
 use std::alloc::Allocator;
 use std::io;
@@ -351,36 +348,4 @@ pub(crate) fn unusable<E: Write>(why: &str, err: &mut E) -> u8
 {
     let _ = writeln!(err, "txc: usage: {why}");
     UNUSABLE
-}
-
-/// Writes a text, as `write_all` does. Where that fails a beginning of it is written.
-fn write_text<W: Write>(text: &[u8], out: &mut W) -> io::Result<()>
-    ensures whole { OnOk result (Appends (W.contents out.old) (W.contents out.new) text.now) }
-    ensures part { AppendsBeginning (W.contents out.old) (W.contents out.new) text.now }
-{
-    let mut written = 0;
-    'turns: for _ in 0..u64::MAX {
-        if written >= text.len() {
-            return Ok(());
-        }
-        match out.write(&text[written..]) {
-            Ok(0) => return Err(io::Error::from(ErrorKind::WriteZero)),
-            Ok(count) => written += count,
-            Err(error) => {
-                if error.kind() != ErrorKind::Interrupted {
-                    return Err(error);
-                }
-            }
-        }
-    }
-    Err(io::Error::from(ErrorKind::Interrupted))
-}
-
-/// Writes a text and flushes the writer.
-pub(crate) fn print<W: Write>(text: &[u8], out: &mut W) -> io::Result<()>
-    ensures whole { OnOk result (Appends (W.contents out.old) (W.contents out.new) text.now) }
-    ensures part { AppendsBeginning (W.contents out.old) (W.contents out.new) text.now }
-{
-    write_text(text, out)?;
-    out.flush()
 }

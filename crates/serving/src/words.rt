@@ -3,7 +3,7 @@
 ghost use Rattle.std.specs.Prelude.{◌≤◌, map};
 ghost use Rattle.serving.specs.Words.{AnswersWords};
 
-use crate::opened::{Files, serve_files};
+use crate::files::{Files, serve_files};
 use crate::tell::tell_usage;
 use command::command;
 use std::alloc::Global;

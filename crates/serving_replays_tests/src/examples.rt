@@ -1,6 +1,6 @@
 //! The programs of examples/ with what each prints, and its transcripts: written by scripts/examples.py.
 
-use serving_in_memory::{Served, request_of, serve_claim, serve_line};
+use test_serving::{Served, request_of, serve_claim, serve_line};
 use std::alloc::Global;
 use std::sync::Wait;
 use std::thread::Threads;

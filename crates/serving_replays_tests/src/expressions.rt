@@ -1,6 +1,6 @@
 //! Replays of transactions that are expressions.
 
-use serving_in_memory::{Row, wrong_row};
+use test_serving::{Row, wrong_row};
 
 /// The rows stand in a function, so that no proof but its own looks at them.
 fn schedules() -> &'static [Row] {

@@ -1,14 +1,14 @@
 //! Replays of schedules and seeds.
 
 use command::{Format, Request, Steps, Task};
-use serving_in_memory::{
-    ADDS, Broken, Row, ServeResult, Served, answers, is_answer, request_of, serve_bytes,
-    serve_line, wrong_row,
-};
 use std::alloc::{AllocError, Global};
 use std::str;
 use std::sync::Wait;
 use std::thread::Threads;
+use test_serving::{
+    ADDS, Broken, Row, ServeResult, Served, answers, is_answer, request_of, serve_bytes,
+    serve_line, wrong_row,
+};
 
 fn schedules() -> &'static [Row] {
     static ROWS: [Row; 23] = [

@@ -2,10 +2,10 @@
 
 use report::{Printed, report_text};
 use serving::{OutcomesFound, list_outcomes, run_in_order};
-use serving_in_memory::{ADDS, Row, answers, serve_line, wrong_row};
 use std::alloc::Global;
 use std::sync::Wait;
 use std::thread::Threads;
+use test_serving::{ADDS, Row, answers, serve_line, wrong_row};
 
 const LAST: &str = "int x; void worker(int self) { __transaction_atomic { x = self; } }";
 

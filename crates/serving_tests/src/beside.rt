@@ -1,9 +1,9 @@
 //! What is told beside a fault on a terminal.
 
-use serving_in_memory::answers;
 use std::alloc::Global;
 use std::sync::Wait;
 use std::thread::Threads;
+use test_serving::answers;
 
 /// A source, and what is told of it behind its line.
 type Row = (&'static str, &'static str);

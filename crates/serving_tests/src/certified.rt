@@ -3,12 +3,12 @@
 use crate::opened::{Found, NONE, Opened, REFUSED, Told};
 use crate::served::Closed;
 use serving::{Files, serve_files, tell_usage};
-use serving_in_memory::{ADDS, ServeResult, request_of};
 use std::alloc::Global;
 use std::io;
 use std::io::{ErrorKind, Write};
 use std::sync::Wait;
 use std::thread::Threads;
+use test_serving::{ADDS, ServeResult, request_of};
 
 /// The three files that there are.
 #[derive(Drop)]

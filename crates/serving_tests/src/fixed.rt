@@ -3,10 +3,10 @@
 
 use crate::opened::{Found, NONE, REFUSED, REPLAY, Told, TwoFiles, answer_line};
 use crate::served::Closed;
-use serving_in_memory::ADDS;
 use std::alloc::Global;
 use std::sync::Wait;
 use std::thread::Threads;
+use test_serving::ADDS;
 
 /// A command line, what is found of the files `a.c` and `s.txt`, whether standard output is closed, the exit status, and
 /// what is told.

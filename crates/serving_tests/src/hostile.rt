@@ -1,11 +1,11 @@
 //! Hostile use: each growth of what is answered refused in turn, and threads that are not started.
 
 use command::{Format, Request, Task};
-use refusing::{Refusing, growths};
 use serving::{Detail, serve_alone};
-use serving_in_memory::{ServeResult, Served, is_answer, request_of};
 use std::alloc::Global;
 use std::str;
+use test_memory::{Refusing, growths};
+use test_serving::{ServeResult, Served, is_answer, request_of};
 
 /// A transaction in another one is cancelled, and what it has read is compared still.
 const CANCELS: &[u8] =

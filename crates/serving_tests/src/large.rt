@@ -1,10 +1,10 @@
 //! Large inputs and broken ones: each is answered, and none for want of something.
 
 use crate::refusals::text_of_pieces;
-use serving_in_memory::{ServeResult, Served, answers, serve_line};
 use std::alloc::{AllocError, Global};
 use std::sync::Wait;
 use std::thread::Threads;
+use test_serving::{ServeResult, Served, answers, serve_line};
 
 /// A text in pieces, each so many times.
 type Pieces = &'static [(&'static str, usize)];

@@ -1,12 +1,12 @@
 //! Which files are opened for the words of a command line, and what is said of those that are not.
 
 use serving::{Files, serve_words};
-use serving_in_memory::{ADDS, ServeResult};
 use std::alloc::Global;
 use std::io;
 use std::io::{ErrorKind, IsTerminal, Read, Write};
 use std::sync::Wait;
 use std::thread::Threads;
+use test_serving::{ADDS, ServeResult};
 
 /// What is found of a file's name: the bytes of the file, or why it is not opened.
 pub(crate) type Found = Result<&'static [u8], ErrorKind>;

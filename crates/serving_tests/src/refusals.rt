@@ -3,10 +3,10 @@
 
 use command::Format;
 use serving::{Detail, refuse_run};
-use serving_in_memory::{ServeResult, answers, serve_line};
 use std::alloc::{AllocError, Global};
 use std::sync::Wait;
 use std::thread::Threads;
+use test_serving::{ServeResult, answers, serve_line};
 use workers::RunFault;
 
 /// A source, the number of its fault, and what is told behind it.

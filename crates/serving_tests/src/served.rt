@@ -2,15 +2,15 @@
 
 use command::{Format, Request, UsageFault};
 use serving::{Detail, not_read as tell_unread, serve, tell_usage, unread_words};
-use serving_in_memory::{
-    ADDS, Broken, Row, ServeResult, answers, is_answer, request_of, serve_bytes, wrong_row,
-};
 use std::alloc::Global;
 use std::fs::File;
 use std::io;
 use std::io::{ErrorKind, Write};
 use std::sync::Wait;
 use std::thread::Threads;
+use test_serving::{
+    ADDS, Broken, Row, ServeResult, answers, is_answer, request_of, serve_bytes, wrong_row,
+};
 
 /// A writer that takes no byte.
 #[derive(Drop)]

@@ -6,7 +6,7 @@ use Rattle.std.proofs.lemmas.Slice.Eq.{bytes_eq-Decides}
 use Rattle.lex.specs.declared.token.Span.{Span}
 use Rattle.lex.specs.declared.token.Scalar.{Scalar}
 use Rattle.syntax.specs.Tree.{Name, Stmts, Parameter, Function, Global, Item, Defines, Shares, Program}
-use Rattle.syntax.specs.declared.numbers.Value.{Value}
+use Rattle.syntax.specs.declared.value.Value.{Value}
 use Rattle.syntax.specs.Numbers.{value_in_type}
 use Rattle.syntax.specs.Names.{Local, definition_or, definition_of}
 use Rattle.syntax.specs.Types.{Known, Unknown, Number, Array, Callable, Scope, known_global, known_function, known_among, file_scope, with_number}

@@ -7,7 +7,7 @@ use Rattle.syntax.specs.declared.tree.Mode.{Mode}
 use Rattle.syntax.specs.declared.tree.Mode.TheVariants.{Atomic, Relaxed}
 use Rattle.syntax.specs.declared.tree.TransactionKind.{TransactionKind}
 use Rattle.syntax.specs.declared.tree.TransactionKind.TheVariants.{Plain, Outer}
-use Rattle.syntax.specs.declared.numbers.Halt.TheVariants.{Trapped}
+use Rattle.syntax.specs.declared.thread_end.Halt.TheVariants.{Trapped}
 use Rattle.syntax.specs.Tree as Tree
 use Rattle.syntax.specs.Tree.{Simple, Evaluate, Assign, Adjust, Declarator, Stmt, Stmts, Empty, Declare, Do, Block, Print, If, IfElse, While, DoWhile, For, Break, Continue, Return, Transaction, Cancel, CancelOuter, Program}
 use Rattle.syntax.specs.Names.{Local}

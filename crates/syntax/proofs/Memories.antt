@@ -14,7 +14,7 @@ use Rattle.syntax.specs.declared.tree.Mode.{Mode}
 use Rattle.syntax.specs.declared.tree.Mode.TheVariants.{Atomic, Relaxed}
 use Rattle.syntax.specs.declared.tree.TransactionKind.{TransactionKind}
 use Rattle.syntax.specs.declared.tree.TransactionKind.TheVariants.{Plain, Outer}
-use Rattle.syntax.specs.declared.numbers.Halt.TheVariants.{Trapped, Wants, Spent, Astray}
+use Rattle.syntax.specs.declared.thread_end.Halt.TheVariants.{Trapped, Wants, Spent, Astray}
 use Rattle.syntax.specs.Tree.{Program}
 use Rattle.syntax.specs.Names.{Local, GlobalCells, cells, globals, global_from, global_of, bounds}
 use Rattle.syntax.specs.Behaviours.{Memory, IsMemory}

@@ -6,10 +6,10 @@ use Rattle.lex.specs.declared.token.Scalar.TheVariants.{Int, Unsigned}
 use Rattle.syntax.specs.declared.tree.UnaryOp.TheVariants.{Negate}
 use Rattle.syntax.specs.declared.tree.BinaryOp.TheVariants.{Add, Subtract, Equal, Divide, Less, Greater}
 use Rattle.syntax.specs.declared.tree.IncDec.TheVariants.{Increment}
-use Rattle.syntax.specs.declared.numbers.Trap.TheVariants.{OutOfRange, Index, Frames}
+use Rattle.syntax.specs.declared.thread_end.Trap.TheVariants.{OutOfRange, Index, Frames}
 use Rattle.syntax.specs.Tree as Tree
 use Rattle.syntax.specs.Tree.{Expr, Constant, Element, Call, Unary, Binary, Evaluate, Assign, Adjust, Does, Stmt, Stmts, Declare, Do, Block, Print, If, IfElse, While, For, Break, Cancel, Defines, Shares, Program}
-use Rattle.syntax.specs.declared.numbers.Halt.TheVariants.{Trapped}
+use Rattle.syntax.specs.declared.thread_end.Halt.TheVariants.{Trapped}
 use Rattle.syntax.specs.declared.tree.Initialiser.{Initialiser}
 use Rattle.syntax.specs.Names.{initial_memory}
 use Rattle.syntax.specs.Behaviours.{Memory, Ended, Stopped, Step, founds_of, lefts_of, last_memory}

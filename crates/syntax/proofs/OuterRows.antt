@@ -5,7 +5,7 @@ use Rattle.std.specs.Fmt.{digits}
 use Rattle.lex.specs.declared.token.Scalar.TheVariants.{Int}
 use Rattle.syntax.specs.declared.tree.Mode.TheVariants.{Relaxed}
 use Rattle.syntax.specs.declared.tree.TransactionKind.TheVariants.{Plain, Outer}
-use Rattle.syntax.specs.declared.numbers.Halt.TheVariants.{Spent, Astray}
+use Rattle.syntax.specs.declared.thread_end.Halt.TheVariants.{Spent, Astray}
 use Rattle.syntax.specs.Tree as Tree
 use Rattle.syntax.specs.Tree.{Stmt, Stmts, Declare, Block, Print, While, Transaction, CancelOuter, Program}
 use Rattle.syntax.specs.Behaviours.{Ended, Stopped}

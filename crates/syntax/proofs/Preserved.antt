@@ -6,16 +6,16 @@ use Rattle.std.proofs.Common.{◌≡◌, refl, inl, inr, arith, length, ℕ, ◌
 use Rattle.lex.specs.declared.token.Scalar.{Scalar}
 use Rattle.syntax.specs.declared.tree.BinaryOp.{BinaryOp}
 use Rattle.syntax.specs.declared.tree.LogicalOp.TheVariants.{AndThen, OrElse}
-use Rattle.syntax.specs.declared.numbers.Trap.{Trap}
-use Rattle.syntax.specs.declared.numbers.Trap.TheVariants.{Index, Frames}
+use Rattle.syntax.specs.declared.thread_end.Trap.{Trap}
+use Rattle.syntax.specs.declared.thread_end.Trap.TheVariants.{Index, Frames}
 use Rattle.syntax.specs.declared.tree.TransactionKind.{TransactionKind}
 use Rattle.syntax.specs.declared.tree.TransactionKind.TheVariants.{Plain}
 use Rattle.syntax.specs.Tree as Tree
 use Rattle.syntax.specs.Tree.{Expr, Exprs, Variable, Constant, Element, Call, Parenthesized, Cast, Unary, Binary, Logical, Conditional, InTransaction, Simple, Evaluate, Assign, Adjust, Declarator, Start, Nothing, Declares, Does, Stmt, Stmts, Empty, Declare, Do, Block, Print, If, IfElse, While, DoWhile, For, Break, Continue, Return, Transaction, Cancel, CancelOuter, Program}
-use Rattle.syntax.specs.declared.numbers.Value.{Value}
+use Rattle.syntax.specs.declared.value.Value.{Value}
 use Rattle.syntax.specs.Numbers.{modulus, number, number_of}
 use Rattle.syntax.specs.Names.{Local, newest, GlobalCells, cells, global_of, definition_of}
-use Rattle.syntax.specs.declared.numbers.Halt.TheVariants.{Trapped, Astray}
+use Rattle.syntax.specs.declared.thread_end.Halt.TheVariants.{Trapped, Astray}
 use Rattle.syntax.specs.Actions.{State, spend, Answer, Gives, Stops, go_on, Action, pure, stop, ◌>>=◌, ◌>>◌, tick, trap, or_trap, or_astray, locals, put_locals, load, store, may_print, print_piece}
 use Rattle.syntax.specs.Formats.{Piece, Literal, Specifier, pieces, formats_in, formats_among, IsFormatOf}
 use Rattle.syntax.specs.Laws.{IsPieceOf}

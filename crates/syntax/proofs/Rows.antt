@@ -7,7 +7,7 @@ use Rattle.syntax.specs.declared.tree.Mode.TheVariants.{Atomic}
 use Rattle.syntax.specs.declared.tree.TransactionKind.TheVariants.{Plain}
 use Rattle.syntax.specs.Tree as Tree
 use Rattle.syntax.specs.Tree.{Name, Expr, Variable, Constant, Assign, Stmt, Stmts, Do, Transaction, Item, Defines, Shares, Program}
-use Rattle.syntax.specs.declared.numbers.Halt.TheVariants.{Wants, Spent}
+use Rattle.syntax.specs.declared.thread_end.Halt.TheVariants.{Wants, Spent}
 use Rattle.syntax.specs.Behaviours.{Ended, Stopped}
 use Rattle.syntax.specs.Threads.{thread}
 

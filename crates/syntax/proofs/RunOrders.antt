@@ -7,7 +7,7 @@ use Rattle.std.proofs.lemmas.Bool.Decides.{eqb_tells}
 use Rattle.std.proofs.Math.Seq.{take-append_seam, drop-append_seam}
 use Rattle.syntax.specs.Tree.{Program}
 use Rattle.syntax.specs.Names.{initial_memory}
-use Rattle.syntax.specs.declared.numbers.Halt.TheVariants.{Trapped, Wants, Spent, Astray}
+use Rattle.syntax.specs.declared.thread_end.Halt.TheVariants.{Trapped, Wants, Spent, Astray}
 use Rattle.syntax.specs.Behaviours.{Memory, Outcome, ThreadEnd, Ended, Stopped, Step, IsChained, of_thread, founds_of, lefts_of, last_memory}
 use Rattle.syntax.specs.Orders.{Progress, entries, entry, finds, if_wanting, last_left, outcomes}
 use Rattle.syntax.specs.Threads.{thread, IsSourceRun}

@@ -4,7 +4,7 @@ use Rattle.syntax.specs.declared.tree.Mode.{Mode}
 use Rattle.syntax.specs.declared.tree.Mode.TheVariants.{Atomic, Relaxed}
 use Rattle.syntax.specs.declared.tree.TransactionKind.{TransactionKind}
 use Rattle.syntax.specs.declared.tree.TransactionKind.TheVariants.{Plain, Outer}
-use Rattle.syntax.specs.declared.numbers.Halt.TheVariants.{Trapped}
+use Rattle.syntax.specs.declared.thread_end.Halt.TheVariants.{Trapped}
 use Rattle.syntax.specs.Names.{Local}
 use Rattle.syntax.specs.Behaviours.{Memory}
 use Rattle.syntax.specs.Actions.{Context, Outside, Inside, State, Answer, Gives, Stops, state_of, Action, stop, go_on, ◌>>=◌, spend, tick, load_at, store_at, may_print_at, write}

@@ -5,8 +5,8 @@ use Rattle.std.specs.Fmt.{digits}
 use Rattle.lex.specs.declared.token.Span.{Span}
 use Rattle.lex.specs.declared.token.Scalar.TheVariants.{Int}
 use Rattle.syntax.specs.declared.tree.Mode.TheVariants.{Atomic, Relaxed}
-use Rattle.syntax.specs.declared.numbers.Trap.TheVariants.{OutOfRange}
-use Rattle.syntax.specs.declared.numbers.Halt.TheVariants.{Trapped, Wants, Spent}
+use Rattle.syntax.specs.declared.thread_end.Trap.TheVariants.{OutOfRange}
+use Rattle.syntax.specs.declared.thread_end.Halt.TheVariants.{Trapped, Wants, Spent}
 use Rattle.syntax.specs.declared.tree.Initialiser.{Initialiser}
 use Rattle.syntax.specs.Tree as Tree
 use Rattle.syntax.specs.Tree.{Expr, Call, InTransaction, Evaluate, Stmt, Declare, Do, Print, Defines, Shares, Program}

@@ -11,10 +11,10 @@ use Rattle.syntax.specs.declared.tree.UnaryOp.TheVariants.{Negate, Keep, Not, Co
 use Rattle.syntax.specs.declared.tree.BinaryOp.{BinaryOp}
 use Rattle.syntax.specs.declared.tree.BinaryOp.TheVariants.{Or, Xor, And, Equal, NotEqual, Less, Greater, LessEqual, GreaterEqual, ShiftLeft, ShiftRight, Add, Subtract, Multiply, Divide, Remainder}
 use Rattle.syntax.specs.declared.tree.LogicalOp.TheVariants.{AndThen, OrElse}
-use Rattle.syntax.specs.declared.numbers.Trap.{Trap}
-use Rattle.syntax.specs.declared.numbers.Trap.TheVariants.{Index, Frames}
-use Rattle.syntax.specs.declared.numbers.Halt.TheVariants.{Trapped}
-use Rattle.syntax.specs.declared.numbers.Value.{Value}
+use Rattle.syntax.specs.declared.thread_end.Trap.{Trap}
+use Rattle.syntax.specs.declared.thread_end.Trap.TheVariants.{Index, Frames}
+use Rattle.syntax.specs.declared.thread_end.Halt.TheVariants.{Trapped}
+use Rattle.syntax.specs.declared.value.Value.{Value}
 use Rattle.syntax.specs.Tree.{Expr, Variable, Constant, Element, Call, Parenthesized, Cast, Unary, Binary, Logical, Conditional, InTransaction, Function, Global, Item, Defines, Shares, Stmts, Program}
 use Rattle.syntax.specs.Numbers.{common, value_in_type, result_type, operand_type, typed_result, unary, binary, is_zero, flag}
 use Rattle.syntax.specs.Names.{Local, GlobalCells, globals, cells, global_from, global_of, definition_or, definition_of, newest}

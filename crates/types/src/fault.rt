@@ -2,7 +2,7 @@
 
 ghost use Rattle.std.specs.Prelude.{◌≡◌};
 ghost use Rattle.syntax.specs.Typing.{demand, first_unmet};
-ghost use Rattle.types.specs.declared.fault.Failure.TheVariants as Failure;
+ghost use Rattle.types.specs.declared.fault.TypeFailure.TheVariants as TypeFailure;
 ghost use Rattle.types.specs.Answers.{number_in, span_in, number_of, span_of, unit_of};
 ghost use Rattle.types.specs.inner.Unmet.{unmet_in, Tells};
 
@@ -94,34 +94,34 @@ pub(crate) fn demand(met: bool, fault: Violation) -> Result<(), Violation>
 
 /// What stops a check in the middle.
 #[derive(Clone, Copy, PartialEq, Eq)]
-pub(crate) enum Failure {
+pub(crate) enum TypeFailure {
     OutOfMemory,
     Violation(Violation),
 }
 
-impl From<Violation> for Failure {
-    ghost from_gives = { λ x y. y ≡ Failure.Violation x };
+impl From<Violation> for TypeFailure {
+    ghost from_gives = { λ x y. y ≡ TypeFailure.Violation x };
 
-    fn from(fault: Violation) -> Failure {
-        Failure::Violation(fault)
+    fn from(fault: Violation) -> TypeFailure {
+        TypeFailure::Violation(fault)
     }
 }
 
-impl From<AllocError> for Failure {
-    ghost from_gives = { λ x y. y ≡ Failure.OutOfMemory };
+impl From<AllocError> for TypeFailure {
+    ghost from_gives = { λ x y. y ≡ TypeFailure.OutOfMemory };
 
-    fn from(_fault: AllocError) -> Failure {
-        Failure::OutOfMemory
+    fn from(_fault: AllocError) -> TypeFailure {
+        TypeFailure::OutOfMemory
     }
 }
 
 /// What a check that wants no memory says, as a check says it that may.
-pub(crate) fn as_failure(checked: Result<(), Violation>) -> Result<(), Failure>
+pub(crate) fn as_failure(checked: Result<(), Violation>) -> Result<(), TypeFailure>
     ensures { Tells result (unmet_in checked) }
 {
     match checked {
         Ok(()) => Ok(()),
-        Err(violation) => Err(Failure::Violation(violation)),
+        Err(violation) => Err(TypeFailure::Violation(violation)),
     }
 }
 

@@ -14,7 +14,7 @@ ghost use Rattle.types.specs.inner.Known.{known_in, count_in, AreDeclared, Grows
 ghost use Rattle.types.specs.inner.Scopes.{known_of};
 ghost use Rattle.types.specs.inner.Bodies.{AreBodies};
 
-use crate::fault::{Failure, Violation, demand};
+use crate::fault::{TypeFailure, Violation, demand};
 use crate::scope::{add_local, check_new};
 use crate::stmt::{StmtContext, check_stmts};
 use crate::symbol::ScopeSymbol;
@@ -135,7 +135,7 @@ fn check_parameter<'a, A: Allocator + Copy>(
     names: &mut ScopeTable<'a, A>,
     start: usize,
     one: &'a Parameter<A>,
-) -> Result<(), Failure>
+) -> Result<(), TypeFailure>
     requires { start ≤ count_in names.old }
     ensures answer { (declared : List (List ℕ)) → AreDeclared start names.old declared →
         AnswersDemands result
@@ -162,7 +162,7 @@ fn check_parameter<'a, A: Allocator + Copy>(
 fn check_parameters<'a, A: Allocator + Copy>(
     names: &mut ScopeTable<'a, A>,
     all: &'a [Parameter<A>],
-) -> Result<(), Failure>
+) -> Result<(), TypeFailure>
     ensures answer { AnswersDemands result (AreDistinct [] (map parameter_of all.now)) }
     ensures known { OnOk result (known_in names.new ≡ with_parameters (map parameter_of all.now) (known_in names.old)) }
     ensures declared { OnOk result
@@ -183,7 +183,7 @@ fn check_body<'a, A: Allocator + Copy>(
     start: usize,
     gives: Option<Scalar>,
     body: &'a Option<Items<Stmt<A>, A>>,
-) -> Result<(), Failure>
+) -> Result<(), TypeFailure>
     requires { start ≤ count_in names.old }
     ensures answer { (declared : List (List ℕ)) → AreDeclared start names.old declared →
         AnswersDemands result
@@ -209,7 +209,7 @@ fn check_body<'a, A: Allocator + Copy>(
 fn check_inside<'a, A: Allocator + Copy>(
     names: &mut ScopeTable<'a, A>,
     f: &'a Function<A>,
-) -> Result<(), Failure>
+) -> Result<(), TypeFailure>
     ensures answer { AnswersDemands result
         (AreDistinct [] (map parameter_of f.now.parameters)
         ++ demands_of (option_map stmts_of f.now.body)
@@ -265,7 +265,7 @@ pub(crate) fn check_function<'a, A: Allocator + Copy>(
     bodies: &mut Bodies<'a, A>,
     earlier: &[Item<A>],
     f: &'a Function<A>,
-) -> Result<(), Failure>
+) -> Result<(), TypeFailure>
     requires none { count_in names.old ≡ 0 }
     requires known { known_in names.old ≡ file_scope (map item_of earlier.now) }
     requires defined { AreBodies bodies.old (map item_of earlier.now) }

@@ -11,7 +11,7 @@ ghost use Rattle.types.specs.inner.Unmet.{AnswersDemands, unmet_in};
 ghost use Rattle.types.specs.inner.Known.{known_in, count_in};
 ghost use Rattle.types.specs.inner.Scopes.{known_of};
 
-use crate::fault::{Failure, Violation, demand};
+use crate::fault::{TypeFailure, Violation, demand};
 use crate::symbol::ScopeSymbol;
 use crate::table::ScopeTable;
 use lex::token::Span;
@@ -112,7 +112,7 @@ pub(crate) fn check_globals<'a, A: Allocator + Copy>(
     taken: &mut u64,
     earlier: &[Item<A>],
     all: &'a [Global<A>],
-) -> Result<(), Failure>
+) -> Result<(), TypeFailure>
     requires none { count_in names.old ≡ 0 }
     requires known { known_in names.old ≡ file_scope (map item_of earlier.now) }
     requires few { taken.old ≤ 4096 }

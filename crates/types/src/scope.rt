@@ -9,7 +9,7 @@ ghost use Rattle.types.specs.inner.Unmet.{AnswersDemands, unmet_in};
 ghost use Rattle.types.specs.inner.Known.{known_in, count_in, declared_by, AreDeclared, Grows, Agrees};
 
 use crate::expr::check_number;
-use crate::fault::{Failure, Violation, demand};
+use crate::fault::{TypeFailure, Violation, demand};
 use crate::simple::check_simple;
 use crate::table::ScopeTable;
 use lex::token::Scalar;
@@ -68,7 +68,7 @@ fn check_declarator<'a, A: Allocator + Copy>(
     start: usize,
     ty: Scalar,
     one: &'a Declarator<A>,
-) -> Result<(), Failure>
+) -> Result<(), TypeFailure>
     requires { start ≤ count_in names.old }
     ensures answer { (declared : List (List ℕ)) → AreDeclared start names.old declared →
         AnswersDemands result
@@ -94,7 +94,7 @@ pub(crate) fn check_declarators<'a, A: Allocator + Copy>(
     start: usize,
     ty: Scalar,
     all: &'a [Declarator<A>],
-) -> Result<(), Failure>
+) -> Result<(), TypeFailure>
     requires { start ≤ count_in names.old }
     ensures answer { (declared : List (List ℕ)) → AreDeclared start names.old declared →
         AnswersDemands result (AreTypedDeclarators (known_in names.old) declared ty (map declarator_of all.now)) }
@@ -116,7 +116,7 @@ pub(crate) fn check_lone<'a, A: Allocator + Copy>(
     names: &mut ScopeTable<'a, A>,
     start: usize,
     one: &'a Declaration<A>,
-) -> Result<(), Failure>
+) -> Result<(), TypeFailure>
     requires { start ≤ count_in names.old }
     ensures answer { (declared : List (List ℕ)) → AreDeclared start names.old declared →
         AnswersDemands result
@@ -133,7 +133,7 @@ pub(crate) fn check_lone<'a, A: Allocator + Copy>(
 pub(crate) fn check_start<'a, A: Allocator + Copy>(
     names: &mut ScopeTable<'a, A>,
     start: &'a Start<A>,
-) -> Result<(), Failure>
+) -> Result<(), TypeFailure>
     ensures answer { AnswersDemands result (IsTypedStart (known_in names.old) (start_of start.now)) }
     ensures known { OnOk result (known_in names.new ≡ scope_of_start (start_of start.now) (known_in names.old)) }
     ensures grows { OnOk result (Grows names.old names.new) }

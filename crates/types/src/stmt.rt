@@ -10,7 +10,7 @@ ghost use Rattle.types.specs.inner.Unmet.{AnswersDemands, unmet_in};
 ghost use Rattle.types.specs.inner.Known.{known_in, count_in, AreDeclared, Grows, Agrees};
 
 use crate::expr::{check_expr, check_number, gives_number};
-use crate::fault::{Failure, Violation, as_failure, demand};
+use crate::fault::{TypeFailure, Violation, as_failure, demand};
 use crate::format::check_print;
 use crate::scope::{check_declarators, check_first, check_lone, check_start};
 use crate::simple::check_simple;
@@ -97,7 +97,7 @@ fn check_step<'a, A: Allocator + Copy>(
 fn check_head<'a, A: Allocator + Copy>(
     names: &mut ScopeTable<'a, A>,
     head: &'a ForHead<A>,
-) -> Result<(), Failure>
+) -> Result<(), TypeFailure>
     ensures answer { AnswersDemands result
         (IsTypedStart (known_in names.old) (start_of head.now.start)
         ++ demands_of (option_map expr_of head.now.condition)
@@ -120,7 +120,7 @@ pub(crate) fn check_stmt<'a, A: Allocator + Copy>(
     names: &mut ScopeTable<'a, A>,
     stmt: &'a Stmt<A>,
     context: StmtContext,
-) -> Result<(), Failure>
+) -> Result<(), TypeFailure>
     requires { context.start ≤ count_in names.old }
     ensures answer { (declared : List (List ℕ)) → AreDeclared context.start names.old declared →
         AnswersDemands result
@@ -196,7 +196,7 @@ fn check_block_item<'a, A: Allocator + Copy>(
     names: &mut ScopeTable<'a, A>,
     stmt: &'a Stmt<A>,
     context: StmtContext,
-) -> Result<(), Failure>
+) -> Result<(), TypeFailure>
     requires { context.start ≤ count_in names.old }
     ensures answer { (declared : List (List ℕ)) → AreDeclared context.start names.old declared →
         AnswersDemands result
@@ -220,7 +220,7 @@ pub(crate) fn check_stmts<'a, A: Allocator + Copy>(
     names: &mut ScopeTable<'a, A>,
     all: &'a [Stmt<A>],
     context: StmtContext,
-) -> Result<(), Failure>
+) -> Result<(), TypeFailure>
     requires { context.start ≤ count_in names.old }
     ensures answer { (declared : List (List ℕ)) → AreDeclared context.start names.old declared →
         AnswersDemands result (AreTypedStmts context.gives (stmts_of all.now)
@@ -240,7 +240,7 @@ fn check_block<'a, A: Allocator + Copy>(
     names: &mut ScopeTable<'a, A>,
     all: &'a [Stmt<A>],
     context: StmtContext,
-) -> Result<(), Failure>
+) -> Result<(), TypeFailure>
     ensures answer { AnswersDemands result
         (AreTypedStmts context.gives (stmts_of all.now) (known_in names.old) [] context.looping) }
     ensures same { OnOk result (Agrees names.old names.new) }

@@ -11,7 +11,7 @@ ghost use Rattle.types.specs.inner.Known.{known_in};
 ghost use Rattle.types.specs.inner.Bodies.{AreBodies};
 ghost use Rattle.types.specs.inner.Found.{IsFound};
 
-use crate::fault::{Failure, TypeFault, Violation, demand};
+use crate::fault::{TypeFailure, TypeFault, Violation, demand};
 use crate::function::{Bodies, check_function, has_body, is_worker};
 use crate::global::check_globals;
 use crate::table::ScopeTable;
@@ -34,7 +34,7 @@ fn check_item<'a, A: Allocator + Copy>(
     found: &mut FoundItems<'a, A>,
     earlier: &[Item<A>],
     item: &'a Item<A>,
-) -> Result<(), Failure>
+) -> Result<(), TypeFailure>
     requires { IsFound found.old (map item_of earlier.now) }
     ensures answer { AnswersDemands result (IsTypedItem (map item_of earlier.now) (item_of item.now)) }
     ensures found { OnOk result (IsFound found.new (map item_of earlier.now ++ item_of item.now ∷ [])) }
@@ -56,7 +56,7 @@ fn check_items<'a, A: Allocator + Copy>(
     alloc: A,
     key: u64,
     items: &'a [Item<A>],
-) -> Result<FoundItems<'a, A>, Failure>
+) -> Result<FoundItems<'a, A>, TypeFailure>
     ensures answer { AnswersDemands result (AreTypedItems [] (map item_of items.now)) }
     ensures found { IfOk result (λ found. IsFound found (map item_of items.now)) }
 {
@@ -114,7 +114,7 @@ fn check_program<A: Allocator + Copy>(
     key: u64,
     items: &[Item<A>],
     end: usize,
-) -> Result<(), Failure>
+) -> Result<(), TypeFailure>
     ensures { AnswersDemands result (Meets end (map item_of items.now)) }
 {
     let found = check_items(alloc, key, items)?;
@@ -131,7 +131,7 @@ pub fn check<A: Allocator + Copy>(alloc: A, unit: Unit<A>) -> Result<Typed<A>, T
 {
     match check_program(alloc, unit.key, unit.items.as_slice(), unit.end) {
         Ok(()) => Ok(Typed { unit }),
-        Err(Failure::OutOfMemory) => Err(TypeFault::OutOfMemory(unit)),
-        Err(Failure::Violation(violation)) => Err(TypeFault::IllTyped(unit, violation)),
+        Err(TypeFailure::OutOfMemory) => Err(TypeFault::OutOfMemory(unit)),
+        Err(TypeFailure::Violation(violation)) => Err(TypeFault::IllTyped(unit, violation)),
     }
 }

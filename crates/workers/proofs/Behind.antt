@@ -6,11 +6,11 @@ use Rattle.atomic_table.specs.Seated.{TableId}
 use Rattle.bytecode.specs.Code.{Configuration}
 use Rattle.machine.specs.Strict.{StandsBehind}
 use Rattle.machine.specs.Worlds.{Part}
-use Rattle.seats.proofs.Traces.{begins_on}
-use Rattle.seats.specs.Rule.{SeatView}
-use Rattle.seats.specs.Setup.{IsPrefix, Setup, IsPartAfter, world_of}
-use Rattle.seats.specs.Saying.{merge_of}
-use Rattle.seats.specs.Views.{ViewPart}
+use Rattle.shared_words.proofs.Traces.{begins_on}
+use Rattle.shared_words.specs.Rule.{SeatView}
+use Rattle.shared_words.specs.Setup.{IsPrefix, Setup, IsPartAfter, world_of}
+use Rattle.shared_words.specs.Saying.{merge_of}
+use Rattle.shared_words.specs.Views.{ViewPart}
 use Rattle.workers.specs.declared.worker.Worker.{Worker}
 use Rattle.workers.specs.Closing.{HaveSeen, MeetingsHaveAll, StandsBehindMeetings}
 use Rattle.bytecode.specs.Code.{effect}
@@ -19,7 +19,7 @@ use Rattle.bytecode.specs.Initial.{initial_of}
 use Rattle.bytecode.specs.Valid.{bounds_of}
 use Rattle.bytecode.proofs.Fits.{fits_cells}
 use Rattle.machine.proofs.runs.Serializable.{serializable}
-use Rattle.seats.proofs.Codes.{initial_fits}
+use Rattle.shared_words.proofs.Codes.{initial_fits}
 use Rattle.workers.specs.Workers.{AreWorkersOf, IsWorkerOf}
 
 -- what is known of a worker's view is the same, however it is known

@@ -21,21 +21,21 @@ use Rattle.bytecode.specs.Initial.{initial_of}
 use Rattle.bytecode.specs.Sequential.{meaning}
 use Rattle.bytecode.specs.Valid.{bounds_of}
 use Rattle.bytecode.proofs.Fits.{fits_cells}
-use Rattle.seats.proofs.Codes.{initial_fits}
-use Rattle.seats.specs.Setup.{IsPrefix, IsTraceOf, IsWorldOf, Setup}
-use Rattle.seats.proofs.Traces.{begins_on, begins_self, world_is}
-use Rattle.seats.proofs.Traces as traces
-use Rattle.seats.proofs.InTime.{keeps_time}
+use Rattle.shared_words.proofs.Codes.{initial_fits}
+use Rattle.shared_words.specs.Setup.{IsPrefix, IsTraceOf, IsWorldOf, Setup}
+use Rattle.shared_words.proofs.Traces.{begins_on, begins_self, world_is}
+use Rattle.shared_words.proofs.Traces as traces
+use Rattle.shared_words.proofs.InTime.{keeps_time}
 use Rattle.workers.specs.Closing.{HaveSeen}
 use Rattle.workers.specs.declared.worker.Worker.{Worker}
 use Rattle.workers.specs.declared.close.Finished.{Finished}
-use Rattle.seats.specs.Views.{Among, ViewPart, parts_in, parts_of}
-use Rattle.seats.specs.Rule.{Fits, LeavesCells, SeatView}
+use Rattle.shared_words.specs.Views.{Among, ViewPart, parts_in, parts_of}
+use Rattle.shared_words.specs.Rule.{Fits, LeavesCells, SeatView}
 use Rattle.workers.specs.Workers.{AreWorkersOf, IsWorkerOf}
 use Rattle.workers.specs.Closing.{AreThere, Closes, finished_back, parts_back}
-use Rattle.seats.proofs.Keeps.{at_most_one}
-use Rattle.seats.proofs.Parts.{one_if, parts_in-at, parts_of-append}
-use Rattle.seats.proofs.Saying.{drops_say, runs_say}
+use Rattle.shared_words.proofs.Keeps.{at_most_one}
+use Rattle.shared_words.proofs.Parts.{one_if, parts_in-at, parts_of-append}
+use Rattle.shared_words.proofs.Saying.{drops_say, runs_say}
 
 split : (k i : ℕ) → k < i + 1 → (k < i) ⊎ (k ≡ i)
 split zero zero lt = inr refl

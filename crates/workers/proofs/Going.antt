@@ -6,9 +6,9 @@ use Rattle.bytecode.specs.Code.{Configuration}
 use Rattle.machine.specs.Worlds.{Part}
 use Rattle.machine.proofs.answers.Answering.{replays_on}
 use Rattle.bytecode.specs.Code.{Code, effect}
-use Rattle.seats.specs.Setup.{Setup}
+use Rattle.shared_words.specs.Setup.{Setup}
 use Rattle.workers.specs.declared.worker.Worker.{Worker}
-use Rattle.seats.specs.Views.{ViewPart}
+use Rattle.shared_words.specs.Views.{ViewPart}
 use Rattle.workers.specs.Works.{Grows, GoesOnFrom}
 use Rattle.workers.specs.Workers.{IsWorkerAt, StepsOn}
 use Rattle.workers.specs.inner.Stepping.{CanStep, StepsBy}

@@ -10,8 +10,8 @@ use Rattle.machine.specs.Threads.{Thread, access, step_with}
 use Rattle.machine.specs.Standing.{IsThreadOf}
 use Rattle.machine.specs.States.{IsWordOf, told_twice}
 use Rattle.machine.proofs.contexts.Words.{word_fits}
-use Rattle.seats.specs.Setup.{Setup}
-use Rattle.seats.specs.Rule.{IsNext, IsSeatStep, SeatView, Took}
+use Rattle.shared_words.specs.Setup.{Setup}
+use Rattle.shared_words.specs.Rule.{IsNext, IsSeatStep, SeatView, Took}
 use Rattle.workers.specs.Works.{GoesOnFrom, Works}
 use Rattle.workers.proofs.Going.{goes_further}
 use Rattle.workers.proofs.Turns.{answer_ready, ready_makeable, ready_next, stepped}

@@ -3,13 +3,13 @@ use Rattle.std.proofs.Common.{◌≡◌, ℕ, ◌+◌, List, [], ◌∷◌, Some
 use Rattle.bytecode.specs.Code.{Configuration, effect}
 use Rattle.machine.specs.Answered.{after_local_steps}
 use Rattle.machine.specs.Worlds.{Part}
-use Rattle.seats.proofs.Traces.{begins_on}
+use Rattle.shared_words.proofs.Traces.{begins_on}
 use Rattle.machine.specs.Threads.{Thread}
-use Rattle.seats.specs.Setup.{IsPrefix, Setup, IsPartAfter}
-use Rattle.seats.specs.Views.{ViewPart, with_floor}
-use Rattle.seats.specs.Rule.{MayBeFloor, MeetsBoth, SeatView, Settled, SitsAfter}
+use Rattle.shared_words.specs.Setup.{IsPrefix, Setup, IsPartAfter}
+use Rattle.shared_words.specs.Views.{ViewPart, with_floor}
+use Rattle.shared_words.specs.Rule.{MayBeFloor, MeetsBoth, SeatView, Settled, SitsAfter}
 use Rattle.workers.specs.Works.{MeetsAt, Works, settled}
-use Rattle.seats.proofs.Parts.{none_since}
+use Rattle.shared_words.proofs.Parts.{none_since}
 
 works_at : (key : Setup) (number : ℕ) (th : Thread Configuration) (steps accesses n : ℕ) (ts : List ℕ) (m w : SeatView) (works : Works key number th steps accesses m) → w ≡ (with_floor n ts works.part ∷ [], []) → IsPartAfter works.part.setup ts works.part.number works.part.part works.part.heard → (is : Works key number th steps accesses w) × (is.part ≡ with_floor n ts works.part) × (is.now ≡ works.now)
 works_at key number th steps accesses n ts m w works e there = (

@@ -1,7 +1,7 @@
 -- Numbers of workers, handles and results, as they are moved from one list to another.
 use Rattle.std.proofs.Common.{◌≡◌, ◌⊎◌, inl, inr, ⊎_elim, ℕ, suc, ◌+◌, ◌<◌, ◌≤◌, List, [], ◌∷◌, ◌++◌, length, sym, ◌∙◌, subst, refl, arith}
 use Rattle.atomic_table.specs.Seated.{TableId}
-use Rattle.seats.specs.Setup.{Setup}
+use Rattle.shared_words.specs.Setup.{Setup}
 use Rattle.workers.specs.declared.worker.Worker.{Worker}
 use Rattle.workers.specs.Workers.{AreWorkersFrom}
 use Rattle.workers.specs.Closing.{AllHere, HasWorkerFor}

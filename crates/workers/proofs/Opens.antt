@@ -8,10 +8,10 @@ use Rattle.atomic_table.specs.Seated.{TableId}
 use Rattle.machine.specs.Answered.{Answered, StepsHearing}
 use Rattle.machine.specs.Threads.{Thread}
 use Rattle.machine.specs.Worlds.{new_part, new_world}
-use Rattle.seats.specs.Setup.{Setup}
-use Rattle.seats.specs.Views.{first_part}
-use Rattle.seats.specs.Rule.{SeatView}
-use Rattle.seats.proofs.Opens.{new_part_there, none_heard}
+use Rattle.shared_words.specs.Setup.{Setup}
+use Rattle.shared_words.specs.Views.{first_part}
+use Rattle.shared_words.specs.Rule.{SeatView}
+use Rattle.shared_words.proofs.Opens.{new_part_there, none_heard}
 use Rattle.machine.specs.Standing.{IsThreadOf}
 use Rattle.machine.specs.States.{first_thread}
 use Rattle.workers.specs.declared.worker.Worker.{Worker}

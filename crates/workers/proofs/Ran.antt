@@ -8,9 +8,9 @@ use Rattle.atomic_table.specs.Seated.{TableId}
 use Rattle.bytecode.specs.Code.{Code, effect}
 use Rattle.bytecode.specs.Initial.{initial_of}
 use Rattle.bytecode.specs.Valid.{bounds_of}
-use Rattle.seats.proofs.Codes.{initial_fits}
+use Rattle.shared_words.proofs.Codes.{initial_fits}
 use Rattle.bytecode.specs.Beginning.{beginning}
-use Rattle.seats.specs.Setup.{Setup}
+use Rattle.shared_words.specs.Setup.{Setup}
 use Rattle.workers.specs.declared.worker.Worker.{Worker}
 use Rattle.workers.specs.declared.run.RunMemory.{RunMemory}
 use Rattle.workers.specs.declared.run.RunMemory.TheVariants.{LockHeld, Words}

@@ -9,8 +9,8 @@ use Rattle.machine.specs.Worlds.{Part}
 use Rattle.machine.specs.Standing.{IsThreadOf}
 use Rattle.machine.specs.States.{first_thread}
 use Rattle.machine.proofs.answers.Answering.{grows_on, local_grows, paused_more, replays_on}
-use Rattle.seats.specs.Setup.{Setup}
-use Rattle.seats.specs.Rule.{SeatView}
+use Rattle.shared_words.specs.Setup.{Setup}
+use Rattle.shared_words.specs.Rule.{SeatView}
 use Rattle.workers.specs.Works.{GoesOnFrom, Grows, Works}
 
 no_last : {X : Type 0} (xs : List X) (x : X) → xs ++ x ∷ [] ≡ [] → ⊥

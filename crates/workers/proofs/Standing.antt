@@ -9,9 +9,9 @@ use Rattle.bytecode.specs.Valid.{bounds_of}
 use Rattle.machine.specs.Merges.{run_of}
 use Rattle.machine.specs.Threads.{Thread}
 use Rattle.machine.proofs.runs.Programs.{explained_source}
-use Rattle.seats.proofs.Codes.{initial_fits}
-use Rattle.seats.proofs.Saying.{runs_say}
-use Rattle.seats.specs.Setup.{Setup}
+use Rattle.shared_words.proofs.Codes.{initial_fits}
+use Rattle.shared_words.proofs.Saying.{runs_say}
+use Rattle.shared_words.specs.Setup.{Setup}
 use Rattle.syntax.specs.Behaviours.{Stands}
 use Rattle.workers.proofs.Turns.{now_stands}
 use Rattle.workers.specs.declared.worker.Worker.{Worker}

@@ -1,6 +1,6 @@
 -- Why a step was not made.
 use Rattle.std.proofs.Common.{◌≡◌, true, refl}
-use Rattle.syntax.specs.declared.numbers.Status.TheVariants.{Running}
+use Rattle.syntax.specs.declared.thread_end.Status.TheVariants.{Running}
 use Rattle.bytecode.specs.Code.{Code, Configuration, effect}
 use Rattle.norec_core.specs.Accesses.{stops}
 use Rattle.norec_core.specs.declared.step.Stop.{Stop}

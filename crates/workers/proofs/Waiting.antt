@@ -1,7 +1,7 @@
 -- Accesses of validation and of a begin that waits, each one step of the worker.
 use Rattle.std.proofs.Common.{◌≡◌, ℕ, ◌+◌, ◌<◌, ◌%◌, ◌==◌, false, Option, None, cond, refl, sym, ap, ◌∙◌, subst, arith}
-use Rattle.syntax.specs.declared.numbers.Status.{Status}
-use Rattle.syntax.specs.declared.numbers.Status.TheVariants.{Running}
+use Rattle.syntax.specs.declared.thread_end.Status.{Status}
+use Rattle.syntax.specs.declared.thread_end.Status.TheVariants.{Running}
 use Rattle.bytecode.specs.Effects.{Effect}
 use Rattle.bytecode.specs.Code.{Code, Configuration, effect, going, onward}
 use Rattle.bytecode.specs.Valid.{cells_of}
@@ -17,8 +17,8 @@ use Rattle.norec_core.specs.declared.step.Answer.TheVariants.{Value}
 use Rattle.machine.specs.Threads.{Thread, access, resume_next, step_with, told_of, told_outside}
 use Rattle.machine.specs.Standing.{IsThreadOf}
 use Rattle.machine.specs.States.{IsWordOf, StandsAt, ThreadState}
-use Rattle.seats.specs.Setup.{Setup}
-use Rattle.seats.specs.Rule.{IsNext, IsSeatStep, SeatView, Took}
+use Rattle.shared_words.specs.Setup.{Setup}
+use Rattle.shared_words.specs.Rule.{IsNext, IsSeatStep, SeatView, Took}
 use Rattle.workers.specs.Works.{GoesOnFrom, Works}
 use Rattle.workers.proofs.Turns.{answer_ready, ready_makeable, ready_next, stepped}
 

@@ -2,7 +2,7 @@
 use Rattle.std.specs.Prelude.{◌≡◌, ◌⊎◌, ◌<◌, ◌≤◌, ℕ, List, [], ◌∷◌, Option, None, Some}
 use Rattle.atomic_table.specs.Seated.{TableId}
 use Rattle.syntax.specs.Behaviours.{Behaviour}
-use Rattle.syntax.specs.declared.numbers.Status.TheVariants.{Running}
+use Rattle.syntax.specs.declared.thread_end.Status.TheVariants.{Running}
 use Rattle.bytecode.specs.Code.{Code, Configuration}
 use Rattle.norec_core.specs.declared.step.Stop.{Stop}
 use Rattle.machine.specs.Merges.{Entry, IsMerge}
@@ -16,8 +16,8 @@ use Rattle.workers.specs.declared.run.RunFault.TheVariants.{OutOfMemory, Threads
 use Rattle.workers.specs.declared.run.RunMemory.{RunMemory}
 use Rattle.workers.specs.declared.run.RunMemory.TheVariants.{Words, LockHeld}
 use Rattle.workers.specs.declared.run.RunReport.{RunReport}
-use Rattle.seats.specs.Setup.{Setup}
-use Rattle.seats.specs.Saying.{IsExplainedAtSeats}
+use Rattle.shared_words.specs.Setup.{Setup}
+use Rattle.shared_words.specs.Saying.{IsExplainedAtSeats}
 use Rattle.workers.specs.Workers.{AreWorkersOf}
 use Rattle.workers.specs.Closing.{AllHere, Closes, Holds, NoneHolds}
 

@@ -4,7 +4,7 @@ use Rattle.atomic_table.specs.Seated.{TableId}
 use Rattle.bytecode.specs.Code.{Configuration}
 use Rattle.machine.specs.States.{ThreadState}
 use Rattle.machine.specs.Threads.{Thread}
-use Rattle.seats.specs.Setup.{Setup}
+use Rattle.shared_words.specs.Setup.{Setup}
 use Rattle.workers.specs.declared.hall.Hall.{Hall}
 use Rattle.workers.specs.declared.worker.Worker.{Worker}
 use Rattle.workers.specs.declared.close.Finished.{Finished}

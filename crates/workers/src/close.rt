@@ -14,9 +14,9 @@ use crate::tally::Tally;
 use crate::worker::Worker;
 use atomic_table::Seat;
 use machine::Thread;
-use seats::{View, Words, join};
+use shared_words::{View, Words, join};
 use std::alloc::{Allocator, Global};
-use syntax::numbers::Status;
+use syntax::thread_end::Status;
 use thiserror::Error;
 
 fn has<A: Allocator>(workers: &Vec<Worker<A>, A>, number: u32) -> bool
@@ -109,7 +109,7 @@ impl<A: Allocator + Copy> Finished<A> {
 
 /// What a closed hall leaves: the cells' words, and the threads, the last worker's first.
 #[derive(Drop)]
-pub struct Outcome<A: Allocator = Global> {
+pub struct HallReport<A: Allocator = Global> {
     pub words: Vec<u64, A>,
     pub threads: Vec<Finished<A>, A>,
 }
@@ -164,7 +164,7 @@ pub(crate) fn gather<A: Allocator>(
     workers: Vec<Worker<A>, A>,
     cells: Vec<u64, A>,
     threads: Vec<Finished<A>, A>,
-) -> Outcome<A>
+) -> HallReport<A>
     requires workers { AreWorkersOf hall.table.shared.table_id hall.setup workers.items }
     requires some { 0 < vec_len workers }
     requires room { (cells.items ≡ []) × (cells_of hall.setup.code ≤ vec_capacity cells) }
@@ -177,8 +177,8 @@ pub(crate) fn gather<A: Allocator>(
         setup: _setup,
     } = hall;
     let (seat, threads) = join_all(&table.shared, workers, threads);
-    let words = seats::close(table, seat, cells);
-    Outcome { words, threads }
+    let words = shared_words::close(table, seat, cells);
+    HallReport { words, threads }
 }
 
 /// One seat for all threads, and the threads.
@@ -240,7 +240,7 @@ impl<A: Allocator + Copy> Hall<A> {
     /// The cells' words and the threads, where each thread has its worker here and none has the lock. It waits for
     /// nobody, and needs no other thread's leave: the workers are here. A fault gives hall and workers back, as they
     /// were.
-    pub fn close(self, alloc: A, workers: Vec<Worker<A>, A>) -> Result<Outcome<A>, CloseFault<A>>
+    pub fn close(self, alloc: A, workers: Vec<Worker<A>, A>) -> Result<HallReport<A>, CloseFault<A>>
         requires { AreWorkersOf (table_of self) (setup_of self) workers.items }
         ensures all { OnOk result (AllHere workers.items (setup_of self).threads) }
         ensures none { OnOk result (NoneHolds workers.items) }

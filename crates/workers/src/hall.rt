@@ -3,7 +3,7 @@
 ghost use Rattle.std.specs.Prelude.{◌≡◌, ◌+◌, ◌<◌};
 ghost use Rattle.bytecode.specs.Valid.{cells_of};
 
-use seats::{Setup, WordsTable};
+use shared_words::{Setup, WordsTable};
 use std::alloc::{Allocator, Global};
 
 /// The lock and the cells, which the workers share, and the hall's copy of the code, which each step borrows. It can be

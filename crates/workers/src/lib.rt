@@ -13,9 +13,9 @@ mod run;
 mod tally;
 mod worker;
 
-pub use close::{CloseFault, CloseReason, Finished, Outcome};
+pub use close::{CloseFault, CloseReason, Finished, HallReport};
 pub use hall::Hall;
 pub use open::HallFault;
 pub use run::{Driven, Ending, Gate, RunFault, RunMemory, RunReport, run_all};
 pub use tally::Tally;
-pub use worker::{Status, Worker};
+pub use worker::{RunEnd, Worker};

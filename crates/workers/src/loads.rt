@@ -5,7 +5,7 @@ ghost use Rattle.workers.specs.inner.Seated.{CanStepSeated, LeadsSeated};
 
 use atomic_table::Seat;
 use machine::Loads;
-use seats::{View, Words, load_lock, load_word};
+use shared_words::{View, Words, load_lock, load_word};
 use std::alloc::Allocator;
 
 /// The seat of a worker, and the words of its hall.

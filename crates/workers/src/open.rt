@@ -4,7 +4,7 @@ ghost use Rattle.std.specs.Prelude.{◌≡◌, ◌+◌, ◌<◌, ◌≤◌, ◌�
 ghost use Rattle.bytecode.specs.Valid.{IsValid};
 ghost use Rattle.machine.specs.Standing.{IsThreadOf};
 ghost use Rattle.machine.specs.States.{first_thread};
-ghost use Rattle.seats.specs.Views.{first_part, first_view};
+ghost use Rattle.shared_words.specs.Views.{first_part, first_view};
 ghost use Rattle.workers.specs.Seen.{setup_of, table_of};
 ghost use Rattle.workers.specs.Workers.{AreWorkersFrom};
 ghost use Rattle.workers.specs.Opening.{IsHallFaultOf, hall_number};
@@ -15,7 +15,7 @@ use crate::worker::Worker;
 use atomic_table::Seat;
 use bytecode::Code;
 use machine::Thread;
-use seats::{Setup, View, Words, split_first};
+use shared_words::{Setup, View, Words, split_first};
 use std::alloc::{AllocError, Allocator};
 use thiserror::Error;
 
@@ -123,7 +123,7 @@ fn open_hall<A: Allocator + Copy>(
 {
     let copy = code.copy(alloc)?;
     let setup = Setup::new(copy, threads);
-    let (table, seat) = seats::open(alloc, &setup)?;
+    let (table, seat) = shared_words::open(alloc, &setup)?;
     let workers = workers(&table.shared, alloc, &setup, seat)?;
     Ok((Hall { table, setup }, workers))
 }

@@ -3,7 +3,7 @@
 ghost use Rattle.std.specs.Prelude.{◌≡◌, ◌+◌, ◌^◌, ◌<◌, ◌≤◌, ◌++◌, ◌∷◌, [], ℕ, IfOk, IfErr, OnOk};
 ghost use Rattle.syntax.specs.Behaviours.{Behaviour, Means};
 ghost use Rattle.bytecode.specs.Valid.{bounds_of};
-ghost use Rattle.seats.specs.Saying.{code_does};
+ghost use Rattle.shared_words.specs.Saying.{code_does};
 ghost use Rattle.workers.specs.Seen.{setup_of, table_of, worker_number};
 ghost use Rattle.workers.specs.Workers.{IsWorkerOf, AreWorkersOf, StepsOn};
 ghost use Rattle.workers.specs.Opening.{IsWorkerCount};
@@ -11,7 +11,7 @@ ghost use Rattle.workers.specs.Driving.{AreEnded, IsEndOfLoop, IsRunRefused, Ran
 ghost use Rattle.workers.specs.inner.Driving.{AreDrivenOf, AreFresh, AllPromise, HasNumber};
 ghost use Rattle.workers.specs.inner.Driving.{TellsMemory, driven_number, handle_number};
 
-use crate::close::{Finished, Outcome, gather, holder};
+use crate::close::{Finished, HallReport, gather, holder};
 use crate::hall::Hall;
 use crate::open::HallFault;
 use crate::worker::Worker;
@@ -21,7 +21,7 @@ use std::alloc::{AllocError, Allocator, Global};
 use std::sync::Wait;
 use std::thread;
 use std::thread::{Promise, PromisedHandle, Scope, Threads};
-use syntax::numbers::Status;
+use syntax::thread_end::Status;
 use thiserror::Error;
 
 /// Holds threads of a run back, so that a test can choose an order of their steps.
@@ -406,7 +406,7 @@ fn report_of(
     let Ok(cells) = Vec::with_capacity(alloc, hall.table.word_count() - 1) else {
         return Err(DriveFault::OutOfMemory);
     };
-    let Outcome { words, threads } = gather(hall, workers, cells, places);
+    let HallReport { words, threads } = gather(hall, workers, cells, places);
     Ok(RunReport {
         memory: memory(words, held),
         threads,

@@ -8,7 +8,7 @@ ghost use Rattle.bytecode.specs.Valid.{cells_of};
 ghost use Rattle.machine.specs.Threads.{access as access_of};
 ghost use Rattle.machine.specs.Standing.{IsThreadOf};
 ghost use Rattle.machine.specs.States.{ComparesEntry, ComparesNext, StandsAt, StandsStill, StoresNext, WaitsNext};
-ghost use Rattle.seats.specs.Setup.{Setup};
+ghost use Rattle.shared_words.specs.Setup.{Setup};
 ghost use Rattle.workers.specs.Seen.{accesses_of, setup_of, state_of, steps_of, table_of, tally_of, thread_of};
 ghost use Rattle.workers.specs.Seen.{worker_number};
 ghost use Rattle.workers.specs.Workers.{IsStatusOf};
@@ -22,10 +22,10 @@ use bytecode::Code;
 use frames::Doing;
 use machine::Thread;
 use norec_core::{Access, Stop};
-use seats::{View, Words, load_lock, load_word, make};
+use shared_words::{View, Words, load_lock, load_word, make};
 use std::alloc::{Allocator, Global};
 use std::hint::spin_loop;
-use syntax::numbers::{Status as ThreadStatus, Trap};
+use syntax::thread_end::{Status, Trap};
 
 /// A thread of a hall. Contracts say of it that it is a worker of that hall; it may move to any thread of the program.
 #[derive(Drop)]
@@ -39,7 +39,7 @@ pub struct Worker<A: Allocator = Global> {
 
 /// How a run of one worker ended.
 #[derive(Clone, Copy, PartialEq, Eq)]
-pub enum Status {
+pub enum RunEnd {
     /// The thread has ended.
     Ended,
     /// The thread has trapped.
@@ -457,21 +457,21 @@ impl<A: Allocator + Copy> Worker<A> {
     }
 
     /// How the worker's thread is, after all steps of a budget.
-    fn report_of(&self, budget: u64) -> Status
+    fn report_of(&self, budget: u64) -> RunEnd
         ensures { Reports result self.now.thread.thread.status budget budget }
     {
         // The prover names by it the budget.
         let _budget = budget;
         match self.thread.status() {
-            ThreadStatus::Running => Status::Budget,
-            ThreadStatus::Ended => Status::Ended,
-            ThreadStatus::Trapped(cause) => Status::Trapped(cause),
+            Status::Running => RunEnd::Budget,
+            Status::Ended => RunEnd::Ended,
+            Status::Trapped(cause) => RunEnd::Trapped(cause),
         }
     }
 
     /// `run`, whose steps are not yet counted: how many they were, and how it ended.
     #[inline(always)]
-    fn run_on(&mut self, hall: &Hall<A>, budget: u64) -> (u64, Result<Status, Stop>)
+    fn run_on(&mut self, hall: &Hall<A>, budget: u64) -> (u64, Result<RunEnd, Stop>)
         requires worker { IsWorkerOf hall.now.table.shared.table_id hall.now.setup self.old }
         requires room { self.old.steps + budget < 2 ^ 64 }
         ensures goes_on { StepsBy hall.now.table.shared.table_id hall.now.setup result.0 self.old self.new }
@@ -483,10 +483,10 @@ impl<A: Allocator + Copy> Worker<A> {
         let mut left = budget;
         'turns: while left > 0 {
             match self.thread.status() {
-                ThreadStatus::Running => {}
-                ThreadStatus::Ended => return (budget - left, Ok(Status::Ended)),
-                ThreadStatus::Trapped(cause) => {
-                    return (budget - left, Ok(Status::Trapped(cause)));
+                Status::Running => {}
+                Status::Ended => return (budget - left, Ok(RunEnd::Ended)),
+                Status::Trapped(cause) => {
+                    return (budget - left, Ok(RunEnd::Trapped(cause)));
                 }
             }
             let (rested, doing) = self.advance(&hall.table.shared, hall.setup.code(), left);
@@ -514,7 +514,7 @@ impl<A: Allocator + Copy> Worker<A> {
     /// steps since its last access and commits without a write among them, and in which its earlier transactions come
     /// first among its own. An attempt that it has is where the code comes on one memory of that run, also where it
     /// will be dropped.
-    pub fn run(&mut self, hall: &Hall<A>, budget: u64) -> Result<Status, Stop>
+    pub fn run(&mut self, hall: &Hall<A>, budget: u64) -> Result<RunEnd, Stop>
         requires worker { IsWorkerOf (table_of hall.now) (setup_of hall.now) self.old }
         requires room { steps_of self.old + budget < 2 ^ 64 }
         ensures worker { IsWorkerOf (table_of hall.now) (setup_of hall.now) self.new }
@@ -554,9 +554,9 @@ impl<A: Allocator + Copy> Worker<A> {
             × FloorsAt (table_of hall.now) (setup_of hall.now) n seen self.old self.new
             × FloorsAt (table_of hall.now) (setup_of hall.now) n seen other.old other.new }
     {
-        seats::settle(&hall.table.shared, &mut self.seat, self.steps);
-        seats::settle(&hall.table.shared, &mut other.seat, other.steps);
-        let _found = seats::meet(&hall.table.shared, &mut self.seat, &mut other.seat);
+        shared_words::settle(&hall.table.shared, &mut self.seat, self.steps);
+        shared_words::settle(&hall.table.shared, &mut other.seat, other.steps);
+        let _found = shared_words::meet(&hall.table.shared, &mut self.seat, &mut other.seat);
     }
 
     /// The number of the worker's thread, from 0 on.
@@ -567,18 +567,18 @@ impl<A: Allocator + Copy> Worker<A> {
     }
 
     /// How the worker is: `Budget` wherever its thread is neither ended nor trapped, also before its first `run`.
-    pub fn status(&self) -> Status
+    pub fn status(&self) -> RunEnd
         ensures { IsStatusOf result (thread_of self.now).status }
     {
         match self.thread_status() {
-            ThreadStatus::Running => Status::Budget,
-            ThreadStatus::Ended => Status::Ended,
-            ThreadStatus::Trapped(cause) => Status::Trapped(cause),
+            Status::Running => RunEnd::Budget,
+            Status::Ended => RunEnd::Ended,
+            Status::Trapped(cause) => RunEnd::Trapped(cause),
         }
     }
 
     /// Whether the worker's thread runs, has ended or has trapped.
-    pub fn thread_status(&self) -> ThreadStatus
+    pub fn thread_status(&self) -> Status
         ensures { result ≡ (thread_of self.now).status }
     {
         self.thread.status()

@@ -2,10 +2,10 @@
 use Rattle.std.proofs.Common.{◌≡◌, ◌≤◌, ◌+◌, ℕ, zero, suc, List, [], ◌∷◌, ◌++◌, Option, Some, length, take, refl, sym, ◌∙◌, ap, slice_get, arith, add-one, add-zero}
 use Rattle.std.specs.Prelude.{option_map}
 use Rattle.std.proofs.Math.Seq.{take_all}
-use Rattle.syntax.specs.declared.numbers.Status.{Status}
+use Rattle.syntax.specs.declared.thread_end.Status.{Status}
 use Rattle.bytecode.specs.Code.{Configuration}
 use Rattle.machine.specs.Worlds.{Part}
-use Rattle.world.specs.declared.report.End.{End}
+use Rattle.world.specs.declared.report.WorldEnd.{WorldEnd}
 use Rattle.world.specs.declared.stop.StopReason.{StopReason}
 use Rattle.world.specs.Reports.{end_with, parts_shown, threads_shown}
 use Rattle.world.specs.Simulations.{IsExplained, Simulation, output_at, status_at, world_of}
@@ -21,7 +21,7 @@ module _ (stop : Option (ℕ × StopReason)) where
       λ i. (end_with stop (sym (add-zero from) i) (g i), h i) ∷ []
   more from (p ∷ ps) (suc t) status text e f =
       let g : suc from + t ≡ from + suc t = omega arith in
-      ap (λ (l : List (End × List ℕ)). (end_with stop from p.thread.status, p.thread.text) ∷ l) (more (suc from) ps t status text e f ∙ ap (λ n. take t (parts_shown stop (suc from) ps) ++ (end_with stop n status, text) ∷ []) g)
+      ap (λ (l : List (WorldEnd × List ℕ)). (end_with stop from p.thread.status, p.thread.text) ∷ l) (more (suc from) ps t status text e f ∙ ap (λ n. take t (parts_shown stop (suc from) ps) ++ (end_with stop n status, text) ∷ []) g)
 
   pub shown_more : (s : Simulation) (t : ℕ) (status : Status) (text : List ℕ) → status_at s t ≡ Some status → output_at s t ≡ Some text
       → take t (threads_shown stop s) ++ (end_with stop t status, text) ∷ [] ≡ take (t + 1) (threads_shown stop s)

@@ -5,7 +5,7 @@ use Rattle.std.specs.List.{slice_get}
 use Rattle.syntax.specs.Behaviours.{Behaviour, Means, Step}
 use Rattle.syntax.specs.Threads.{thread}
 use Rattle.syntax.specs.Tree.{Program}
-use Rattle.syntax.specs.declared.numbers.Status.{Status}
+use Rattle.syntax.specs.declared.thread_end.Status.{Status}
 use Rattle.bytecode.specs.Beginning.{beginning}
 use Rattle.bytecode.specs.Code.{Code, Configuration, effect}
 use Rattle.bytecode.specs.Initial.{initial_of}

@@ -6,6 +6,6 @@ mod report;
 mod stop;
 mod world;
 
-pub use report::{End, Report};
+pub use report::{Report, WorldEnd};
 pub use stop::{StopReason, WorldFault, WorldStop};
 pub use world::World;

@@ -9,11 +9,11 @@ use crate::stop::{StopReason, WorldStop};
 use crate::world::World;
 use machine::Event;
 use std::alloc::{AllocError, Allocator, Global};
-use syntax::numbers::{Status, Trap};
+use syntax::thread_end::{Status, Trap};
 
 /// How a thread is found.
 #[derive(Clone, Copy, PartialEq, Eq)]
-pub enum End {
+pub enum WorldEnd {
     /// The thread has come to its end.
     Ended,
     /// The thread has trapped.
@@ -33,7 +33,7 @@ pub struct Report<A: Allocator = Global> {
     /// thread, and the event.
     pub events: Vec<(u64, u32, Event), A>,
     /// How each thread is found, and what it has printed, from thread 0 on.
-    pub threads: Vec<(End, String<A>), A>,
+    pub threads: Vec<(WorldEnd, String<A>), A>,
     /// The words of the cells.
     pub words: Vec<u64, A>,
     /// The thread that has the lock, if one has.
@@ -44,27 +44,27 @@ pub struct Report<A: Allocator = Global> {
     pub trace: Vec<u32, A>,
 }
 
-fn end_of(status: Status) -> End
+fn end_of(status: Status) -> WorldEnd
     ensures { result ≡ end_of_spec status }
 {
     match status {
-        Status::Running => End::Running,
-        Status::Ended => End::Ended,
-        Status::Trapped(cause) => End::Trapped(cause),
+        Status::Running => WorldEnd::Running,
+        Status::Ended => WorldEnd::Ended,
+        Status::Trapped(cause) => WorldEnd::Trapped(cause),
     }
 }
 
-fn end_by(reason: StopReason, status: Status) -> End
+fn end_by(reason: StopReason, status: Status) -> WorldEnd
     ensures { result ≡ end_by_spec reason status }
 {
     match reason {
-        StopReason::OutOfMemory => End::OutOfMemory,
-        StopReason::SequenceUsedUp => End::SequenceUsedUp,
+        StopReason::OutOfMemory => WorldEnd::OutOfMemory,
+        StopReason::SequenceUsedUp => WorldEnd::SequenceUsedUp,
         StopReason::Stranger => end_of(status),
     }
 }
 
-fn end_with(stop: Option<(u32, StopReason)>, t: u32, status: Status) -> End
+fn end_with(stop: Option<(u32, StopReason)>, t: u32, status: Status) -> WorldEnd
     ensures { result ≡ end_with_spec stop t status }
 {
     match stop {
@@ -79,7 +79,7 @@ impl<A: Allocator + Copy> World<A> {
         &self,
         alloc: A,
         stop: Option<(u32, StopReason)>,
-    ) -> Result<Vec<(End, String<A>), A>, AllocError>
+    ) -> Result<Vec<(WorldEnd, String<A>), A>, AllocError>
         ensures { IfOk result (λ v. threads_of v.items ≡ threads_shown stop self.now) }
     {
         let mut shown = Vec::new(alloc);

@@ -16,7 +16,7 @@ use machine::{Event, StepShown, Thread};
 use norec_core::Stop;
 use std::alloc::{AllocError, Allocator, Global};
 use std::marker::Model;
-use syntax::numbers::Status;
+use syntax::thread_end::Status;
 
 /// The most threads of a world.
 const MOST_THREADS: u32 = 64;

@@ -1,6 +1,6 @@
 -- A whole thread between two of its transactions.
 use Rattle.std.specs.Prelude.{◌≡◌, ◌≤◌, ℕ, false, List, length, drop, None}
-use Rattle.syntax.specs.declared.numbers.Status.TheVariants.{Running}
+use Rattle.syntax.specs.declared.thread_end.Status.TheVariants.{Running}
 use Rattle.syntax.specs.Behaviours.{Memory}
 use Rattle.bytecode.specs.Code.{Code, effect}
 use Rattle.bytecode.specs.Beginning.{beginning}

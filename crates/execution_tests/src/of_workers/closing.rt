@@ -7,20 +7,20 @@ use crate::asserted::assert_all;
 use crate::of_workers::hall::{Turn, are_turns, leaves, open_hall, put, take};
 use crate::of_workers::programs::prints;
 use std::alloc::Global;
-use workers::{CloseFault, CloseReason, Hall, Status, Worker};
+use workers::{CloseFault, CloseReason, Hall, RunEnd, Worker};
 
 /// Worker 0 up to its won swap, a step at a time, and a thousand steps of worker 1, which waits for the lock in vain.
 fn up_to_the_lock() -> &'static [Turn] {
     static TURNS: [Turn; 9] = [
-        Turn::Run(0, 0, Status::Budget, 0, 0),
-        Turn::Run(0, 1, Status::Budget, 1, 1),
-        Turn::Run(0, 1, Status::Budget, 2, 2),
-        Turn::Run(0, 1, Status::Budget, 3, 3),
-        Turn::Run(0, 1, Status::Budget, 4, 3),
-        Turn::Run(0, 1, Status::Budget, 5, 3),
-        Turn::Run(0, 1, Status::Budget, 6, 3),
-        Turn::Run(0, 1, Status::Budget, 7, 4),
-        Turn::Run(1, 1000, Status::Budget, 1000, 1000),
+        Turn::Run(0, 0, RunEnd::Budget, 0, 0),
+        Turn::Run(0, 1, RunEnd::Budget, 1, 1),
+        Turn::Run(0, 1, RunEnd::Budget, 2, 2),
+        Turn::Run(0, 1, RunEnd::Budget, 3, 3),
+        Turn::Run(0, 1, RunEnd::Budget, 4, 3),
+        Turn::Run(0, 1, RunEnd::Budget, 5, 3),
+        Turn::Run(0, 1, RunEnd::Budget, 6, 3),
+        Turn::Run(0, 1, RunEnd::Budget, 7, 4),
+        Turn::Run(1, 1000, RunEnd::Budget, 1000, 1000),
     ];
     &TURNS
 }
@@ -28,9 +28,9 @@ fn up_to_the_lock() -> &'static [Turn] {
 /// Both workers come to their ends, and stay there.
 fn to_the_ends() -> &'static [Turn] {
     static TURNS: [Turn; 3] = [
-        Turn::Run(0, 100, Status::Ended, 13, 6),
-        Turn::Run(1, 100, Status::Ended, 1013, 1006),
-        Turn::Run(0, 0, Status::Ended, 13, 6),
+        Turn::Run(0, 100, RunEnd::Ended, 13, 6),
+        Turn::Run(1, 100, RunEnd::Ended, 1013, 1006),
+        Turn::Run(0, 0, RunEnd::Ended, 13, 6),
     ];
     &TURNS
 }

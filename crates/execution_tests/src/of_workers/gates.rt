@@ -8,7 +8,7 @@ use std::sync::Wait;
 use std::sync::atomic::{AtomicBool, Ordering};
 use std::thread;
 use std::thread::Threads;
-use syntax::numbers::Status;
+use syntax::thread_end::Status;
 use workers::Gate;
 
 /// Whether a flag is set within so many looks, between which other threads run.

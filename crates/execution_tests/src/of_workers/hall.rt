@@ -8,7 +8,7 @@ use crate::of_workers::programs::{Program, code_of};
 use bytecode::Code;
 use norec_core::Stop;
 use std::alloc::{AllocError, Allocator};
-use workers::{Hall, HallFault, Outcome, Status, Worker};
+use workers::{Hall, HallFault, HallReport, RunEnd, Worker};
 
 /// The most steps of a worker here, and of one run.
 const MOST: u64 = 1_000_000;
@@ -18,7 +18,7 @@ const MOST: u64 = 1_000_000;
 pub enum Turn {
     /// One worker runs: the thread, for how many steps at most, how the run ends, and how many steps and accesses it
     /// then has made.
-    Run(u32, u64, Status, u64, u64),
+    Run(u32, u64, RunEnd, u64, u64),
 
     /// The two workers meet.
     Meet,
@@ -101,7 +101,7 @@ fn run<A: Allocator + Copy>(
     hall: &Hall<A>,
     worker: &mut Worker<A>,
     budget: u64,
-) -> Option<Result<Status, Stop>>
+) -> Option<Result<RunEnd, Stop>>
     requires { IsWorkerOf (table_of hall.now) (setup_of hall.now) worker.old }
     ensures { IsWorkerOf (table_of hall.now) (setup_of hall.now) worker.new }
 {
@@ -116,7 +116,7 @@ fn is_run<A: Allocator + Copy>(
     hall: &Hall<A>,
     worker: &mut Worker<A>,
     budget: u64,
-    status: Status,
+    status: RunEnd,
     steps: u64,
     accesses: u64,
 ) -> bool
@@ -231,7 +231,7 @@ pub fn are_turns<A: Allocator + Copy>(
 pub type Left<'a> = (u64, &'a str, &'a str);
 
 /// Whether a thread of a closed hall has printed this.
-fn shows<A: Allocator + Copy>(outcome: &Outcome<A>, number: u32, text: &str) -> bool {
+fn shows<A: Allocator + Copy>(outcome: &HallReport<A>, number: u32, text: &str) -> bool {
     for thread in &outcome.threads {
         if thread.thread() == number {
             return thread.output() == text;
@@ -241,7 +241,7 @@ fn shows<A: Allocator + Copy>(outcome: &Outcome<A>, number: u32, text: &str) -> 
 }
 
 /// Whether a closed hall leaves this.
-fn is_left<A: Allocator + Copy>(outcome: &Outcome<A>, left: Left) -> bool {
+fn is_left<A: Allocator + Copy>(outcome: &HallReport<A>, left: Left) -> bool {
     if outcome.words.as_slice() != [left.0].as_slice() || outcome.threads.len() != 2 {
         return false;
     }

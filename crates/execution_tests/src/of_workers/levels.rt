@@ -8,8 +8,8 @@ use crate::of_workers::sums::Never;
 use std::alloc::{AllocError, Global};
 use std::sync::Wait;
 use std::thread::Threads;
-use syntax::numbers::Status;
-use written_codes::{Levels, cancels_levels};
+use syntax::thread_end::Status;
+use test_codes::{Levels, cancels_levels};
 
 /// Whether three threads all end, and leave x with this number.
 fn all_end<R: Threads + Wait + Sync>(rt: &R, alloc: Global, program: Program, left: u32) -> bool {

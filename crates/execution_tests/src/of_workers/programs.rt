@@ -3,7 +3,7 @@
 use bytecode::{Code, Instr};
 use lex::token::Scalar;
 use std::alloc::Allocator;
-use written_codes::{WrittenCode, WrittenVariable, worker};
+use test_codes::{WrittenCode, WrittenVariable, worker};
 
 /// A program of one function over a variable `x`: the function's registers, what `x` begins with, and the instructions.
 pub type Program<'a> = (u32, u32, &'a [Instr]);
@@ -142,5 +142,5 @@ pub fn code_of<A: Allocator + Copy>(alloc: A, program: Program) -> Option<Code<A
         texts: &["\n"],
         variables: &[x],
     };
-    written_codes::code_of(alloc, &written)
+    test_codes::code_of(alloc, &written)
 }

@@ -5,7 +5,7 @@ use bytecode::Code;
 use std::alloc::Global;
 use std::sync::Wait;
 use std::thread::Threads;
-use syntax::numbers::Status;
+use syntax::thread_end::Status;
 use workers::{Gate, RunFault, RunMemory, RunReport, run_all};
 
 /// A thread's number, what it has printed, how it is, and how many accesses it has made.

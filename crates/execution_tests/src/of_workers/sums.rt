@@ -6,7 +6,7 @@ use crate::of_workers::reports::{Wanted, runs_as};
 use std::alloc::Global;
 use std::sync::Wait;
 use std::thread::Threads;
-use syntax::numbers::{Status, Trap};
+use syntax::thread_end::{Status, Trap};
 use workers::{Gate, RunFault};
 
 /// A gate that never holds.

@@ -7,14 +7,14 @@ use crate::asserted::{assert_all, assert_that};
 use crate::of_workers::hall::{Turn, are_turns, leaves, open_hall};
 use crate::of_workers::programs::{adds, divides, looks};
 use std::alloc::Global;
-use syntax::numbers::Trap;
-use workers::{Hall, HallFault, Status, Worker};
+use syntax::thread_end::Trap;
+use workers::{Hall, HallFault, RunEnd, Worker};
 
 /// Worker 0 to its end, and then worker 1.
 fn in_order() -> &'static [Turn] {
     static TURNS: [Turn; 2] = [
-        Turn::Run(0, 100, Status::Ended, 10, 4),
-        Turn::Run(1, 100, Status::Ended, 10, 3),
+        Turn::Run(0, 100, RunEnd::Ended, 10, 4),
+        Turn::Run(1, 100, RunEnd::Ended, 10, 3),
     ];
     &TURNS
 }
@@ -22,9 +22,9 @@ fn in_order() -> &'static [Turn] {
 /// Worker 0 to its end, a meeting, and then worker 1.
 fn in_order_with_a_meeting() -> &'static [Turn] {
     static TURNS: [Turn; 3] = [
-        Turn::Run(0, 100, Status::Ended, 10, 4),
+        Turn::Run(0, 100, RunEnd::Ended, 10, 4),
         Turn::Meet,
-        Turn::Run(1, 100, Status::Ended, 10, 3),
+        Turn::Run(1, 100, RunEnd::Ended, 10, 3),
     ];
     &TURNS
 }
@@ -53,8 +53,8 @@ fn what_one_wrote_the_next_reads(rt: HostRuntime) {
 /// Worker 0 traps, and stays there.
 fn trap_turns() -> &'static [Turn] {
     static TURNS: [Turn; 2] = [
-        Turn::Run(0, 100, Status::Trapped(Trap::ZeroDivisor), 3, 0),
-        Turn::Run(0, 5, Status::Trapped(Trap::ZeroDivisor), 3, 0),
+        Turn::Run(0, 100, RunEnd::Trapped(Trap::ZeroDivisor), 3, 0),
+        Turn::Run(0, 5, RunEnd::Trapped(Trap::ZeroDivisor), 3, 0),
     ];
     &TURNS
 }
@@ -73,7 +73,7 @@ fn a_trap_is_told(rt: HostRuntime) {
 
 /// A step of worker 1.
 fn one_step() -> &'static [Turn] {
-    static TURNS: [Turn; 1] = [Turn::Run(1, 1, Status::Budget, 1, 1)];
+    static TURNS: [Turn; 1] = [Turn::Run(1, 1, RunEnd::Budget, 1, 1)];
     &TURNS
 }
 

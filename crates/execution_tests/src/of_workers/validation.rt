@@ -4,7 +4,7 @@ use crate::asserted::assert_all;
 use crate::of_workers::hall::{Turn, are_turns, leaves, open_hall};
 use crate::of_workers::programs::{Program, adds, reads_again};
 use std::alloc::Global;
-use workers::{Status, Tally, Worker};
+use workers::{RunEnd, Tally, Worker};
 
 /// What a worker counts.
 fn tally(begun: u64, dropped: u64, retried: u64) -> Tally {
@@ -51,9 +51,9 @@ fn makes_reading(alloc: Global, written: u32, turns: &[Turn], wanted: Tally) -> 
 /// Worker 1 writes the word that is there before the last of the reads: validation finds all three entries unchanged.
 fn goes_on() -> &'static [Turn] {
     static TURNS: [Turn; 3] = [
-        Turn::Run(0, 9, Status::Budget, 9, 7),
-        Turn::Run(1, 100, Status::Ended, 9, 4),
-        Turn::Run(0, 100, Status::Ended, 21, 16),
+        Turn::Run(0, 9, RunEnd::Budget, 9, 7),
+        Turn::Run(1, 100, RunEnd::Ended, 9, 4),
+        Turn::Run(0, 100, RunEnd::Ended, 21, 16),
     ];
     &TURNS
 }
@@ -62,12 +62,12 @@ fn goes_on() -> &'static [Turn] {
 /// load, after the second entry, and after the last one.
 fn goes_on_in_pieces() -> &'static [Turn] {
     static TURNS: [Turn; 6] = [
-        Turn::Run(0, 9, Status::Budget, 9, 7),
-        Turn::Run(1, 100, Status::Ended, 9, 4),
-        Turn::Run(0, 3, Status::Budget, 12, 10),
-        Turn::Run(0, 2, Status::Budget, 14, 12),
-        Turn::Run(0, 1, Status::Budget, 15, 13),
-        Turn::Run(0, 100, Status::Ended, 21, 16),
+        Turn::Run(0, 9, RunEnd::Budget, 9, 7),
+        Turn::Run(1, 100, RunEnd::Ended, 9, 4),
+        Turn::Run(0, 3, RunEnd::Budget, 12, 10),
+        Turn::Run(0, 2, RunEnd::Budget, 14, 12),
+        Turn::Run(0, 1, RunEnd::Budget, 15, 13),
+        Turn::Run(0, 100, RunEnd::Ended, 21, 16),
     ];
     &TURNS
 }
@@ -76,11 +76,11 @@ fn goes_on_in_pieces() -> &'static [Turn] {
 /// release.
 fn waits() -> &'static [Turn] {
     static TURNS: [Turn; 5] = [
-        Turn::Run(0, 9, Status::Budget, 9, 7),
-        Turn::Run(1, 6, Status::Budget, 6, 2),
-        Turn::Run(0, 5, Status::Budget, 14, 12),
-        Turn::Run(1, 100, Status::Ended, 9, 4),
-        Turn::Run(0, 100, Status::Ended, 24, 19),
+        Turn::Run(0, 9, RunEnd::Budget, 9, 7),
+        Turn::Run(1, 6, RunEnd::Budget, 6, 2),
+        Turn::Run(0, 5, RunEnd::Budget, 14, 12),
+        Turn::Run(1, 100, RunEnd::Ended, 9, 4),
+        Turn::Run(0, 100, RunEnd::Ended, 24, 19),
     ];
     &TURNS
 }
@@ -88,10 +88,10 @@ fn waits() -> &'static [Turn] {
 /// Worker 1 has the lock where worker 0 begins, which waits for its release.
 fn begins_late() -> &'static [Turn] {
     static TURNS: [Turn; 4] = [
-        Turn::Run(1, 6, Status::Budget, 6, 2),
-        Turn::Run(0, 7, Status::Budget, 7, 5),
-        Turn::Run(1, 100, Status::Ended, 9, 4),
-        Turn::Run(0, 100, Status::Ended, 19, 14),
+        Turn::Run(1, 6, RunEnd::Budget, 6, 2),
+        Turn::Run(0, 7, RunEnd::Budget, 7, 5),
+        Turn::Run(1, 100, RunEnd::Ended, 9, 4),
+        Turn::Run(0, 100, RunEnd::Ended, 19, 14),
     ];
     &TURNS
 }
@@ -99,9 +99,9 @@ fn begins_late() -> &'static [Turn] {
 /// Worker 1 writes another word: validation drops the attempt at its first entry.
 fn begins_anew() -> &'static [Turn] {
     static TURNS: [Turn; 3] = [
-        Turn::Run(0, 9, Status::Budget, 9, 7),
-        Turn::Run(1, 100, Status::Ended, 9, 4),
-        Turn::Run(0, 100, Status::Ended, 25, 20),
+        Turn::Run(0, 9, RunEnd::Budget, 9, 7),
+        Turn::Run(1, 100, RunEnd::Ended, 9, 4),
+        Turn::Run(0, 100, RunEnd::Ended, 25, 20),
     ];
     &TURNS
 }
@@ -109,9 +109,9 @@ fn begins_anew() -> &'static [Turn] {
 /// Both workers add, worker 1 between the reads of worker 0 and its commit, which loses its swap.
 fn loses_its_swap() -> &'static [Turn] {
     static TURNS: [Turn; 3] = [
-        Turn::Run(0, 6, Status::Budget, 6, 3),
-        Turn::Run(1, 100, Status::Ended, 10, 6),
-        Turn::Run(0, 100, Status::Ended, 19, 12),
+        Turn::Run(0, 6, RunEnd::Budget, 6, 3),
+        Turn::Run(1, 100, RunEnd::Ended, 10, 6),
+        Turn::Run(0, 100, RunEnd::Ended, 19, 12),
     ];
     &TURNS
 }

@@ -8,7 +8,7 @@ use lex::lex;
 use lex::token::{Span, Token};
 use parse::parse;
 use std::alloc::{AllocError, Global};
-use written_programs::{Piece, text_of};
+use test_programs::{Piece, text_of};
 
 /// Whether the tree of pieces is what it is to be.
 fn has_shape_in(alloc: Global, pieces: &[Piece], shape: Shape) -> bool {

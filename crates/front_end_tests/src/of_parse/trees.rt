@@ -5,7 +5,7 @@ use lex::token::{Scalar, Span};
 use std::alloc::Global;
 use syntax::tree;
 use syntax::tree::{Attribute, BinaryOp, Expr, Function, Item, Simple, Stmt, Unit};
-use written_programs::unit_of;
+use test_programs::unit_of;
 
 /// What a tree is to be.
 #[derive(Clone, Copy)]

@@ -4,7 +4,7 @@ use crate::asserted::assert_that;
 use crate::large::{FROM_FIRST, FROM_LAST, PROTOTYPES, fault_in};
 use crate::stages::Stage;
 use std::alloc::Global;
-use written_programs::Piece;
+use test_programs::Piece;
 
 const PRINTING: Piece = Piece::Times("void f19999(void) { printf(\"a\"); }", 1);
 

@@ -5,7 +5,7 @@ use crate::large::{FROM_FIRST, FROM_LAST, PROTOTYPES, fault_in};
 use crate::stages::{Stage, fault_of};
 use lex::token::Span;
 use std::alloc::Global;
-use written_programs::{Piece, text_of};
+use test_programs::{Piece, text_of};
 
 const GLOBAL: Piece = Piece::Times("int x;", 1);
 

@@ -5,7 +5,7 @@
 use crate::asserted::{assert_none, assert_that};
 use crate::of_syntax::texts::each_node;
 use std::alloc::Global;
-use written_programs::unit_of;
+use test_programs::unit_of;
 
 /// A text, and the depth of its tree.
 type Row = (&'static str, usize);

@@ -5,7 +5,7 @@ use crate::of_syntax::texts::each_node;
 use containers::Same;
 use std::alloc::Global;
 use syntax::tree::Unit;
-use written_programs::unit_of;
+use test_programs::unit_of;
 
 /// Whether a text has this tree; `None` where it has none.
 fn has(alloc: Global, one: &Unit, other: &str) -> Option<bool> {

@@ -4,8 +4,8 @@ use crate::asserted::{assert_none, assert_that};
 use crate::stages::{Stage, faulty};
 use std::alloc::Global;
 use syntax::tree::Unit;
+use test_programs::unit_of;
 use types::check;
-use written_programs::unit_of;
 
 /// The rows stand in a function, so that no proof but its own looks at them.
 fn rows() -> &'static [&'static str] {

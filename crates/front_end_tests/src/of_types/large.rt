@@ -3,7 +3,7 @@
 use crate::asserted::assert_none;
 use crate::large::{LargeRow, faulty_large};
 use crate::stages::Stage;
-use written_programs::Piece;
+use test_programs::Piece;
 
 /// The rows stand in a function, so that no proof but its own looks at them.
 fn rows() -> &'static [LargeRow] {

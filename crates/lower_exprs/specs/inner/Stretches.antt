@@ -10,7 +10,7 @@ use Rattle.selection.specs.Conditions.{Condition, first_of}
 use Rattle.selection.specs.Expressions.{Emitted, AllEmitted}
 use Rattle.selection.specs.Simples.{Aimed}
 use Rattle.lower_exprs.specs.declared.aim.Aim.{Aim}
-use Rattle.lower_exprs.specs.declared.fault.Failure.{Failure}
+use Rattle.lower_exprs.specs.declared.fault.LowerFailure.{LowerFailure}
 use Rattle.lower_exprs.specs.declared.lists.Lists.{Lists as OwnLists}
 use Rattle.lower_exprs.specs.Lists.{lists_of}
 use Rattle.lower_exprs.specs.Fragments.{Fragment, Adds}
@@ -36,8 +36,8 @@ abbrev pub of_aim : Aimed → Fragment Instr Aim
 of_aim a = record { code = a.code; lists = a.lists; end = record { target = a.target; to = a.to } }
 
 module _ {A : Type 0} where
-  abbrev pub AddsFirst : LogicalOp → Condition → (old new : Vec Draft A) → OwnLists A → Result ℕ Failure → Type 0
+  abbrev pub AddsFirst : LogicalOp → Condition → (old new : Vec Draft A) → OwnLists A → Result ℕ LowerFailure → Type 0
   AddsFirst op c old new l r = Adds (of_first op c) old.items new.items (lists_of l) r
 
-  abbrev pub Aims : Aimed → (old new : Vec Instr A) → OwnLists A → Result Aim Failure → Type 0
+  abbrev pub Aims : Aimed → (old new : Vec Instr A) → OwnLists A → Result Aim LowerFailure → Type 0
   Aims a old new l r = Adds (of_aim a) old.items new.items (lists_of l) r

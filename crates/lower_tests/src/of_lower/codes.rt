@@ -4,7 +4,7 @@ use bytecode::{Code, listing};
 use lex::token::Span;
 use lower::lower;
 use std::alloc::Global;
-use written_programs::accepted_of;
+use test_programs::accepted_of;
 
 /// The code of a text, or in its place the number and the place of the fault. A text that is not accepted has the
 /// number 1.

@@ -5,7 +5,7 @@ use crate::of_lower::codes::{code_of, fault_of};
 use bytecode::Code;
 use lex::token::Span;
 use std::alloc::Global;
-use written_programs::{Piece, text_of};
+use test_programs::{Piece, text_of};
 
 /// How many functions, registers of the first one, and instructions a code has.
 type Sizes = (usize, u32, usize);

@@ -4,7 +4,7 @@ use crate::asserted::{assert_all, assert_that};
 use crate::of_lower::codes::fault_of;
 use lex::token::Span;
 use std::alloc::Global;
-use written_programs::{Piece, text_of};
+use test_programs::{Piece, text_of};
 
 /// The fault of a text of pieces. One that has code has the number 0, and one that memory is refused 1.
 fn fault_at(alloc: Global, pieces: &[Piece]) -> (u32, Option<Span>) {

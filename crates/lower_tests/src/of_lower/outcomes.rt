@@ -14,8 +14,8 @@ use bytecode::Code;
 use meaning::{SourceOutcome, ThreadEnd, run_order};
 use separation::Accepted;
 use std::alloc::{AllocError, Global};
-use syntax::numbers::{Status, Trap};
-use written_programs::accepted_of;
+use syntax::thread_end::{Status, Trap};
+use test_programs::accepted_of;
 
 fn trap_number(trap: Trap) -> u8 {
     match trap {

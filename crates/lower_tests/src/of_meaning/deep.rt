@@ -3,8 +3,8 @@
 use crate::of_meaning::run::run;
 use meaning::ThreadEnd;
 use std::alloc::{AllocError, Global};
-use syntax::numbers::Trap;
-use written_programs::accepted_of;
+use syntax::thread_end::Trap;
+use test_programs::accepted_of;
 
 /// A function that calls itself: what stands before its levels, what opens a level, what stands inside them all, what
 /// closes a level, what stands behind them, and how many levels give depth 100.

@@ -4,7 +4,7 @@ use crate::asserted::assert_none;
 use meaning::{SourceOutcome, ThreadEnd, ThreadReport, run_order};
 use separation::Accepted;
 use std::alloc::Global;
-use written_programs::accepted_of;
+use test_programs::accepted_of;
 
 /// A program, the number of the trap in which it ends or 0, what it prints, and the words of the memory that it leaves.
 type Row = (&'static str, u32, &'static str, &'static [u64]);

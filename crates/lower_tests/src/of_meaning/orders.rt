@@ -4,8 +4,8 @@ use crate::asserted::assert_that;
 use meaning::{SourceOutcome, ThreadEnd, ThreadReport, run_order};
 use separation::Accepted;
 use std::alloc::Global;
-use syntax::numbers::Trap;
-use written_programs::accepted_of;
+use syntax::thread_end::Trap;
+use test_programs::accepted_of;
 
 const ADDS: &str = "int x; void worker(int self) { __transaction_atomic { x = x + 1; } }";
 /// each thread says what it found, and ends behind its second transaction

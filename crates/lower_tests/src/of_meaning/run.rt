@@ -5,7 +5,7 @@ use crate::of_meaning::memory::zeros;
 use meaning::{ThreadEnd, ThreadOutcome, thread};
 use separation::Accepted;
 use std::alloc::{Allocator, Global};
-use written_programs::accepted_of;
+use test_programs::accepted_of;
 
 /// What `worker(t)` of a program does where its transactions find memories of so many cells that hold 0; none where
 /// memory is refused.

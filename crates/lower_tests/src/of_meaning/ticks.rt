@@ -4,7 +4,7 @@ use crate::of_meaning::run::{first_left, run};
 use meaning::{ThreadEnd, ThreadOutcome};
 use std::alloc::Global;
 use std::process::Abort;
-use syntax::numbers::Trap;
+use syntax::thread_end::Trap;
 
 /// A text, the memories to be found, the ticks; how many memories are left, what the last one begins with, what is
 /// printed, and the end.

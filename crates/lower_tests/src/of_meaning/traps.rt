@@ -4,11 +4,11 @@ use crate::asserted::{assert_none, assert_that};
 use crate::of_meaning::memory::zeros;
 use crate::of_meaning::run::run;
 use meaning::{ThreadEnd, ThreadOutcome, thread};
-use refusing::{Refusing, growths};
 use separation::Accepted;
 use std::alloc::{Allocator, Global};
-use syntax::numbers::Trap;
-use written_programs::accepted_of;
+use syntax::thread_end::Trap;
+use test_memory::{Refusing, growths};
+use test_programs::accepted_of;
 
 /// A text, and the trap in which its thread ends.
 type TrapRow = (&'static str, Trap);

@@ -2,7 +2,7 @@
 use Rattle.std.proofs.Common.{◌≡◌, ◌+◌, ℕ, suc, List, [], ◌∷◌, ◌++◌, length, refl, sym, ◌∙◌, ap, subst, add-zero, append_assoc, length-append, arith}
 use Rattle.std.specs.List.{AllByRecursion}
 use Rattle.syntax.specs.Behaviours.{Behaviour, Ended, IsChained, IsMemory, Means, Memory, Outcome, Step, Stopped, ThreadEnd, founds_of, lefts_of}
-use Rattle.syntax.specs.declared.numbers.Halt.TheVariants.{Astray, Spent, Trapped, Wants}
+use Rattle.syntax.specs.declared.thread_end.Halt.TheVariants.{Astray, Spent, Trapped, Wants}
 use Rattle.syntax.specs.Threads.{thread}
 use Rattle.syntax.specs.Tree.{Program}
 use Rattle.syntax.proofs.Counted.{left_as_many_as_found, never_more_left}

@@ -4,7 +4,7 @@ use Rattle.machine.proofs.parts.Memories.{sized}
 use Rattle.std.specs.List.{AllByRecursion}
 use Rattle.std.proofs.lemmas.Bool.{eq-eqb}
 use Rattle.syntax.specs.Behaviours.{IsChained, IsMemory, Step, founds_of, last_memory, lefts_of}
-use Rattle.syntax.specs.declared.numbers.Status.TheVariants.{Running}
+use Rattle.syntax.specs.declared.thread_end.Status.TheVariants.{Running}
 use Rattle.bytecode.specs.Effects.{Effect, FitsCells}
 use Rattle.bytecode.specs.Sequential.{end_of, meaning, thread}
 use Rattle.machine.specs.Alone.{ReachesEnd, zeros}

@@ -3,8 +3,8 @@ use Rattle.std.proofs.Common.{◌≡◌, ◌≢◌, ◌<◌, ◌+◌, ◌%◌, �
 use Rattle.std.proofs.lemmas.Bool.{eq-eqb, false≢true}
 use Rattle.syntax.specs.Behaviours.{Memory}
 use Rattle.syntax.specs.Orders.{last_left}
-use Rattle.syntax.specs.declared.numbers.Status.{Status}
-use Rattle.syntax.specs.declared.numbers.Status.TheVariants.{Running, Ended as HasEnded, Trapped as HasTrapped}
+use Rattle.syntax.specs.declared.thread_end.Status.{Status}
+use Rattle.syntax.specs.declared.thread_end.Status.TheVariants.{Running, Ended as HasEnded, Trapped as HasTrapped}
 use Rattle.bytecode.specs.Effects.{Effect, FitsCells}
 use Rattle.bytecode.specs.Effects.Effect.{Begin, End, Irrevocable, Print, Pure, Traps}
 use Rattle.bytecode.specs.Sequential.{Sequential, next, outside, outside_step, steps}

@@ -1,7 +1,7 @@
 -- An attempt keeps its first snapshot, which was answered to a load of the lock when it began.
 use Rattle.std.proofs.Common.{◌≡◌, ◌-◌, ◌≤◌, ◌==◌, ◌%◌, inl, inr, ℕ, Bool, true, false, cond, List, [], ◌∷◌, ◌++◌, Option, None, Some, refl, sym, ◌∙◌, ap, subst, slice_get, drop}
-use Rattle.syntax.specs.declared.numbers.Status.{Status}
-use Rattle.syntax.specs.declared.numbers.Status.TheVariants.{Running, Ended as HasEnded, Trapped as HasTrapped}
+use Rattle.syntax.specs.declared.thread_end.Status.{Status}
+use Rattle.syntax.specs.declared.thread_end.Status.TheVariants.{Running, Ended as HasEnded, Trapped as HasTrapped}
 use Rattle.write_log.specs.Overlay.{overlay_word}
 use Rattle.bytecode.specs.Effects.{Effect}
 use Rattle.bytecode.specs.Effects.Effect.{Begin, Print}
@@ -13,8 +13,8 @@ use Rattle.norec_core.specs.declared.step.Answer.{Answer}
 use Rattle.norec_core.specs.declared.step.Answer.TheVariants.{Done, Lost, Value, Won}
 use Rattle.norec_core.specs.declared.step.Op.{Op}
 use Rattle.norec_core.specs.declared.step.Op.TheVariants as op
-use Rattle.norec_core.specs.declared.step.Outcome.{Outcome}
-use Rattle.norec_core.specs.declared.step.Outcome.TheVariants as outcome
+use Rattle.norec_core.specs.declared.step.OpOutcome.{OpOutcome}
+use Rattle.norec_core.specs.declared.step.OpOutcome.TheVariants as outcome
 use Rattle.norec_core.specs.declared.step.Phase.{Phase}
 use Rattle.norec_core.specs.declared.step.Phase.TheVariants.{AtOperation, ReadsLock, Stores, ValidatesEntry, ValidatesTime}
 use Rattle.machine.specs.Answered.{HasLoad, Heard, LocksFrom, StepsHearing}
@@ -45,7 +45,7 @@ module _ {C : Type 0} (now : C) (a : Attempt C) where
   store_same i None = tt
   store_same i (Some q) = refl
 
-  swap_same : (b : Attempt C) (o : Outcome) (answer : Answer) → b.first ≡ a.first → Same (core_swap a b o answer)
+  swap_same : (b : Attempt C) (o : OpOutcome) (answer : Answer) → b.first ≡ a.first → Same (core_swap a b o answer)
   swap_same b o Won g = g
   swap_same b o (Lost n) g = refl
   swap_same b o Done g = refl

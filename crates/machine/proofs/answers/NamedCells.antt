@@ -1,8 +1,8 @@
 -- An attempt's logs name cells of the memory alone, so a thread loads and stores cells alone.
 use Rattle.std.proofs.Common.{◌≡◌, ◌-◌, ◌<◌, ◌==◌, ◌%◌, ℕ, zero, suc, Bool, true, false, cond, List, [], ◌∷◌, Option, None, Some, refl, subst, length, slice_get, drop}
 use Rattle.std.specs.List.{AllByRecursion}
-use Rattle.syntax.specs.declared.numbers.Status.{Status}
-use Rattle.syntax.specs.declared.numbers.Status.TheVariants.{Running, Ended as HasEnded, Trapped as HasTrapped}
+use Rattle.syntax.specs.declared.thread_end.Status.{Status}
+use Rattle.syntax.specs.declared.thread_end.Status.TheVariants.{Running, Ended as HasEnded, Trapped as HasTrapped}
 use Rattle.write_log.specs.Overlay.{with_write, overlay_word}
 use Rattle.bytecode.specs.Effects.{Effect, FitsCells}
 use Rattle.bytecode.specs.Effects.Effect.{Begin, Print, Read, Traps, Write}
@@ -14,8 +14,8 @@ use Rattle.norec_core.specs.declared.step.Answer.{Answer}
 use Rattle.norec_core.specs.declared.step.Answer.TheVariants.{Done, Lost, Value, Won}
 use Rattle.norec_core.specs.declared.step.Op.{Op}
 use Rattle.norec_core.specs.declared.step.Op.TheVariants as op
-use Rattle.norec_core.specs.declared.step.Outcome.{Outcome}
-use Rattle.norec_core.specs.declared.step.Outcome.TheVariants as outcome
+use Rattle.norec_core.specs.declared.step.OpOutcome.{OpOutcome}
+use Rattle.norec_core.specs.declared.step.OpOutcome.TheVariants as outcome
 use Rattle.norec_core.specs.declared.step.Phase.{Phase}
 use Rattle.norec_core.specs.declared.step.Phase.TheVariants.{AtOperation, ReadsLock, Stores, ValidatesEntry, ValidatesTime}
 use Rattle.machine.specs.NamedCells.{AccessFits, AreOfCells, LogsFit, LogsFitIf}
@@ -63,7 +63,7 @@ module _ {C : Type 0} (cells : ℕ) where
     store_fits i None = tt
     store_fits i (Some q) = rephased (Stores (suc i))
 
-    swap_fits : (b : Attempt C) (o : Outcome) (answer : Answer) → LogsFit cells b → LogsFitIf cells (core_swap a b o answer).attempt
+    swap_fits : (b : Attempt C) (o : OpOutcome) (answer : Answer) → LogsFit cells b → LogsFitIf cells (core_swap a b o answer).attempt
     swap_fits b o Won g = g
     swap_fits b o (Lost n) g = rephased ValidatesTime
     swap_fits b o Done g = f

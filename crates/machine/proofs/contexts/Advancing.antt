@@ -1,6 +1,6 @@
 -- So many instructions that work on registers and frames are as many local steps of the machine.
 use Rattle.std.proofs.Common.{◌≡◌, ◌≢◌, ◌+◌, ℕ, Bool, false, zero, suc, true, [], Option, None, Some, refl, sym, ◌∙◌, ap, subst}
-use Rattle.syntax.specs.declared.numbers.Status.TheVariants.{Running}
+use Rattle.syntax.specs.declared.thread_end.Status.TheVariants.{Running}
 use Rattle.nesting.specs.Begins.{Saved}
 use Rattle.bytecode.specs.Effects.{Effect}
 use Rattle.bytecode.specs.Effects.Effect.{Pure}
@@ -14,8 +14,8 @@ use Rattle.frames.specs.Doings.{IsDoingAt}
 use Rattle.norec_core.specs.declared.step.Op.{Op}
 use Rattle.norec_core.specs.declared.step.Op.TheVariants as op
 use Rattle.norec_core.specs.declared.step.Access.{Access}
-use Rattle.norec_core.specs.declared.step.Outcome.{Outcome}
-use Rattle.norec_core.specs.declared.step.Outcome.TheVariants as outcome
+use Rattle.norec_core.specs.declared.step.OpOutcome.{OpOutcome}
+use Rattle.norec_core.specs.declared.step.OpOutcome.TheVariants as outcome
 use Rattle.norec_core.specs.declared.step.Answer.TheVariants.{Done}
 use Rattle.norec_core.specs.Cores.{IsDoneLocally}
 use Rattle.norec_core.specs.Attempts.{Attempt}
@@ -85,7 +85,7 @@ passed code law k d true running runs p s = advances code law k (record k { conf
 passed code law k d false running runs p s = advances code law k (record k { configuration = d }) 0 running runs (ap Some (sym (s refl))) refl refl refl refl
 
 -- a step of the core without an access, in which the operation is done and the thread goes one place further
-module _ (code : Code) (law : BeginsStayOpen code) (k l : PlainContext) (o : Op) (r : Outcome) (x : Doing) (e : Effect Configuration) (running : k.status ≡ Running) (runs : RunsInContext code k) (t : IsDoingAt code k.configuration x)
+module _ (code : Code) (law : BeginsStayOpen code) (k l : PlainContext) (o : Op) (r : OpOutcome) (x : Doing) (e : Effect Configuration) (running : k.status ≡ Running) (runs : RunsInContext code k) (t : IsDoingAt code k.configuration x)
     (asked : op_asked x k.core.attempt k.trapping ≡ Some o) (other : o ≢ op.Begin) (once : IsDoneLocally k.core o r l.core) (is : effect code k.configuration ≡ e) where
   pub advances_once : l.configuration ≡ resume (effect code) e k.configuration r (back_by e r (begin_configuration k.configuration l.core.saved)) → l.status ≡ status_after r e k.status → l.trapping ≡ false → l.text ≡ k.text → Advances code k 1 l
   advances_once to status trapping text =
@@ -108,7 +108,7 @@ module _ (code : Code) (law : BeginsStayOpen code) (k l : PlainContext) (o : Op)
       }
 
 -- what is done at once, and would go on outside attempts, is asked for in one
-pub once_asked : (x : Doing) (o : Op) (r : Outcome) (now : Saved) (att : Option (Attempt Saved)) (trapping : Bool) → ((kept : Bool) → op_by x kept trapping ≡ Some o) → (core_step {S = Saved} now None o Done).outcome ≡ outcome.Going → r ≢ outcome.Going
+pub once_asked : (x : Doing) (o : Op) (r : OpOutcome) (now : Saved) (att : Option (Attempt Saved)) (trapping : Bool) → ((kept : Bool) → op_by x kept trapping ≡ Some o) → (core_step {S = Saved} now None o Done).outcome ≡ outcome.Going → r ≢ outcome.Going
     → (core_step now att o Done).outcome ≡ r → op_asked x att trapping ≡ Some o
 once_asked x o r now None trapping by idle done e = absurd (done (sym e ∙ idle))
 once_asked x o r now (Some a) trapping by idle done e = by a.kept

@@ -1,9 +1,9 @@
 -- What a thread's context asks of the core, by what is to be done.
 use Rattle.std.proofs.Common.{◌≡◌, ◌<◌, ℕ, Bool, true, false, List, [], ◌∷◌, Option, None, Some, refl, sym, ◌∙◌, ap, subst, length, arith}
 use Rattle.std.specs.Prelude.{IfSome, IsSomeAnd, slice_set}
-use Rattle.syntax.specs.declared.numbers.Status.{Status}
-use Rattle.syntax.specs.declared.numbers.Status.TheVariants.{Running}
-use Rattle.syntax.specs.declared.numbers.Trap.{Trap}
+use Rattle.syntax.specs.declared.thread_end.Status.{Status}
+use Rattle.syntax.specs.declared.thread_end.Status.TheVariants.{Running}
+use Rattle.syntax.specs.declared.thread_end.Trap.{Trap}
 use Rattle.nesting.specs.Begins.{Saved}
 use Rattle.bytecode.specs.Effects.{Effect}
 use Rattle.bytecode.specs.Effects.Effect.{Pure, Print, Begin, Traps, End}
@@ -14,7 +14,7 @@ use Rattle.frames.specs.Open.{begin_configuration, saved_in, BeginsStayOpen}
 use Rattle.frames.specs.Doings.{IsDoingAt}
 use Rattle.norec_core.specs.declared.step.Op.{Op}
 use Rattle.norec_core.specs.declared.step.Op.TheVariants as op
-use Rattle.norec_core.specs.declared.step.Outcome.{Outcome}
+use Rattle.norec_core.specs.declared.step.OpOutcome.{OpOutcome}
 use Rattle.norec_core.specs.declared.step.Access.{Access}
 use Rattle.norec_core.specs.declared.step.Access.TheVariants.{Local}
 use Rattle.norec_core.specs.declared.step.Answer.{Answer}
@@ -151,7 +151,7 @@ pub stepped_is : (c : CoreState) (o : Op) (y : Answer) → c.asked ≡ Some o �
 stepped_is c o y e = ap (λ (z : Option Op). stepped_by c z y) e
 
 -- what the core says of a step that was prepared
-pub record CoreTold (k : PlainContext) (y : Answer) (new : CoreState) (r : Outcome) : Type 0 where
+pub record CoreTold (k : PlainContext) (y : Answer) (new : CoreState) (r : OpOutcome) : Type 0 where
   pub attempt : new.attempt ≡ (core_step_with k.core y).attempt
   pub outcome : r ≡ (core_step_with k.core y).outcome
   pub back : IfSome (core_step_with k.core y).back (λ s. new.saved ≡ s)
@@ -174,13 +174,13 @@ module _ (code : Code) (law : BeginsStayOpen code) (k : PlainContext) (o : Op) (
   pub operation_answered : IsAnswerTo (access (effect code) (machine_thread k)) y → IsAnswered k.core y
   operation_answered fits = subst (λ (z : Option Op). IsSomeAnd z (λ q. IsAnswerTo (core_access k.core.attempt q) y)) (sym core_asked) (subst (λ (z : Access). IsAnswerTo z y) (access_is code k o asks_some) fits)
 
-  pub operation_back : (new : CoreState) (q : Outcome) → CoreTold k y new q → MayGoBack code k.configuration new.saved (back_by (effect code k.configuration) q (begin_configuration k.configuration new.saved))
+  pub operation_back : (new : CoreState) (q : OpOutcome) → CoreTold k y new q → MayGoBack code k.configuration new.saved (back_by (effect code k.configuration) q (begin_configuration k.configuration new.saved))
   operation_back new q z =
       let e = stepped_is k.core o y core_asked in
       may_go_back code law k o y running runs asks_some saves (writes_word code k.configuration x k.core.attempt k.trapping o t asked) words q new.saved
       (z.outcome ∙ ap (λ (n : CoreStep Saved). n.outcome) e) (subst (λ (n : CoreStep Saved). IfSome n.back (λ s. new.saved ≡ s)) e z.back)
 
-  pub operation_makes : (l : PlainContext) (q : Outcome) (e : Event) → CoreTold k y l.core q → Resumes code law k l q e → Makes code (step_with (effect code) (machine_thread k) y) l e
+  pub operation_makes : (l : PlainContext) (q : OpOutcome) (e : Event) → CoreTold k y l.core q → Resumes code law k l q e → Makes code (step_with (effect code) (machine_thread k) y) l e
   operation_makes l q ev z w =
       let e = stepped_is k.core o y core_asked in
       core_makes code law k o y running runs asks_some saves (writes_word code k.configuration x k.core.attempt k.trapping o t asked) words l q ev

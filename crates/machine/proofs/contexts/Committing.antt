@@ -2,7 +2,7 @@
 use Rattle.std.proofs.Common.{◌≡◌, ℕ, Option, None, Some, refl, sym, ◌∙◌, ap, subst}
 use Rattle.std.specs.Prelude.{IfSome, IsSomeAnd}
 use Rattle.std.specs.List.{slice_get}
-use Rattle.syntax.specs.declared.numbers.Status.TheVariants.{Running}
+use Rattle.syntax.specs.declared.thread_end.Status.TheVariants.{Running}
 use Rattle.nesting.specs.Begins.{Saved}
 use Rattle.bytecode.specs.Code.{Code, Configuration, effect}
 use Rattle.frames.specs.declared.doing.Doing.TheVariants as doing
@@ -13,7 +13,7 @@ use Rattle.norec_core.specs.declared.step.Access.TheVariants.{Local, LoadLock, S
 use Rattle.norec_core.specs.declared.step.Answer.{Answer}
 use Rattle.norec_core.specs.declared.step.Answer.TheVariants.{Value}
 use Rattle.norec_core.specs.declared.step.Op.TheVariants as op
-use Rattle.norec_core.specs.declared.step.Outcome.{Outcome}
+use Rattle.norec_core.specs.declared.step.OpOutcome.{OpOutcome}
 use Rattle.norec_core.specs.Attempts.{Attempt}
 use Rattle.norec_core.specs.Phases.{CoreStep, core_access, core_step, store_access}
 use Rattle.norec_core.specs.Cores.{IsStoring}
@@ -39,10 +39,10 @@ module _ (code : Code) (law : BeginsStayOpen code) (k : PlainContext) (running :
       abbrev n : CoreStep Saved
       n = core_step k.core.saved k.core.attempt op.Commit y
 
-      pub commit_back : (s : Saved) (r : Outcome) → r ≡ n.outcome → IfSome n.back (λ z. s ≡ z) → MayGoBack code k.configuration s (back_by (effect code k.configuration) r (begin_configuration k.configuration s))
+      pub commit_back : (s : Saved) (r : OpOutcome) → r ≡ n.outcome → IfSome n.back (λ z. s ≡ z) → MayGoBack code k.configuration s (back_by (effect code k.configuration) r (begin_configuration k.configuration s))
       commit_back s r e h = may_go_back code law k op.Commit y running runs asked (λ z. absurd (cc)) tt word r s e h
 
-      pub commit_makes : (l : PlainContext) (r : Outcome) (e : Event) → r ≡ n.outcome → l.core.attempt ≡ n.attempt → IfSome n.back (λ z. l.core.saved ≡ z) → Resumes code law k l r e → Makes code (step_with (effect code) (machine_thread k) y) l e
+      pub commit_makes : (l : PlainContext) (r : OpOutcome) (e : Event) → r ≡ n.outcome → l.core.attempt ≡ n.attempt → IfSome n.back (λ z. l.core.saved ≡ z) → Resumes code law k l r e → Makes code (step_with (effect code) (machine_thread k) y) l e
       commit_makes l r e er ea eb z = core_makes code law k op.Commit y running runs asked (λ h. absurd (cc)) tt word l r e er ea eb z
 
   -- the swap
@@ -53,10 +53,10 @@ module _ (code : Code) (law : BeginsStayOpen code) (k : PlainContext) (running :
     swap_word : (y : Answer) → FitsRegister (core_access k.core.attempt op.Commit) y
     swap_word y = subst (λ (x : Access). FitsRegister x y) (sym swaps) tt
 
-    pub swap_back : (y : Answer) (s : Saved) (r : Outcome) → r ≡ (core_step k.core.saved k.core.attempt op.Commit y).outcome → IfSome (core_step k.core.saved k.core.attempt op.Commit y).back (λ z. s ≡ z) → MayGoBack code k.configuration s (back_by (effect code k.configuration) r (begin_configuration k.configuration s))
+    pub swap_back : (y : Answer) (s : Saved) (r : OpOutcome) → r ≡ (core_step k.core.saved k.core.attempt op.Commit y).outcome → IfSome (core_step k.core.saved k.core.attempt op.Commit y).back (λ z. s ≡ z) → MayGoBack code k.configuration s (back_by (effect code k.configuration) r (begin_configuration k.configuration s))
     swap_back y = commit_back swapping.0 swapping.1 y (swap_word y)
 
-    pub swap_makes : (y : Answer) (l : PlainContext) (r : Outcome) (e : Event) → r ≡ (core_step k.core.saved k.core.attempt op.Commit y).outcome → l.core.attempt ≡ (core_step k.core.saved k.core.attempt op.Commit y).attempt → IfSome (core_step k.core.saved k.core.attempt op.Commit y).back (λ z. l.core.saved ≡ z) → Resumes code law k l r e → Makes code (step_with (effect code) (machine_thread k) y) l e
+    pub swap_makes : (y : Answer) (l : PlainContext) (r : OpOutcome) (e : Event) → r ≡ (core_step k.core.saved k.core.attempt op.Commit y).outcome → l.core.attempt ≡ (core_step k.core.saved k.core.attempt op.Commit y).attempt → IfSome (core_step k.core.saved k.core.attempt op.Commit y).back (λ z. l.core.saved ≡ z) → Resumes code law k l r e → Makes code (step_with (effect code) (machine_thread k) y) l e
     swap_makes y = commit_makes swapping.0 swapping.1 y (swap_word y)
 
   -- a thread whose commit swaps the lock has a core that does
@@ -92,10 +92,10 @@ module _ (code : Code) (law : BeginsStayOpen code) (k : PlainContext) (running :
         let e = ap (λ (z : Option (Attempt Saved)). (core_step k.core.saved z op.Commit y).back) storing.1 ∙ ap (λ (n : CoreStep Saved). n.back) (store_is k.core.saved b index storing.2 y) ∙ store_keeps k.core.saved b index (slice_get b.writes index) in
         subst (λ (z : Option Saved). IfSome z (λ w. s ≡ w)) (sym e) tt
 
-    pub store_back : (y : Answer) (s : Saved) (r : Outcome) → r ≡ (core_step k.core.saved k.core.attempt op.Commit y).outcome → MayGoBack code k.configuration s (back_by (effect code k.configuration) r (begin_configuration k.configuration s))
+    pub store_back : (y : Answer) (s : Saved) (r : OpOutcome) → r ≡ (core_step k.core.saved k.core.attempt op.Commit y).outcome → MayGoBack code k.configuration s (back_by (effect code k.configuration) r (begin_configuration k.configuration s))
     store_back y s r e = commit_back b storing.1 y (store_word y) s r e (store_stays y s)
 
-    pub store_makes : (y : Answer) (l : PlainContext) (r : Outcome) (e : Event) → r ≡ (core_step k.core.saved k.core.attempt op.Commit y).outcome → l.core.attempt ≡ (core_step k.core.saved k.core.attempt op.Commit y).attempt → Resumes code law k l r e → Makes code (step_with (effect code) (machine_thread k) y) l e
+    pub store_makes : (y : Answer) (l : PlainContext) (r : OpOutcome) (e : Event) → r ≡ (core_step k.core.saved k.core.attempt op.Commit y).outcome → l.core.attempt ≡ (core_step k.core.saved k.core.attempt op.Commit y).attempt → Resumes code law k l r e → Makes code (step_with (effect code) (machine_thread k) y) l e
     store_makes y l r e er ea z = commit_makes b storing.1 y (store_word y) l r e er ea (store_stays y l.core.saved) z
 
 -- an outermost begin
@@ -118,10 +118,10 @@ module _ (code : Code) (law : BeginsStayOpen code) (k : PlainContext) (to : ℕ)
         let e = ap (λ (z : Option (Attempt Saved)). (core_step k.core.saved z op.Begin (Value lock)).back) none ∙ begin_keeps k.core.saved lock in
         subst (λ (z : Option Saved). IfSome z (λ w. s ≡ w)) (sym e) tt
 
-    pub begin_back : (s : Saved) (r : Outcome) → r ≡ (core_step k.core.saved k.core.attempt op.Begin (Value lock)).outcome → MayGoBack code k.configuration s (back_by (effect code k.configuration) r (begin_configuration k.configuration s))
+    pub begin_back : (s : Saved) (r : OpOutcome) → r ≡ (core_step k.core.saved k.core.attempt op.Begin (Value lock)).outcome → MayGoBack code k.configuration s (back_by (effect code k.configuration) r (begin_configuration k.configuration s))
     begin_back s r e = may_go_back code law k op.Begin (Value lock) running runs begin_asked (λ z. same) tt begin_word r s e (begin_stays s)
 
-    pub begin_makes : (l : PlainContext) (r : Outcome) (e : Event) → r ≡ (core_step k.core.saved k.core.attempt op.Begin (Value lock)).outcome → l.core.attempt ≡ (core_step k.core.saved k.core.attempt op.Begin (Value lock)).attempt → Resumes code law k l r e → Makes code (step_with (effect code) (machine_thread k) (Value lock)) l e
+    pub begin_makes : (l : PlainContext) (r : OpOutcome) (e : Event) → r ≡ (core_step k.core.saved k.core.attempt op.Begin (Value lock)).outcome → l.core.attempt ≡ (core_step k.core.saved k.core.attempt op.Begin (Value lock)).attempt → Resumes code law k l r e → Makes code (step_with (effect code) (machine_thread k) (Value lock)) l e
     begin_makes l r e er ea z = core_makes code law k op.Begin (Value lock) running runs begin_asked (λ h. same) tt begin_word l r e er ea (begin_stays l.core.saved) z
 
 -- what is under way in the thread that is shown is so in the context that shows it

@@ -1,7 +1,7 @@
 -- Steps of a thread that runs, with what loads for its reads.
 use Rattle.std.proofs.Common.{◌≡◌, ◌≢◌, ◌⊎◌, inl, inr, ◌+◌, ◌<◌, ◌≤◌, ◌^◌, ℕ, Bool, true, false, List, [], Option, None, Some, refl, sym, ◌∙◌, ap, subst, arith, add-zero}
 use Rattle.std.specs.Prelude.{IsSomeAnd, length, if◌then◌else◌}
-use Rattle.syntax.specs.declared.numbers.Status.TheVariants.{Running}
+use Rattle.syntax.specs.declared.thread_end.Status.TheVariants.{Running}
 use Rattle.nesting.specs.Begins.{Saved}
 use Rattle.bytecode.specs.Effects.{Effect}
 use Rattle.bytecode.specs.Code.{Code, Configuration, effect, onward, setting}
@@ -16,8 +16,8 @@ use Rattle.norec_core.specs.declared.step.Access.{Access}
 use Rattle.norec_core.specs.declared.step.Answer.TheVariants.{Done, Value}
 use Rattle.norec_core.specs.declared.step.Op.{Op}
 use Rattle.norec_core.specs.declared.step.Op.TheVariants as op
-use Rattle.norec_core.specs.declared.step.Outcome.{Outcome}
-use Rattle.norec_core.specs.declared.step.Outcome.TheVariants as outcome
+use Rattle.norec_core.specs.declared.step.OpOutcome.{OpOutcome}
+use Rattle.norec_core.specs.declared.step.OpOutcome.TheVariants as outcome
 use Rattle.norec_core.specs.Attempts.{Attempt}
 use Rattle.norec_core.specs.Phases.{core_step}
 use Rattle.norec_core.specs.Cores.{CoreState, IsDoneLocally, LoadsBoth, stepped_twice}
@@ -71,7 +71,7 @@ module _ {X : Type 0} (leads : Code → X → Counted → ℕ → X → Counted 
 
   -- a step without an access
   module _ {a b : Inside X} (from at : Configuration) (n : ℕ) (core : CoreState) (goes : GoesOn b.loads) (led : LeadsInside leads code a from n b at) where
-    inside_once : (next : Configuration) (o : Op) (r : Outcome) (x : Doing) (e : Effect Configuration) → effect code at ≡ e → IsDoingAt code at x → o ≢ op.Begin → ((kept : Bool) → op_by x kept b.trapping ≡ Some o) → (core_step {S = Saved} b.core.saved None o Done).outcome ≡ outcome.Going → r ≢ outcome.Going
+    inside_once : (next : Configuration) (o : Op) (r : OpOutcome) (x : Doing) (e : Effect Configuration) → effect code at ≡ e → IsDoingAt code at x → o ≢ op.Begin → ((kept : Bool) → op_by x kept b.trapping ≡ Some o) → (core_step {S = Saved} b.core.saved None o Done).outcome ≡ outcome.Going → r ≢ outcome.Going
         → IsDoneLocally b.core o r core → next ≡ resume (effect code) e at r (back_by e r (begin_configuration at core.saved)) → Running ≡ status_after r e Running → LeadsInside leads code a from (n + 1) (record b { core = core; trapping = false }) next
     inside_once next o r x e is tells other by idle done once to status text valid runs =
         let m = led text valid runs in
@@ -114,14 +114,14 @@ inside_same leads code {a} {b} from at n core same led text valid runs =
     }
 
 -- what comes of a read that has its word or is validated
-read_is : (b : Bool) (o : Outcome) (word x : ℕ) → o ≡ (if b then outcome.Read word else outcome.Going) → o ≡ outcome.Read x → outcome.Read word ≡ o
+read_is : (b : Bool) (o : OpOutcome) (word x : ℕ) → o ≡ (if b then outcome.Read word else outcome.Going) → o ≡ outcome.Read x → outcome.Read word ≡ o
 read_is true o word x e h = sym e
 read_is false o word x e h = absurd (cc)
 
-abbrev pub NoRead : Outcome → Type 0
+abbrev pub NoRead : OpOutcome → Type 0
 NoRead o = (o ≡ outcome.Going) ⊎ ((o ≡ outcome.Done) ⊎ (o ≡ outcome.Aborted))
 
-going_else : (b : Bool) (o : Outcome) (word : ℕ) → o ≡ (if b then outcome.Read word else outcome.Going) → NoRead o → outcome.Going ≡ o
+going_else : (b : Bool) (o : OpOutcome) (word : ℕ) → o ≡ (if b then outcome.Read word else outcome.Going) → NoRead o → outcome.Going ≡ o
 going_else false o word e h = sym e
 going_else true o word e (inl h) = absurd (cc)
 going_else true o word e (inr (inl h)) = absurd (cc)
@@ -139,7 +139,7 @@ module _ {X : Type 0} (leads : Code → X → Counted → ℕ → X → Counted 
   pub inside_loads : LoadsNext code (machine_thread k) cell
   inside_loads = loads_next code law k to cell refl runs (reads, there) under valid
 
-  module _ (word lock : ℕ) (fits : word < 2 ^ 64) (core : CoreState) (attempt : core.attempt ≡ (stepped_twice b.core (op.Read cell) (Value word) (Value lock)).attempt) (o : Outcome) (is : o ≡ (stepped_twice b.core (op.Read cell) (Value word) (Value lock)).outcome) where
+  module _ (word lock : ℕ) (fits : word < 2 ^ 64) (core : CoreState) (attempt : core.attempt ≡ (stepped_twice b.core (op.Read cell) (Value word) (Value lock)).attempt) (o : OpOutcome) (is : o ≡ (stepped_twice b.core (op.Read cell) (Value word) (Value lock)).outcome) where
     pub has_word : (x : ℕ) → o ≡ outcome.Read x → Makes code (told_twice code (machine_thread k) word lock) (context_at text (record b { core = core; trapping = false }) (setting at to word)) event.Quiet
     has_word x h = makes_both code law k to cell refl runs (reads, there) under word fits lock (context_at text (record b { core = core; trapping = false }) (setting at to word)) (outcome.Read word) event.Quiet
         (read_is _ o word x (is ∙ word_or_going code law k to cell refl runs (reads, there) under word fits lock) h ∙ is) attempt
@@ -154,7 +154,7 @@ module _ {X : Type 0} (leads : Code → X → Counted → ℕ → X → Counted 
 module _ {X : Type 0} (leads : Code → X → Counted → ℕ → X → Counted → Type 0) (code : Code) {a b : Inside X} (from at : Configuration) (n to cell : ℕ) (led : LeadsInside leads code a from n b at)
     (reads : effect code at ≡ Effect.Read cell (setting at to)) (there : to < length at.registers) (under : IsSomeAnd b.core.attempt (λ z. LoadsBoth z cell)) (prepared : CoreState) (same : prepared.attempt ≡ b.core.attempt) (word lock : ℕ) (fits : word < 2 ^ 64) (loads : X)
     (goes : (s : X) (start : Counted) (k : ℕ) (x : Counted) → leads code s start k b.loads x → LoadsNext code x.thread cell → IsThreadOf code (after_load code x word lock).thread → leads code s start (k + 2) loads (after_load code x word lock))
-    (core : CoreState) (attempt : core.attempt ≡ (stepped_twice prepared (op.Read cell) (Value word) (Value lock)).attempt) (o : Outcome) (is : o ≡ (stepped_twice prepared (op.Read cell) (Value word) (Value lock)).outcome) where
+    (core : CoreState) (attempt : core.attempt ≡ (stepped_twice prepared (op.Read cell) (Value word) (Value lock)).attempt) (o : OpOutcome) (is : o ≡ (stepped_twice prepared (op.Read cell) (Value word) (Value lock)).outcome) where
   abbrev with_prepared : Inside X
   with_prepared = record b { core = prepared }
 

@@ -1,8 +1,8 @@
 -- Each step of a thread's context makes the machine's step.
 use Rattle.std.proofs.Common.{◌≡◌, ◌≢◌, true, false, List, [], ◌∷◌, ◌++◌, Option, None, Some, refl, sym, ◌∙◌, ap, subst}
 use Rattle.std.specs.Prelude.{IfSome}
-use Rattle.syntax.specs.declared.numbers.Status.{Status}
-use Rattle.syntax.specs.declared.numbers.Status.TheVariants.{Running, Ended as HasEnded, Trapped as HasTrapped}
+use Rattle.syntax.specs.declared.thread_end.Status.{Status}
+use Rattle.syntax.specs.declared.thread_end.Status.TheVariants.{Running, Ended as HasEnded, Trapped as HasTrapped}
 use Rattle.nesting.specs.Begins.{Saved}
 use Rattle.bytecode.specs.Effects.{Effect}
 use Rattle.bytecode.specs.Effects.Effect.{Pure, Print, Commit, Cancel, CancelOuter, End}
@@ -10,8 +10,8 @@ use Rattle.bytecode.specs.Code.{Code, Configuration, effect}
 use Rattle.frames.specs.Open.{MayStand, AreRestored, begin_configuration, saved_in, BeginsStayOpen, CanRestore}
 use Rattle.norec_core.specs.declared.step.Op.{Op}
 use Rattle.norec_core.specs.declared.step.Op.TheVariants as op
-use Rattle.norec_core.specs.declared.step.Outcome.{Outcome}
-use Rattle.norec_core.specs.declared.step.Outcome.TheVariants as outcome
+use Rattle.norec_core.specs.declared.step.OpOutcome.{OpOutcome}
+use Rattle.norec_core.specs.declared.step.OpOutcome.TheVariants as outcome
 use Rattle.norec_core.specs.declared.step.Answer.{Answer}
 use Rattle.norec_core.specs.Attempts.{Attempt, Completed}
 use Rattle.norec_core.specs.Phases.{CoreStep, core_step, core_access}
@@ -56,8 +56,8 @@ module _ (x : Effect Configuration) (o : Op) (q : Matches x o) where
   is_commit y att z m t h = refl
 
   module _ (c : Configuration) (s : Saved) (ss : List Saved) (n : CoreStep Saved) (saved : Saved) where
-    backs_at : (r : Outcome) (b : Option Saved) → n.outcome ≡ r → n.back ≡ b → back_by x r (begin_configuration c saved) ≡ if_some (begin_configuration c) b → back_by x n.outcome (begin_configuration c saved) ≡ if_some (begin_configuration c) n.back
-    backs_at r b e f h = ap (λ (z : Outcome). back_by x z (begin_configuration c saved)) e ∙ h ∙ sym (ap (if_some (begin_configuration c)) f)
+    backs_at : (r : OpOutcome) (b : Option Saved) → n.outcome ≡ r → n.back ≡ b → back_by x r (begin_configuration c saved) ≡ if_some (begin_configuration c) b → back_by x n.outcome (begin_configuration c saved) ≡ if_some (begin_configuration c) n.back
+    backs_at r b e f h = ap (λ (z : OpOutcome). back_by x z (begin_configuration c saved)) e ∙ h ∙ sym (ap (if_some (begin_configuration c)) f)
 
     same_saved : (t : Saved) → n.back ≡ Some t → IfSome n.back (λ z. saved ≡ z) → saved ≡ t
     same_saved t e h = subst (λ (z : Option Saved). IfSome z (λ w. saved ≡ w)) e h
@@ -73,8 +73,8 @@ module _ (x : Effect Configuration) (o : Op) (q : Matches x o) where
     backs (drops inner t e f b a) h = backs_at outcome.Aborted (Some t) e f (ap (λ (z : Saved). Some (begin_configuration c z)) (same_saved t f h))
     backs (releases r e f a) h = backs_at outcome.Done None e f (no_back x (begin_configuration c saved) q (ap is_cancel r))
 
-    events_at : (r : Outcome) → n.outcome ≡ r → event_by x r n.attempt ≡ event_of x r n.completed → event_by x n.outcome n.attempt ≡ event_of x n.outcome n.completed
-    events_at r e h = ap (λ (z : Outcome). event_by x z n.attempt) e ∙ h ∙ sym (ap (λ (z : Outcome). event_of x z n.completed) e)
+    events_at : (r : OpOutcome) → n.outcome ≡ r → event_by x r n.attempt ≡ event_of x r n.completed → event_by x n.outcome n.attempt ≡ event_of x n.outcome n.completed
+    events_at r e h = ap (λ (z : OpOutcome). event_by x z n.attempt) e ∙ h ∙ sym (ap (λ (z : OpOutcome). event_of x z n.completed) e)
 
     pub events : Does s ss o n → event_by x n.outcome n.attempt ≡ event_of x n.outcome n.completed
     events (goes e f b w) = events_at outcome.Going e refl
@@ -104,7 +104,7 @@ context_same code k l (HasTrapped cause) c a r = sym a ∙ r
 
 module _ (code : Code) (law : BeginsStayOpen code) where
   -- the thread after an operation's step
-  pub record Resumes (k l : PlainContext) (r : Outcome) (e : Event) : Type 0 where
+  pub record Resumes (k l : PlainContext) (r : OpOutcome) (e : Event) : Type 0 where
     pub configuration : l.configuration ≡ resume (effect code) (effect code k.configuration) k.configuration r (back_by (effect code k.configuration) r (begin_configuration k.configuration l.core.saved))
     pub status : l.status ≡ status_after r (effect code k.configuration) k.status
     pub trapping : l.trapping ≡ false
@@ -157,23 +157,23 @@ module _ (code : Code) (law : BeginsStayOpen code) where
         at (drops inner t e f b a) = open_at inner t [] b f
         at (releases r e f a) = none f
 
-    pub may_go_back : (r : Outcome) (s : Saved) → r ≡ n.outcome → IfSome n.back (λ z. s ≡ z) → MayGoBack code c s (back_by x r (begin_configuration c s))
-    may_go_back r s e h = subst (λ (z : Outcome). MayGoBack code c s (back_by x z (begin_configuration c s))) (sym e) (go_back s h)
+    pub may_go_back : (r : OpOutcome) (s : Saved) → r ≡ n.outcome → IfSome n.back (λ z. s ≡ z) → MayGoBack code c s (back_by x r (begin_configuration c s))
+    may_go_back r s e h = subst (λ (z : OpOutcome). MayGoBack code c s (back_by x z (begin_configuration c s))) (sym e) (go_back s h)
 
     -- a step of the core makes the machine's step
-    pub core_makes : (l : PlainContext) (r : Outcome) (e : Event) → r ≡ n.outcome → l.core.attempt ≡ n.attempt → IfSome n.back (λ z. l.core.saved ≡ z) → Resumes k l r e → Makes code (step_with (effect code) (machine_thread k) y) l e
+    pub core_makes : (l : PlainContext) (r : OpOutcome) (e : Event) → r ≡ n.outcome → l.core.attempt ≡ n.attempt → IfSome n.back (λ z. l.core.saved ≡ z) → Resumes k l r e → Makes code (step_with (effect code) (machine_thread k) y) l e
     core_makes l r e er ea eb z =
         let b = backs x o m c k.core.saved (begins_of k.core.attempt) n l.core.saved d eb in
         let to : l.configuration ≡ resume (effect code) x c n.outcome (if_some (begin_configuration c) n.back) =
-        z.configuration ∙ ap (λ (t : Outcome). resume (effect code) x c t (back_by x t (begin_configuration c l.core.saved))) er ∙ ap (resume (effect code) x c n.outcome) b in
-        let st : l.status ≡ status_after n.outcome x Running = z.status ∙ ap (λ (t : Outcome). status_after t x k.status) er ∙ ap (status_after n.outcome x) running in
+        z.configuration ∙ ap (λ (t : OpOutcome). resume (effect code) x c t (back_by x t (begin_configuration c l.core.saved))) er ∙ ap (resume (effect code) x c n.outcome) b in
+        let st : l.status ≡ status_after n.outcome x Running = z.status ∙ ap (λ (t : OpOutcome). status_after t x k.status) er ∙ ap (status_after n.outcome x) running in
         let back : AreRestored c l.configuration (begins_of l.core.attempt) =
         subst (λ (t : Configuration). AreRestored c t (begins_of l.core.attempt)) (sym to) (subst (λ (t : Option (Attempt Saved)). AreRestored c (resume (effect code) x c n.outcome (if_some (begin_configuration c) n.back)) (begins_of t)) (sym ea) left.restored) in
         let att : shown_from l.configuration l.core.attempt ≡ shown_from c n.attempt = agree (begin_configuration l.configuration) (begin_configuration c) l.core.attempt back ∙ ap (shown_from c) ea in
         let ev : e ≡ event_of x n.outcome n.completed =
-        z.event ∙ ap (λ (t : Outcome). event_by x t l.core.attempt) er ∙ ap (event_by x n.outcome) ea ∙ events x o m c k.core.saved (begins_of k.core.attempt) n l.core.saved d in
+        z.event ∙ ap (λ (t : OpOutcome). event_by x t l.core.attempt) er ∙ ap (event_by x n.outcome) ea ∙ events x o m c k.core.saved (begins_of k.core.attempt) n l.core.saved d in
         record {
-          thread = same_thread (machine_thread l) (resume_next (effect code) (machine_thread k) x (core_step_as (begin_configuration c) n)).thread to att z.trapping z.text (z.status ∙ ap (λ (t : Outcome). status_after t x k.status) er) ∙ sym (ap (λ (t : Next Configuration). t.thread) step_is);
+          thread = same_thread (machine_thread l) (resume_next (effect code) (machine_thread k) x (core_step_as (begin_configuration c) n)).thread to att z.trapping z.text (z.status ∙ ap (λ (t : OpOutcome). status_after t x k.status) er) ∙ sym (ap (λ (t : Next Configuration). t.thread) step_is);
           event = ev ∙ sym (ap (λ (t : Next Configuration). t.event) step_is);
           of = subst (ContextWith code l) (sym st) (context_same code (record { configuration = resume (effect code) x c n.outcome (if_some (begin_configuration c) n.back); core = record { attempt = n.attempt; asked = None; saved = saved_in c; read_room = 0; write_room = 0 }; trapping = false; text = []; status = status_after n.outcome x Running }) l (status_after n.outcome x Running) (sym to) (sym ea) left.stands);
           within = subst (λ (t : Configuration). AreWithin t (begins_of l.core.attempt)) (sym to) (subst (λ (t : Option (Attempt Saved)). AreWithin (resume (effect code) x c n.outcome (if_some (begin_configuration c) n.back)) (begins_of t)) (sym ea) left.within);

@@ -8,8 +8,8 @@ use Rattle.norec_core.specs.declared.step.Op.TheVariants as op
 use Rattle.norec_core.specs.declared.step.Access.TheVariants.{LoadWord}
 use Rattle.norec_core.specs.declared.step.Answer.{Answer}
 use Rattle.norec_core.specs.declared.step.Answer.TheVariants.{Done, Value, Won, Lost}
-use Rattle.norec_core.specs.declared.step.Outcome.{Outcome}
-use Rattle.norec_core.specs.declared.step.Outcome.TheVariants as outcome
+use Rattle.norec_core.specs.declared.step.OpOutcome.{OpOutcome}
+use Rattle.norec_core.specs.declared.step.OpOutcome.TheVariants as outcome
 use Rattle.norec_core.specs.declared.step.Phase.{Phase}
 use Rattle.norec_core.specs.declared.step.Phase.TheVariants.{AtOperation, ReadsLock, ValidatesTime, ValidatesEntry, Stores}
 use Rattle.norec_core.specs.Attempts.{Checkpoint, Attempt, Completed}
@@ -119,7 +119,7 @@ module _ {S : Type 0} (now : S) (a : Attempt S) (w : GivesRegisterWords a) where
     dropped_now : Does now old o (record { attempt = None; outcome = outcome.Aborted; back = Some a.saved; completed = None; sets_snapshot = false })
     dropped_now = drops (map (λ (k : Checkpoint S). k.saved) a.inner) a.saved refl refl refl refl
 
-    swap : (b : Attempt S) (r : Outcome) (z : Answer) → Does now old o (on b r) → Does now old o (core_swap a b r z)
+    swap : (b : Attempt S) (r : OpOutcome) (z : Answer) → Does now old o (on b r) → Does now old o (core_swap a b r z)
     swap b r Won d = d
     swap b r (Lost n) d = validates
     swap b r Done d = stays

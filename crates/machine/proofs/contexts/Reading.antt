@@ -1,7 +1,7 @@
 -- A read that loads its word and then the lock makes two of the machine's steps.
 use Rattle.std.proofs.Common.{◌≡◌, ◌<◌, ◌^◌, ℕ, false, Option, None, Some, refl, sym, ◌∙◌, ap, subst}
 use Rattle.std.specs.Prelude.{IfSome, IsSomeAnd, Bool, true, ◌==◌, if◌then◌else◌}
-use Rattle.syntax.specs.declared.numbers.Status.TheVariants.{Running}
+use Rattle.syntax.specs.declared.thread_end.Status.TheVariants.{Running}
 use Rattle.nesting.specs.Begins.{Saved}
 use Rattle.bytecode.specs.Code.{Code, Configuration, effect}
 use Rattle.bytecode.specs.Valid.{IsValid}
@@ -13,8 +13,8 @@ use Rattle.norec_core.specs.declared.step.Access.TheVariants.{LoadLock, LoadWord
 use Rattle.norec_core.specs.declared.step.Answer.TheVariants.{Value}
 use Rattle.norec_core.specs.declared.step.Op.{Op}
 use Rattle.norec_core.specs.declared.step.Op.TheVariants as op
-use Rattle.norec_core.specs.declared.step.Outcome.{Outcome}
-use Rattle.norec_core.specs.declared.step.Outcome.TheVariants as outcome
+use Rattle.norec_core.specs.declared.step.OpOutcome.{OpOutcome}
+use Rattle.norec_core.specs.declared.step.OpOutcome.TheVariants as outcome
 use Rattle.norec_core.specs.declared.step.Phase.TheVariants.{ReadsLock}
 use Rattle.norec_core.specs.Attempts.{Attempt}
 use Rattle.norec_core.specs.Phases.{CoreStep, core_access, core_check, core_step, on}
@@ -100,7 +100,7 @@ module _ (code : Code) (law : BeginsStayOpen code) (k : PlainContext) (to cell :
       goes_back : (s : Saved) → IfSome (core_step k.core.saved (Some (record a { phase = ReadsLock word })) o (Value lock)).back (λ z. s ≡ z)
       goes_back s = subst (λ (z : Option Saved). IfSome z (λ w. s ≡ w)) (sym (check_keeps (record a { phase = ReadsLock word }) cell word lock)) tt
 
-      pub makes_both : (l : PlainContext) (r : Outcome) (e : Event) → r ≡ (stepped_twice k.core o (Value word) (Value lock)).outcome → l.core.attempt ≡ (stepped_twice k.core o (Value word) (Value lock)).attempt → Resumes code law middle l r e
+      pub makes_both : (l : PlainContext) (r : OpOutcome) (e : Event) → r ≡ (stepped_twice k.core o (Value word) (Value lock)).outcome → l.core.attempt ≡ (stepped_twice k.core o (Value word) (Value lock)).attempt → Resumes code law middle l r e
           → Makes code (told_twice code (machine_thread k) word lock) l e
       makes_both l r e er ea z = subst (λ (th : Thread Configuration). Makes code (step_with (effect code) th (Value lock)) l e) makes_one.thread
           (core_makes code law middle o (Value lock) running runs_on asked_on (λ h. absurd (cc)) tt tt l r e (er ∙ ap (λ (n : CoreStep Saved). n.outcome) two) (ea ∙ ap (λ (n : CoreStep Saved). n.attempt) two) (goes_back l.core.saved) z)

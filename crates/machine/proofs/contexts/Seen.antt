@@ -2,8 +2,8 @@
 use Rattle.std.proofs.Common.{◌≡◌, ◌≢◌, ◌<◌, ◌≤◌, ◌-◌, ℕ, suc, List, [], ◌∷◌, ◌++◌, Option, None, Some, refl, sym, ◌∙◌, ap, subst, map, length, drop, arith}
 use Rattle.std.proofs.lemmas.List.{length-drop}
 use Rattle.std.specs.List.{AllByRecursion}
-use Rattle.syntax.specs.declared.numbers.Status.{Status}
-use Rattle.syntax.specs.declared.numbers.Status.TheVariants.{Running, Ended as HasEnded, Trapped as HasTrapped}
+use Rattle.syntax.specs.declared.thread_end.Status.{Status}
+use Rattle.syntax.specs.declared.thread_end.Status.TheVariants.{Running, Ended as HasEnded, Trapped as HasTrapped}
 use Rattle.nesting.specs.Begins.{Saved}
 use Rattle.bytecode.specs.Code.{Code, Configuration}
 use Rattle.bytecode.specs.Valid.{IsValid}

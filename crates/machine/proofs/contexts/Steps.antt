@@ -1,8 +1,8 @@
 -- The steps of a thread's context: each shows as the machine's step.
 use Rattle.std.proofs.Common.{◌≡◌, ◌<◌, ◌+◌, ◌-◌, ◌^◌, ℕ, suc, Bool, true, false, List, [], ◌∷◌, ◌++◌, Option, None, Some, refl, sym, ◌∙◌, ap, subst, map, length, length-append, arith}
-use Rattle.syntax.specs.declared.numbers.Status.{Status}
-use Rattle.syntax.specs.declared.numbers.Status.TheVariants.{Running, Trapped as HasTrapped}
-use Rattle.syntax.specs.declared.numbers.Trap.{Trap}
+use Rattle.syntax.specs.declared.thread_end.Status.{Status}
+use Rattle.syntax.specs.declared.thread_end.Status.TheVariants.{Running, Trapped as HasTrapped}
+use Rattle.syntax.specs.declared.thread_end.Trap.{Trap}
 use Rattle.nesting.specs.Begins.{Saved}
 use Rattle.bytecode.specs.Effects.{Effect, after_cancel}
 use Rattle.bytecode.specs.Effects.Effect.{Pure, Print, Begin, Read, Write, Commit, Cancel, CancelOuter, Irrevocable, Traps, End}
@@ -10,8 +10,8 @@ use Rattle.bytecode.specs.Code.{Code, Configuration, effect}
 use Rattle.frames.specs.Open.{MayStand, AreRestored, IsSuccessor, begin_configuration, saved_in, BeginsStayOpen}
 use Rattle.norec_core.specs.declared.step.Op.{Op}
 use Rattle.norec_core.specs.declared.step.Op.TheVariants as op
-use Rattle.norec_core.specs.declared.step.Outcome.{Outcome}
-use Rattle.norec_core.specs.declared.step.Outcome.TheVariants as outcome
+use Rattle.norec_core.specs.declared.step.OpOutcome.{OpOutcome}
+use Rattle.norec_core.specs.declared.step.OpOutcome.TheVariants as outcome
 use Rattle.norec_core.specs.declared.step.Answer.{Answer}
 use Rattle.norec_core.specs.Attempts.{Attempt}
 use Rattle.norec_core.specs.Phases.{CoreStep, core_step}
@@ -81,23 +81,23 @@ module _ {C : Type 0} where
   matches th (Some a) x o e = op_matches x a.kept th.trapping o e
 
 -- where the operation of a core's step leaves the thread, and whether it runs
-pub record Leaves (code : Code) (c : Configuration) (x : Effect Configuration) (r : Outcome) (o : Option (Attempt Saved)) (d : Configuration) (s : Status) : Type 0 where
+pub record Leaves (code : Code) (c : Configuration) (x : Effect Configuration) (r : OpOutcome) (o : Option (Attempt Saved)) (d : Configuration) (s : Status) : Type 0 where
   pub stands : ContextWith code (record { configuration = d; core = record { attempt = o; asked = None; saved = saved_in c; read_room = 0; write_room = 0 }; trapping = false; text = []; status = s }) s
   pub within : AreWithin d (begins_of o)
   pub restored : AreRestored c d (begins_of o)
 
 module _ (code : Code) (law : BeginsStayOpen code) where
   module _ (c : Configuration) (ss : List Saved) (m : MayStand code c ss) where
-    runs_at : (x : Effect Configuration) (r : Outcome) (o : Option (Attempt Saved)) (d : Configuration) → MayStand code d (begins_of o) → AreRestored c d (begins_of o) → GivesWordsIf o → Leaves code c x r o d Running
+    runs_at : (x : Effect Configuration) (r : OpOutcome) (o : Option (Attempt Saved)) (d : Configuration) → MayStand code d (begins_of o) → AreRestored c d (begins_of o) → GivesWordsIf o → Leaves code c x r o d Running
     runs_at x r o d s a w = record { stands = record { stands = s; words = w }; within = within code law d (begins_of o) s; restored = a }
 
-    over_at : (x : Effect Configuration) (r : Outcome) (cause : Trap) → Leaves code c x r None c (HasTrapped cause)
+    over_at : (x : Effect Configuration) (r : OpOutcome) (cause : Trap) → Leaves code c x r None c (HasTrapped cause)
     over_at x r cause = record { stands = refl; within = tt; restored = refl }
 
-    here : (x : Effect Configuration) (r : Outcome) (o : Option (Attempt Saved)) → begins_of o ≡ ss → GivesWordsIf o → Leaves code c x r o c Running
+    here : (x : Effect Configuration) (r : OpOutcome) (o : Option (Attempt Saved)) → begins_of o ≡ ss → GivesWordsIf o → Leaves code c x r o c Running
     here x r o e w = runs_at x r o c (subst (MayStand code c) (sym e) m) refl w
 
-    on_at : (x : Effect Configuration) (r : Outcome) (o : Option (Attempt Saved)) (d : Configuration) → effect code c ≡ x → IsSuccessor x d → begins_of o ≡ ss → GivesWordsIf o → Leaves code c x r o d Running
+    on_at : (x : Effect Configuration) (r : OpOutcome) (o : Option (Attempt Saved)) (d : Configuration) → effect code c ≡ x → IsSuccessor x d → begins_of o ≡ ss → GivesWordsIf o → Leaves code c x r o d Running
     on_at x r o d ex g e w =
         let h = law.goes_on c d ss m (subst (λ z. IsSuccessor z d) (sym ex) g) in
         runs_at x r o d (subst (MayStand code d) (sym e) h.0) (subst (AreRestored c d) (sym e) h.1) w
@@ -110,11 +110,11 @@ module _ (code : Code) (law : BeginsStayOpen code) where
       abbrev LeavesTo : Effect Configuration → Type 0
       LeavesTo x = Leaves code c x n.outcome n.attempt (To x) (status_after n.outcome x Running)
 
-      to_at : (x : Effect Configuration) (r : Outcome) (b : Option Saved) (d : Configuration) (st : Status) → n.outcome ≡ r → n.back ≡ b → resume (effect code) x c r (if_some (begin_configuration c) b) ≡ d → status_after r x Running ≡ st →
+      to_at : (x : Effect Configuration) (r : OpOutcome) (b : Option Saved) (d : Configuration) (st : Status) → n.outcome ≡ r → n.back ≡ b → resume (effect code) x c r (if_some (begin_configuration c) b) ≡ d → status_after r x Running ≡ st →
           Leaves code c x n.outcome n.attempt d st → LeavesTo x
       to_at x r b d st e f g h l =
-          let place : To x ≡ d = ap (λ (z : Outcome). resume (effect code) x c z (if_some (begin_configuration c) n.back)) e ∙ ap (λ (z : Option Saved). resume (effect code) x c r (if_some (begin_configuration c) z)) f ∙ g in
-          let status : status_after n.outcome x Running ≡ st = ap (λ (z : Outcome). status_after z x Running) e ∙ h in
+          let place : To x ≡ d = ap (λ (z : OpOutcome). resume (effect code) x c z (if_some (begin_configuration c) n.back)) e ∙ ap (λ (z : Option Saved). resume (effect code) x c r (if_some (begin_configuration c) z)) f ∙ g in
+          let status : status_after n.outcome x Running ≡ st = ap (λ (z : OpOutcome). status_after z x Running) e ∙ h in
           subst (λ z. Leaves code c x n.outcome n.attempt (To x) z) (sym status) (subst (λ z. Leaves code c x n.outcome n.attempt z st) (sym place) l)
 
       going_on : (x : Effect Configuration) → n.outcome ≡ outcome.Going → n.back ≡ None → begins_of n.attempt ≡ ss → GivesWordsIf n.attempt → LeavesTo x

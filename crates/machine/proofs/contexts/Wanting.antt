@@ -1,7 +1,7 @@
 -- Which steps of a thread may want memory.
 use Rattle.std.proofs.Common.{◌≡◌, ℕ, Bool, true, false, Option, None, Some, sym, subst}
 use Rattle.std.specs.Prelude.{IfSome}
-use Rattle.syntax.specs.declared.numbers.Trap.{Trap}
+use Rattle.syntax.specs.declared.thread_end.Trap.{Trap}
 use Rattle.nesting.specs.Begins.{Saved}
 use Rattle.bytecode.specs.Effects.{Effect}
 use Rattle.bytecode.specs.Effects.Effect.{Pure, Print, Begin, Read, Write, Commit, Cancel, CancelOuter, Irrevocable, Traps, End}

@@ -1,6 +1,6 @@
 -- The two shapes that most steps in a transaction leave.
 use Rattle.std.proofs.Common.{ℕ, Bool, false, List, None, Some}
-use Rattle.syntax.specs.declared.numbers.Status.{Status}
+use Rattle.syntax.specs.declared.thread_end.Status.{Status}
 use Rattle.norec_core.specs.Attempts.{Attempt}
 use Rattle.machine.specs.Threads.{Next, Thread}
 use Rattle.machine.specs.declared.event.Event.TheVariants as event

@@ -1,8 +1,8 @@
 -- Steps of the code meaning, put one after another.
 use Rattle.std.proofs.Common.{◌≡◌, ◌+◌, ◌-◌, ℕ, zero, suc, Bool, false, List, [], ◌∷◌, ◌++◌, sym, ◌∙◌, ap, length, drop, zero-add, suc-add, append_assoc}
 use Rattle.std.proofs.lemmas.List.{drop-map, map-append}
-use Rattle.syntax.specs.declared.numbers.Status.{Status}
-use Rattle.syntax.specs.declared.numbers.Status.TheVariants.{Running}
+use Rattle.syntax.specs.declared.thread_end.Status.{Status}
+use Rattle.syntax.specs.declared.thread_end.Status.TheVariants.{Running}
 use Rattle.write_log.specs.Overlay.{overlay}
 use Rattle.bytecode.specs.Effects.{Effect}
 use Rattle.bytecode.specs.Effects.Effect.{CancelOuter}

@@ -12,7 +12,7 @@ use Rattle.norec_core.specs.declared.step.Access.{Access}
 use Rattle.norec_core.specs.declared.step.Answer.{Answer}
 use Rattle.norec_core.specs.declared.step.Answer.TheVariants.{Lost, Value, Won}
 use Rattle.norec_core.specs.declared.step.Op.{Op}
-use Rattle.norec_core.specs.declared.step.Outcome.{Outcome}
+use Rattle.norec_core.specs.declared.step.OpOutcome.{OpOutcome}
 use Rattle.norec_core.specs.declared.step.Phase.{Phase}
 use Rattle.norec_core.specs.declared.step.Phase.TheVariants.{AtOperation, ReadsLock, Stores, ValidatesEntry, ValidatesTime}
 use Rattle.machine.specs.Drops.{DropsAreBounded, DropsComeAfterTakings, dropped_in, drops, drop_count, taken_by_others}
@@ -30,7 +30,7 @@ use Rattle.machine.proofs.single.Aborts.{abort_reason}
 use Rattle.machine.proofs.steps.PartSteps.{part_step}
 use Rattle.machine.proofs.steps.Worlds.{get-set_other, get-set_same, run_invariant, step_invariant}
 use Rattle.norec_core.specs.declared.step.Op.TheVariants as op
-use Rattle.norec_core.specs.declared.step.Outcome.TheVariants as outcome
+use Rattle.norec_core.specs.declared.step.OpOutcome.TheVariants as outcome
 
 module _ {C : Type 0} (now : C) (a : Attempt C) where
   -- where the attempt goes on, nothing has taken effect
@@ -55,7 +55,7 @@ module _ {C : Type 0} (now : C) (a : Attempt C) where
   store i None = (λ b e. absurd (cc))
   store i (Some q) = (λ b e. refl)
 
-  swap : (x : Attempt C) (o : Outcome) (ans : Answer) → Goes (core_swap a x o ans)
+  swap : (x : Attempt C) (o : OpOutcome) (ans : Answer) → Goes (core_swap a x o ans)
   swap x o Won = (λ b e. refl)
   swap x o (Lost n) = (λ b e. refl)
   swap x o _ = (λ b e. refl)

@@ -1,9 +1,9 @@
 -- By the invariant each merge is a run in which every thread stands.
 use Rattle.std.proofs.Common.{◌≡◌, ◌<◌, ◌≤◌, ◌+◌, ◌*◌, ◌%◌, ◌⊎◌, inl, inr, ℕ, zero, suc, Bool, true, false, cond, List, [], ◌∷◌, ◌++◌, Option, None, Some, refl, sym, ◌∙◌, ap, subst, length, slice_get, append-nil, zero-add, arith}
 use Rattle.std.specs.List.{AllByRecursion}
-use Rattle.syntax.specs.declared.numbers.Status.{Status}
+use Rattle.syntax.specs.declared.thread_end.Status.{Status}
 use Rattle.syntax.specs.Behaviours.{IsMemory, IsRun, Matches, Stands, founds_of, last_memory, lefts_of}
-use Rattle.syntax.specs.declared.numbers.Status.TheVariants.{Running, Ended as HasEnded, Trapped as HasTrapped}
+use Rattle.syntax.specs.declared.thread_end.Status.TheVariants.{Running, Ended as HasEnded, Trapped as HasTrapped}
 use Rattle.write_log.specs.Overlay.{overlay}
 use Rattle.read_log.specs.Agreement.{Agrees}
 use Rattle.bytecode.specs.Effects.{Effect}

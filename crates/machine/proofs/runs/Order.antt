@@ -1,8 +1,8 @@
 -- An attempt that goes on keeps its first snapshot, and what takes effect has its last one.
 use Rattle.std.proofs.Common.{◌≡◌, ◌-◌, ◌==◌, ◌%◌, ℕ, Bool, true, false, cond, List, [], ◌∷◌, Option, None, Some, refl, sym, ◌∙◌, ap, subst, slice_get, drop}
 use Rattle.std.proofs.lemmas.Bool.{eqb-true}
-use Rattle.syntax.specs.declared.numbers.Status.{Status}
-use Rattle.syntax.specs.declared.numbers.Status.TheVariants.{Running, Ended as HasEnded, Trapped as HasTrapped}
+use Rattle.syntax.specs.declared.thread_end.Status.{Status}
+use Rattle.syntax.specs.declared.thread_end.Status.TheVariants.{Running, Ended as HasEnded, Trapped as HasTrapped}
 use Rattle.write_log.specs.Overlay.{overlay_word}
 use Rattle.bytecode.specs.Effects.{Effect}
 use Rattle.bytecode.specs.Effects.Effect.{Begin, Cancel, CancelOuter, Commit, End, Irrevocable, Print, Pure, Read, Traps, Write}
@@ -11,13 +11,13 @@ use Rattle.norec_core.specs.Phases.{CoreStep, core_begin, core_cancel, core_chec
 use Rattle.norec_core.specs.declared.step.Answer.{Answer}
 use Rattle.norec_core.specs.declared.step.Answer.TheVariants.{Lost, Value, Won}
 use Rattle.norec_core.specs.declared.step.Op.{Op}
-use Rattle.norec_core.specs.declared.step.Outcome.{Outcome}
+use Rattle.norec_core.specs.declared.step.OpOutcome.{OpOutcome}
 use Rattle.norec_core.specs.declared.step.Phase.{Phase}
 use Rattle.norec_core.specs.declared.step.Phase.TheVariants.{AtOperation, ReadsLock, Stores, ValidatesEntry, ValidatesTime}
 use Rattle.machine.specs.Threads.{Next, Thread, access, access_of, op_of, outside_access, own_step, print_inside, step_with, told_inside, told_of, told_outside}
 use Rattle.machine.specs.Worlds.{answer}
 use Rattle.norec_core.specs.declared.step.Op.TheVariants as op
-use Rattle.norec_core.specs.declared.step.Outcome.TheVariants as outcome
+use Rattle.norec_core.specs.declared.step.OpOutcome.TheVariants as outcome
 
 abbrev pub SameFirst : {C : Type 0} → Option (Attempt C) → Option (Attempt C) → Type 0
 SameFirst (Some a) (Some b) = b.first ≡ a.first
@@ -50,7 +50,7 @@ module _ {C : Type 0} (now : C) (a : Attempt C) where
   store i None = (tt, refl)
   store i (Some q) = (refl, tt)
 
-  swap : (b : Attempt C) (o : Outcome) (ans : Answer) → b.first ≡ a.first → Goes (core_swap a b o ans)
+  swap : (b : Attempt C) (o : OpOutcome) (ans : Answer) → b.first ≡ a.first → Goes (core_swap a b o ans)
   swap b o Won e = (e, tt)
   swap b o (Lost n) e = (refl, tt)
   swap b o _ e = (refl, tt)

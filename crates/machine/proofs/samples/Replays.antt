@@ -1,7 +1,7 @@
 -- Schedules by shared accesses, and their events.
 use Rattle.std.specs.Prelude.{◌+◌, ◌==◌, ℕ, zero, suc, List, [], ◌∷◌, ◌++◌, Option, None, Some, map, if◌then◌else◌}
 use Rattle.std.specs.List.{slice_get}
-use Rattle.syntax.specs.declared.numbers.Status.{Status}
+use Rattle.syntax.specs.declared.thread_end.Status.{Status}
 use Rattle.norec_core.specs.Accesses.{cost}
 use Rattle.machine.specs.declared.event.Event.{Event}
 use Rattle.machine.specs.declared.event.Event.TheVariants.{Quiet}

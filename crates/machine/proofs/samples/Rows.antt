@@ -1,8 +1,8 @@
 -- Worked examples, computed by the definitions: each gives the events with the number of shared accesses made and the thread,
 -- the lock, the words, and each thread's text and end.
 use Rattle.std.proofs.Common.{◌≡◌, ℕ, Option, None, Some, List, [], ◌∷◌, refl}
-use Rattle.syntax.specs.declared.numbers.Trap.TheVariants.{OutOfRange}
-use Rattle.syntax.specs.declared.numbers.Status.TheVariants.{Running, Ended as HasEnded, Trapped as HasTrapped}
+use Rattle.syntax.specs.declared.thread_end.Trap.TheVariants.{OutOfRange}
+use Rattle.syntax.specs.declared.thread_end.Status.TheVariants.{Running, Ended as HasEnded, Trapped as HasTrapped}
 use Rattle.norec_core.specs.Attempts.{Attempt}
 use Rattle.norec_core.specs.Phases.{core_access, core_step}
 use Rattle.norec_core.specs.declared.step.Access.{Access}
@@ -11,8 +11,8 @@ use Rattle.norec_core.specs.declared.step.Answer.{Answer}
 use Rattle.norec_core.specs.declared.step.Answer.TheVariants.{Done, Value, Won}
 use Rattle.norec_core.specs.declared.step.Op.{Op}
 use Rattle.norec_core.specs.declared.step.Op.TheVariants as op
-use Rattle.norec_core.specs.declared.step.Outcome.{Outcome}
-use Rattle.norec_core.specs.declared.step.Outcome.TheVariants as outcome
+use Rattle.norec_core.specs.declared.step.OpOutcome.{OpOutcome}
+use Rattle.norec_core.specs.declared.step.OpOutcome.TheVariants as outcome
 use Rattle.machine.specs.declared.event.Event.TheVariants as event
 use Rattle.machine.proofs.samples.Samples.{Instruction, begins}
 use Rattle.machine.proofs.samples.Samples.Instruction.{Const, Add, Sub, Mul, Div, Jump, Jnz, Read, Write, Open, Close, Undo, UndoOuter, Keep, Show, Ret}
@@ -167,7 +167,7 @@ abbrev log_of : Option (Attempt ℕ) → ℕ × List (ℕ × ℕ)
 log_of None = (0, [])
 log_of (Some a) = (a.snapshot, a.reads)
 
-abbrev played : Option (Attempt ℕ) → List (Op × Answer) → List (Access × Outcome) × (ℕ × List (ℕ × ℕ))
+abbrev played : Option (Attempt ℕ) → List (Op × Answer) → List (Access × OpOutcome) × (ℕ × List (ℕ × ℕ))
 played o [] = ([], log_of o)
 played o (q ∷ qs) =
     let c = core_step 0 o q.0 q.1 in

@@ -1,7 +1,7 @@
 -- A small instruction set, to run worked examples by the definitions. What is written is the residue modulo 2 ^ 32.
 use Rattle.std.specs.Prelude.{◌+◌, ◌-◌, ◌*◌, ◌/◌, ◌%◌, ◌^◌, ◌==◌, nat_lt, ℕ, suc, List, [], ◌∷◌, Option, None, Some, slice_index, slice_set, if◌then◌else◌}
 use Rattle.std.specs.List.{slice_get}
-use Rattle.syntax.specs.declared.numbers.Trap.TheVariants.{OutOfRange, ZeroDivisor}
+use Rattle.syntax.specs.declared.thread_end.Trap.TheVariants.{OutOfRange, ZeroDivisor}
 use Rattle.bytecode.specs.Effects.{Effect}
 
 pub data Instruction : Type 0 where

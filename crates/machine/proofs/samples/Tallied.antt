@@ -1,7 +1,7 @@
 -- How many accesses small transactions make alone: by their meaning's tally, and by the machine's steps, both computed.
 use Rattle.std.proofs.Common.{◌≡◌, ◌⊎◌, inl, inr, ℕ, zero, suc, false, List, [], ◌∷◌, Option, None, Some, refl}
 use Rattle.syntax.specs.Behaviours.{Memory}
-use Rattle.syntax.specs.declared.numbers.Status.TheVariants.{Running}
+use Rattle.syntax.specs.declared.thread_end.Status.TheVariants.{Running}
 use Rattle.bytecode.specs.Sequential.{Sequential, next, start}
 use Rattle.machine.specs.Alone.{zeros}
 use Rattle.machine.specs.Tallies.{BeginsFree, IsOpenAfter, IsOverAfter, IsUndisturbed, Tally, accesses, accesses_in, empty_tally, is_commit, tally_step}

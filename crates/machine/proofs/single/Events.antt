@@ -1,8 +1,8 @@
 -- What an event says of the step that it is told of.
 use Rattle.std.proofs.Common.{◌≡◌, ◌-◌, ◌≢◌, ◌==◌, ◌%◌, ◌⊎◌, inl, inr, ℕ, Bool, true, false, cond, List, [], ◌∷◌, Option, None, Some, refl, sym, ◌∙◌, ap, subst, drop}
-use Rattle.syntax.specs.declared.numbers.Trap.{Trap}
-use Rattle.syntax.specs.declared.numbers.Status.{Status}
-use Rattle.syntax.specs.declared.numbers.Status.TheVariants.{Running, Ended as HasEnded, Trapped as HasTrapped}
+use Rattle.syntax.specs.declared.thread_end.Trap.{Trap}
+use Rattle.syntax.specs.declared.thread_end.Status.{Status}
+use Rattle.syntax.specs.declared.thread_end.Status.TheVariants.{Running, Ended as HasEnded, Trapped as HasTrapped}
 use Rattle.syntax.specs.Behaviours.{IsMemory}
 use Rattle.bytecode.specs.Effects.{Effect, FitsCells}
 use Rattle.bytecode.specs.Effects.Effect.{Pure, Print, Begin, Read, Write, Commit, Cancel, CancelOuter, Irrevocable, Traps, End}
@@ -10,8 +10,8 @@ use Rattle.norec_core.specs.declared.step.Op.{Op}
 use Rattle.norec_core.specs.declared.step.Op.TheVariants as op
 use Rattle.norec_core.specs.declared.step.Answer.{Answer}
 use Rattle.norec_core.specs.declared.step.Answer.TheVariants.{Done, Value, Won, Lost}
-use Rattle.norec_core.specs.declared.step.Outcome.{Outcome}
-use Rattle.norec_core.specs.declared.step.Outcome.TheVariants as outcome
+use Rattle.norec_core.specs.declared.step.OpOutcome.{OpOutcome}
+use Rattle.norec_core.specs.declared.step.OpOutcome.TheVariants as outcome
 use Rattle.norec_core.specs.declared.step.Phase.{Phase}
 use Rattle.norec_core.specs.declared.step.Phase.TheVariants.{AtOperation, ReadsLock, ValidatesTime, ValidatesEntry, Stores}
 use Rattle.norec_core.specs.Attempts.{Attempt, Checkpoint, Completed}
@@ -35,7 +35,7 @@ IsCancel (CancelOuter levels) = Unit {0}
 IsCancel _ = ⊥
 
 -- where each event comes from
-data ComesFrom {C : Type 0} (x : Effect C) (p : Outcome) (completed : Option Completed) : Event → Type 0 where
+data ComesFrom {C : Type 0} (x : Effect C) (p : OpOutcome) (completed : Option Completed) : Event → Type 0 where
   silent : ComesFrom x p completed event.Quiet
   aborted : p ≡ outcome.Aborted → ComesFrom x p completed event.Abort
   committed : (c : C) → x ≡ Commit c → p ≡ outcome.Done → (completed ≡ None → ⊥) → ComesFrom x p completed event.Commit
@@ -54,25 +54,25 @@ module _ {C : Type 0} where
   done_from (Traps cause) completed = trapped cause refl refl
   done_from x completed = silent
 
-  from : (x : Effect C) (p : Outcome) (completed : Option Completed) → ComesFrom x p completed (event_of x p completed)
+  from : (x : Effect C) (p : OpOutcome) (completed : Option Completed) → ComesFrom x p completed (event_of x p completed)
   from x outcome.Going completed = silent
   from x outcome.Done completed = done_from x completed
   from x (outcome.Read v) completed = silent
   from x outcome.Aborted completed = aborted refl
 
-  abort_from : (x : Effect C) (p : Outcome) (completed : Option Completed) (e : Event) → ComesFrom x p completed e → e ≡ event.Abort → p ≡ outcome.Aborted
+  abort_from : (x : Effect C) (p : OpOutcome) (completed : Option Completed) (e : Event) → ComesFrom x p completed e → e ≡ event.Abort → p ≡ outcome.Aborted
   abort_from x p completed e (aborted g) f = g
   abort_from x p completed e _ f = absurd (cc)
 
-  commits_from : (x : Effect C) (p : Outcome) (completed : Option Completed) (e : Event) → ComesFrom x p completed e → e ≡ event.Commit → (completed ≡ None → ⊥) × ((c : C) × (x ≡ Commit c))
+  commits_from : (x : Effect C) (p : OpOutcome) (completed : Option Completed) (e : Event) → ComesFrom x p completed e → e ≡ event.Commit → (completed ≡ None → ⊥) × ((c : C) × (x ≡ Commit c))
   commits_from x p completed e (committed c g h n) f = (n, (c, g))
   commits_from x p completed e _ f = absurd (cc)
 
-  cancel_from : (x : Effect C) (p : Outcome) (completed : Option Completed) (e : Event) → ComesFrom x p completed e → e ≡ event.Cancel → IsCancel x × (p ≡ outcome.Done)
+  cancel_from : (x : Effect C) (p : OpOutcome) (completed : Option Completed) (e : Event) → ComesFrom x p completed e → e ≡ event.Cancel → IsCancel x × (p ≡ outcome.Done)
   cancel_from x p completed e (cancelled g h) f = (g, h)
   cancel_from x p completed e _ f = absurd (cc)
 
-  trap_from : (x : Effect C) (p : Outcome) (completed : Option Completed) (e : Event) (cause : Trap) → ComesFrom x p completed e → e ≡ event.Trap cause → (x ≡ Traps cause) × (p ≡ outcome.Done)
+  trap_from : (x : Effect C) (p : OpOutcome) (completed : Option Completed) (e : Event) (cause : Trap) → ComesFrom x p completed e → e ≡ event.Trap cause → (x ≡ Traps cause) × (p ≡ outcome.Done)
   trap_from x p completed e cause (trapped why g h) f = let same : why ≡ cause = cc in (g ∙ ap Traps same, h)
   trap_from x p completed e cause _ f = absurd (cc)
 
@@ -82,7 +82,7 @@ module _ {C : Type 0} where
   is_cancelled x completed c = absurd c
 
   -- a step leaves a running thread trapped where its instruction traps and is done
-  status_from : (p : Outcome) (x : Effect C) (cause : Trap) → status_after p x Running ≡ HasTrapped cause → (x ≡ Traps cause) × (p ≡ outcome.Done)
+  status_from : (p : OpOutcome) (x : Effect C) (cause : Trap) → status_after p x Running ≡ HasTrapped cause → (x ≡ Traps cause) × (p ≡ outcome.Done)
   status_from outcome.Done (Traps why) cause e = let same : why ≡ cause = cc in (ap Traps same, refl)
   status_from p x cause e = absurd (cc)
 

@@ -23,7 +23,7 @@ use Rattle.machine.proofs.parts.Frame.{lock_bounds, ordered_up}
 use Rattle.machine.proofs.parts.Meaning.{begun_step}
 use Rattle.machine.proofs.parts.Part.{advance, attempt_part, even_words, free_holds, free_kept, not_holder, outside_part, to_phase}
 use Rattle.norec_core.specs.declared.step.Op.TheVariants as op
-use Rattle.norec_core.specs.declared.step.Outcome.TheVariants as outcome
+use Rattle.norec_core.specs.declared.step.OpOutcome.TheVariants as outcome
 
 -- the words that a holder that has stored nothing finds
 stored_nothing : {C : Type 0} (h : History) (t : ℕ) (a : Attempt C) (kept : Bool) → kept ≡ true → a.phase ≡ AtOperation → LockBy h t a (has_lock kept a.phase) → (a.snapshot ≡ h.top) × (h.stored ≡ [])

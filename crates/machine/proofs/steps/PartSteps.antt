@@ -1,8 +1,8 @@
 -- Each step of the machine keeps the invariant.
 use Rattle.std.proofs.Common.{◌≡◌, ◌≢◌, ℕ, Bool, true, false, cond, List, [], ◌∷◌, ◌+◌, ◌-◌, Option, None, Some, refl, sym, ◌∙◌, ap, subst, slice_get, slice_index, take, drop}
-use Rattle.syntax.specs.declared.numbers.Status.{Status}
-use Rattle.syntax.specs.declared.numbers.Status.TheVariants.{Running, Ended as HasEnded, Trapped as HasTrapped}
-use Rattle.syntax.specs.declared.numbers.Trap.{Trap}
+use Rattle.syntax.specs.declared.thread_end.Status.{Status}
+use Rattle.syntax.specs.declared.thread_end.Status.TheVariants.{Running, Ended as HasEnded, Trapped as HasTrapped}
+use Rattle.syntax.specs.declared.thread_end.Trap.{Trap}
 use Rattle.write_log.specs.Overlay.{overlay, overlay_word}
 use Rattle.bytecode.specs.Effects.{Effect, FitsCells}
 use Rattle.bytecode.specs.Effects.Effect.{Begin, Cancel, CancelOuter, Commit, End, Irrevocable, Print, Pure, Read, Traps, Write}
@@ -27,7 +27,7 @@ use Rattle.machine.proofs.parts.Part.{attempt_part, still}
 use Rattle.machine.proofs.steps.Stores.{release_step, store_word_step}
 use Rattle.machine.proofs.steps.Swap.{commit_swap_step, irrevocable_step}
 use Rattle.norec_core.specs.declared.step.Op.TheVariants as op
-use Rattle.norec_core.specs.declared.step.Outcome.TheVariants as outcome
+use Rattle.norec_core.specs.declared.step.OpOutcome.TheVariants as outcome
 
 -- what an attempt that has the lock knows
 holder_of : {C : Type 0} (h : History) (t : ℕ) (a : Attempt C) (b : Bool) → b ≡ true → LockBy h t a b → (h.holder ≡ Some t) × (a.snapshot ≡ h.top) × (h.stored ≡ stored_of a.writes a.phase)

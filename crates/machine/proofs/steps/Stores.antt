@@ -2,7 +2,7 @@
 use Rattle.std.proofs.Common.{◌≡◌, ◌≢◌, ◌<◌, ◌≤◌, ◌+◌, ◌%◌, ◌⊎◌, inl, inr, ℕ, suc, Bool, true, false, cond, leb, List, [], ◌∷◌, ◌++◌, Option, None, Some, refl, sym, ◌∙◌, ap, subst, length, take, set, slice_get, slice_index, arith}
 use Rattle.std.specs.List.{AllByRecursion}
 use Rattle.std.proofs.lemmas.Bool.Decides.{leb_tells}
-use Rattle.syntax.specs.declared.numbers.Status.{Status}
+use Rattle.syntax.specs.declared.thread_end.Status.{Status}
 use Rattle.syntax.specs.Behaviours.{IsMemory}
 use Rattle.write_log.specs.Overlay.{overlay}
 use Rattle.read_log.specs.Agreement.{Agrees}

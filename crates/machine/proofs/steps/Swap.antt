@@ -18,7 +18,7 @@ use Rattle.machine.proofs.parts.Frame.{begun_frame, each_frame}
 use Rattle.machine.proofs.steps.Loads.{validate_step}
 use Rattle.machine.proofs.parts.Meaning.{steps-last}
 use Rattle.machine.proofs.parts.Part.{attempt_part, even_words, rephase, still}
-use Rattle.norec_core.specs.declared.step.Outcome.TheVariants as outcome
+use Rattle.norec_core.specs.declared.step.OpOutcome.TheVariants as outcome
 
 -- thread t has taken the lock
 abbrev pub taken : ℕ → History → History

@@ -6,7 +6,7 @@ use Rattle.std.proofs.lemmas.Bool.Decides.{eqb_tells}
 use Rattle.std.proofs.lemmas.List.{drop-map, length-map}
 use Rattle.std.proofs.lemmas.Option.{slice_get_within}
 use Rattle.syntax.specs.Behaviours.{Memory}
-use Rattle.syntax.specs.declared.numbers.Trap.{Trap}
+use Rattle.syntax.specs.declared.thread_end.Trap.{Trap}
 use Rattle.write_log.specs.Overlay.{IsDistinct, overlay, with_write, overlay_word}
 use Rattle.write_log.proofs.Overlay.{distinct-put, not_written, overlay-other, overlay-put, overlay-written}
 use Rattle.bytecode.specs.Effects.{Effect, FitsCells, after_cancel}
@@ -14,7 +14,7 @@ use Rattle.bytecode.specs.Effects.Effect.{Pure, Print, Begin, Read, Write, Commi
 use Rattle.bytecode.specs.Sequential.{OpenTransaction, Sequential, cancel_step, commit_step, inside_step, next, print_step, start}
 use Rattle.norec_core.specs.declared.step.Op.{Op}
 use Rattle.norec_core.specs.declared.step.Op.TheVariants as op
-use Rattle.norec_core.specs.declared.step.Outcome.TheVariants as outcome
+use Rattle.norec_core.specs.declared.step.OpOutcome.TheVariants as outcome
 use Rattle.norec_core.specs.declared.step.Access.{Access}
 use Rattle.norec_core.specs.declared.step.Access.TheVariants as access_
 use Rattle.norec_core.specs.declared.step.Answer.{Answer}

@@ -2,8 +2,8 @@
 use Rattle.std.specs.Prelude.{◌≡◌, ◌<◌, ◌≤◌, ℕ, suc, Bool, true, false, List, [], Option, None, Some, length, ◌-◌}
 use Rattle.std.specs.Prelude.{string_bytes, string_len, string_capacity}
 use Rattle.std.specs.List.{AllByRecursion}
-use Rattle.syntax.specs.declared.numbers.Status.{Status}
-use Rattle.syntax.specs.declared.numbers.Status.TheVariants.{Running, Ended as HasEnded, Trapped as HasTrapped}
+use Rattle.syntax.specs.declared.thread_end.Status.{Status}
+use Rattle.syntax.specs.declared.thread_end.Status.TheVariants.{Running, Ended as HasEnded, Trapped as HasTrapped}
 use Rattle.nesting.specs.Begins.{Saved}
 use Rattle.bytecode.specs.Effects.{Effect}
 use Rattle.bytecode.specs.Effects.Effect.{Commit, Cancel, CancelOuter, Print, Pure, Traps}
@@ -16,8 +16,8 @@ use Rattle.norec_core.specs.declared.step.Access.{Access}
 use Rattle.norec_core.specs.Accesses.{cost}
 use Rattle.norec_core.specs.declared.step.Op.{Op}
 use Rattle.norec_core.specs.declared.step.Op.TheVariants as op
-use Rattle.norec_core.specs.declared.step.Outcome.{Outcome}
-use Rattle.norec_core.specs.declared.step.Outcome.TheVariants as outcome
+use Rattle.norec_core.specs.declared.step.OpOutcome.{OpOutcome}
+use Rattle.norec_core.specs.declared.step.OpOutcome.TheVariants as outcome
 use Rattle.norec_core.specs.Attempts.{Attempt}
 use Rattle.norec_core.specs.Cores.{CoreState}
 use Rattle.norec_core.specs.Saved.{if_some, attempt_as}
@@ -126,7 +126,7 @@ back_done Cancel c = Some c
 back_done (CancelOuter n) c = Some c
 back_done _ c = None
 
-abbrev pub back_by : Effect Configuration → Outcome → Configuration → Option Configuration
+abbrev pub back_by : Effect Configuration → OpOutcome → Configuration → Option Configuration
 back_by x outcome.Done c = back_done x c
 back_by x outcome.Aborted c = Some c
 back_by x _ c = None
@@ -148,7 +148,7 @@ event_done (CancelOuter n) o = event.Cancel
 event_done (Traps cause) o = event.Trap cause
 event_done _ o = event.Quiet
 
-abbrev pub event_by : Effect Configuration → Outcome → Option (Attempt Saved) → Event
+abbrev pub event_by : Effect Configuration → OpOutcome → Option (Attempt Saved) → Event
 event_by x outcome.Done o = event_done x o
 event_by x outcome.Aborted o = event.Abort
 event_by x _ o = event.Quiet

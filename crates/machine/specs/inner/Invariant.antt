@@ -4,8 +4,8 @@ use Rattle.std.specs.Prelude.{None, Some, length, map, slice_index}
 use Rattle.std.specs.List.{slice_get, AllByRecursion}
 use Rattle.write_log.specs.Overlay.{overlay, Lacks, IsDistinct}
 use Rattle.read_log.specs.Agreement.{Agrees, AgreesBelow}
-use Rattle.syntax.specs.declared.numbers.Status.{Status}
-use Rattle.syntax.specs.declared.numbers.Status.TheVariants.{Running}
+use Rattle.syntax.specs.declared.thread_end.Status.{Status}
+use Rattle.syntax.specs.declared.thread_end.Status.TheVariants.{Running}
 use Rattle.syntax.specs.Behaviours.{Memory, IsMemory}
 use Rattle.bytecode.specs.Effects.{Effect, after_cancel}
 use Rattle.bytecode.specs.Effects.Effect.{Read, Begin, Commit, Irrevocable}

@@ -4,10 +4,10 @@ ghost use Rattle.std.specs.Prelude.{IfSome};
 ghost use Rattle.atomic_code.specs.Threads.{IsAtomicThreadOf};
 
 use crate::of_atomic_code::built::code_of;
-use atomic_code::{AtomicThread, End, Ran, is_memory};
+use atomic_code::{AtomicEnd, AtomicThread, Ran, is_memory};
 use bytecode::{Code, Instr};
 use std::alloc::Allocator;
-use syntax::numbers::Status;
+use syntax::thread_end::Status;
 
 /// A thread at its beginning, if memory is there.
 pub fn begin<A: Allocator + Copy>(alloc: A, code: &Code<A>, number: u32) -> Option<AtomicThread<A>>
@@ -34,7 +34,7 @@ pub fn go<A: Allocator + Copy>(
     code: &Code<A>,
     word: u64,
     steps: u32,
-) -> Option<(u64, Option<u64>, Option<End>)>
+) -> Option<(u64, Option<u64>, Option<AtomicEnd>)>
     requires { IsAtomicThreadOf code.now thread.old.thread }
     ensures { IsAtomicThreadOf code.now thread.new.thread }
 {
@@ -91,7 +91,7 @@ pub fn in_turns<A: Allocator + Copy>(
 
 /// How many instructions a thread has made, the word that it left in the cell, how it is over, and whether it has
 /// printed what it should.
-pub type Came = (u64, Option<u64>, Option<End>, bool);
+pub type Came = (u64, Option<u64>, Option<AtomicEnd>, bool);
 
 /// What thread 5 comes to by one call of so many instructions, over a cell that holds 9, where it should print this.
 fn comes_to<A: Allocator + Copy>(alloc: A, code: &Code<A>, most: u32, text: &str) -> Option<Came> {

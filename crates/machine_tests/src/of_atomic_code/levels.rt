@@ -5,14 +5,14 @@ ghost use Rattle.atomic_code.specs.Threads.{IsAtomicThreadOf};
 
 use crate::asserted::assert_that;
 use crate::of_atomic_code::driven::{begin, go};
-use atomic_code::{AtomicThread, End};
+use atomic_code::{AtomicEnd, AtomicThread};
 use bytecode::Code;
-use refusing::Refusing;
 use std::alloc::{AllocError, Allocator, Global};
-use written_codes::{Levels, NUMBERS, cancels_levels, code_of, over_x};
+use test_codes::{Levels, NUMBERS, cancels_levels, code_of, over_x};
+use test_memory::Refusing;
 
 /// What a call comes to: how many instructions it makes, the word that it leaves, and how the thread is over.
-type Came = Option<(u64, Option<u64>, Option<End>)>;
+type Came = Option<(u64, Option<u64>, Option<AtomicEnd>)>;
 
 /// What the cancel comes to, whose transaction has found 9; where the outermost one was among the levels and the lock
 /// is kept it stands still.
@@ -32,7 +32,7 @@ fn commit_result(levels: Levels) -> Came {
     } else if levels.kept {
         Some((100, None, None))
     } else {
-        Some((2, None, Some(End::Ended)))
+        Some((2, None, Some(AtomicEnd::Ended)))
     }
 }
 

@@ -6,7 +6,7 @@ use crate::of_atomic_code::driven::{code_turns, pieces};
 use atomic_code::is_memory;
 use bytecode::{Code, Instr};
 use std::alloc::Allocator;
-use syntax::numbers::Status;
+use syntax::thread_end::Status;
 
 /// What thread 5 of a worker of these instructions comes to by so many calls, each of so many instructions.
 fn by_calls<A: Allocator + Copy>(

@@ -2,14 +2,14 @@
 
 use crate::asserted::{assert_all, assert_that};
 use crate::of_atomic_code::driven::{code_comes_to, code_turns};
-use atomic_code::End;
+use atomic_code::AtomicEnd;
 use bytecode::Instr;
 use std::alloc::Allocator;
-use syntax::numbers::{Status, Trap};
-use written_codes::calls_for_ever;
+use syntax::thread_end::{Status, Trap};
+use test_codes::calls_for_ever;
 
 /// What a thread comes to: how many instructions it makes, how it is over, and what it has printed.
-type Came = (u64, Option<End>, &'static str);
+type Came = (u64, Option<AtomicEnd>, &'static str);
 
 /// Whether thread 5 of a worker, and of a function where it is said where that begins, comes to this within so many
 /// instructions.
@@ -51,9 +51,21 @@ fn gives_none() -> &'static [Instr] {
 #[test]
 fn calls_give_values_and_a_65th_frame_traps(rt: HostRuntime) {
     let a = rt.alloc();
-    let trapped = Some(End::Trapped(Trap::Frames));
-    let value = of(a, gives_back(), Some(3), 100, (5, Some(End::Ended), "-5"));
-    let none = of(a, gives_none(), Some(4), 100, (5, Some(End::Ended), "0"));
+    let trapped = Some(AtomicEnd::Trapped(Trap::Frames));
+    let value = of(
+        a,
+        gives_back(),
+        Some(3),
+        100,
+        (5, Some(AtomicEnd::Ended), "-5"),
+    );
+    let none = of(
+        a,
+        gives_none(),
+        Some(4),
+        100,
+        (5, Some(AtomicEnd::Ended), "0"),
+    );
     let frames = of(a, calls_for_ever(), Some(2), 100, (64, trapped, ""));
     assert_all(
         &rt,
@@ -75,7 +87,7 @@ fn prints() -> &'static [Instr] {
 
 #[test]
 fn texts_and_numbers_are_printed(rt: HostRuntime) {
-    let came = (6, Some(End::Ended), "-1\\\n4294967295");
+    let came = (6, Some(AtomicEnd::Ended), "-1\\\n4294967295");
     assert_that(&rt, of(rt.alloc(), prints(), None, 100, came));
 }
 
@@ -97,7 +109,13 @@ fn sums() -> &'static [Instr] {
 #[test]
 fn the_sum_of_the_first_thousand(rt: HostRuntime) {
     let a = rt.alloc();
-    let ended = of(a, sums(), None, 4005, (4005, Some(End::Ended), "500500"));
+    let ended = of(
+        a,
+        sums(),
+        None,
+        4005,
+        (4005, Some(AtomicEnd::Ended), "500500"),
+    );
     let cut = of(a, sums(), None, 4004, (4004, None, "500500"));
     assert_all(&rt, &[("to its end", ended), ("cut short", cut)]);
 }

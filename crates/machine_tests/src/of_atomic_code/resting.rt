@@ -7,9 +7,9 @@ use crate::asserted::{assert_all, assert_none, assert_that};
 use crate::of_atomic_code::built::code_of;
 use atomic_code::{AtomicThread, is_memory};
 use bytecode::{Code, Instr};
-use refusing::{Refusing, growths};
 use std::alloc::{AllocError, Allocator, Global};
-use syntax::numbers::{Status, Trap};
+use syntax::thread_end::{Status, Trap};
+use test_memory::{Refusing, growths};
 
 /// Instructions of a worker, and where a function behind it begins, if there is one.
 type Written = (&'static [Instr], Option<u32>);

@@ -2,10 +2,10 @@
 
 use crate::asserted::assert_that;
 use crate::of_atomic_code::driven::code_comes_to;
-use atomic_code::End;
+use atomic_code::AtomicEnd;
 use bytecode::Instr;
 use std::alloc::Allocator;
-use syntax::numbers::Trap;
+use syntax::thread_end::Trap;
 
 /// Instructions of a worker, and what its thread 5 comes to, whose transaction finds 9 in the one cell: how many it
 /// makes, the word that it leaves, how it is over, and what it has printed.
@@ -13,7 +13,7 @@ type Row = (
     &'static [Instr],
     u64,
     Option<u64>,
-    Option<End>,
+    Option<AtomicEnd>,
     &'static str,
 );
 
@@ -96,7 +96,7 @@ fn traps() -> &'static [Row] {
             ],
             3,
             Some(9),
-            Some(End::Trapped(Trap::Index)),
+            Some(AtomicEnd::Trapped(Trap::Index)),
             "",
         ),
         (
@@ -109,7 +109,7 @@ fn traps() -> &'static [Row] {
             ],
             3,
             Some(9),
-            Some(End::Trapped(Trap::Index)),
+            Some(AtomicEnd::Trapped(Trap::Index)),
             "",
         ),
         (
@@ -122,7 +122,7 @@ fn traps() -> &'static [Row] {
             ],
             3,
             Some(9),
-            Some(End::Trapped(Trap::Index)),
+            Some(AtomicEnd::Trapped(Trap::Index)),
             "",
         ),
         // a trap in an inner transaction, after a print
@@ -140,7 +140,7 @@ fn traps() -> &'static [Row] {
             ],
             6,
             Some(9),
-            Some(End::Trapped(Trap::ZeroDivisor)),
+            Some(AtomicEnd::Trapped(Trap::ZeroDivisor)),
             "5",
         ),
     ];

@@ -5,7 +5,7 @@ use crate::of_atomic_code::built::code_of;
 use atomic_code::{AtomicThreadEnd, AtomicThreadOutcome, is_memory, thread};
 use bytecode::{Code, Instr};
 use std::alloc::{AllocError, Global};
-use syntax::numbers::{Halt, Trap};
+use syntax::thread_end::{Halt, Trap};
 
 /// What a thread leaves in the one cell in its first transaction and in its second, how it is found, and whether it has
 /// printed this.

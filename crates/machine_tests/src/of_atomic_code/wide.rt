@@ -4,8 +4,8 @@ use crate::asserted::{assert_all, assert_none};
 use atomic_code::{AtomicThreadEnd, AtomicThreadOutcome, is_memory, thread};
 use bytecode::{Code, Instr};
 use std::alloc::Global;
-use syntax::numbers::{Halt, Trap};
-use written_codes::{
+use syntax::thread_end::{Halt, Trap};
+use test_codes::{
     WideOperator, WideRow, code_over_both, shown_operator, wide_cells, wide_operators, wide_steps,
 };
 

@@ -6,7 +6,7 @@ use lex::token::{Scalar, Span};
 use std::alloc::{AllocError, Allocator, Global};
 use syntax::tree;
 use syntax::tree::Name;
-use written_codes::{TEXTS, no_parts, push_each, push_texts};
+use test_codes::{TEXTS, no_parts, push_each, push_texts};
 
 /// A function's name, its first place, its registers and its parameters.
 pub type Function<'a> = (&'a str, u32, u32, u32);

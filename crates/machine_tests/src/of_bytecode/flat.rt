@@ -6,7 +6,7 @@ use crate::of_bytecode::listed::{BITS, COMPUTES, LEADS, LONGS, LOOPING, OTHER_SU
 use bytecode::{Code, Instr, InstrView, kinds};
 use lex::token::Scalar;
 use std::alloc::Global;
-use written_codes::{TEXTS, code_over_both};
+use test_codes::{TEXTS, code_over_both};
 
 /// What a row is called; functions and instructions; their words, and the first word of each instruction.
 type Row = (

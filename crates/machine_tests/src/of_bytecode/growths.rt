@@ -3,9 +3,9 @@
 use crate::asserted::assert_that;
 use crate::of_bytecode::built::{Function, WORKER, is_valid, parts_of};
 use bytecode::{Instr, Parts, PartsFault, validate};
-use refusing::{Refusing, growths};
 use std::alloc::{Allocator, Global};
-use written_codes::TEXTS;
+use test_codes::TEXTS;
+use test_memory::{Refusing, growths};
 
 const FUNCTIONS: [Function<'static>; 2] = [WORKER, ("f", 4, 1, 1)];
 

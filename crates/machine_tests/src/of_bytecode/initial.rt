@@ -4,10 +4,10 @@ use crate::asserted::assert_that;
 use crate::of_bytecode::built::{code_of, global, is_valid, parts_over};
 use bytecode::{Code, Parts};
 use lex::token::{Scalar, Span};
-use refusing::{Refusing, growths};
 use std::alloc::{AllocError, Allocator, Global};
 use syntax::tree;
 use syntax::tree::Initialiser;
+use test_memory::{Refusing, growths};
 
 /// Appends a first word to a variable's.
 fn push_first<A: Allocator>(

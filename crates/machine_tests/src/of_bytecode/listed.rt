@@ -4,7 +4,7 @@ use crate::asserted::{assert_none, assert_that};
 use crate::of_bytecode::built::{Function, WORKER, code_of_parts};
 use bytecode::{Code, Instr, listing};
 use std::alloc::Global;
-use written_codes::TEXTS;
+use test_codes::TEXTS;
 
 /// Whether this is a code's listing, and memory is there.
 fn is_listed(alloc: Global, code: &Code, wanted: &str) -> bool {

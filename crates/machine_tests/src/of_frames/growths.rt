@@ -5,8 +5,8 @@ use crate::built::code_of_two;
 use crate::of_frames::carried::run;
 use bytecode::{Code, Instr};
 use frames::Doing;
-use refusing::{Refusing, growths};
 use std::alloc::{Allocator, Global};
+use test_memory::{Refusing, growths};
 
 /// Whether thread 7 ends and has printed this, if memory is there.
 fn ends<A: Allocator + Copy>(alloc: A, code: &Code<A>, printed: &str) -> Option<bool> {

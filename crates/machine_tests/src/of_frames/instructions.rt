@@ -6,8 +6,8 @@ use crate::of_frames::carried::run;
 use bytecode::{Code, Instr};
 use frames::Doing;
 use std::alloc::Allocator;
-use syntax::numbers::Trap;
-use written_codes::calls_for_ever;
+use syntax::thread_end::Trap;
+use test_codes::calls_for_ever;
 
 /// What thread 5 comes to, its local steps and its first two registers.
 type Found = (Doing, u64, Option<u64>, Option<u64>);

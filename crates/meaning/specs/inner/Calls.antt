@@ -1,13 +1,13 @@
 -- How a call begins.
 use Rattle.std.specs.Prelude.{ℕ, List, Option}
 use Rattle.syntax.specs.Tree.{Scalar, Program, Stmts}
-use Rattle.syntax.specs.declared.numbers.Value.{Value}
+use Rattle.syntax.specs.declared.value.Value.{Value}
 use Rattle.syntax.specs.Names.{Local, definition_of}
 use Rattle.syntax.specs.Views.{stmts_of}
 use Rattle.syntax.specs.Actions.{Action, pure, or_astray, ◌>>=◌}
 use Rattle.syntax.specs.Meaning.{call_locals}
 use Rattle.meaning.specs.declared.calls.Begun.{Begun as OwnBegun}
-use Rattle.meaning.specs.inner.Machine.{items_in}
+use Rattle.meaning.specs.inner.SourceThread.{items_in}
 
 -- a call that begins: the type of its value, its body and its locals
 pub record Begins : Type 0 where

@@ -3,7 +3,7 @@ use Rattle.std.specs.Prelude.{ℕ, List, Option, Some, None, option_map, if◌th
 use Rattle.syntax.specs.declared.tree.Expr.{Expr as OwnExpr}
 use Rattle.syntax.specs.declared.tree.Stmt.{Stmt as OwnStmt}
 use Rattle.syntax.specs.declared.tree.ForHead.{ForHead}
-use Rattle.syntax.specs.declared.numbers.Value.{Value}
+use Rattle.syntax.specs.declared.value.Value.{Value}
 use Rattle.syntax.specs.Numbers.{is_zero}
 use Rattle.syntax.specs.Tree.{Program, Expr, Stmt, Simple, If, IfElse, Scalar, Declarator, Start}
 use Rattle.syntax.specs.declared.tree.Mode.{Mode}
@@ -17,13 +17,13 @@ use Rattle.syntax.specs.Meaning.{Caller, Completion, Next, calls, expr, stmt, st
 use Rattle.syntax.specs.Meaning.{for_condition}
 use Rattle.syntax.specs.Meaning.{optional_step}
 use Rattle.syntax.specs.Meaning.{first_value, InLocal, start_with, loop, Returns}
-use Rattle.meaning.specs.declared.machine.StmtCompletion.{StmtCompletion as OwnCompletion}
+use Rattle.meaning.specs.declared.source_thread.StmtCompletion.{StmtCompletion as OwnCompletion}
 use Rattle.meaning.specs.declared.program.ProgramTables.{ProgramTables}
 use Rattle.meaning.specs.declared.loops.Loop.{Loop}
 use Rattle.meaning.specs.declared.loops.Loop.TheVariants as kind
 use Rattle.meaning.specs.declared.transactions.Body.{Body}
 use Rattle.meaning.specs.declared.transactions.Body.TheVariants as body
-use Rattle.meaning.specs.inner.Machine.{program_in, completion_of}
+use Rattle.meaning.specs.inner.SourceThread.{program_in, completion_of}
 use Rattle.std.specs.Prelude.{◌+◌, ◌*◌, max, Bool, true, false, [], ◌∷◌, ◌++◌, length}
 
 -- one of two statements, or of one and nothing

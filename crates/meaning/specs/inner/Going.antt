@@ -2,9 +2,9 @@
 -- that is made of others, of a call and of each turn of a loop, what is left behind it, and what all that is left does.
 use Rattle.std.specs.Prelude.{◌≡◌, ℕ, zero, suc, List, [], ◌∷◌, take, length, Option, Some, None, Bool, true, false}
 use Rattle.std.specs.Prelude.{if◌then◌else◌}
-use Rattle.syntax.specs.declared.numbers.Halt.TheVariants.{Spent}
-use Rattle.syntax.specs.declared.numbers.Value.{Value}
-use Rattle.syntax.specs.declared.numbers.Trap.TheVariants.{Frames}
+use Rattle.syntax.specs.declared.thread_end.Halt.TheVariants.{Spent}
+use Rattle.syntax.specs.declared.value.Value.{Value}
+use Rattle.syntax.specs.declared.thread_end.Trap.TheVariants.{Frames}
 use Rattle.syntax.specs.Numbers.{is_zero}
 use Rattle.syntax.specs.Tree.{Scalar, Program, Expr, Exprs, Stmt, Stmts, Start, While, DoWhile, For}
 use Rattle.syntax.specs.Names as Names

@@ -1,4 +1,4 @@
--- What a thread has still to do, as its machine has it.
+-- What a thread has still to do, as code has it.
 use Rattle.std.specs.Prelude.{ℕ, List, map, Option, option_map, Result}
 use Rattle.syntax.specs.declared.tree.Stmt.{Stmt as OwnStmt}
 use Rattle.syntax.specs.Tree.{Stmt, Block, While, DoWhile, For}
@@ -7,8 +7,8 @@ use Rattle.syntax.specs.Actions.{Answer, Action, pure, tick, ◌>>=◌, ◌>>◌
 use Rattle.syntax.specs.Meaning.{Completion, stmt, in_scope, on_next, after_body, turns}
 use Rattle.meaning.specs.declared.left.Direction.{Direction}
 use Rattle.meaning.specs.declared.left.Direction.TheVariants as way
-use Rattle.meaning.specs.declared.left.Task.{Task}
-use Rattle.meaning.specs.declared.left.Task.TheVariants as task
+use Rattle.meaning.specs.declared.left.Pending.{Pending}
+use Rattle.meaning.specs.declared.left.Pending.TheVariants as task
 use Rattle.meaning.specs.declared.left.Left.{Left}
 use Rattle.meaning.specs.declared.left.Left.TheVariants as left
 use Rattle.meaning.specs.declared.left.Stepped.{Stepped}
@@ -17,10 +17,10 @@ use Rattle.meaning.specs.declared.left.StmtParts.{StmtParts}
 use Rattle.meaning.specs.declared.left.StmtParts.TheVariants as parts
 use Rattle.meaning.specs.declared.loops.Loop.{Loop}
 use Rattle.meaning.specs.declared.loops.Loop.TheVariants as kind
-use Rattle.meaning.specs.declared.machine.Halted.{Halted}
-use Rattle.meaning.specs.declared.machine.Machine.{Machine}
+use Rattle.meaning.specs.declared.source_thread.Halted.{Halted}
+use Rattle.meaning.specs.declared.source_thread.SourceThread.{SourceThread}
 use Rattle.meaning.specs.declared.program.ProgramTables.{ProgramTables}
-use Rattle.meaning.specs.inner.Machine.{MeansAs, completion_of, items_in, program_in}
+use Rattle.meaning.specs.inner.SourceThread.{MeansAs, completion_of, items_in, program_in}
 use Rattle.meaning.specs.inner.Does.{caller_in, does_stmts, if_of}
 use Rattle.meaning.specs.inner.Going.{Follow, Ends, Goes, Nests, drop_names, call_left, when_next, scope_begun}
 use Rattle.meaning.specs.inner.Going.{loop_begun}
@@ -60,11 +60,11 @@ module _ {A : Type 0} (source : ProgramTables A) where
   begun_by (way.Turns n) frames s = turns_begun (program_in source) (caller_in source frames) s n
 
   -- what a task does, and its first step
-  abbrev pub does_task : Task A → Action Completion
+  abbrev pub does_task : Pending A → Action Completion
   does_task (task.Apart frames ss) = does_stmts source frames ss.now
   does_task (task.Alone w frames s) = does_by w frames (stmt_of s.now)
 
-  abbrev pub first_step_of : Task A → Action Follow
+  abbrev pub first_step_of : Pending A → Action Follow
   first_step_of (task.Apart frames ss) =
       pure (apart_begun (program_in source) (caller_in source frames) (stmts_of ss.now))
   first_step_of (task.Alone w frames s) = begun_by w frames (stmt_of s.now)
@@ -110,7 +110,7 @@ module _ {A : Type 0} (source : ProgramTables A) where
   follow_of (to.Goes t) = Goes (does_task t)
   follow_of (to.Nests outer inner) = Nests (continue_with outer) (does_task inner)
 
-  abbrev pub MeansStepped : Result (Stepped A) Halted → Answer Follow → Machine A → Type 0
+  abbrev pub MeansStepped : Result (Stepped A) Halted → Answer Follow → SourceThread A → Type 0
   MeansStepped = MeansAs follow_of
 
   abbrev pub body_step : ℕ → Stmt → ℕ → Completion → Action Follow

@@ -2,9 +2,9 @@
 use Rattle.std.specs.Prelude.{ℕ, List, [], ◌∷◌, Bool, true, false}
 use Rattle.std.specs.Fmt.{signed_decimal}
 use Rattle.syntax.specs.Tree.{Scalar}
-use Rattle.syntax.specs.declared.numbers.Value.{Value}
+use Rattle.syntax.specs.declared.value.Value.{Value}
 use Rattle.syntax.specs.Numbers.{number}
-use Rattle.syntax.specs.declared.numbers.Halt.TheVariants.{Astray}
+use Rattle.syntax.specs.declared.thread_end.Halt.TheVariants.{Astray}
 use Rattle.syntax.specs.Actions.{Action, stop, tick, write, print_piece, ◌>>◌}
 use Rattle.syntax.specs.Formats.{Piece, Literal}
 use Rattle.syntax.specs.Meaning.{print_pieces}

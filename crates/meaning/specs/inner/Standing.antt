@@ -1,18 +1,18 @@
 -- How a thread stands, and what is left of it.
 use Rattle.std.specs.Prelude.{◌≡◌, List, [], ◌++◌, Option, Some, None}
-use Rattle.syntax.specs.declared.numbers.Halt.{Halt}
+use Rattle.syntax.specs.declared.thread_end.Halt.{Halt}
 use Rattle.syntax.specs.Behaviours.{Memory, Outcome, ThreadEnd, Ended, Stopped}
 use Rattle.syntax.specs.Actions.{Outside, State, Answer, Gives, Stops, go_on, tick}
 use Rattle.syntax.specs.Threads.{outcome_of}
 use Rattle.meaning.specs.Outcomes.{memories_in}
 use Rattle.meaning.specs.declared.standing.Point.{Point}
-use Rattle.meaning.specs.declared.standing.Shown.{Shown}
-use Rattle.meaning.specs.declared.standing.Thread.{Thread}
+use Rattle.meaning.specs.declared.standing.Observed.{Observed}
+use Rattle.meaning.specs.declared.standing.StandingThread.{StandingThread}
 use Rattle.meaning.specs.declared.standing.StoppedThread.{StoppedThread}
 use Rattle.meaning.specs.declared.standing.Gone.{Gone}
 use Rattle.meaning.specs.declared.standing.Gone.TheVariants as gone
 use Rattle.meaning.specs.declared.program.ProgramTables.{ProgramTables}
-use Rattle.meaning.specs.inner.Machine.{completion_of, items_in}
+use Rattle.meaning.specs.inner.SourceThread.{completion_of, items_in}
 use Rattle.meaning.specs.Frames.{StateExtension, extended_state}
 use Rattle.meaning.specs.inner.Going.{Follow}
 use Rattle.meaning.specs.inner.Left.{follow_of, left_gone_on}
@@ -24,7 +24,7 @@ end_by (Some why) = Stopped why
 
 module _ {A : Type 0} where
   -- a state at a point in which this is left and printed, and one in which nothing is
-  abbrev pub state_at : Point A → Shown A → State
+  abbrev pub state_at : Point A → Observed A → State
   state_at at shown = record {
     ticks = at.ticks;
     locals = items_in at.locals;
@@ -40,7 +40,7 @@ module _ {A : Type 0} where
     text = [];
   }
 
-  abbrev pub frame_of : List Memory → Shown A → StateExtension
+  abbrev pub frame_of : List Memory → Observed A → StateExtension
   frame_of founds shown = record { founds = founds; lefts = memories_in shown.lefts.items; text = shown.text.items }
 
   -- what a step comes to is this answer
@@ -51,14 +51,14 @@ module _ {A : Type 0} where
       × (s.context ≡ Outside founds (memories_in shown.lefts.items)) × (s.text ≡ shown.text.items)
 
   -- what is left of a thread that finds these memories too, up to the tick of its end
-  abbrev pub rest : ProgramTables A → Thread A → List Memory → Answer (Unit {0})
+  abbrev pub rest : ProgramTables A → StandingThread A → List Memory → Answer (Unit {0})
   rest source thread founds =
       go_on (left_gone_on source thread.left.items (completion_of thread.end)
       (extended_state (frame_of founds thread.shown) (bare thread.at)))
       (λ _. tick)
 
   -- what is seen of a thread that goes no further
-  abbrev pub seen_of : Thread A → StoppedThread A → Outcome
+  abbrev pub seen_of : StandingThread A → StoppedThread A → Outcome
   seen_of thread stop = record {
     lefts = memories_in thread.shown.lefts.items ++ memories_in stop.shown.lefts.items;
     text = thread.shown.text.items ++ stop.shown.text.items;
@@ -66,5 +66,5 @@ module _ {A : Type 0} where
   }
 
   -- a thread goes no further so
-  abbrev pub IsStop : ProgramTables A → Thread A → StoppedThread A → Type 0
+  abbrev pub IsStop : ProgramTables A → StandingThread A → StoppedThread A → Type 0
   IsStop source thread stop = outcome_of (rest source thread []) ≡ seen_of thread stop

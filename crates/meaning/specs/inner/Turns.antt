@@ -1,13 +1,13 @@
 -- Threads that take turns.
 use Rattle.std.specs.Prelude.{◌≡◌, ◌≢◌, ◌⊎◌, ℕ, ◌+◌, List, [], ◌∷◌, ◌++◌, map, length, drop}
 use Rattle.syntax.specs.Tree.{Program}
-use Rattle.syntax.specs.declared.numbers.Halt.TheVariants.{Wants}
+use Rattle.syntax.specs.declared.thread_end.Halt.TheVariants.{Wants}
 use Rattle.syntax.specs.Behaviours.{Memory, Behaviour, Outcome, Stopped}
 use Rattle.syntax.specs.Orders.{Progress, last_left}
 use Rattle.syntax.specs.Threads.{first_state, thread, worker_run}
 use Rattle.meaning.specs.Outcomes.{memories_in, thread_end_in}
 use Rattle.meaning.specs.declared.program.ProgramTables.{ProgramTables}
-use Rattle.meaning.specs.inner.Machine.{program_in}
+use Rattle.meaning.specs.inner.SourceThread.{program_in}
 use Rattle.meaning.specs.inner.Standing.{rest}
 use Rattle.meaning.specs.declared.orders.Standing.{Standing}
 use Rattle.meaning.specs.declared.orders.OrderProgress.{OrderProgress}

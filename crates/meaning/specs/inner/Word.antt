@@ -1,7 +1,7 @@
 -- The value that a number of 128 bits stands for, which two registers hold.
 use Rattle.std.specs.Prelude.{◌^◌, ◌%◌, nat_lt, if◌then◌else◌}
 use Rattle.syntax.specs.Tree.{Int, Unsigned, LongLong}
-use Rattle.syntax.specs.declared.numbers.Value.{Value}
+use Rattle.syntax.specs.declared.value.Value.{Value}
 use Rattle.meaning.specs.declared.word.Word.{Word}
 
 -- the value that stands in the bits: its word below, and above that its type

@@ -7,8 +7,8 @@ use Rattle.nesting.specs.Nests.{Nest}
 use Rattle.norec_core.specs.declared.step.Op.{Op}
 use Rattle.norec_core.specs.declared.step.Op.TheVariants as op
 use Rattle.norec_core.specs.declared.step.Answer.{Answer}
-use Rattle.norec_core.specs.declared.step.Outcome.{Outcome}
-use Rattle.norec_core.specs.declared.step.Outcome.TheVariants as outcome
+use Rattle.norec_core.specs.declared.step.OpOutcome.{OpOutcome}
+use Rattle.norec_core.specs.declared.step.OpOutcome.TheVariants as outcome
 use Rattle.norec_core.specs.declared.step.Phase.{Phase}
 use Rattle.norec_core.specs.declared.step.Phase.TheVariants.{AtOperation, ReadsLock, ValidatesTime, ValidatesEntry}
 use Rattle.norec_core.specs.declared.step.Phase.TheVariants.{Stores}
@@ -45,7 +45,7 @@ abbrev pub attempt_of : Run → Option (Attempt Saved)
 attempt_of r = if r.begun then Some r.attempt else None
 
 -- the outcome and the attempt are what a step leaves, and what it goes back to, if it does, is set aside
-pub record IsStep (n : CoreStep Saved) (result : Outcome) (new : Run) : Type 0 where
+pub record IsStep (n : CoreStep Saved) (result : OpOutcome) (new : Run) : Type 0 where
   pub attempt : attempt_of new ≡ n.attempt
   pub outcome : result ≡ n.outcome
   pub back : IfSome n.back (λ s. new.aside ≡ s)

@@ -2,12 +2,12 @@
 use Rattle.std.proofs.Common.{◌≡◌, ℕ, zero, suc, ◌+◌, ◌-◌, ◌<◌, ◌≤◌, List, Some, None, Result, Ok, Err, refl, sym, ◌∙◌, arith}
 use Rattle.std.proofs.lemmas.Bool.{le-ltb, lt-ltb}
 use Rattle.lex.specs.Tokens.{Tok}
-use Rattle.parse.specs.declared.fault.Failure.{Failure}
-use Rattle.parse.specs.declared.fault.Failure.TheVariants as failure
+use Rattle.parse.specs.declared.fault.ParseFailure.{ParseFailure}
+use Rattle.parse.specs.declared.fault.ParseFailure.TheVariants as failure
 use Rattle.parse.specs.inner.Reading.{Fault, deep, ◌>>=◌, Fails, Parser, Operators, next_op, climb_loop}
 
 -- what fails in a part fails in the whole
-pub fails_along : {A B : Type 0} (e : Failure) (part : Result A Fault) (whole : Result B Fault) → ((f : Fault) → part ≡ Err f → whole ≡ Err f) → Fails e part → Fails e whole
+pub fails_along : {A B : Type 0} (e : ParseFailure) (part : Result A Fault) (whole : Result B Fault) → ((f : Fault) → part ≡ Err f → whole ≡ Err f) → Fails e part → Fails e whole
 fails_along failure.Memory part whole along h = tt
 fails_along (failure.Wrong r) part whole along h = along _ h
 fails_along (failure.Deep r) part whole along h = along _ h

@@ -2,7 +2,7 @@
 use Rattle.std.proofs.Common.{◌≡◌, ℕ, ◌+◌, ◌-◌, ◌<◌, Bool, true, false, Option, List, [], ◌∷◌, ◌++◌, length, Result, Ok, Err, refl, sym, ap, subst, ◌∙◌, ◌⊎◌}
 use Rattle.lex.specs.declared.token.Fixed.{Fixed}
 use Rattle.lex.specs.Tokens.{Tok}
-use Rattle.parse.specs.declared.fault.Failure.{Failure}
+use Rattle.parse.specs.declared.fault.ParseFailure.{ParseFailure}
 use Rattle.parse.specs.inner.Reading.{Fault, wrong, ◌>>=◌, Fails, Parser, head, many, many_until, expect}
 use Rattle.parse.proofs.code.Climbing.{fails_along}
 use Rattle.parse.proofs.code.Turns.{onward, joined, nothing_before, goes_on, fails_on, good_end, bad_end}
@@ -29,7 +29,7 @@ module _ {A : Type 0} (stop : Option Tok → Bool) (P : Parser A) (k : Fixed) (t
           let one : Round (front ++ x.0 ∷ []) (len - (i + 1)) x.1 = round_goes front len i ts x.1 x.0 so_far lt h e in
           subst (λ (z : List A × List Tok). Round z.0 (len - (i + 1)) z.1) both one
 
-  pub round_fails : (e : Failure) (front : List A) (len i : ℕ) (ts : List Tok) → Round front (len - i) ts → i < len → stop (head ts) ≡ false → Fails e (P ts) → Fails e total
+  pub round_fails : (e : ParseFailure) (front : List A) (len i : ℕ) (ts : List Tok) → Round front (len - i) ts → i < len → stop (head ts) ≡ false → Fails e (P ts) → Fails e total
   round_fails e front len i ts so_far lt h =
       fails_along e (P ts) total (λ f failed. sym so_far ∙ whole f (fails_on stop P front len i ts f (onward front (many stop (len - i) P ts)) lt h failed refl))
     where
@@ -37,7 +37,7 @@ module _ {A : Type 0} (stop : Option Tok → Bool) (P : Parser A) (k : Fixed) (t
       whole f out = rw out refl
 
   module _ (front : List A) (n : ℕ) (ts : List Tok) (refuses : stop (head ts) ≡ false → expect k ts ≡ Err (wrong ts)) where
-    pub round_bad : (e : Failure) → Round front n ts → (n ≡ 0) ⊎ (stop (head ts) ≡ true) → Fails e (expect k ts) → Fails e total
+    pub round_bad : (e : ParseFailure) → Round front n ts → (n ≡ 0) ⊎ (stop (head ts) ≡ true) → Fails e (expect k ts) → Fails e total
     round_bad e so_far way =
         fails_along e (expect k ts) total (λ f failed. sym so_far ∙ whole f (bad_end stop P (expect k) front n ts (onward front (many stop n P ts)) refuses refl f way failed))
       where

@@ -9,8 +9,8 @@ use Rattle.lex.specs.declared.token.Span.{Span}
 use Rattle.lex.specs.declared.token.Token.{Token}
 use Rattle.lex.specs.Tokens.{Tok, toks}
 use Rattle.syntax.specs.Phrases.{is_fixed, the_fixed, fixed_span}
-use Rattle.parse.specs.declared.fault.Failure.{Failure}
-use Rattle.parse.specs.declared.fault.Failure.TheVariants.{Memory, Wrong, Deep}
+use Rattle.parse.specs.declared.fault.ParseFailure.{ParseFailure}
+use Rattle.parse.specs.declared.fault.ParseFailure.TheVariants.{Memory, Wrong, Deep}
 
 -- why nothing is read, with the tokens from there on
 pub data Fault : Type 0 where
@@ -23,18 +23,18 @@ abbrev pub ◌>>=◌ : {A B : Type 0} → Result A Fault → (A → Result B Fau
 (Err e) >>= f = Err e
 
 -- What a function returned, seen by view, is what reading gives, unless memory ran out.
-abbrev pub Fails : {Y : Type 0} → Failure → Result Y Fault → Type 0
+abbrev pub Fails : {Y : Type 0} → ParseFailure → Result Y Fault → Type 0
 Fails Memory read = Unit {0}
 Fails (Wrong r) read = read ≡ Err (wrong (toks r.now))
 Fails (Deep r) read = read ≡ Err (deep (toks r.now))
 
-abbrev pub Gives : {X Y : Type 0} → (X → Y) → Result X Failure → Result Y Fault → Type 0
+abbrev pub Gives : {X Y : Type 0} → (X → Y) → Result X ParseFailure → Result Y Fault → Type 0
 Gives view (Ok x) read = read ≡ Ok (view x)
 Gives view (Err e) read = Fails e read
 
 -- Whatever reading the one gives, seen by view, the other gives as make makes of it, unless memory ran out.
-abbrev pub GivesOn : {X Y U V : Type 0} → (X → U) → (Y → V) → (U → V) → Result (X × Bor (List Token)) Failure →
-    Result (Y × Bor (List Token)) Failure → Type 0
+abbrev pub GivesOn : {X Y U V : Type 0} → (X → U) → (Y → V) → (U → V) → Result (X × Bor (List Token)) ParseFailure →
+    Result (Y × Bor (List Token)) ParseFailure → Type 0
 GivesOn {U = U} {V = V} view seen make one other =
     (read : Result (U × List Tok) Fault) → Gives {Y = U × List Tok} (λ x. (view x.0, toks x.1.now)) one read →
     Gives {Y = V × List Tok} (λ y. (seen y.0, toks y.1.now)) other (read >>= λ x. Ok (make x.0, x.1))
@@ -105,8 +105,8 @@ abbrev pub expect : Fixed → Parser (Unit {0})
 expect m = take (the_fixed m)
 
 -- What was read, where a fixed token stands behind it: the other gives it with the tokens behind that token.
-abbrev pub GivesBefore : {X : Type 0} → Fixed → Result (X × Bor (List Token)) Failure →
-    Result (X × Bor (List Token)) Failure → Type 0
+abbrev pub GivesBefore : {X : Type 0} → Fixed → Result (X × Bor (List Token)) ParseFailure →
+    Result (X × Bor (List Token)) ParseFailure → Type 0
 GivesBefore k (Ok x) other =
     IfOk other (λ y. y.0 ≡ x.0)
     × Gives {Y = Unit {0} × List Tok} (λ y. (tt, toks y.1.now)) other (expect k (toks x.1.now))

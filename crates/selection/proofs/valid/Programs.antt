@@ -7,7 +7,7 @@ use Rattle.std.proofs.lemmas.Slice.Eq.{bytes_eq-Decides}
 use Rattle.lex.specs.declared.token.Scalar.{Scalar}
 use Rattle.lex.specs.declared.token.Scalar.TheVariants.{Int}
 use Rattle.syntax.specs.Tree.{Stmts, Function, Defines, Shares, Program}
-use Rattle.syntax.specs.declared.numbers.Value.{Value}
+use Rattle.syntax.specs.declared.value.Value.{Value}
 use Rattle.syntax.specs.Names.{globals, definition_of}
 use Rattle.syntax.specs.Types.{Scope, Known, Callable, file_scope, running_scope, known_function}
 use Rattle.syntax.specs.Typing.{demand, may_be_function, has_name, defined_names, parameter_names, agrees, is_worker, same_types, AreDistinct, AreTypedItems, IsTypedBody, IsTypedFunction, IsTypedProgram}

@@ -10,8 +10,8 @@ use Rattle.syntax.specs.Names.{bounds_of as cell_bounds}
 use Rattle.syntax.specs.Orders.{in_order}
 use Rattle.syntax.specs.Threads.{thread}
 use Rattle.syntax.specs.Tree.{Program}
-use Rattle.syntax.specs.declared.numbers.Status.{Status}
-use Rattle.syntax.specs.declared.numbers.Status.TheVariants.{Running, Ended as HasEnded, Trapped as HasTrapped}
+use Rattle.syntax.specs.declared.thread_end.Status.{Status}
+use Rattle.syntax.specs.declared.thread_end.Status.TheVariants.{Running, Ended as HasEnded, Trapped as HasTrapped}
 use Rattle.syntax.proofs.Words.{begins_with_memory}
 use Rattle.bytecode.specs.Beginning.{beginning}
 use Rattle.bytecode.specs.Code.{Code, Configuration, effect}
@@ -39,7 +39,7 @@ use Rattle.report.specs.Printed.{Printed, Shown, ThreadShown}
 use Rattle.serving.specs.Codes.{IsCodeOf}
 use Rattle.serving.specs.Replays.{behind_events, end_after_replay, thread_found, world_shown}
 use Rattle.serving.specs.Shows.{order_end, shown_globals, thread_shown}
-use Rattle.syntax.specs.declared.numbers.Halt.TheVariants.{Wants}
+use Rattle.syntax.specs.declared.thread_end.Halt.TheVariants.{Wants}
 use Rattle.outcomes.specs.Outcomes.{IsFinished, report_of_order}
 use Rattle.serving.specs.Outcomes.{IsOutcomeOf, shown_in}
 use Rattle.states.specs.Shown.{told_in, told_of_outcome}

@@ -3,7 +3,7 @@ use Rattle.std.specs.Prelude.{◌≡◌, ℕ, List, length, Some, false}
 use Rattle.std.specs.List.{slice_get}
 use Rattle.syntax.specs.Tree.{Program}
 use Rattle.syntax.specs.Names.{globals, initial_memory}
-use Rattle.syntax.specs.declared.numbers.Status.{Status}
+use Rattle.syntax.specs.declared.thread_end.Status.{Status}
 use Rattle.syntax.specs.Behaviours.{Stands, Step, founds_of, lefts_of, last_memory}
 use Rattle.syntax.specs.Threads.{thread, IsSourceRun}
 use Rattle.report.specs.Printed.{ThreadShown, Printed}

@@ -5,7 +5,7 @@ use Rattle.syntax.specs.Tree.{Program}
 use Rattle.meaning.specs.InOrder.{report_in}
 use Rattle.meaning.specs.declared.outcome.ThreadReport.{ThreadReport}
 use Rattle.outcomes.specs.declared.listed.Listed.{Listed}
-use Rattle.outcome_lists.specs.Lists.{OutcomeShown}
+use Rattle.report.specs.OutcomeList.{OutcomeShown}
 use Rattle.report.specs.Printed.{ThreadShown}
 use Rattle.serving.specs.Shows.{order_end, program_shown}
 

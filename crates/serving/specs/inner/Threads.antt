@@ -1,8 +1,8 @@
 -- What a fault of running a text's threads says.
 use Rattle.std.specs.Prelude.{ℕ, List}
 use Rattle.workers.specs.Driving.{IsRunRefused}
-use Rattle.serving.specs.declared.concurrent.ThreadsFault.{ThreadsFault}
-use Rattle.serving.specs.declared.concurrent.ThreadsFault.TheVariants.{Source, Run}
+use Rattle.serving.specs.declared.run.ThreadsFault.{ThreadsFault}
+use Rattle.serving.specs.declared.run.ThreadsFault.TheVariants.{Source, Run}
 use Rattle.serving.specs.Limits.{IsFaultOfText}
 
 -- what a fault says of a text and of a number of threads

@@ -3,8 +3,8 @@ use Rattle.std.specs.Prelude.{◌≡◌, ℕ, List, Option, Some, None, Result, 
 use Rattle.syntax.specs.Tree.{Span}
 use Rattle.syntax.specs.Typing.{Demand, first_unmet}
 use Rattle.types.specs.declared.fault.Violation.{Violation}
-use Rattle.types.specs.declared.fault.Failure.{Failure}
-use Rattle.types.specs.declared.fault.Failure.TheVariants.{OutOfMemory, Violation as Breaks}
+use Rattle.types.specs.declared.fault.TypeFailure.{TypeFailure}
+use Rattle.types.specs.declared.fault.TypeFailure.TheVariants.{OutOfMemory, Violation as Breaks}
 use Rattle.types.specs.Answers.{number_in, span_in}
 
 -- the number and place of the demand that is not met, as the check says
@@ -13,11 +13,11 @@ unmet_in (Ok x) = None
 unmet_in (Err fault) = Some (number_in fault, span_in fault)
 
 -- a check tells of this violation, the first one, or that there is none; without memory nothing is said
-abbrev pub Tells : {X : Type 0} → Result X Failure → Option (ℕ × Span) → Type 0
+abbrev pub Tells : {X : Type 0} → Result X TypeFailure → Option (ℕ × Span) → Type 0
 Tells (Ok x) first = None ≡ first
 Tells (Err OutOfMemory) first = Unit {0}
 Tells (Err (Breaks b)) first = Some (number_in b, span_in b) ≡ first
 
 -- a check tells of the first demand that is not met
-abbrev pub AnswersDemands : {X : Type 0} → Result X Failure → List Demand → Type 0
+abbrev pub AnswersDemands : {X : Type 0} → Result X TypeFailure → List Demand → Type 0
 AnswersDemands r ds = Tells r (first_unmet ds)

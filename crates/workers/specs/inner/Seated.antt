@@ -4,8 +4,8 @@ use Rattle.atomic_table.specs.Seated.{TableId}
 use Rattle.bytecode.specs.Code.{Code}
 use Rattle.bytecode.specs.Valid.{cells_of}
 use Rattle.machine.specs.Loads.{Counted}
-use Rattle.seats.specs.Rule.{SeatView}
-use Rattle.seats.specs.Setup.{Setup}
+use Rattle.shared_words.specs.Rule.{SeatView}
+use Rattle.shared_words.specs.Setup.{Setup}
 use Rattle.workers.specs.Works.{GoesOnFrom, Works}
 
 -- whatever the thread has done by then, with so many steps more it has done this

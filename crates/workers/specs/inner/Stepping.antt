@@ -1,7 +1,7 @@
 -- Steps of a worker that are not yet counted.
 use Rattle.std.specs.Prelude.{◌≡◌, ◌+◌, ◌<◌, ◌^◌, ℕ}
 use Rattle.atomic_table.specs.Seated.{TableId}
-use Rattle.seats.specs.Setup.{Setup}
+use Rattle.shared_words.specs.Setup.{Setup}
 use Rattle.workers.specs.declared.worker.Worker.{Worker}
 use Rattle.workers.specs.Works.{GoesOnFrom}
 use Rattle.workers.specs.Workers.{IsWorkerAt}

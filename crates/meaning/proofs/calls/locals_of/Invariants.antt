@@ -1,7 +1,7 @@
 use Rattle.std.proofs.Common.{◌≡◌, ◌++◌, drop, map, option_map}
 use Rattle.syntax.specs.Meaning.{call_locals}
 use Rattle.syntax.specs.Views.{parameter_of}
-use Rattle.meaning.specs.inner.Machine.{items_in}
+use Rattle.meaning.specs.inner.SourceThread.{items_in}
 use Rattle.meaning.proofs.calls.locals_of.Given as goal
 
 -- what is left goes behind what there is

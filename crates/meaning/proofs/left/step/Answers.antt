@@ -3,7 +3,7 @@ use Rattle.std.proofs.lemmas.List.{take-map}
 use Rattle.syntax.specs.Actions.{Gives}
 use Rattle.meaning.specs.inner.Going.{Ends}
 use Rattle.meaning.specs.inner.Left.{step_of}
-use Rattle.meaning.specs.inner.Machine.{completion_of, local_in, state_in}
+use Rattle.meaning.specs.inner.SourceThread.{completion_of, local_in, state_in}
 use Rattle.meaning.proofs.left.step.Goals as goal
 
 pub returns-in-Body : goal.returns-in-Body

@@ -2,7 +2,7 @@ use Rattle.std.proofs.Common.{◌≡◌, ◌∙◌, sym, ap, false, arith}
 use Rattle.std.proofs.lemmas.Bool.{le-ltb}
 use Rattle.std.specs.Prelude.{nat_lt}
 use Rattle.syntax.specs.Names.{cells, global_of as global_of_program}
-use Rattle.meaning.specs.inner.Machine.{program_in, state_in}
+use Rattle.meaning.specs.inner.SourceThread.{program_in, state_in}
 use Rattle.global_tables.specs.Tables.{shared_in}
 use Rattle.meaning.specs.inner.Does.{caller_in}
 use Rattle.meaning.specs.inner.Word.{value_of}

@@ -1,7 +1,7 @@
 use Rattle.std.proofs.Common.{◌≡◌, Err, arith}
 use Rattle.syntax.specs.Formats.{pieces}
 use Rattle.syntax.specs.Meaning.{print_pieces}
-use Rattle.meaning.specs.inner.Machine.{state_in, halt_of}
+use Rattle.meaning.specs.inner.SourceThread.{state_in, halt_of}
 use Rattle.meaning.proofs.Stops.{err_of, stops_as}
 use Rattle.meaning.proofs.Printed.{byte_goes, byte_stops, specifier_goes}
 use Rattle.meaning.proofs.print.print_pieces.Goals as goal

@@ -1,7 +1,7 @@
 use Rattle.std.proofs.Common.{◌≡◌, ◌≤◌, ◌-◌, drop, length}
 use Rattle.syntax.specs.Formats.{pieces}
 use Rattle.syntax.specs.Meaning.{print_pieces}
-use Rattle.meaning.specs.inner.Machine.{state_in}
+use Rattle.meaning.specs.inner.SourceThread.{state_in}
 use Rattle.meaning.specs.inner.Printing.{print_from}
 use Rattle.meaning.proofs.print.print_pieces.Given as goal
 

@@ -9,4 +9,4 @@ pub returns-in-Err : goal.returns-in-Err
 returns-in-Err g c =
     let source = c.args.source.now in
     let run = first_step source c.args.frames (stmt_of c.args.s.now) c.args.parts.now in
-    IfOk-weaker c.stop_machine.result _ _ (λ gone h. subst (IsGone source gone) (sym (ap run (sym c.in_ok-m.ensures) ∙ c.in-Err.ensures h.0)) h.1) (c.stop_machine.ensures source)
+    IfOk-weaker c.stop_thread.result _ _ (λ gone h. subst (IsGone source gone) (sym (ap run (sym c.in_ok-m.ensures) ∙ c.in-Err.ensures h.0)) h.1) (c.stop_thread.ensures source)

@@ -2,10 +2,10 @@ use Rattle.std.proofs.Common.{◌∙◌, ◌∷◌, [], ap, refl, sym}
 use Rattle.std.specs.Prelude.{codes}
 use Rattle.syntax.specs.Tree.{Unsigned}
 use Rattle.meaning.specs.Outcomes.{memories_in}
-use Rattle.meaning.specs.declared.left.Task.TheVariants as task
-use Rattle.meaning.specs.declared.machine.StmtCompletion.TheVariants as end
+use Rattle.meaning.specs.declared.left.Pending.TheVariants as task
+use Rattle.meaning.specs.declared.source_thread.StmtCompletion.TheVariants as end
 use Rattle.meaning.specs.inner.Calls.{begin_call, begun_in}
-use Rattle.meaning.specs.inner.Machine.{program_in, state_in}
+use Rattle.meaning.specs.inner.SourceThread.{program_in, state_in}
 use Rattle.meaning.proofs.Advancing.{begins_left, begins_so}
 use Rattle.meaning.proofs.standing.stand.Goals as goal
 

@@ -1,6 +1,6 @@
 use Rattle.std.proofs.Common.{ap}
 use Rattle.meaning.specs.Outcomes.{memories_in}
-use Rattle.meaning.specs.inner.Machine.{context_in}
+use Rattle.meaning.specs.inner.SourceThread.{context_in}
 use Rattle.meaning.specs.inner.Left.{follow_of}
 use Rattle.meaning.proofs.Advancing.{stands_at}
 use Rattle.meaning.proofs.standing.went.Goals as goal

@@ -1,6 +1,6 @@
 use Rattle.std.proofs.Common.{ap, map}
 use Rattle.meaning.specs.Outcomes.{memories_in}
-use Rattle.meaning.specs.inner.Machine.{local_in}
+use Rattle.meaning.specs.inner.SourceThread.{local_in}
 use Rattle.meaning.proofs.Outcomes.{starts}
 use Rattle.meaning.proofs.threads.start.Goals as goal
 

@@ -3,7 +3,7 @@ use Rattle.syntax.specs.Views.{program_of}
 use Rattle.syntax.specs.Threads.{worker_run, thread}
 use Rattle.syntax.specs.Actions.{Stops, lefts_in}
 use Rattle.meaning.specs.Outcomes.{memories_in, outcome_in}
-use Rattle.meaning.specs.inner.Machine.{halt_of, state_in}
+use Rattle.meaning.specs.inner.SourceThread.{halt_of, state_in}
 use Rattle.meaning.proofs.Outcomes.{thread_ends, thread_stops, stops_within, happened, leaves_memories}
 use Rattle.meaning.proofs.threads.thread.Goals as goal
 

@@ -1,5 +1,5 @@
 use Rattle.std.proofs.Common.{◌≡◌, take, map}
-use Rattle.meaning.specs.inner.Machine.{local_in, items_in}
+use Rattle.meaning.specs.inner.SourceThread.{local_in, items_in}
 use Rattle.meaning.proofs.transactions.copy_locals.Given as goal
 
 abbrev pub invariant-locals : goal.invariant-locals

@@ -1,4 +1,4 @@
-use Rattle.serving.proofs.Listing.{are_listed}
+use Rattle.serving.proofs.ListedOutcomes.{are_listed}
 use Rattle.serving.proofs.laws.orders_are_listed.Goals as goal
 
 pub returns : goal.returns

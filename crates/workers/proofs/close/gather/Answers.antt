@@ -1,8 +1,8 @@
 use Rattle.std.proofs.Common.{◌≤◌, ◌+◌, ◌∙◌, ap, sym, subst}
 use Rattle.std.specs.Vec.{vec_capacity}
 use Rattle.bytecode.specs.Valid.{cells_of}
-use Rattle.seats.specs.Setup.{Setup}
-use Rattle.seats.specs.Rule.{LeavesCells}
+use Rattle.shared_words.specs.Setup.{Setup}
+use Rattle.shared_words.specs.Rule.{LeavesCells}
 use Rattle.workers.specs.Workers.{AreWorkersOf}
 use Rattle.workers.proofs.Closings.{closes, has_word}
 use Rattle.workers.proofs.close.gather.Goals as goal

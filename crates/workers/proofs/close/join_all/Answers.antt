@@ -1,7 +1,7 @@
 use Rattle.std.proofs.Common.{rules, ◌≡◌, ◌∙◌, ap, List, [], ◌∷◌, ◌++◌, append_assoc}
 use Rattle.workers.specs.declared.worker.Worker.{Worker}
 use Rattle.workers.specs.Workers.{IsWorkerOf}
-use Rattle.seats.specs.Rule.{SeatView}
+use Rattle.shared_words.specs.Rule.{SeatView}
 use Rattle.workers.proofs.Closings.{counts_one_fewer, one_fewer, room_first, room_for_all, room_for_one, room_left, worker_in}
 use Rattle.workers.proofs.close.join_all.Goals as goal
 

@@ -1,9 +1,9 @@
 use Rattle.std.proofs.Common.{rules, ◌≡◌, ◌∙◌, ap, sym, subst, ℕ, [], ◌∷◌, ◌-◌, ◌+◌, ◌<◌}
 use Rattle.atomic_table.specs.Seated.{TableId}
-use Rattle.seats.specs.Views.{first_of, first_part, first_parts, without_first}
-use Rattle.seats.specs.Rule.{SeatView}
+use Rattle.shared_words.specs.Views.{first_of, first_part, first_parts, without_first}
+use Rattle.shared_words.specs.Rule.{SeatView}
 use Rattle.workers.specs.Workers.{AreWorkersFrom}
-use Rattle.seats.proofs.Opens.{next_part}
+use Rattle.shared_words.proofs.Opens.{next_part}
 use Rattle.workers.proofs.Opens.{is_below, is_last, minus_none}
 use Rattle.workers.proofs.open.workers.Goals as goal
 

@@ -1,5 +1,5 @@
 use Rattle.std.proofs.Common.{◌≡◌, ◌-◌, [], vec_len}
-use Rattle.seats.specs.Views.{first_parts}
+use Rattle.shared_words.specs.Views.{first_parts}
 use Rattle.workers.specs.Workers.{AreWorkersFrom}
 use Rattle.workers.proofs.open.workers.Given as goal
 

@@ -1,5 +1,5 @@
 use Rattle.std.proofs.Common.{◌≡◌, ◌≤◌, ◌-◌}
-use Rattle.syntax.specs.declared.numbers.Status.TheVariants.{Running}
+use Rattle.syntax.specs.declared.thread_end.Status.TheVariants.{Running}
 use Rattle.machine.specs.Standing.{begins_of}
 use Rattle.machine.specs.inner.Contexts.{AreWithin, RunsInContext, context_of, machine_thread}
 use Rattle.machine.proofs.context.ThreadContext.advance.Given as goal

@@ -4,7 +4,7 @@ use Rattle.bytecode.specs.Code.{onward}
 use Rattle.frames.specs.declared.doing.Doing.TheVariants as doing
 use Rattle.frames.proofs.Keeping.{begins_stay_open}
 use Rattle.norec_core.specs.declared.step.Op.TheVariants as op
-use Rattle.norec_core.specs.declared.step.Outcome.TheVariants as outcome
+use Rattle.norec_core.specs.declared.step.OpOutcome.TheVariants as outcome
 use Rattle.machine.proofs.contexts.Advancing.{advances, advances_once, once_asked}
 use Rattle.machine.specs.inner.Contexts.{context_of}
 use Rattle.machine.proofs.context.ThreadContext.commit.Goals as goal

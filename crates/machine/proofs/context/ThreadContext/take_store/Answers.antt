@@ -3,7 +3,7 @@ use Rattle.bytecode.specs.Code.{effect}
 use Rattle.frames.specs.Open.{begin_configuration}
 use Rattle.frames.proofs.Keeping.{begins_stay_open}
 use Rattle.norec_core.specs.declared.step.Answer.TheVariants.{Done}
-use Rattle.norec_core.specs.declared.step.Outcome.{Outcome}
+use Rattle.norec_core.specs.declared.step.OpOutcome.{OpOutcome}
 use Rattle.machine.specs.Threads.{resume}
 use Rattle.machine.proofs.contexts.Committing.{store_back, store_makes}
 use Rattle.machine.specs.inner.Contexts.{back_by, context_of}
@@ -25,4 +25,4 @@ pub returns-clause-again : goal.returns-clause-again
 returns-clause-again g c = λ e.
     let k = context_of {A = g.row.A.Denot} c.args.self.now in
     let x = effect c.args.code.now k.configuration in
-    c.resume-event.ensures.configuration ∙ ap (λ (o : Outcome). resume (effect c.args.code.now) x k.configuration o (back_by x o (begin_configuration k.configuration c.take_store-outcome.new.self.saved))) (c.goes_on.ensures e)
+    c.resume-event.ensures.configuration ∙ ap (λ (o : OpOutcome). resume (effect c.args.code.now) x k.configuration o (back_by x o (begin_configuration k.configuration c.take_store-outcome.new.self.saved))) (c.goes_on.ensures e)

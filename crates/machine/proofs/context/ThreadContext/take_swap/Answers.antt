@@ -2,7 +2,7 @@ use Rattle.std.proofs.Common.{refl, ap, ◌∙◌}
 use Rattle.bytecode.specs.Code.{effect}
 use Rattle.frames.specs.Open.{begin_configuration}
 use Rattle.frames.proofs.Keeping.{begins_stay_open}
-use Rattle.norec_core.specs.declared.step.Outcome.{Outcome}
+use Rattle.norec_core.specs.declared.step.OpOutcome.{OpOutcome}
 use Rattle.norec_core.proofs.Committing.{swap_goes_on}
 use Rattle.machine.specs.Threads.{resume}
 use Rattle.machine.proofs.contexts.Committing.{swap_back, swap_makes}
@@ -25,5 +25,5 @@ pub returns-clause-still : goal.returns-clause-still
 returns-clause-still g c =
     let k = context_of {A = g.row.A.Denot} c.args.self.now in
     let x = effect c.args.code.now k.configuration in
-    c.resume.ensures.configuration ∙ ap (λ (o : Outcome). resume (effect c.args.code.now) x k.configuration o (back_by x o (begin_configuration k.configuration c.take_swap-outcome.new.self.saved)))
+    c.resume.ensures.configuration ∙ ap (λ (o : OpOutcome). resume (effect c.args.code.now) x k.configuration o (back_by x o (begin_configuration k.configuration c.take_swap-outcome.new.self.saved)))
     (c.take_swap-outcome.ensures.outcome ∙ swap_goes_on k.core.saved k.core.attempt c.args.from c.args.answer c.requires.swaps)

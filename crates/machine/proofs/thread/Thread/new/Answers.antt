@@ -1,5 +1,5 @@
 use Rattle.std.proofs.Common.{false, refl, arith}
-use Rattle.syntax.specs.declared.numbers.Status.TheVariants.{Running}
+use Rattle.syntax.specs.declared.thread_end.Status.TheVariants.{Running}
 use Rattle.machine.proofs.contexts.Calls.{new_thread_of}
 use Rattle.machine.proofs.thread.Thread.new.Goals as goal
 

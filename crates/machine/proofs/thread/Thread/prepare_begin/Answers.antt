@@ -1,5 +1,5 @@
 use Rattle.std.proofs.Common.{◌∙◌, refl, sym, ap, subst}
-use Rattle.syntax.specs.declared.numbers.Status.TheVariants.{Running}
+use Rattle.syntax.specs.declared.thread_end.Status.TheVariants.{Running}
 use Rattle.frames.specs.declared.doing.Doing.TheVariants as doing
 use Rattle.frames.proofs.Keeping.{begins_stay_open}
 use Rattle.machine.proofs.contexts.Calls.{runs_of, saved_same}

@@ -2,8 +2,8 @@ use Rattle.std.proofs.Common.{◌+◌, ◌∙◌, refl, sym, ap, subst, arith}
 use Rattle.bytecode.specs.Valid.{cells_of}
 use Rattle.norec_core.specs.declared.step.Access.TheVariants.{LoadLock, LoadWord}
 use Rattle.machine.specs.States.{told_twice}
-use Rattle.seats.specs.Rule.{IsNext}
-use Rattle.seats.specs.Setup.{Setup}
+use Rattle.shared_words.specs.Rule.{IsNext}
+use Rattle.shared_words.specs.Setup.{Setup}
 use Rattle.workers.proofs.Going.{goes_further}
 use Rattle.workers.proofs.Loading.{both_stepped, loaded_fits, lock_next, word_makeable}
 use Rattle.workers.proofs.Turns.{ready_next}

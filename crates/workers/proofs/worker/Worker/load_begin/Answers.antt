@@ -1,5 +1,5 @@
 use Rattle.std.proofs.Common.{◌≡◌, ◌∙◌, refl, sym, ap, subst, arith}
-use Rattle.syntax.specs.declared.numbers.Status.TheVariants.{Running}
+use Rattle.syntax.specs.declared.thread_end.Status.TheVariants.{Running}
 use Rattle.bytecode.specs.Code.{Configuration, effect}
 use Rattle.frames.specs.Doings.{IsDoingAt}
 use Rattle.frames.specs.declared.doing.Doing.TheVariants as doing

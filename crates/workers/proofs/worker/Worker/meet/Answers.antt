@@ -1,6 +1,6 @@
 use Rattle.std.proofs.Common.{◌∙◌, subst, sym}
-use Rattle.seats.specs.Rule.{SitsAfter}
-use Rattle.seats.specs.Setup.{Setup}
+use Rattle.shared_words.specs.Rule.{SitsAfter}
+use Rattle.shared_words.specs.Setup.{Setup}
 use Rattle.workers.proofs.Meetings.{meets_mine, meets_theirs, sits_after}
 use Rattle.workers.proofs.worker.Worker.meet.Goals as goal
 

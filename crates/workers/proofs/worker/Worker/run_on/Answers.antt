@@ -1,7 +1,7 @@
 use Rattle.std.proofs.Common.{◌≡◌, ◌-◌, Option, sym, subst, arith}
 use Rattle.std.specs.Prelude.{IfNone}
 use Rattle.frames.specs.declared.doing.Doing.{Doing}
-use Rattle.seats.specs.Setup.{Setup}
+use Rattle.shared_words.specs.Setup.{Setup}
 use Rattle.workers.specs.inner.Stepping.{CanStep, StepsBy}
 use Rattle.workers.proofs.Going.{by_more, by_none, can_after}
 use Rattle.workers.proofs.worker.Worker.run_on.Goals as goal

@@ -1,6 +1,0 @@
-use Rattle.std.proofs.Common.{◌≤◌}
-use Rattle.faults.proofs.line.shown_from.Given as goal
-
--- never behind the offset
-abbrev pub invariant-before-2 : goal.invariant-before-2
-invariant-before-2 l = l.from ≤ l.offset

@@ -1,6 +1,0 @@
-use Rattle.std.proofs.Common.{◌≤◌, length}
-use Rattle.faults.proofs.line.shown_to.Given as goal
-
--- from the offset on, and in the text
-abbrev pub invariant-behind : goal.invariant-behind
-invariant-behind l = record { from : l.offset ≤ l.to; to : l.to ≤ length l.text }

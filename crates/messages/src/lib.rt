@@ -1,0 +1,20 @@
+//! What is told of a fault: its words, what it means, the line of a source that it stands in; and beside it, to
+//! whoever wrote the source, what could stand at its place and what was meant.
+#![tactic(auto)]
+
+mod beside;
+mod calls;
+mod carets;
+mod characters;
+mod expected;
+mod explanations;
+mod formats;
+mod meant;
+mod near;
+mod table;
+mod tokens;
+
+pub use beside::hints;
+pub use carets::underline;
+pub use explanations::explanation;
+pub use table::words;

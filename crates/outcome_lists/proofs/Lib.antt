@@ -1,2 +1,0 @@
--- one step of a loop that adds outcomes
-mod Outcomes

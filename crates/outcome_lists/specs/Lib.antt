@@ -1,4 +1,0 @@
--- the text of a list of outcomes
-pub mod Lists
--- the Rust types as plain ones
-pub mod Views

@@ -1,6 +1,0 @@
-use Rattle.std.proofs.Common.{rules}
-use Rattle.seats.proofs.Moves.{meets}
-use Rattle.seats.proofs.sharing.floor.Goals as goal
-
-pub load-requires : goal.load-requires
-load-requires g c = (search rules, search rules, meets c.args.words.now.key _ _ _)

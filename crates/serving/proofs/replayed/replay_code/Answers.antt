@@ -1,6 +1,0 @@
-use Rattle.serving.proofs.Replays.{replay_of}
-use Rattle.serving.proofs.replayed.replay_code.Goals as goal
-
-pub returns-in-Ok-clause-ok : goal.returns-in-Ok-clause-ok
-returns-in-Ok-clause-ok g c = λ compiled.
-    replay_of _ c.args.compiled.now.code _ _ c.in_ok-report.report _ _ _ compiled c.in_ok-report.ensures.report c.in-Ok.ensures.made c.in-Ok.ensures.stop (rw c.unit_of.ensures at c.in-Ok.ensures.printed)

@@ -1,0 +1,6 @@
+use Rattle.serving.proofs.ReplayRuns.{replay_of}
+use Rattle.serving.proofs.replays.replay_code.Goals as goal
+
+pub returns-in-Ok-clause-ok : goal.returns-in-Ok-clause-ok
+returns-in-Ok-clause-ok g c = λ compiled.
+    replay_of _ c.args.compiled.now.code _ _ c.in_ok-report.report _ _ _ compiled c.in_ok-report.ensures.report c.in-Ok.ensures.made c.in-Ok.ensures.stop (rw c.unit_of.ensures at c.in-Ok.ensures.printed)

@@ -1,0 +1,341 @@
+//! Opens and reads the files that a request names.
+
+ghost use Rattle.std.specs.Prelude.{◌≡◌, ◌≤◌, ℕ, IfOk, IfSome, List, Option, option_map, ◌⊎◌, IfErr, string_bytes};
+ghost use Rattle.std.specs.Prelude.{take, OnOk};
+ghost use Rattle.serving.specs.Answers.{Answers, most_status};
+ghost use Rattle.serving.specs.Files.{AnswersFiles, RefusesSource, WritesForFiles, schedule_in, schedule_of};
+ghost use Rattle.serving.specs.Refused.{IsRefusedFor};
+ghost use Rattle.serving.specs.Written.{IsAskedFor, WritesPart};
+ghost use Rattle.serving.specs.Refusals.{IsRefused};
+ghost use Rattle.serving.specs.inner.Read.{IsTextOf};
+ghost use Rattle.replay.specs.declared.line.TheConstants.{MOST_STEPS};
+ghost use Rattle.replay.specs.Schedules.{counts};
+ghost use Rattle.replay.specs.Turns.{AreLinesOfOrder};
+ghost use Rattle.serving.specs.Replays.{AreLinesOf, IsSchedule, lines_of_seed};
+
+use crate::certify::open_claim;
+use crate::request::{explain, serve_program};
+use crate::tell::{
+    Detail, not_read, not_text, refuse_order, refuse_replay, refuse_schedule, too_long,
+};
+use bytecode::Code;
+use command::{Request, Steps, Task};
+use lex::MOST_BYTES;
+use meaning::MeaningFault;
+use replay::{Line, ScheduleFault, TurnsFault, read_schedule, seeded, turns};
+use std::alloc::{Allocator, Global};
+use std::io;
+use std::io::{IsTerminal, Read, Write};
+use std::sync::Wait;
+use std::thread::Threads;
+use world::WorldFault;
+
+/// Where files are opened by their names.
+pub trait Files {
+    /// A file that was opened, to be read from its beginning.
+    type File: Read + Drop;
+
+    /// The bytes of the file of each name, where they are known.
+    ghost contents: { Self → List ℕ → Option (List ℕ) };
+
+    /// Opens the file of a name.
+    fn open(&self, name: &str) -> io::Result<Self::File>
+        ensures { IfOk result (λ file. Self.File.remaining file ≡ contents self.now name.now) };
+}
+
+/// Opens the files that a request names, does what is asked over them and two writers, and gives the exit status, as
+/// `serve` does.
+///
+/// The source is opened first, and then a schedule, or an order and a report, where they are named. What cannot be
+/// opened is told of as what cannot be read. The line of a fault follows it where `err` is a terminal, or the words ask for it.
+pub fn serve_files<H: Threads + Wait + Sync, F: Files, W: Write, E: Write + IsTerminal>(
+    rt: &H,
+    alloc: Global,
+    request: &Request,
+    files: &F,
+    out: &mut W,
+    err: &mut E,
+) -> u8
+    ensures status { result ≤ most_status request.now }
+    ensures answer { AnswersFiles request.now (F.contents files.now) result (W.contents out.old) (W.contents out.new) }
+    ensures written { WritesForFiles request.now (F.contents files.now) (W.contents out.old) (W.contents out.new) }
+    ensures refused { result ≡ 1 → RefusesSource request.now (F.contents files.now) }
+    ensures untouched { result ≡ 1 → W.contents out.new ≡ W.contents out.old }
+{
+    match request {
+        Request::Program {
+            file,
+            verbose,
+            format,
+            task,
+        } => {
+            let detail = Detail::of(file.as_str(), *verbose, *format, err.is_terminal());
+            open_source(rt, alloc, file.as_str(), task, files, detail, out, err)
+        }
+        Request::Certify {
+            file,
+            verbose,
+            format,
+            claim,
+        } => {
+            let detail = Detail::of(file.as_str(), *verbose, *format, err.is_terminal());
+            open_claim(alloc, file.as_str(), claim, files, detail, out, err)
+        }
+        Request::Explain { number } => explain(*number, out, err),
+    }
+}
+
+/// Opens the source, and then does what is asked.
+fn open_source<H: Threads + Wait + Sync, F: Files, W: Write, E: Write>(
+    rt: &H,
+    alloc: Global,
+    file: &str,
+    task: &Task,
+    files: &F,
+    detail: Detail<'_>,
+    out: &mut W,
+    err: &mut E,
+) -> u8
+    ensures status { result ≤ 4 }
+    ensures answer { IfSome (F.contents files.now file.now)
+        (λ bytes. Answers task.now (schedule_in (F.contents files.now) (schedule_of task.now)) bytes result
+        (W.contents out.old) (W.contents out.new)) }
+    ensures written { IfSome (F.contents files.now file.now)
+        (λ bytes. WritesPart (IsAskedFor task.now (schedule_in (F.contents files.now) (schedule_of task.now)) bytes)
+        (W.contents out.old) (W.contents out.new)) }
+    ensures refused { result ≡ 1 → IfSome (F.contents files.now file.now) (λ bytes. IsRefusedFor task.now bytes) }
+    ensures untouched { result ≡ 1 → W.contents out.new ≡ W.contents out.old }
+{
+    match files.open(file) {
+        Ok(source) => open_schedule(rt, alloc, file, task, source, files, detail, out, err),
+        Err(error) => not_read(file, &error, detail, err),
+    }
+}
+
+/// Opens the schedule that a task names, if it names one, and then does what is asked.
+fn open_schedule<H: Threads + Wait + Sync, F: Files, R: Read + Drop, W: Write, E: Write>(
+    rt: &H,
+    alloc: Global,
+    file: &str,
+    task: &Task,
+    source: R,
+    files: &F,
+    detail: Detail<'_>,
+    out: &mut W,
+    err: &mut E,
+) -> u8
+    ensures status { result ≤ 4 }
+    ensures answer { IfSome (R.remaining source)
+        (λ bytes. Answers task.now (schedule_in (F.contents files.now) (schedule_of task.now)) bytes result
+        (W.contents out.old) (W.contents out.new)) }
+    ensures written { IfSome (R.remaining source)
+        (λ bytes. WritesPart (IsAskedFor task.now (schedule_in (F.contents files.now) (schedule_of task.now)) bytes)
+        (W.contents out.old) (W.contents out.new)) }
+    ensures refused { result ≡ 1 → IfSome (R.remaining source) (λ bytes. IsRefusedFor task.now bytes) }
+    ensures untouched { result ≡ 1 → W.contents out.new ≡ W.contents out.old }
+{
+    match schedule_of(task) {
+        Some(name) => match files.open(name) {
+            Ok(schedule) => serve_program(
+                rt, alloc, file, task, source, schedule, detail, out, err,
+            ),
+            Err(error) => not_read(name, &error, detail, err),
+        },
+        None => serve_program(
+            rt,
+            alloc,
+            file,
+            task,
+            source,
+            b"".as_slice(),
+            detail,
+            out,
+            err,
+        ),
+    }
+}
+
+/// The name of the schedule that a task reads, if it reads one.
+fn schedule_of(task: &Task) -> Option<&str>
+    ensures { option_map (λ s. s.now) result ≡ schedule_of task.now }
+{
+    match task {
+        Task::Replay {
+            steps: Steps::Schedule { file },
+            ..
+        }
+        | Task::Timeline {
+            steps: Steps::Schedule { file },
+            ..
+        }
+        | Task::Picture {
+            steps: Steps::Schedule { file },
+            ..
+        } => Some(file.as_str()),
+        _ => None,
+    }
+}
+
+/// Reads a source. What is wrong with it is told, and the error is then the exit status.
+pub(crate) fn text_of<A: Allocator, R: Read + Drop, E: Write>(
+    alloc: A,
+    file: &str,
+    source: R,
+    detail: Detail<'_>,
+    err: &mut E,
+) -> Result<String<A>, u8>
+    ensures ok { IfOk result (λ s. IfSome (R.remaining source) (λ bytes. string_bytes s ≡ bytes)) }
+    ensures status { IfErr result (λ s. (s ≡ 1) × IfSome (R.remaining source) (λ bytes. IsRefused bytes) ⊎ (s ≡ 2)
+        ⊎ (s ≡ 4)) }
+{
+    match read_source(alloc, source) {
+        Ok(SourceText::Text(text)) => Ok(text),
+        Ok(SourceText::NotText) => Err(not_text(file, err)),
+        Ok(SourceText::TooLong) => Err(too_long(detail, err)),
+        Err(error) => Err(not_read(file, &error, detail, err)),
+    }
+}
+
+/// One byte more than a source may have.
+const BEYOND_MOST_BYTES: u64 = MOST_BYTES as u64 + 1;
+
+/// What a file holds.
+#[derive(Drop)]
+pub(crate) enum SourceText<A: Allocator> {
+    Text(String<A>),
+    NotText,
+    TooLong,
+}
+
+/// Reads to the end, or to one byte past the most that a source may have.
+fn read_bytes<A: Allocator, R: Read + Drop>(alloc: A, source: R) -> io::Result<Vec<u8, A>>
+    ensures { IfOk result (λ v. IfSome (R.remaining source) (λ bytes. v.items ≡ take BEYOND_MOST_BYTES bytes)) }
+{
+    let mut bytes = Vec::new(alloc);
+    source.take(BEYOND_MOST_BYTES).read_to_end(&mut bytes)?;
+    Ok(bytes)
+}
+
+/// What bytes are as a source.
+fn source_of<A: Allocator>(bytes: Vec<u8, A>) -> SourceText<A>
+    ensures { IsTextOf bytes.items result }
+{
+    match String::from_utf8(bytes) {
+        Ok(text) => SourceText::Text(text),
+        Err(_) => SourceText::NotText,
+    }
+}
+
+/// Reads a source: all of it, where it is a text.
+fn read_source<A: Allocator, R: Read + Drop>(alloc: A, source: R) -> io::Result<SourceText<A>>
+    ensures { IfOk result (λ s. IfSome (R.remaining source) (λ bytes. IsTextOf bytes s)) }
+{
+    let bytes = read_bytes(alloc, source)?;
+    if bytes.len() > MOST_BYTES {
+        Ok(SourceText::TooLong)
+    } else {
+        Ok(source_of(bytes))
+    }
+}
+
+/// Reads a text to its end. There is none where the bytes are not UTF-8.
+fn read_text<A: Allocator, R: Read + Drop>(alloc: A, mut reader: R) -> io::Result<Option<String<A>>>
+    ensures { IfOk result (λ o. IfSome o (λ s. IfSome (R.remaining reader) (λ bytes. string_bytes s ≡ bytes))) }
+{
+    let mut bytes = Vec::new(alloc);
+    reader.read_to_end(&mut bytes)?;
+    Ok(String::from_utf8(bytes).ok())
+}
+
+/// The lines of a schedule, or of a seed. What is wrong with them is told, and the error is then the exit status.
+pub(crate) fn lines_of<A: Allocator + Copy, S: Read + Drop, E: Write>(
+    alloc: A,
+    code: &Code<A>,
+    threads: u32,
+    steps: &Steps,
+    schedule: S,
+    detail: Detail<'_>,
+    err: &mut E,
+) -> Result<Vec<Line, A>, u8>
+    ensures lines { IfOk result (λ v. AreLinesOf steps.now code.now threads (S.remaining schedule) v.items) }
+    ensures status { IfErr result (λ s. (s ≡ 2) ⊎ (s ≡ 4)) }
+{
+    match steps {
+        Steps::Schedule { file } => lines_read(alloc, file.as_str(), schedule, detail, err),
+        Steps::Seed { seed, count } => lines_picked(alloc, *seed, threads, *count, detail, err),
+        Steps::Order { order } => {
+            lines_in_order(alloc, code, threads, order.as_slice(), detail, err)
+        }
+    }
+}
+
+/// The lines of an order of whole transactions.
+pub(crate) fn lines_in_order<A: Allocator + Copy, E: Write>(
+    alloc: A,
+    code: &Code<A>,
+    threads: u32,
+    order: &[u32],
+    detail: Detail<'_>,
+    err: &mut E,
+) -> Result<Vec<Line, A>, u8>
+    ensures lines { IfOk result (λ v. AreLinesOfOrder code.now threads order.now v.items) }
+    ensures few { IfOk result (λ v. counts v.items ≤ MOST_STEPS) }
+    ensures status { IfErr result (λ s. (s ≡ 2) ⊎ (s ≡ 4)) }
+{
+    match turns(alloc, code, threads, order) {
+        Ok(found) => Ok(found),
+        Err(TurnsFault::OutOfMemory) => Err(refuse_replay(WorldFault::OutOfMemory, err)),
+        Err(TurnsFault::WrongThreads) => Err(refuse_replay(WorldFault::WrongThreads, err)),
+        Err(TurnsFault::Stranger) => Err(refuse_order(MeaningFault::Stranger, detail, err)),
+        Err(TurnsFault::TooLong) => Err(refuse_schedule(
+            alloc,
+            "",
+            ScheduleFault::TooLong,
+            detail,
+            err,
+        )),
+    }
+}
+
+/// The lines of a schedule.
+fn lines_read<A: Allocator + Copy, S: Read + Drop, E: Write>(
+    alloc: A,
+    file: &str,
+    schedule: S,
+    detail: Detail<'_>,
+    err: &mut E,
+) -> Result<Vec<Line, A>, u8>
+    ensures lines { IfOk result (λ v. IsSchedule (S.remaining schedule) v.items) }
+    ensures status { IfErr result (λ s. (s ≡ 2) ⊎ (s ≡ 4)) }
+{
+    match read_text(alloc, schedule) {
+        Ok(Some(text)) => match read_schedule(alloc, text.as_str()) {
+            Ok(found) => Ok(found),
+            Err(fault) => Err(refuse_schedule(alloc, text.as_str(), fault, detail, err)),
+        },
+        Ok(None) => Err(not_text(file, err)),
+        Err(error) => Err(not_read(file, &error, detail, err)),
+    }
+}
+
+/// The lines of a seed.
+pub(crate) fn lines_picked<A: Allocator + Copy, E: Write>(
+    alloc: A,
+    seed: u32,
+    threads: u32,
+    count: u32,
+    detail: Detail<'_>,
+    err: &mut E,
+) -> Result<Vec<Line, A>, u8>
+    ensures lines { IfOk result (λ v. v.items ≡ lines_of_seed seed threads count) }
+    ensures few { OnOk result (count ≤ MOST_STEPS) }
+    ensures status { IfErr result (λ s. (s ≡ 2) ⊎ (s ≡ 4)) }
+{
+    if threads == 0 {
+        return Err(refuse_replay(WorldFault::WrongThreads, err));
+    }
+    match seeded(alloc, u64::from(seed), threads, count) {
+        Ok(found) => Ok(found),
+        Err(fault) => Err(refuse_schedule(alloc, "", fault, detail, err)),
+    }
+}

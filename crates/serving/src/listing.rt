@@ -1,0 +1,45 @@
+//! `txc listing`: the code of a source.
+
+ghost use Rattle.std.specs.Prelude.{◌≡◌, ◌≤◌, IfOk, IfErr, string_bytes};
+ghost use Rattle.serving.specs.Listings.{ShowsListing, PrintsListing};
+ghost use Rattle.serving.specs.Limits.{HasNoCode, IsFaultOfText};
+ghost use Rattle.serving.specs.Written.{WritesPart};
+
+use crate::print::print_text;
+use crate::program::{SourceFault, compile};
+use crate::tell::{Detail, refuse};
+use bytecode::listing;
+use std::alloc::Allocator;
+use std::io::Write;
+
+/// Lists the code of a source.
+pub(crate) fn list<A: Allocator + Copy, W: Write, E: Write>(
+    alloc: A,
+    text: &str,
+    detail: Detail<'_>,
+    out: &mut W,
+    err: &mut E,
+) -> u8
+    ensures status { result ≤ 4 }
+    ensures listing { PrintsListing text.now result (W.contents out.old) (W.contents out.new) }
+    ensures refused { result ≡ 1 → HasNoCode text.now }
+    ensures written { WritesPart (ShowsListing text.now) (W.contents out.old) (W.contents out.new) }
+    ensures untouched { result ≡ 1 → W.contents out.new ≡ W.contents out.old }
+{
+    match list_source(alloc, text) {
+        Ok(listed) => print_text(listed.as_str().as_bytes(), out, err),
+        Err(fault) => refuse(alloc, text, fault, detail, err),
+    }
+}
+
+/// The listing of the code of a source's text.
+pub fn list_source<A: Allocator + Copy>(alloc: A, text: &str) -> Result<String<A>, SourceFault>
+    ensures ok { IfOk result (λ s. ShowsListing text.now (string_bytes s)) }
+    ensures err { IfErr result (λ f. IsFaultOfText text.now f) }
+{
+    let compiled = compile(alloc, text)?;
+    match listing(alloc, &compiled.code) {
+        Ok(listed) => Ok(listed),
+        Err(_) => Err(SourceFault::OutOfMemory),
+    }
+}

@@ -1,0 +1,102 @@
+//! `txc replay --picture`: the picture of a replay.
+
+ghost use Rattle.std.specs.Prelude.{◌≡◌, ◌≢◌, ◌≤◌, ◌⊎◌, IfSome, None};
+ghost use Rattle.replay.specs.Replays.{simulation_after, timeline_of};
+ghost use Rattle.report.specs.Views.{printed_of};
+ghost use Rattle.picture.specs.Replayed.{IsDrawn};
+ghost use Rattle.serving.specs.Pictures.{PrintsPicture, ReplaysDrawn};
+ghost use Rattle.serving.specs.Limits.{HasNoCode};
+ghost use Rattle.serving.specs.Written.{IsReplayPicture, WritesPart};
+
+use crate::program::{Compiled, unit_of};
+use crate::replays::{Replayed, print_for_replay, replay_text};
+use crate::tell::{Detail, out_of_memory};
+use command::Steps;
+use picture::replay_picture;
+use std::alloc::Allocator;
+use std::io::{Read, Write};
+use world::StopReason;
+
+/// Replays steps of a source's threads, and draws them.
+pub(crate) fn draw<A: Allocator + Copy, S: Read + Drop, W: Write, E: Write>(
+    alloc: A,
+    file: &str,
+    text: &str,
+    threads: u32,
+    steps: &Steps,
+    schedule: S,
+    detail: Detail<'_>,
+    out: &mut W,
+    err: &mut E,
+) -> u8
+    ensures status { result ≤ 4 }
+    ensures picture { PrintsPicture
+        (λ svg shown. ReplaysDrawn threads steps.now (S.remaining schedule) text.now svg shown) result
+        (W.contents out.old) (W.contents out.new) }
+    ensures refused { result ≡ 1 → HasNoCode text.now }
+    ensures written { WritesPart (IsReplayPicture threads steps.now (S.remaining schedule) text.now)
+        (W.contents out.old) (W.contents out.new) }
+    ensures untouched { result ≡ 1 → W.contents out.new ≡ W.contents out.old }
+{
+    match replay_text(alloc, text, threads, steps, schedule, detail, err) {
+        Ok((compiled, replayed)) => {
+            print_picture(alloc, file, &compiled, threads, &replayed, detail, out, err)
+        }
+        Err(status) => status,
+    }
+}
+
+/// The picture of a replay. There is none where memory was refused, for it or for a step: no picture tells of that.
+fn picture_of<A: Allocator + Copy>(
+    alloc: A,
+    file: &str,
+    compiled: &Compiled<A>,
+    threads: u32,
+    replayed: &Replayed<A>,
+) -> Option<Vec<u8, A>>
+    ensures { IfSome result
+        (λ v. IsDrawn compiled.now.code
+        (timeline_of (simulation_after compiled.now.code threads replayed.now.made.items))
+        v.items) }
+{
+    match replayed.stop {
+        Some(stop) if stop.reason == StopReason::OutOfMemory => None,
+        _ => replay_picture(
+            alloc,
+            unit_of(&compiled.accepted),
+            &compiled.code,
+            threads,
+            replayed.made.as_slice(),
+            file,
+        ),
+    }
+}
+
+/// Prints the picture of a replay. Gives the exit status as `print_for_replay` does.
+fn print_picture<A: Allocator + Copy, W: Write, E: Write>(
+    alloc: A,
+    file: &str,
+    compiled: &Compiled<A>,
+    threads: u32,
+    replayed: &Replayed<A>,
+    detail: Detail<'_>,
+    out: &mut W,
+    err: &mut E,
+) -> u8
+    ensures status { result ≤ 4 }
+    ensures whole { (result ≡ 0) ⊎ (result ≡ 3) → replayed.now.stop ≡ None }
+    ensures picture { PrintsPicture
+        (λ svg shown. IsDrawn compiled.now.code
+        (timeline_of (simulation_after compiled.now.code threads replayed.now.made.items))
+        svg × (shown ≡ printed_of replayed.now.printed)) result (W.contents out.old) (W.contents out.new) }
+    ensures written { WritesPart
+        (λ written. IsDrawn compiled.now.code
+        (timeline_of (simulation_after compiled.now.code threads replayed.now.made.items))
+        written) (W.contents out.old) (W.contents out.new) }
+    ensures not_refused { result ≢ 1 }
+{
+    match picture_of(alloc, file, compiled, threads, replayed) {
+        Some(svg) => print_for_replay(svg.as_slice(), replayed, detail, out, err),
+        None => out_of_memory(err),
+    }
+}

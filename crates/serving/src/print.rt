@@ -1,0 +1,138 @@
+//! Printing on standard output, and the exit statuses.
+
+ghost use Rattle.std.specs.Prelude.{◌≡◌, OnOk, ◌≢◌, ◌≤◌, ◌⊎◌};
+ghost use Rattle.std.specs.List.{list_any};
+ghost use Rattle.report.specs.Views.{printed_of};
+ghost use Rattle.serving.specs.Reports.{exit_status, is_stopped, is_trapped};
+ghost use Rattle.std.specs.Io.KnownBytes.{Appends};
+ghost use Rattle.serving.specs.Written.{AppendsBeginning, WritesPart};
+ghost use Rattle.report.specs.Report.{report_text};
+ghost use Rattle.serving.specs.inner.Printing.{PrintsShown};
+
+use crate::tell::{cannot_write, out_of_memory};
+use report::{End, Printed, ThreadShown, report_text};
+use std::alloc::Allocator;
+use std::io;
+use std::io::{ErrorKind, Write};
+
+/// The exit status where all is well: threads ended, a source is accepted, help was told.
+pub(crate) const ENDED: u8 = 0;
+
+/// The exit status where the source is refused.
+pub(crate) const REFUSED: u8 = 1;
+
+/// The exit status where the words or a file are of no use.
+pub(crate) const UNUSABLE: u8 = 2;
+
+/// The exit status where a thread trapped.
+pub(crate) const TRAPPED: u8 = 3;
+
+/// The exit status where the program could not do its work: memory or output was refused, or a thread went no further.
+pub(crate) const STOPPED: u8 = 4;
+
+/// Whether a thread has neither ended nor trapped.
+fn is_stopped(end: End) -> bool
+    ensures { result ≡ is_stopped end }
+{
+    !matches!(end, End::Ended | End::Trapped(_))
+}
+
+/// Whether a thread has trapped.
+fn is_trapped(end: End) -> bool
+    ensures { result ≡ is_trapped end }
+{
+    matches!(end, End::Trapped(_))
+}
+
+/// Whether some thread has neither ended nor trapped.
+fn has_stopped<A: Allocator>(threads: &[ThreadShown<A>]) -> bool
+    ensures { result ≡ list_any (λ t. is_stopped t.end) threads.now }
+{
+    threads.iter().any(|thread| is_stopped(thread.end))
+}
+
+/// Whether some thread has trapped.
+pub(crate) fn has_trapped<A: Allocator>(threads: &[ThreadShown<A>]) -> bool
+    ensures { result ≡ list_any (λ t. is_trapped t.end) threads.now }
+{
+    threads.iter().any(|thread| is_trapped(thread.end))
+}
+
+/// The exit status where a report was printed: by the ends of its threads.
+pub(crate) fn status_of<A: Allocator>(printed: &Printed<A>) -> u8
+    ensures { result ≡ exit_status (printed_of printed.now) }
+{
+    if has_stopped(printed.threads.as_slice()) {
+        STOPPED
+    } else if has_trapped(printed.threads.as_slice()) {
+        TRAPPED
+    } else {
+        ENDED
+    }
+}
+
+/// Writes a text, as `write_all` does. Where that fails a beginning of it is written.
+fn write_text<W: Write>(text: &[u8], out: &mut W) -> io::Result<()>
+    ensures whole { OnOk result (Appends (W.contents out.old) (W.contents out.new) text.now) }
+    ensures part { AppendsBeginning (W.contents out.old) (W.contents out.new) text.now }
+{
+    let mut written = 0;
+    'turns: for _ in 0..u64::MAX {
+        if written >= text.len() {
+            return Ok(());
+        }
+        match out.write(&text[written..]) {
+            Ok(0) => return Err(io::Error::from(ErrorKind::WriteZero)),
+            Ok(count) => written += count,
+            Err(error) => {
+                if error.kind() != ErrorKind::Interrupted {
+                    return Err(error);
+                }
+            }
+        }
+    }
+    Err(io::Error::from(ErrorKind::Interrupted))
+}
+
+/// Writes a text and flushes the writer.
+pub(crate) fn print<W: Write>(text: &[u8], out: &mut W) -> io::Result<()>
+    ensures whole { OnOk result (Appends (W.contents out.old) (W.contents out.new) text.now) }
+    ensures part { AppendsBeginning (W.contents out.old) (W.contents out.new) text.now }
+{
+    write_text(text, out)?;
+    out.flush()
+}
+
+/// Prints a text, and gives the exit status.
+pub(crate) fn print_text<W: Write, E: Write>(text: &[u8], out: &mut W, err: &mut E) -> u8
+    ensures status { (result ≡ 0) ⊎ (result ≡ 4) }
+    ensures printed { result ≡ 0 → Appends (W.contents out.old) (W.contents out.new) text.now }
+    ensures written { AppendsBeginning (W.contents out.old) (W.contents out.new) text.now }
+{
+    match print(text, out) {
+        Ok(()) => ENDED,
+        Err(_) => cannot_write(err),
+    }
+}
+
+/// Prints a report, and gives the exit status by the ends of its threads.
+pub(crate) fn print_report<A: Allocator + Copy, W: Write, E: Write>(
+    alloc: A,
+    printed: &Printed<A>,
+    out: &mut W,
+    err: &mut E,
+) -> u8
+    ensures status { result ≤ 4 }
+    ensures report { PrintsShown (printed_of printed.now) result (W.contents out.old) (W.contents out.new) }
+    ensures written { WritesPart (λ written. written ≡ report_text (printed_of printed.now)) (W.contents out.old)
+        (W.contents out.new) }
+    ensures not_refused { result ≢ 1 }
+{
+    match report_text(alloc, printed) {
+        Ok(report) => match print(report.as_slice(), out) {
+            Ok(()) => status_of(printed),
+            Err(_) => cannot_write(err),
+        },
+        Err(_) => out_of_memory(err),
+    }
+}

@@ -1,0 +1,369 @@
+//! `txc replay`: steps of a source's threads, by a schedule or by a seed; what is shown of each step.
+
+ghost use Rattle.std.specs.Prelude.{◌≡◌, ◌≢◌, ◌≤◌, ◌⊎◌, ◌++◌, IfErr, IfOk, IfSome, None, ◌<◌, ◌↔◌, Err, map};
+ghost use Rattle.std.specs.Prelude.{string_bytes};
+ghost use Rattle.std.specs.Io.KnownBytes.{Appends};
+ghost use Rattle.replay.specs.Replays.{simulation_after, timeline_of};
+ghost use Rattle.report.specs.Report.{report_text};
+ghost use Rattle.report.specs.Timeline.{timeline_text};
+ghost use Rattle.report.specs.Views.{printed_of, thread_of};
+ghost use Rattle.serving.specs.Checks.{Accepts};
+ghost use Rattle.serving.specs.Orders.{RunsInSomeOrder};
+ghost use Rattle.serving.specs.Limits.{HasNoCode};
+ghost use Rattle.serving.specs.Replays.{IsReplayOfText, PrintsSchedule, PrintsTimeline, Replays, ReplaysShown};
+ghost use Rattle.serving.specs.Replays.{behind_events, lines_of_seed, IsReplayOf, thread_found};
+ghost use Rattle.serving.specs.Reports.{PrintsReport, exit_status};
+ghost use Rattle.serving.specs.Written.{AppendsBeginning, IsReplayReport, IsReplayTimeline, IsSeedSchedule, WritesPart};
+ghost use Rattle.serving.specs.inner.Printing.{PrintsBehind, PrintsShown};
+ghost use Rattle.syntax.specs.Views.{program_of};
+ghost use Rattle.world.specs.Reports.{threads_of};
+ghost use Rattle.serving.specs.Codes.{IsCodeOf};
+ghost use Rattle.serving.specs.Replays as spec;
+ghost use Rattle.serving.specs.inner.Replayed.{report_shown};
+
+use crate::files::{lines_of, lines_picked};
+use crate::globals::globals_shown;
+use crate::laws::reports_are_orders;
+use crate::print::{print, print_text, status_of};
+use crate::program::{Compiled, compile, unit_of};
+use crate::tell::{Detail, cannot_write, out_of_memory, refuse, refuse_replay, refuse_step};
+use bytecode::Code;
+use command::Steps;
+use containers::Items;
+use replay::{Line, replay, timeline, write_schedule};
+use report::{End, Printed, ThreadShown, report_text, timeline_text};
+use std::alloc::{AllocError, Allocator, Global};
+use std::io::{Read, Write};
+use syntax::tree::Unit;
+use world::{Report, WorldEnd, WorldFault, WorldStop};
+
+/// Replays steps of a source's threads and prints their report.
+pub(crate) fn replay_source<A: Allocator + Copy, S: Read + Drop, W: Write, E: Write>(
+    alloc: A,
+    text: &str,
+    threads: u32,
+    steps: &Steps,
+    schedule: S,
+    detail: Detail<'_>,
+    out: &mut W,
+    err: &mut E,
+) -> u8
+    ensures status { result ≤ 4 }
+    ensures report { PrintsReport (λ shown. RunsInSomeOrder threads text.now (behind_events shown) × Accepts text.now
+        × Replays threads steps.now (S.remaining schedule) text.now shown) result (W.contents out.old)
+        (W.contents out.new) }
+    ensures refused { result ≡ 1 → HasNoCode text.now }
+    ensures written { WritesPart (IsReplayReport threads steps.now (S.remaining schedule) text.now) (W.contents out.old)
+        (W.contents out.new) }
+    ensures untouched { result ≡ 1 → W.contents out.new ≡ W.contents out.old }
+{
+    reports_are_orders();
+    match replay_text(alloc, text, threads, steps, schedule, detail, err) {
+        Ok((_compiled, replayed)) => print_replay(alloc, &replayed, detail, out, err),
+        Err(status) => status,
+    }
+}
+
+/// Replays steps of a source's threads, and prints what is shown of each and their report.
+pub(crate) fn show_steps<A: Allocator + Copy, S: Read + Drop, W: Write, E: Write>(
+    alloc: A,
+    text: &str,
+    threads: u32,
+    steps: &Steps,
+    schedule: S,
+    detail: Detail<'_>,
+    out: &mut W,
+    err: &mut E,
+) -> u8
+    ensures status { result ≤ 4 }
+    ensures timeline { PrintsTimeline (λ lines shown. RunsInSomeOrder threads text.now (behind_events shown)
+        × Accepts text.now × ReplaysShown threads steps.now (S.remaining schedule) text.now lines shown) result
+        (W.contents out.old) (W.contents out.new) }
+    ensures refused { result ≡ 1 → HasNoCode text.now }
+    ensures written { WritesPart (IsReplayTimeline threads steps.now (S.remaining schedule) text.now)
+        (W.contents out.old) (W.contents out.new) }
+    ensures untouched { result ≡ 1 → W.contents out.new ≡ W.contents out.old }
+{
+    reports_are_orders();
+    match replay_text(alloc, text, threads, steps, schedule, detail, err) {
+        Ok((compiled, replayed)) => {
+            print_timeline(alloc, &compiled.code, threads, &replayed, detail, out, err)
+        }
+        Err(status) => status,
+    }
+}
+
+/// Replays steps of a source's threads. What is wrong is told, and the error is then the exit status.
+pub(crate) fn replay_text<A: Allocator + Copy, S: Read + Drop, E: Write>(
+    alloc: A,
+    text: &str,
+    threads: u32,
+    steps: &Steps,
+    schedule: S,
+    detail: Detail<'_>,
+    err: &mut E,
+) -> Result<(Compiled<A>, Replayed<A>), u8>
+    ensures ok { IfOk result
+        (λ r. IsReplayOfText threads steps.now (S.remaining schedule) text.now r.0.code r.1.made.items r.1.stop
+        (printed_of r.1.printed)) }
+    ensures status { IfErr result (λ s. (s ≡ 1) × HasNoCode text.now ⊎ (s ≡ 2) ⊎ (s ≡ 4)) }
+{
+    match compile(alloc, text) {
+        Ok(compiled) => match lines_of(
+            alloc,
+            &compiled.code,
+            threads,
+            steps,
+            schedule,
+            detail,
+            err,
+        ) {
+            Ok(found) => match replay_code(alloc, &compiled, threads, found.as_slice()) {
+                Ok(replayed) => Ok((compiled, replayed)),
+                Err(fault) => Err(refuse_replay(fault, err)),
+            },
+            Err(status) => Err(status),
+        },
+        Err(fault) => Err(refuse(alloc, text, fault, detail, err)),
+    }
+}
+
+/// Prints the steps of a seed as a schedule.
+pub(crate) fn print_schedule<A: Allocator + Copy, W: Write, E: Write>(
+    alloc: A,
+    text: &str,
+    threads: u32,
+    seed: u32,
+    count: u32,
+    detail: Detail<'_>,
+    out: &mut W,
+    err: &mut E,
+) -> u8
+    ensures status { result ≤ 4 }
+    ensures schedule { PrintsSchedule (lines_of_seed seed threads count) text.now result (W.contents out.old)
+        (W.contents out.new) }
+    ensures refused { result ≡ 1 → HasNoCode text.now }
+    ensures written { WritesPart (IsSeedSchedule seed threads count text.now) (W.contents out.old)
+        (W.contents out.new) }
+    ensures untouched { result ≡ 1 → W.contents out.new ≡ W.contents out.old }
+{
+    match compile(alloc, text) {
+        Ok(_compiled) => match lines_picked(alloc, seed, threads, count, detail, err) {
+            Ok(found) => match write_schedule(alloc, found.as_slice()) {
+                Ok(written) => print_text(written.as_str().as_bytes(), out, err),
+                Err(_) => out_of_memory(err),
+            },
+            Err(status) => status,
+        },
+        Err(fault) => refuse(alloc, text, fault, detail, err),
+    }
+}
+
+/// Prints what is shown of a replay, and gives the exit status: by the ends of its threads, or by a step that was not
+/// made.
+pub(crate) fn print_for_replay<A: Allocator, W: Write, E: Write>(
+    text: &[u8],
+    replayed: &Replayed<A>,
+    detail: Detail<'_>,
+    out: &mut W,
+    err: &mut E,
+) -> u8
+    ensures status { result ≤ 4 }
+    ensures whole { (result ≡ 0) ⊎ (result ≡ 3) → replayed.now.stop ≡ None }
+    ensures printed { (result ≡ 0) ⊎ (result ≡ 3) → (result ≡ exit_status (printed_of replayed.now.printed))
+        × Appends (W.contents out.old) (W.contents out.new) text.now }
+    ensures written { AppendsBeginning (W.contents out.old) (W.contents out.new) text.now }
+    ensures not_refused { result ≢ 1 }
+{
+    match print(text, out) {
+        Ok(()) => match replayed.stop {
+            Some(why) => refuse_step(why, detail, err),
+            None => status_of(&replayed.printed),
+        },
+        Err(_) => cannot_write(err),
+    }
+}
+
+/// Prints the report of a replay. Gives the exit status as `print_for_replay` does.
+fn print_replay<A: Allocator + Copy, W: Write, E: Write>(
+    alloc: A,
+    replayed: &Replayed<A>,
+    detail: Detail<'_>,
+    out: &mut W,
+    err: &mut E,
+) -> u8
+    ensures status { result ≤ 4 }
+    ensures whole { (result ≡ 0) ⊎ (result ≡ 3) → replayed.now.stop ≡ None }
+    ensures report { PrintsShown (printed_of replayed.now.printed) result (W.contents out.old) (W.contents out.new) }
+    ensures written { WritesPart (λ written. written ≡ report_text (printed_of replayed.now.printed))
+        (W.contents out.old) (W.contents out.new) }
+    ensures not_refused { result ≢ 1 }
+{
+    match report_text(alloc, &replayed.printed) {
+        Ok(report) => print_for_replay(report.as_slice(), replayed, detail, out, err),
+        Err(_) => out_of_memory(err),
+    }
+}
+
+/// What is shown of each step of a replay, and behind it the report. There is no text where memory was refused.
+fn timeline_and_report<A: Allocator + Copy>(
+    alloc: A,
+    code: &Code<A>,
+    threads: u32,
+    replayed: &Replayed<A>,
+) -> Option<Vec<u8, A>>
+    ensures { IfSome result
+        (λ v. v.items ≡ timeline_text code.now (timeline_of (simulation_after code.now threads replayed.now.made.items))
+        ++ report_text (printed_of replayed.now.printed)) }
+{
+    // The steps were made once, so where they have no lines memory was refused.
+    let mut text = lines_shown(alloc, code, threads, replayed.made.as_slice())?;
+    let Ok(report) = report_text(alloc, &replayed.printed) else {
+        return None;
+    };
+    match text.extend_from_slice(report.as_slice()) {
+        Ok(()) => Some(text),
+        Err(_) => None,
+    }
+}
+
+/// Prints what is shown of each step of a replay, and then its report. Gives the exit status as `print_for_replay`
+/// does.
+fn print_timeline<A: Allocator + Copy, W: Write, E: Write>(
+    alloc: A,
+    code: &Code<A>,
+    threads: u32,
+    replayed: &Replayed<A>,
+    detail: Detail<'_>,
+    out: &mut W,
+    err: &mut E,
+) -> u8
+    ensures status { result ≤ 4 }
+    ensures whole { (result ≡ 0) ⊎ (result ≡ 3) → replayed.now.stop ≡ None }
+    ensures report { PrintsBehind
+        (timeline_text code.now (timeline_of (simulation_after code.now threads replayed.now.made.items)))
+        (printed_of replayed.now.printed) result (W.contents out.old) (W.contents out.new) }
+    ensures written { WritesPart
+        (λ written. written ≡ timeline_text code.now
+        (timeline_of (simulation_after code.now threads replayed.now.made.items))
+        ++ report_text (printed_of replayed.now.printed)) (W.contents out.old) (W.contents out.new) }
+    ensures not_refused { result ≢ 1 }
+{
+    match timeline_and_report(alloc, code, threads, replayed) {
+        Some(text) => print_for_replay(text.as_slice(), replayed, detail, out, err),
+        None => out_of_memory(err),
+    }
+}
+
+/// What a replay leaves.
+#[derive(Drop)]
+pub struct Replayed<A: Allocator = Global> {
+    pub printed: Printed<A>,
+    /// The step that was not made, if one was not.
+    pub stop: Option<WorldStop>,
+    /// The thread of each step that was made.
+    pub made: Vec<u32, A>,
+}
+
+/// Makes the steps that lines name, with so many threads of a program's code. What it promises is of code that means
+/// the program and has its globals. A fault is `WrongThreads` exactly where the number is not 1 to 64, and else
+/// `OutOfMemory`.
+pub fn replay_code<A: Allocator + Copy>(
+    alloc: A,
+    compiled: &Compiled<A>,
+    threads: u32,
+    lines: &[Line],
+) -> Result<Replayed<A>, WorldFault>
+    ensures ok { IfOk result (λ r. IsCodeOf (program_of compiled.now.accepted.safe.typed.unit) compiled.now.code
+        → IsReplayOf (program_of compiled.now.accepted.safe.typed.unit) compiled.now.code threads lines.now r.made.items
+        r.stop (printed_of r.printed)) }
+    ensures wrong { (result ≡ Err WorldFault.WrongThreads) ↔ ((threads ≡ 0) ⊎ (64 < threads)) }
+{
+    let report = replay(alloc, &compiled.code, threads, lines)?;
+    match shown_after_replay(alloc, unit_of(&compiled.accepted), report) {
+        Ok(replayed) => Ok(replayed),
+        Err(_) => Err(WorldFault::OutOfMemory),
+    }
+}
+
+/// What the report of a replay shows.
+fn shown_after_replay<A: Allocator + Copy>(
+    alloc: A,
+    unit: &Unit<A>,
+    report: Report<A>,
+) -> Result<Replayed<A>, AllocError>
+    ensures printed { IfOk result (λ r. printed_of r.printed ≡ report_shown (program_of unit.now) report) }
+    ensures stop { IfOk result (λ r. r.stop ≡ report.stop) }
+    ensures made { IfOk result (λ r. r.made.items ≡ report.trace.items) }
+{
+    let globals = globals_shown(alloc, unit, report.words.as_slice())?;
+    let threads = threads_shown(alloc, report.threads)?;
+    Ok(Replayed {
+        printed: Printed {
+            events: Some(Items::from_vec(report.events)),
+            threads,
+            globals,
+            holder: report.holder,
+        },
+        stop: report.stop,
+        made: report.trace,
+    })
+}
+
+/// Threads, by how each is found and what it has printed.
+fn threads_shown<A: Allocator + Copy>(
+    alloc: A,
+    found: Vec<(WorldEnd, String<A>), A>,
+) -> Result<Items<ThreadShown<A>, A>, AllocError>
+    ensures { IfOk result (λ v. map thread_of v ≡ map thread_found (threads_of found.items)) }
+{
+    let mut threads = Items::new(alloc);
+    'found: for thread in found {
+        threads.push(thread_shown(thread))?;
+    }
+    Ok(threads)
+}
+
+/// A thread, by how it is found and what it has printed.
+fn thread_shown<A: Allocator>(found: (WorldEnd, String<A>)) -> ThreadShown<A>
+    ensures { thread_of result ≡ thread_found (found.0, string_bytes found.1) }
+{
+    let (end, text) = found;
+    ThreadShown {
+        end: end_after_replay(end),
+        text: Items::from_vec(text.into_bytes()),
+    }
+}
+
+/// How a thread is found after a replay.
+fn end_after_replay(end: WorldEnd) -> End
+    ensures { result ≡ spec.end_after_replay end }
+{
+    match end {
+        WorldEnd::Ended => End::Ended,
+        WorldEnd::Trapped(trap) => End::Trapped(trap),
+        WorldEnd::OutOfMemory => End::OutOfMemory,
+        WorldEnd::SequenceUsedUp => End::SequenceUsedUp,
+        WorldEnd::Running => End::Running,
+    }
+}
+
+/// The lines that show these steps of so many threads of a code. There are none where memory was refused, and where one
+/// of the steps cannot be made.
+pub fn lines_shown<A: Allocator + Copy>(
+    alloc: A,
+    code: &Code<A>,
+    threads: u32,
+    steps: &[u32],
+) -> Option<Vec<u8, A>>
+    ensures { IfSome result
+        (λ v. v.items ≡ timeline_text code.now (timeline_of (simulation_after code.now threads steps.now))) }
+{
+    match timeline(alloc, code, threads, steps) {
+        Some(shown) => match timeline_text(alloc, code, shown.as_slice()) {
+            Ok(text) => Some(text),
+            Err(_) => None,
+        },
+        None => None,
+    }
+}

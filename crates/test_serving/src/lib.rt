@@ -1,0 +1,181 @@
+//! Test support: what is answered to command lines, over readers and writers in memory.
+#![tactic(auto)]
+
+use command::{Request, UsageFault, command};
+use serving::serve;
+use std::alloc::Global;
+use std::io;
+use std::io::{ErrorKind, Read};
+use std::sync::Wait;
+use std::thread::Threads;
+
+/// Two threads that each add one.
+pub const ADDS: &[u8] = b"int x; void worker(int self) { __transaction_atomic { x = x + 1; } }";
+
+/// What serving a request gives: the status, the output and the standard error.
+#[derive(Drop)]
+pub struct Served {
+    pub status: u8,
+    pub out: Vec<u8>,
+    pub err: Vec<u8>,
+}
+
+/// What is answered: the status, the output and the standard error.
+pub type ServeResult<'a> = (u8, &'a [u8], &'a [u8]);
+
+/// A command line, the source and the schedule of its files, and what is answered.
+pub type Row = (
+    &'static str,
+    &'static [u8],
+    &'static [u8],
+    ServeResult<'static>,
+);
+
+/// Whether this is what was served.
+pub fn is_answer(served: &Served, wanted: ServeResult) -> bool {
+    served.status == wanted.0
+        && served.out.as_slice() == wanted.1
+        && served.err.as_slice() == wanted.2
+}
+
+/// The request of a command line, in which a space ends each word but the last.
+pub fn request_of(alloc: Global, line: &str) -> Result<Request, UsageFault> {
+    let words: Vec<&str> = line.split(' ').collect(alloc)?;
+    command(alloc, words.as_slice())
+}
+
+/// Serves a request, to a terminal or not.
+pub fn serve_bytes<H: Threads + Wait + Sync, R: Read + Drop, S: Read + Drop>(
+    rt: &H,
+    alloc: Global,
+    request: &Request,
+    source: R,
+    schedule: S,
+    is_terminal: bool,
+) -> Served {
+    let report = b"".as_slice();
+    serve_claim(rt, alloc, request, source, schedule, report, is_terminal)
+}
+
+/// Serves a request that may have a report, to a terminal or not.
+pub fn serve_claim<H: Threads + Wait + Sync, R: Read + Drop, S: Read + Drop, Q: Read + Drop>(
+    rt: &H,
+    alloc: Global,
+    request: &Request,
+    source: R,
+    schedule: S,
+    report: Q,
+    is_terminal: bool,
+) -> Served {
+    let mut out = Vec::new(alloc);
+    let mut err = Vec::new(alloc);
+    let status = serve(
+        rt,
+        alloc,
+        request,
+        source,
+        schedule,
+        report,
+        &mut out,
+        &mut err,
+        is_terminal,
+    );
+    Served { status, out, err }
+}
+
+/// What is served to a command line, on a terminal or not.
+pub fn serve_line<H: Threads + Wait + Sync>(
+    rt: &H,
+    alloc: Global,
+    line: &str,
+    source: &[u8],
+    schedule: &[u8],
+    is_terminal: bool,
+) -> Option<Served> {
+    match request_of(alloc, line) {
+        Ok(request) => Some(serve_bytes(rt, alloc, &request, source, schedule, is_terminal)),
+        Err(_) => None,
+    }
+}
+
+/// Whether a command line is answered so.
+pub fn answers<H: Threads + Wait + Sync>(
+    rt: &H,
+    alloc: Global,
+    line: &str,
+    source: &[u8],
+    schedule: &[u8],
+    is_terminal: bool,
+    wanted: ServeResult,
+) -> bool {
+    match serve_line(rt, alloc, line, source, schedule, is_terminal) {
+        Some(served) => is_answer(&served, wanted),
+        None => false,
+    }
+}
+
+/// A row that is answered otherwise than it says: its number, from 0, its command line, what was answered, and what it
+/// says. Nothing is answered where the words are wrong.
+#[derive(Debug, Drop, PartialEq)]
+pub struct WrongRow {
+    pub number: usize,
+    pub line: &'static str,
+    pub answered: Option<String>,
+    pub wanted: Option<String>,
+}
+
+/// An answer in a line of text, if there was memory for it.
+fn answer_text(alloc: Global, answer: ServeResult) -> Option<String> {
+    let (status, out, err) = answer;
+    let out = String::from_utf8_lossy(alloc, out).ok()?;
+    let err = String::from_utf8_lossy(alloc, err).ok()?;
+    let text = format!(in alloc;
+        "status {status}, output {:?}, errors {:?}",
+        out.as_str(),
+        err.as_str()
+    );
+    text.ok()
+}
+
+/// What was served, in a line of text.
+fn served_shown(alloc: Global, served: Option<Served>) -> Option<String> {
+    match served {
+        Some(served) => answer_text(
+            alloc,
+            (served.status, served.out.as_slice(), served.err.as_slice()),
+        ),
+        None => None,
+    }
+}
+
+/// The first of these rows that is answered otherwise.
+pub fn wrong_row<H: Threads + Wait + Sync>(
+    rt: &H,
+    alloc: Global,
+    rows: &[Row],
+) -> Option<WrongRow> {
+    for (number, (line, source, schedule, wanted)) in rows.iter().enumerate() {
+        match serve_line(rt, alloc, line, source, schedule, false) {
+            Some(served) if is_answer(&served, *wanted) => {}
+            served => {
+                return Some(WrongRow {
+                    number,
+                    line: *line,
+                    answered: served_shown(alloc, served),
+                    wanted: answer_text(alloc, *wanted),
+                });
+            }
+        }
+    }
+    None
+}
+
+/// A reader that gives no byte.
+#[derive(Drop)]
+pub struct Broken;
+
+impl Read for Broken {
+    fn read(&mut self, _buf: &mut [u8]) -> io::Result<usize> {
+        Err(io::Error::from(ErrorKind::PermissionDenied))
+    }
+}
