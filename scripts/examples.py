@@ -75,10 +75,10 @@ def tests():
     ]
     return f"""//! The programs of examples/ with what each prints, and its transcripts: written by scripts/examples.py.
 
-use test_serving::{{Served, request_of, serve_claim, serve_line}};
 use std::alloc::Global;
 use std::sync::Wait;
 use std::thread::Threads;
+use test_serving::{{Served, request_of, serve_claim, serve_line}};
 
 /// A program's file, its source, and what it prints.
 type Example = (&'static str, &'static [u8], &'static [u8]);
