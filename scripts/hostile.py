@@ -31,7 +31,7 @@ TOP = os.path.dirname(os.path.dirname(os.path.abspath(__file__)))
 MEBIBYTE = 1 << 20
 OUT_OF_MEMORY = b"txc: out of memory\n"
 
-# A program, a schedule for two threads, and an order.
+# A program, a schedule for two threads, and an order of them.
 PROGRAMS = {
     "cancels": (
         "int f, g = 1, h; void worker(int self) { if (self == 0) { __transaction_atomic { f = 1; h = 1; } } else {"
@@ -121,7 +121,10 @@ def commands(txc, name, order):
     yield [txc, "listing", file]
     yield [txc, "source", file, "--threads", "2", "--order", order]
     yield [txc, "outcomes", file, "--threads", "2"]
+    claim = ["--order-file", f"{name}.order", "--report", f"{name}.report"]
+    yield [txc, "certify", file, "--threads", "2", *claim]
     yield [txc, "replay", file, *schedule]
+    yield [txc, "replay", file, "--threads", "2", "--order", order]
     if name != "calls":  # of which a thousand steps are shown, by growths that are alike
         yield [txc, "replay", file, *schedule, "--timeline"]
         yield [txc, "replay", file, *schedule, "--picture"]
@@ -282,10 +285,12 @@ def main():
         sys.exit(f"{txc} is not there: cd crates/txc && rt run -- --version")
     with tempfile.TemporaryDirectory() as folder:
         os.chdir(folder)
-        for name, (text, schedule, _) in PROGRAMS.items():
-            for file, content in ((f"{name}.c", text), (f"{name}.txt", schedule)):
+        for name, (text, schedule, order) in PROGRAMS.items():
+            for file, content in ((f"{name}.c", text), (f"{name}.txt", schedule), (f"{name}.order", order)):
                 with open(file, "w", encoding="utf-8") as opened:
                     opened.write(content)
+            with open(f"{name}.report", "wb") as report:
+                report.write(run([txc, "source", f"{name}.c", "--threads", "2", "--order", order]).stdout)
         for part in (refuse_growths, fill_output, close_output, odd_files, shrinking_file, many_frames, little_space):
             part(txc)
         os.chdir(TOP)

@@ -36,6 +36,7 @@ IN_ORDER = re.compile(r"T(\d+) \((\d+)\)")
 SHOWN = {
     "counter.svg": ["counter.c", "--threads", "2", "--schedule", "schedules/counter.txt"],
     "booking.svg": ["booking.c", "--threads", "2", "--seed", "3"],
+    "seats.svg": ["seats.c", "--threads", "2", "--order", "0,1,0,1"],
 }
 
 

@@ -435,6 +435,130 @@ fn refuses_replays(rt: HostRuntime) {
     assert_none(&rt, ask_otherwise(rt.alloc(), refused_replays()));
 }
 
+/// Replays of the steps of an order.
+fn replayed_orders() -> &'static [Row] {
+    static ROWS: [Row; 7] = [
+        (
+            "txc|replay|a.c|--order|0,1,0|--threads|2",
+            br#"Ok(Program { file: "a.c", verbose: false, format: Plain, task: Replay { threads: 2, steps: Order { order: [0, 1, 0] } } })"#,
+        ),
+        (
+            "txc|replay|--order=|a.c|--verbose",
+            br#"Ok(Program { file: "a.c", verbose: true, format: Plain, task: Replay { threads: 1, steps: Order { order: [] } } })"#,
+        ),
+        (
+            "txc|replay|a.c|--order=4294967295,007|--timeline",
+            br#"Ok(Program { file: "a.c", verbose: false, format: Plain, task: Timeline { threads: 1, steps: Order { order: [4294967295, 7] } } })"#,
+        ),
+        (
+            "txc|replay|--picture|--threads=64|--order=63|a.c",
+            br#"Ok(Program { file: "a.c", verbose: false, format: Plain, task: Picture { threads: 64, steps: Order { order: [63] } } })"#,
+        ),
+        (
+            "txc|replay|-|--order=1,0|--print-schedule|--threads=2",
+            br#"Ok(Program { file: "-", verbose: false, format: Plain, task: PrintOrder { threads: 2, order: [1, 0] } })"#,
+        ),
+        // with an order the number of steps has no effect
+        (
+            "txc|replay|a.c|--order=0|--steps=0",
+            br#"Ok(Program { file: "a.c", verbose: false, format: Plain, task: Replay { threads: 1, steps: Order { order: [0] } } })"#,
+        ),
+        // a thread that there is not is no matter of the words
+        (
+            "txc|replay|a.c|--order=1",
+            br#"Ok(Program { file: "a.c", verbose: false, format: Plain, task: Replay { threads: 1, steps: Order { order: [1] } } })"#,
+        ),
+    ];
+    &ROWS
+}
+
+#[test]
+fn reads_replayed_orders(rt: HostRuntime) {
+    assert_none(&rt, ask_otherwise(rt.alloc(), replayed_orders()));
+}
+
+/// Replays of orders that the program itself refuses.
+fn refused_replayed_orders() -> &'static [Row] {
+    static ROWS: [Row; 10] = [
+        (
+            "txc|replay|a.c|--order=0|--seed=1",
+            br#"Err(Wrong { text: "txc: usage: --order wants no --schedule and no --seed\n" })"#,
+        ),
+        (
+            "txc|replay|a.c|--order=|--schedule=s",
+            br#"Err(Wrong { text: "txc: usage: --order wants no --schedule and no --seed\n" })"#,
+        ),
+        (
+            "txc|replay|a.c|--order=0|--schedule=s|--seed=1|--picture",
+            br#"Err(Wrong { text: "txc: usage: --order wants no --schedule and no --seed\n" })"#,
+        ),
+        (
+            "txc|replay|a.c|--order=0,,1",
+            br#"Err(Wrong { text: "txc: usage: bad --order\n" })"#,
+        ),
+        (
+            "txc|replay|a.c|--order=0 1",
+            br#"Err(Wrong { text: "txc: usage: bad --order\n" })"#,
+        ),
+        (
+            "txc|replay|a.c|--order=4294967296|--print-schedule",
+            br#"Err(Wrong { text: "txc: usage: bad --order\n" })"#,
+        ),
+        (
+            "txc|replay|a.c|--order=x|--verbose",
+            br#"Err(Wrong { text: "txc: usage: bad --order\nan order is thread numbers joined by commas, as 0,1,0\n" })"#,
+        ),
+        // a number of steps has no effect beside an order, and is a number in its range all the same
+        (
+            "txc|replay|a.c|--order=0|--steps=1048577",
+            br#"Err(Wrong { text: "txc: usage: --steps is 0 to 1048576\n" })"#,
+        ),
+        (
+            "txc|replay|a.c|--order=x|--threads=65",
+            br#"Err(Wrong { text: "txc: usage: --threads is 1 to 64\n" })"#,
+        ),
+        (
+            "txc|replay|a.c|--order=0|--timeline|--print-schedule",
+            br#"Err(Wrong { text: "txc: usage: one of --picture, --print-schedule and --timeline\n" })"#,
+        ),
+    ];
+    &ROWS
+}
+
+#[test]
+fn refuses_replayed_orders(rt: HostRuntime) {
+    assert_none(&rt, ask_otherwise(rt.alloc(), refused_replayed_orders()));
+}
+
+/// Claims of reports.
+fn claims() -> &'static [Row] {
+    static ROWS: [Row; 4] = [
+        (
+            "txc|certify|a.c|--order-file|s|--report|r",
+            br#"Ok(Certify { file: "a.c", verbose: false, format: Plain, claim: Claim { threads: 1, order: "s", report: "r", ticks: 4294967295 } })"#,
+        ),
+        (
+            "txc|certify|--report=r|--order-file=s|--threads=64|--ticks=0|a.c|--verbose|--format=short",
+            br#"Ok(Certify { file: "a.c", verbose: true, format: Short, claim: Claim { threads: 64, order: "s", report: "r", ticks: 0 } })"#,
+        ),
+        // one of the files is standard input
+        (
+            "txc|certify|-|--order-file=s|--report=r",
+            br#"Ok(Certify { file: "-", verbose: false, format: Plain, claim: Claim { threads: 1, order: "s", report: "r", ticks: 4294967295 } })"#,
+        ),
+        (
+            "txc|certify|a.c|--order-file=s|--report=-",
+            br#"Ok(Certify { file: "a.c", verbose: false, format: Plain, claim: Claim { threads: 1, order: "s", report: "-", ticks: 4294967295 } })"#,
+        ),
+    ];
+    &ROWS
+}
+
+#[test]
+fn reads_claims(rt: HostRuntime) {
+    assert_none(&rt, ask_otherwise(rt.alloc(), claims()));
+}
+
 /// Whether what a line asks begins with this and has this piece.
 fn has(alloc: Global, line: &str, begin: &str, piece: &str) -> bool {
     match request_of_line(alloc, line) {
@@ -460,7 +584,7 @@ fn have_not(
 
 /// What is no command line of the program.
 fn wrong_lines() -> &'static [&'static str] {
-    static LINES: [&str; 12] = [
+    static LINES: [&str; 15] = [
         "txc",
         "txc|outcomes",
         "txc|outcomes|a.c|--order=0",
@@ -473,6 +597,9 @@ fn wrong_lines() -> &'static [&'static str] {
         "txc|explain|1|",
         "txc|replay|a.c|--seed=-1",
         "txc|replay|--seed=1|--order=0",
+        "txc|replay|a.c|--order=0|--ticks=5",
+        "txc|certify|a.c|--order-file=s",
+        "txc|certify|a.c|--report=r|--order=0",
     ];
     &LINES
 }
@@ -487,13 +614,14 @@ const HELP: &str = "Err(Help {";
 
 /// Lines that ask for the help of a command.
 fn help_lines() -> &'static [&'static str] {
-    static LINES: [&str; 7] = [
+    static LINES: [&str; 8] = [
         "txc|help|run",
         "txc|outcomes|--help",
         "txc|run|--help",
         "txc|check|--help",
         "txc|replay|--help",
         "txc|source|--help",
+        "txc|certify|--help",
         "txc|explain|-h",
     ];
     &LINES
@@ -509,7 +637,7 @@ fn helps(rt: HostRuntime) {
 
 /// The ranges that the help of each command tells, as its numbers are taken.
 fn told_ranges() -> &'static [(&'static str, &'static str)] {
-    static ROWS: [(&str, &str); 10] = [
+    static ROWS: [(&str, &str); 11] = [
         ("txc|run|--help", "1 to 64, and 1 if not given"),
         ("txc|run|--help", "0 to 4294967295"),
         ("txc|replay|--help", "1 to 64, and 1 if not given"),
@@ -525,6 +653,10 @@ fn told_ranges() -> &'static [(&'static str, &'static str)] {
         (
             "txc|outcomes|--help",
             "0 to 4294967295, and 100000 if not given",
+        ),
+        (
+            "txc|certify|--help",
+            "0 to 4294967295, and that if not given",
         ),
     ];
     &ROWS

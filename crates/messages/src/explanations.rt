@@ -116,7 +116,7 @@ pub fn explanation(number: u32) -> Option<&'static str> {
             "fault 80: bad schedule line\nWhen: a line of a schedule that is not `T COUNT` or `T aCOUNT`, or whose numbers are no `u32`; `txc: fault 80 at line L`\nSeen as: the schedule `0 x`: line 1\n",
         ),
         81 => Some(
-            "fault 81: schedule too long\nWhen: the counts of a schedule are more than 1,048,576 together\nSeen as: `0 1048576`, and a line `0 1`\n",
+            "fault 81: schedule too long\nWhen: the counts of a schedule are more than 1,048,576 together, or the turns of an order take more steps\nSeen as: `0 1048576`, and a line `0 1`\n",
         ),
         90 => Some(
             "fault 90: lock held\nWhen: a hall is closed while a thread holds the lock; hall and workers are handed back\nSeen as: `Hall::close` while a worker stands between its won swap and its release\n",

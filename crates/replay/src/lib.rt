@@ -1,4 +1,4 @@
-//! Schedules: which threads make how many steps, and in which order, as a text says it or a seed; and replays of them.
+//! Schedules: which threads make how many steps, as a text, a seed or an order of transactions says it; replays of them.
 #![tactic(auto)]
 
 mod line;

@@ -218,7 +218,7 @@ type Transcript = (
 );
 
 fn transcripts() -> &'static [Transcript] {
-    static ROWS: [Transcript; 48] = [
+    static ROWS: [Transcript; 50] = [
         (
             "txc certify examples/hashset.c --threads 2 --order-file examples/orders/hashset.txt --report examples/orders/hashset.out",
             b"// A set of numbers in a table of 16 places, without a lock of its own: each insertion is one step.\nint place[16], count;\n\nint insert(int key) {\n    int at = key * 7 & 15, added = 0;\n    __transaction_atomic {\n        while (place[at] != 0 && place[at] != key) at = at + 1 & 15;\n        if (place[at] == 0) {\n            place[at] = key;\n            count = count + 1;\n            added = 1;\n        }\n    }\n    return added;\n}\n\nvoid worker(int self) {\n    int i, added = 0;\n    for (i = 1; i <= 4; i++) added = added + insert(i * (self + 1));\n    printf(\"%d added\\n\", added);\n}\n",
@@ -428,6 +428,20 @@ fn transcripts() -> &'static [Transcript] {
             b"",
             b"",
             b"== timeline\n1 0 0 begin >18; load lock = 0\n2 0 1 rd r1 @0; load @0 = 0\n3 0 1 rd r1 @0; load lock = 0\n3 0 2 const r2 #1\n3 0 3 add.s r1 r1 r2\n3 0 4 wr @0 r1\n4 0 5 rd r1 @1; load @1 = 10\n5 0 5 rd r1 @1; load lock = 0\n5 0 6 const r2 #1\n5 0 7 sub.s r1 r1 r2\n5 0 8 wr @1 r1\n6 0 9 irrevocable; swap lock 0: won\n6 0 10 rd r1 @0\n6 0 11 rd r2 @1\n6 0 12 print.t #0\n6 0 13 print.s r1\n6 0 14 print.t #1\n6 0 15 print.s r2\n6 0 16 print.t #2\n7 0 17 commit; store @0 = 1\n8 0 17 commit; store @1 = 9\n9 0 17 commit; store lock = 2; commit\n9 0 18 ret\n== events\n9 0 commit\n== thread 0: ended\nticket 1, 9 left\n== memory\nsold = 1\nleft = 9\n",
+        ),
+        (
+            "txc replay examples/seats.c --threads 2 --order 0,1,0,1",
+            b"// One seat and two buyers. Each looks first and buys then, in two transactions: the seat can be sold twice.\nint seats = 1, sold;\n\nvoid worker(int self) {\n    int free;\n    __transaction_atomic { free = seats > 0; }\n    if (free) {\n        __transaction_atomic {\n            seats = seats - 1;\n            sold = sold + 1;\n        }\n    }\n}\n",
+            b"",
+            b"",
+            b"== events\n3 0 commit\n6 1 commit\n15 0 commit\n24 1 commit\n== thread 0: ended\n== thread 1: ended\n== memory\nseats = -1\nsold = 2\n",
+        ),
+        (
+            "txc replay examples/seats.c --threads 2 --order 0,1,0,1 --print-schedule",
+            b"// One seat and two buyers. Each looks first and buys then, in two transactions: the seat can be sold twice.\nint seats = 1, sold;\n\nvoid worker(int self) {\n    int free;\n    __transaction_atomic { free = seats > 0; }\n    if (free) {\n        __transaction_atomic {\n            seats = seats - 1;\n            sold = sold + 1;\n        }\n    }\n}\n",
+            b"",
+            b"",
+            b"0 1\n1 1\n0 7\n1 7\n0 16\n1 16\n",
         ),
         (
             "txc replay examples/transfer.c --threads 2 --schedule examples/schedules/transfer.txt",

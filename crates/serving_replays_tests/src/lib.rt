@@ -7,6 +7,8 @@ mod examples;
 #[cfg(test)]
 mod expressions;
 #[cfg(test)]
+mod orders;
+#[cfg(test)]
 mod outer_cancels;
 #[cfg(test)]
 mod replays;

@@ -24,7 +24,7 @@ const CALLS: &[u8] =
 type Asked = (&'static str, &'static [u8], &'static [u8]);
 
 fn hostile_lines() -> &'static [Asked] {
-    static ASKED: [Asked; 16] = [
+    static ASKED: [Asked; 19] = [
         ("txc check a.c", CANCELS, b""),
         ("txc listing a.c", CANCELS, b""),
         ("txc source a.c --threads 2 --order 0,1", CANCELS, b""),
@@ -49,8 +49,19 @@ fn hostile_lines() -> &'static [Asked] {
             CANCELS,
             b"",
         ),
+        ("txc replay a.c --threads 2 --order 0,1", CANCELS, b""),
         ("txc listing a.c", PRINTS, b""),
         ("txc source a.c --threads 2 --order 1,0", PRINTS, b""),
+        (
+            "txc replay a.c --threads 2 --order 1,0 --timeline",
+            PRINTS,
+            b"",
+        ),
+        (
+            "txc replay a.c --threads 2 --order 1,0 --print-schedule",
+            PRINTS,
+            b"",
+        ),
         (
             "txc replay a.c --threads 2 --schedule s.txt",
             PRINTS,
