@@ -5,7 +5,7 @@ use Rattle.std.specs.Result.{IsErrAnd}
 use Rattle.syntax.specs.Grammar.{ParsedSource as Spelled}
 use Rattle.separation.specs.Touching.{IsAccepted}
 use Rattle.command.specs.declared.request.Task.{Task}
-use Rattle.command.specs.declared.request.Task.TheVariants.{Check, Listing, Run, Replay, Timeline, Picture, PrintSchedule, Source, Outcomes}
+use Rattle.command.specs.declared.request.Task.TheVariants.{Check, Listing, Run, Replay, Timeline, Picture, PrintOrder, PrintSchedule, Source, Outcomes}
 use Rattle.lex.specs.declared.fault.LexFault.TheVariants.{FileTooLong}
 use Rattle.lex.specs.declared.lexer.TheConstants.{MOST_BYTES}
 use Rattle.lower.specs.Faults.{IsLowerFaultOf}
@@ -54,6 +54,7 @@ refused_task (Replay threads steps) text is = refused_text text is
 refused_task (Timeline threads steps) text is = refused_text text is
 refused_task (Picture threads steps) text is = refused_text text is
 refused_task (PrintSchedule threads seed count) text is = refused_text text is
+refused_task (PrintOrder threads order) text is = refused_text text is
 refused_task (Source threads order ticks) text is = is
 refused_task (Outcomes threads ticks limit) text is = is
 
@@ -75,6 +76,7 @@ nothing_printed (Replay threads steps) schedule text status old new zero three =
 nothing_printed (Timeline threads steps) schedule text status old new zero three = λ e. absurd (neither status zero three e)
 nothing_printed (Picture threads steps) schedule text status old new zero three = λ e. absurd (neither status zero three e)
 nothing_printed (PrintSchedule threads seed count) schedule text status old new zero three = λ e. absurd (zero e)
+nothing_printed (PrintOrder threads order) schedule text status old new zero three = λ e. absurd (zero e)
 nothing_printed (Source threads order ticks) schedule text status old new zero three = λ e. absurd (neither status zero three e)
 nothing_printed (Outcomes threads ticks limit) schedule text status old new zero three = λ e. absurd (neither status zero three e)
 
@@ -91,8 +93,11 @@ unread_answers (Some bytes) task schedule status old new (inl one) = nothing_pri
 unread_answers (Some bytes) task schedule status old new (inr is) = not_read_answers (Some bytes) task schedule status old new is
 
 -- what the status 1 says there
+pub unread_refused : {IsOne : Type 0} (status : ℕ) → (status ≡ 1) × IsOne ⊎ (status ≡ 2) ⊎ (status ≡ 4) → status ≡ 1 → IsOne
+unread_refused status (inl one) e = one.1
+unread_refused status (inr (inl two)) e = absurd (omega (arith, two, e))
+unread_refused status (inr (inr four)) e = absurd (omega (arith, four, e))
+
 pub unread_says : (known : Option (List ℕ)) (task : Task) (status : ℕ) → (status ≡ 1) × IfSome known (λ bytes. IsRefused bytes) ⊎ (status ≡ 2) ⊎ (status ≡ 4) → status ≡ 1 → IfSome known (λ bytes. IsRefusedFor task bytes)
 unread_says None task status is e = tt
-unread_says (Some bytes) task status (inl one) e = refused_task task bytes one.1
-unread_says (Some bytes) task status (inr (inl two)) e = absurd (omega (arith, two, e))
-unread_says (Some bytes) task status (inr (inr four)) e = absurd (omega (arith, four, e))
+unread_says (Some bytes) task status is e = refused_task task bytes (unread_refused status is e)

@@ -4,7 +4,7 @@ use Rattle.command.specs.declared.request.Request.{Request}
 use Rattle.command.specs.declared.request.Request.TheVariants.{Program, Certify, Explain}
 use Rattle.command.specs.declared.request.Task.{Task}
 use Rattle.command.specs.declared.request.Task.TheVariants.{Check, Listing, Run, Replay, Timeline, Picture}
-use Rattle.command.specs.declared.request.Task.TheVariants.{PrintSchedule, Source, Outcomes}
+use Rattle.command.specs.declared.request.Task.TheVariants.{PrintOrder, PrintSchedule, Source, Outcomes}
 use Rattle.serving.specs.Limits.{HasNoCode}
 use Rattle.serving.specs.Refusals.{IsRefused}
 
@@ -17,6 +17,7 @@ IsRefusedFor (Replay threads steps) text = HasNoCode text
 IsRefusedFor (Timeline threads steps) text = HasNoCode text
 IsRefusedFor (Picture threads steps) text = HasNoCode text
 IsRefusedFor (PrintSchedule threads seed count) text = HasNoCode text
+IsRefusedFor (PrintOrder threads order) text = HasNoCode text
 IsRefusedFor (Source threads order ticks) text = IsRefused text
 IsRefusedFor (Outcomes threads ticks limit) text = IsRefused text
 

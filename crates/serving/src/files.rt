@@ -47,7 +47,8 @@ pub trait Files {
 /// `serve` does.
 ///
 /// The source is opened first, and then a schedule, or an order and a report, where they are named. What cannot be
-/// opened is told of as what cannot be read. The line of a fault follows it where `err` is a terminal, or the words ask for it.
+/// opened is told of as what cannot be read. The line of a fault follows it where `err` is a terminal, or the words ask
+/// for it.
 pub fn serve_files<H: Threads + Wait + Sync, F: Files, W: Write, E: Write + IsTerminal>(
     rt: &H,
     alloc: Global,
@@ -247,7 +248,7 @@ fn read_text<A: Allocator, R: Read + Drop>(alloc: A, mut reader: R) -> io::Resul
     Ok(String::from_utf8(bytes).ok())
 }
 
-/// The lines of a schedule, or of a seed. What is wrong with them is told, and the error is then the exit status.
+/// The lines of a schedule, a seed or an order. What is wrong with them is told, and the error is then the exit status.
 pub(crate) fn lines_of<A: Allocator + Copy, S: Read + Drop, E: Write>(
     alloc: A,
     code: &Code<A>,

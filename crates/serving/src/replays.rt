@@ -1,4 +1,4 @@
-//! `txc replay`: steps of a source's threads, by a schedule or by a seed; what is shown of each step.
+//! `txc replay`: steps of a source's threads, by a schedule, a seed or an order; what is shown of each step.
 
 ghost use Rattle.std.specs.Prelude.{◌≡◌, ◌≢◌, ◌≤◌, ◌⊎◌, ◌++◌, IfErr, IfOk, IfSome, None, ◌<◌, ◌↔◌, Err, map};
 ghost use Rattle.std.specs.Prelude.{string_bytes};
@@ -10,10 +10,11 @@ ghost use Rattle.report.specs.Views.{printed_of, thread_of};
 ghost use Rattle.serving.specs.Checks.{Accepts};
 ghost use Rattle.serving.specs.Orders.{RunsInSomeOrder};
 ghost use Rattle.serving.specs.Limits.{HasNoCode};
-ghost use Rattle.serving.specs.Replays.{IsReplayOfText, PrintsSchedule, PrintsTimeline, Replays, ReplaysShown};
-ghost use Rattle.serving.specs.Replays.{behind_events, lines_of_seed, IsReplayOf, thread_found};
+ghost use Rattle.serving.specs.Replays.{IsReplayOfText, PrintsOrder, PrintsSchedule, PrintsTimeline, Replays};
+ghost use Rattle.serving.specs.Replays.{ReplaysShown, behind_events, lines_of_seed, IsReplayOf, thread_found};
 ghost use Rattle.serving.specs.Reports.{PrintsReport, exit_status};
-ghost use Rattle.serving.specs.Written.{AppendsBeginning, IsReplayReport, IsReplayTimeline, IsSeedSchedule, WritesPart};
+ghost use Rattle.serving.specs.Written.{AppendsBeginning, IsOrderSchedule, IsReplayReport, IsReplayTimeline};
+ghost use Rattle.serving.specs.Written.{IsSeedSchedule, WritesPart};
 ghost use Rattle.serving.specs.inner.Printing.{PrintsBehind, PrintsShown};
 ghost use Rattle.syntax.specs.Views.{program_of};
 ghost use Rattle.world.specs.Reports.{threads_of};
@@ -21,7 +22,7 @@ ghost use Rattle.serving.specs.Codes.{IsCodeOf};
 ghost use Rattle.serving.specs.Replays as spec;
 ghost use Rattle.serving.specs.inner.Replayed.{report_shown};
 
-use crate::files::{lines_of, lines_picked};
+use crate::files::{lines_in_order, lines_of, lines_picked};
 use crate::globals::globals_shown;
 use crate::laws::reports_are_orders;
 use crate::print::{print, print_text, status_of};
@@ -149,6 +150,35 @@ pub(crate) fn print_schedule<A: Allocator + Copy, W: Write, E: Write>(
 {
     match compile(alloc, text) {
         Ok(_compiled) => match lines_picked(alloc, seed, threads, count, detail, err) {
+            Ok(found) => match write_schedule(alloc, found.as_slice()) {
+                Ok(written) => print_text(written.as_str().as_bytes(), out, err),
+                Err(_) => out_of_memory(err),
+            },
+            Err(status) => status,
+        },
+        Err(fault) => refuse(alloc, text, fault, detail, err),
+    }
+}
+
+/// Prints the steps of an order as a schedule.
+pub(crate) fn print_order<A: Allocator + Copy, W: Write, E: Write>(
+    alloc: A,
+    text: &str,
+    threads: u32,
+    order: &[u32],
+    detail: Detail<'_>,
+    out: &mut W,
+    err: &mut E,
+) -> u8
+    ensures status { result ≤ 4 }
+    ensures schedule { PrintsOrder threads order.now text.now result (W.contents out.old) (W.contents out.new) }
+    ensures refused { result ≡ 1 → HasNoCode text.now }
+    ensures written { WritesPart (IsOrderSchedule threads order.now text.now) (W.contents out.old)
+        (W.contents out.new) }
+    ensures untouched { result ≡ 1 → W.contents out.new ≡ W.contents out.old }
+{
+    match compile(alloc, text) {
+        Ok(compiled) => match lines_in_order(alloc, &compiled.code, threads, order, detail, err) {
             Ok(found) => match write_schedule(alloc, found.as_slice()) {
                 Ok(written) => print_text(written.as_str().as_bytes(), out, err),
                 Err(_) => out_of_memory(err),

@@ -2,25 +2,21 @@
 
 ghost use Rattle.std.specs.Prelude.{◌≡◌, ◌≤◌, ◌⊎◌, IfSome};
 ghost use Rattle.serving.specs.Answers.{Answers};
-ghost use Rattle.serving.specs.Refusals.{IsRefused};
 ghost use Rattle.serving.specs.Refused.{IsRefusedFor};
-ghost use Rattle.serving.specs.Replays.{PrintsOrder};
-ghost use Rattle.serving.specs.Written.{IsAskedFor, IsOrderSchedule, WritesPart};
+ghost use Rattle.serving.specs.Written.{IsAskedFor, WritesPart};
 
 use crate::all_outcomes::all_outcomes;
 use crate::check::check;
-use crate::files::{lines_in_order, text_of};
+use crate::files::text_of;
 use crate::listing::list;
 use crate::pictures::draw;
 use crate::print::print_text;
-use crate::program::compile;
-use crate::replays::{print_schedule, replay_source, show_steps};
+use crate::replays::{print_order, print_schedule, replay_source, show_steps};
 use crate::run::run;
 use crate::source::in_order;
-use crate::tell::{Detail, out_of_memory, refuse, refuse_run, unusable};
+use crate::tell::{Detail, refuse_run, unusable};
 use command::Task;
 use messages::explanation;
-use replay::write_schedule;
 use std::alloc::{Allocator, Global};
 use std::io::{Read, Write};
 use std::sync::Wait;
@@ -203,35 +199,6 @@ fn work_alone<A: Allocator + Copy, S: Read + Drop, W: Write, E: Write>(
             out,
             err,
         ),
-    }
-}
-
-/// Prints the steps of an order as a schedule.
-fn print_order<A: Allocator + Copy, W: Write, E: Write>(
-    alloc: A,
-    text: &str,
-    threads: u32,
-    order: &[u32],
-    detail: Detail<'_>,
-    out: &mut W,
-    err: &mut E,
-) -> u8
-    ensures status { result ≤ 4 }
-    ensures schedule { PrintsOrder threads order.now text.now result (W.contents out.old) (W.contents out.new) }
-    ensures refused { result ≡ 1 → IsRefused text.now }
-    ensures written { WritesPart (IsOrderSchedule threads order.now text.now) (W.contents out.old)
-        (W.contents out.new) }
-    ensures untouched { result ≡ 1 → W.contents out.new ≡ W.contents out.old }
-{
-    match compile(alloc, text) {
-        Ok(compiled) => match lines_in_order(alloc, &compiled.code, threads, order, detail, err) {
-            Ok(found) => match write_schedule(alloc, found.as_slice()) {
-                Ok(written) => print_text(written.as_str().as_bytes(), out, err),
-                Err(_) => out_of_memory(err),
-            },
-            Err(status) => status,
-        },
-        Err(fault) => refuse(alloc, text, fault, detail, err),
     }
 }
 

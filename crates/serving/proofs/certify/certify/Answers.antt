@@ -1,4 +1,4 @@
-use Rattle.serving.proofs.Refusals.{unread_says}
+use Rattle.serving.proofs.Refusals.{unread_refused}
 use Rattle.serving.proofs.Verdicts.{unread_certifies}
 use Rattle.serving.proofs.certify.certify.Goals as goal
 
@@ -6,4 +6,4 @@ pub returns-in-Err-clause-answer : goal.returns-in-Err-clause-answer
 returns-in-Err-clause-answer g c = unread_certifies (g.R.Read.remaining c.args.source) c.args.claim.now (g.S.Read.remaining c.args.order) (g.Q.Read.remaining c.args.report) c.in-Err.status _ _ c.in-Err.ensures.status
 
 pub returns-in-Err-clause-refused : goal.returns-in-Err-clause-refused
-returns-in-Err-clause-refused g c = unread_says c.in-Err.status c.in-Err.ensures.status
+returns-in-Err-clause-refused g c = unread_refused c.in-Err.status c.in-Err.ensures.status

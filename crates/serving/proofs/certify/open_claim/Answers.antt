@@ -1,5 +1,6 @@
-use Rattle.std.specs.Prelude.{string_bytes}
-use Rattle.serving.proofs.Opening.{refused_opened}
+use Rattle.std.specs.Prelude.{IfSome, string_bytes}
+use Rattle.std.proofs.Common.{List, Option, subst}
+use Rattle.serving.specs.Refusals.{IsRefused}
 use Rattle.serving.proofs.Verdicts.{certifies_opened, not_read_certifies, writes_opened}
 use Rattle.serving.proofs.certify.open_claim.Goals as goal
 
@@ -10,7 +11,7 @@ pub returns-in-Ok-clause-written : goal.returns-in-Ok-clause-written
 returns-in-Ok-clause-written g c = writes_opened _ _ c.args.claim.now _ _ _ _ c.in-Ok.ensures c.open_order.ensures.written
 
 pub returns-in-Ok-clause-refused : goal.returns-in-Ok-clause-refused
-returns-in-Ok-clause-refused g c = λ e. refused_opened _ _ c.in-Ok.ensures (c.open_order.ensures.refused e)
+returns-in-Ok-clause-refused g c = λ e. subst (λ k. IfSome k (λ bytes. IsRefused bytes)) c.in-Ok.ensures (c.open_order.ensures.refused e)
 
 pub returns-in-Err-clause-answer : goal.returns-in-Err-clause-answer
 returns-in-Err-clause-answer g c =

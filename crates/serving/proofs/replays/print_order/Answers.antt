@@ -3,7 +3,7 @@ use Rattle.std.specs.Io.KnownBytes.{Appends}
 use Rattle.serving.specs.Written.{AppendsBeginning}
 use Rattle.serving.proofs.Codes.{compiles}
 use Rattle.serving.proofs.ReplayRuns.{lines_written}
-use Rattle.serving.proofs.request.print_order.Goals as goal
+use Rattle.serving.proofs.replays.print_order.Goals as goal
 
 pub returns-in-Ok-write_schedule-clause-schedule : goal.returns-in-Ok-write_schedule-clause-schedule
 returns-in-Ok-write_schedule-clause-schedule g c = λ ended.
