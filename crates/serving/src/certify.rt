@@ -270,11 +270,25 @@ fn order_of<A: Allocator + Copy, S: Read + Drop, E: Write>(
     match read_all(alloc, order) {
         Ok(listed) => match listed_order(alloc, listed.as_slice()) {
             Ok(Some(order)) => Ok(order),
-            Ok(None) => Err(unusable("bad --order-file", err)),
+            Ok(None) => Err(bad_order(detail, err)),
             Err(_) => Err(out_of_memory(err)),
         },
         Err(error) => Err(not_read(file, &error, detail, err)),
     }
+}
+
+/// Says that a file lists no order, and how one is written where more is to be told.
+fn bad_order<E: Write>(detail: Detail<'_>, err: &mut E) -> u8
+    ensures { result ≡ 2 }
+{
+    let status = unusable("bad --order-file", err);
+    if detail.lines {
+        let _ = writeln!(
+            err,
+            "an order is thread numbers between commas, blanks, tabs and ends of lines"
+        );
+    }
+    status
 }
 
 /// Reads all that is left.

@@ -63,7 +63,7 @@ const WRITTEN: Found = Ok(b"== thread 0: ended\n== thread 1: ended\n== memory\nx
 const CERTIFIED: ServeResult<'static> = (0, b"certified\n", b"");
 
 fn rows() -> &'static [Row] {
-    static ROWS: [Row; 29] = [
+    static ROWS: [Row; 30] = [
         (TWO, Ok(ADDS), Ok(b"0,1"), ADDED, CERTIFIED),
         // orders as they are written
         (TWO, Ok(ADDS), Ok(b"1 0\n"), ADDED, CERTIFIED),
@@ -241,6 +241,17 @@ fn rows() -> &'static [Row] {
             Ok(b"0,1,4294967296"),
             ADDED,
             (2, b"", b"txc: usage: bad --order-file\n"),
+        ),
+        (
+            "txc certify a.c --threads 2 --order-file s --report r --verbose",
+            Ok(ADDS),
+            Ok(b"T0 T1"),
+            ADDED,
+            (
+                2,
+                b"",
+                b"txc: usage: bad --order-file\nan order is thread numbers between commas, blanks, tabs and ends of lines\n",
+            ),
         ),
         // the source is looked at before the order
         (
