@@ -34,7 +34,7 @@ PROMISES = (
     ("`txc replay`, all", "PrintsReport RunsInSomeOrder behind_events Replays"),
     ("`txc replay --timeline`", "PrintsTimeline RunsInSomeOrder behind_events ReplaysShown"),
     ("`txc replay --picture`", "PrintsPicture ReplaysDrawn"),
-    ("`txc replay --print-schedule`", "PrintsSchedule lines_of_seed"),
+    ("`txc replay --print-schedule`", "PrintsSchedule lines_of_seed PrintsOrder"),
     ("`txc check`", "SaysAccepted"),
     ("`txc listing`", "PrintsListing"),
     ("a refusal by `check`, `source`, `outcomes` (status 1)", "IsRefused"),
@@ -371,13 +371,13 @@ def says(file):
 
 
 def promised(names):
-    """The definitions of `serving` that say a promise: names that its clauses of requests or words have, or its answers."""
+    """The definitions of `serving` that say a promise: names that its clauses or its answers have."""
     specs, code = f"{TOP}/crates/serving/specs", f"{TOP}/crates/serving/src"
-    said = words_of(read(f"{specs}/Answers.antt") + read(f"{code}/request.rt") + read(f"{code}/served.rt") + read(f"{code}/words.rt") + read(f"{code}/run.rt"))
+    said = words_of(read(f"{specs}/Answers.antt") + "".join(read(f"{code}/{it}") for it in sorted(os.listdir(code))))
     out = set()
     for name in names.split():
         if name not in said:
-            sys.exit(f"no clause of requests or words speaks of {name}")
+            sys.exit(f"no clause of serving speaks of {name}")
         found = set().union(
             *(item_at(f"crates/serving/specs/{it}", [name]) for it in sorted(os.listdir(specs)) if it.endswith(".antt"))
         )
