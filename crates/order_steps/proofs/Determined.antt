@@ -1,7 +1,7 @@
 -- The turns of an order are determined.
 use Rattle.std.proofs.Common.{◌≡◌, ◌<◌, ◌⊎◌, inl, inr, ℕ, zero, suc, List, [], ◌∷◌, ◌++◌, refl, sym, ◌∙◌, ap, ap₂, subst, replicate, arith}
 use Rattle.bytecode.specs.Effects.{Effect}
-use Rattle.machine.specs.Turns.{AreBegun, AreSpansOf, AreTurns, IsTurnOf, RestsAfter, Span, steps_in}
+use Rattle.machine.specs.Turns.{AreBegun, AreTurns, IsTurnOf, RestsAfter, Span, steps_in}
 use Rattle.machine.specs.Worlds.{World, new_world, run, step}
 use Rattle.order_steps.specs.Stepped.{TurnsAreDetermined}
 

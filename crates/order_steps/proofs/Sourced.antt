@@ -16,7 +16,7 @@ use Rattle.syntax.specs.declared.thread_end.Status.{Status}
 use Rattle.syntax.specs.declared.thread_end.Status.TheVariants.{Running, Ended as HasEnded, Trapped as HasTrapped}
 use Rattle.bytecode.specs.Effects.{Effect, FitsCells}
 use Rattle.bytecode.proofs.Tables.{some_same}
-use Rattle.bytecode.specs.Sequential.{Sequential, end_of, meaning, next, outcome_of, outside, start, steps}
+use Rattle.bytecode.specs.Sequential.{Sequential, end_of, meaning, outcome_of, outside, start, steps}
 use Rattle.syntax.proofs.ThreadLaws.{more_ticks}
 use Rattle.syntax.proofs.Words.{begins_with_memory}
 use Rattle.machine.specs.Resting.{IsAtBegin, IsThreadAtRest}
@@ -24,7 +24,6 @@ use Rattle.machine.specs.Drops.{drops}
 use Rattle.machine.specs.Serializable.{world_after}
 use Rattle.machine.specs.Threads.{Thread}
 use Rattle.machine.specs.Worlds.{Part, Reached, new_world}
-use Rattle.machine.proofs.alone.Alone.{out_solo}
 use Rattle.machine.proofs.alone.Lefts.{leaves_memories}
 use Rattle.machine.proofs.alone.Transaction.{Left, begun_solo, found_all}
 use Rattle.machine.proofs.alone.Transaction.{after as after_steps}
@@ -38,7 +37,7 @@ use Rattle.states.specs.Shown.{IsOrderAmong, NoneIsSpent, told_at_rest, told_in,
 use Rattle.states.proofs.Later.{after, after_size, entries_more, founds_at, get_set, unspent_before, unspent_in, wants_or}
 use Rattle.states.proofs.Leading.{stays}
 use Rattle.states.proofs.Resting.{Ready, behind, comes, goes, more_steps, ready, steps_behind}
-use Rattle.order_steps.specs.Resting.{AllRestAs, RestsAs, WorldRests}
+use Rattle.order_steps.specs.Resting.{AllRestAs, WorldRests}
 use Rattle.order_steps.specs.Stepped.{AreStepsOf, MachineDoesAll, SourceOrdersAreSteps, SourceOrdersLead, end_when_idle, told_when_idle}
 use Rattle.order_steps.proofs.Ordering.{orders_are_steps}
 use Rattle.order_steps.proofs.Turns.{at_begin, at_rest, from_begin, stays_over}
