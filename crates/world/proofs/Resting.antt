@@ -5,7 +5,6 @@ use Rattle.bytecode.specs.Code.{Configuration, effect}
 use Rattle.bytecode.specs.Initial.{initial_of}
 use Rattle.machine.specs.Resting.{IsThreadAtRest}
 use Rattle.machine.specs.States.{ThreadState}
-use Rattle.machine.specs.Threads.{Thread}
 use Rattle.machine.specs.Turns as turns
 use Rattle.machine.specs.Worlds.{Part, new_world, run}
 use Rattle.world.specs.Resting.{GoesOnAlone, RestsAt}

@@ -1,7 +1,7 @@
 //! A world: its lock, its words and its threads.
 
 ghost use Rattle.std.specs.Prelude.{◌≡◌, ◌+◌, ◌<◌, ◌≤◌, ◌⊎◌, ◌↔◌, ◌∷◌, [], true, Some, IfOk, IfErr, OnOk, OnErr};
-ghost use Rattle.std.specs.Prelude.{length, replicate, slice_index, take, vec_len};
+ghost use Rattle.std.specs.Prelude.{false, length, replicate, slice_index, take, vec_len};
 ghost use Rattle.syntax.specs.Behaviours.{Extends};
 ghost use Rattle.world.specs.Simulations.{EndsAlone, IsExplained, IsHolder, accesses_of, event_at, further, output_at};
 ghost use Rattle.world.specs.Simulations.{shown_at, status_at, stops_at, transactions_of, world_of};
