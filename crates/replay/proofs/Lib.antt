@@ -7,7 +7,7 @@ pub mod Words
 -- the steps that lines name
 pub mod Playing
 -- schedules of orders
-pub mod Turns
+pub mod Spans
 -- lines that are written
 pub mod Writing
 -- what is shown of steps, one more at the end

@@ -2,18 +2,18 @@
 #![tactic(auto)]
 
 mod line;
+mod order;
 mod play;
 mod row;
 mod schedule;
 mod seed;
 mod shown;
-mod turns;
 mod write;
 
 pub use line::{Line, MOST_STEPS};
+pub use order::{TurnsFault, turns};
 pub use play::replay;
 pub use schedule::{ScheduleFault, read_schedule};
 pub use seed::seeded;
 pub use shown::timeline;
-pub use turns::{TurnsFault, turns};
 pub use write::write_schedule;

@@ -34,7 +34,7 @@ use Rattle.replay.specs.Replays.{EndsAt, first_world, simulation_after, steps_of
 use Rattle.replay.specs.Schedules.{counts}
 use Rattle.replay.specs.Turns.{AreLinesOfOrder, line_of}
 use Rattle.replay.specs.declared.line.Line.{Line}
-use Rattle.replay.proofs.Turns.{named_by_spans}
+use Rattle.replay.proofs.Spans.{named_by_spans}
 use Rattle.report.specs.Printed.{Printed, Shown, ThreadShown}
 use Rattle.serving.specs.Codes.{IsCodeOf}
 use Rattle.serving.specs.Replays.{behind_events, end_after_replay, thread_found, world_shown}

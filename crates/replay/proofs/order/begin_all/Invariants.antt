@@ -1,8 +1,8 @@
 use Rattle.std.proofs.Common.{◌≡◌, ◌+◌}
 use Rattle.replay.specs.Schedules.{counts}
 use Rattle.replay.specs.declared.line.TheConstants.{MOST_STEPS}
-use Rattle.replay.proofs.Turns.{Begins}
-use Rattle.replay.proofs.turns.begin_all.Given as goal
+use Rattle.replay.proofs.Spans.{Begins}
+use Rattle.replay.proofs.order.begin_all.Given as goal
 
 abbrev pub invariant-threads : goal.invariant-threads
 invariant-threads g l = record {

@@ -1,8 +1,8 @@
 use Rattle.std.proofs.Common.{◌≡◌, ◌+◌, ◌<◌, ℕ, Some, slice_get}
 use Rattle.replay.specs.Schedules.{counts}
 use Rattle.replay.specs.declared.line.TheConstants.{MOST_STEPS}
-use Rattle.replay.proofs.Turns.{Takes}
-use Rattle.replay.proofs.turns.take_turns.Given as goal
+use Rattle.replay.proofs.Spans.{Takes}
+use Rattle.replay.proofs.order.take_turns.Given as goal
 
 abbrev pub invariant-order : goal.invariant-order
 invariant-order g l = record {

@@ -1,15 +1,19 @@
 -- Schedules of orders.
-use Rattle.std.proofs.Common.{◌≡◌, ◌<◌, ◌≤◌, ◌+◌, ◌-◌, ◌⊎◌, inl, inr, ℕ, zero, suc, List, [], ◌∷◌, ◌++◌, Some, refl, sym, ◌∙◌, ap, subst, map, length, drop, replicate, slice_get, append_assoc, append-nil, arith}
+use Rattle.std.proofs.Common.{◌≡◌, ◌<◌, ◌≤◌, ◌+◌, ◌-◌, ◌⊎◌, inl, inr, ℕ, zero, suc, List, [], ◌∷◌, ◌++◌, Option, None, Some, refl, sym, ◌∙◌, ap, subst, map, length, drop, replicate, slice_get, append_assoc, append-nil, arith}
+use Rattle.std.specs.Prelude.{option_map}
+use Rattle.syntax.specs.declared.thread_end.Status.{Status}
+use Rattle.syntax.specs.declared.thread_end.Status.TheVariants.{Running}
 use Rattle.bytecode.specs.Code.{Code, Configuration, effect}
-use Rattle.machine.specs.Turns.{AreBegun, AreTurns, IsTurnOf, RestsAfter, Span, steps_in}
-use Rattle.machine.specs.Worlds.{World, run, step}
-use Rattle.world.specs.Simulations.{Simulation, further, world_of}
+use Rattle.machine.specs.Turns.{AreBegun, AreTurns, IsTurnOf, RestsAfter, RestsIn, RunsIn, Span, steps_in}
+use Rattle.machine.specs.Worlds.{Part, World, run, step}
+use Rattle.world.specs.Resting.{GoesOnAlone, RestsAt}
+use Rattle.world.specs.Simulations.{Simulation, further, status_at, world_of}
 use Rattle.world.proofs.Resting.{further_world}
 use Rattle.world.proofs.Stepping.{further_more}
 use Rattle.replay.specs.declared.line.Line.{Line}
-use Rattle.replay.specs.Replays.{line_after, steps_of}
+use Rattle.replay.specs.Replays.{steps_of}
 use Rattle.replay.specs.Schedules.{counts}
-use Rattle.replay.specs.Turns.{line_of}
+use Rattle.replay.specs.Turns.{AreLinesOfOrder, line_of}
 use Rattle.replay.proofs.Playing.{at_zero, done_line, no_lines, not_zero, one_more}
 
 -- the lines of spans name their steps
@@ -47,6 +51,27 @@ counts_more found after s is = ap counts is ∙ last found
     last : (ls : List Line) → counts (ls ++ line_of s ∷ []) ≡ counts ls + s.1
     last [] = omega arith
     last (l ∷ ls) = let e = last ls in omega (arith, e)
+
+-- a thread that comes to rest, and one that takes its turn
+pub rested : (old now : Simulation) (t n : ℕ) → now ≡ further old (replicate n t) → GoesOnAlone old t n → RestsAt now t → RestsAfter (effect old.code) (world_of old) t n
+rested old now t n is first rests = record {
+  first = first;
+  rests = subst (λ w. RestsIn (effect old.code) w t) (further_world old (replicate n t)) (subst (λ s. RestsAt s t) is rests);
+}
+
+running_in : (code : Code) (w : World Configuration) (t : ℕ) (o : Option (Part Configuration)) → slice_get w.parts t ≡ o → option_map (λ (p : Part Configuration). p.thread.status) o ≡ Some Running → RunsIn (effect code) w t
+running_in code w t None e is = absurd (cc)
+running_in code w t (Some p) e is = record { part = p; there = e; running = (let f : p.thread.status ≡ Running = cc in f) }
+
+pub runs_at : (s : Simulation) (t : ℕ) (status : Status) → status_at s t ≡ Some status → status ≡ Running → RunsIn (effect s.code) (world_of s) t
+runs_at s t status is running = running_in s.code (world_of s) t (slice_get (world_of s).parts t) refl (is ∙ ap Some running)
+
+pub turned : (old now : Simulation) (t n : ℕ) → now ≡ further old (t ∷ []) → RunsIn (effect old.code) (world_of old) t → RestsAfter (effect now.code) (world_of now) t n → IsTurnOf (effect old.code) (world_of old) t (n + 1)
+turned old now t n is runs rests =
+    let e : suc n ≡ n + 1 = omega arith in
+    let same : now.code ≡ old.code = ap (λ (s : Simulation). s.code) is in
+    let next : world_of now ≡ step (effect old.code) (world_of old) t = ap world_of is ∙ further_world old (t ∷ []) in
+    subst (IsTurnOf (effect old.code) (world_of old) t) e (runs, subst (λ w. RestsAfter (effect old.code) w t n) next (subst (λ c. RestsAfter (effect c) (world_of now) t n) same rests))
 
 -- the lines so far, and any that are made from here on
 pub record Begins (old now : Simulation) (t count : ℕ) (found : List Line) : Type 0 where
@@ -134,3 +159,26 @@ named_more order at u threads here lt before i t le e = by either
     by : (i < at) ⊎ (i ≡ at) → t < threads
     by (inl less) = before i t less e
     by (inr is) = let f : Some u ≡ Some t = sym here ∙ ap (slice_get order) (sym is) ∙ e in let g : u ≡ t = cc in subst (λ x. x < threads) g lt
+
+map_spans : (xs ys : List Span) → map line_of (xs ++ ys) ≡ map line_of xs ++ map line_of ys
+map_spans [] ys = refl
+map_spans (x ∷ xs) ys = ap (λ ls. line_of x ∷ ls) (map_spans xs ys)
+
+-- the lines of an order
+pub lines_of_order : (code : Code) (threads : ℕ) (order : List ℕ) (old now : Simulation) (found last : List Line) → old ≡ record { code = code; threads = threads; trace = [] }
+    → (spans : List Span) × (found ≡ map line_of spans) × AreBegun (effect old.code) (world_of old) 0 old.threads spans × (now ≡ further old (steps_in spans))
+    → (spans : List Span) × (last ≡ found ++ map line_of spans) × AreTurns (effect now.code) (world_of now) order spans → AreLinesOfOrder code threads order last
+lines_of_order code threads order old now found last is begun taken =
+    let first : Simulation = record { code = code; threads = threads; trace = [] } in
+    let after : now ≡ further first (steps_in begun.0) = begun.3 ∙ ap (λ s. further s (steps_in begun.0)) is in
+    record {
+      spans = begun.0 ++ taken.0;
+      turns = record {
+        begun = begun.0;
+        turns = taken.0;
+        begins = subst (λ (s : Simulation). AreBegun (effect s.code) (world_of s) 0 s.threads begun.0) is begun.2;
+        takes = subst (λ w. AreTurns (effect code) w order taken.0) (further_world first (steps_in begun.0)) (subst (λ (s : Simulation). AreTurns (effect s.code) (world_of s) order taken.0) after taken.2);
+        are = refl;
+      };
+      found_is = taken.1 ∙ ap (λ ls. ls ++ map line_of taken.0) begun.1 ∙ sym (map_spans begun.0 taken.0);
+    }

@@ -1,9 +1,9 @@
-use Rattle.std.proofs.Common.{◌≡◌, ◌+◌, ◌<◌, ◌∙◌, List, ◌∷◌, ◌++◌, [], ap, refl, sym, subst, arith}
+use Rattle.std.proofs.Common.{◌≡◌, ◌+◌, ◌∙◌, List, ◌∷◌, ◌++◌, [], ap, refl, sym, subst, arith}
 use Rattle.replay.specs.declared.line.Line.{Line}
 use Rattle.replay.specs.Schedules.{counts}
 use Rattle.replay.specs.declared.line.TheConstants.{MOST_STEPS}
-use Rattle.replay.proofs.Turns.{Begins, begins_all, begins_first, begins_more, counts_more}
-use Rattle.replay.proofs.turns.begin_all.Goals as goal
+use Rattle.replay.proofs.Spans.{Begins, begins_all, begins_first, begins_more, counts_more}
+use Rattle.replay.proofs.order.begin_all.Goals as goal
 
 pub threads-init : goal.threads-init
 threads-init g c = record {
@@ -17,9 +17,9 @@ threads-preserved g c =
     let added = c.in-Ok.ensures.items ∙ ap (λ (l : Line). c.threads.found.items ++ l ∷ []) c.line.ensures in
     let m = c.in_ok-made.ensures.made in
     record {
-      begins = begins_more c.args.world.now c.threads.world c.come_to_rest-made.new.world c.threads.t c.in_ok-made.made c.args.world.now.threads c.threads.found.items _ c.threads.invariant.begins (let lt = c.threads-test.true in let e = c.threads-t-end.ensures.threads in omega arith) c.in_ok-made.ensures.rests m.1 added;
+      begins = begins_more c.args.world.now c.threads.world c.come_to_rest.new.world c.threads.t c.in_ok-made.made c.args.world.now.threads c.threads.found.items _ c.threads.invariant.begins (let lt = c.threads-test.true in let e = c.threads-t-end.ensures.threads in omega arith) c.in_ok-made.ensures.rests m.1 added;
       room = let e = counts_more c.threads.found.items _ (c.threads.t, c.in_ok-made.made) added in let r = c.threads.invariant.room in let le = m.0 in omega arith;
-      threads = c.come_to_rest-made.ensures.threads ∙ c.threads.invariant.threads;
+      threads = c.come_to_rest.ensures.threads ∙ c.threads.invariant.threads;
     }
 
 pub returns-clause-begun : goal.returns-clause-begun
