@@ -1,8 +1,9 @@
 #!/usr/bin/env python3
-"""Counts the definitions that must be believed, one by one, and keeps the tables of docs/TRUST.md.
+"""Counts the definitions that must be believed, one by one: keeps the tables of docs/TRUST.md, and writes
+docs/TRUST_FILES.md, which has them file by file.
 
-  scripts/trust.py           fails where docs/TRUST.md is out of date
-  scripts/trust.py --write   writes its tables anew
+  scripts/trust.py           fails where one of the two pages is out of date
+  scripts/trust.py --write   writes the tables anew
 
 A definition must be believed where a public contract speaks by it. So the clauses of each crate's public functions are
 read (and of an `impl Model` the type of its values; how private fields keep a value is the proof's), the names in them
@@ -19,6 +20,12 @@ import sys
 
 TOP = os.path.dirname(os.path.dirname(os.path.abspath(__file__)))
 PAGE = f"{TOP}/docs/TRUST.md"
+FILES = f"{TOP}/docs/TRUST_FILES.md"
+FILES_HEAD = """# What must be believed, file by file
+
+Written by `scripts/trust.py`; [TRUST.md](TRUST.md) says what is counted. A heading counts the lines of one crate that
+the public contracts of any crate lead to.
+"""
 BEGIN, END = "<!-- counted: begin -->\n", "<!-- counted: end -->\n"
 WORD = re.compile(r"[^\s(){}\[\],;]+")
 
@@ -428,7 +435,7 @@ def file_tables(by_crate, believed):
         if here:
             definitions, rust = lines_in(here)
             out += [
-                f"### `{crate}`: {definitions:,} lines, and {rust:,} of Rust types and limits",
+                f"## `{crate}`: {definitions:,} lines, and {rust:,} of Rust types and limits",
                 "",
                 "| File | Lines | Says |",
                 "|---|---|---|",
@@ -462,6 +469,7 @@ def rest_of(by_crate, believed):
 
 
 def tables():
+    """The tables by promise and by crate, and those by file."""
     by_crate = {crate: cited(crate) for crate in crates()}
     believed = reached(set().union(*by_crate.values()))
     definitions, rust = lines_in(believed)
@@ -474,29 +482,31 @@ def tables():
         " public contracts together. What each crate's own stand on:",
         "",
     ]
-    out += crate_table(by_crate) + file_tables(by_crate, believed)
+    files = [FILES_HEAD] + file_tables(by_crate, believed)
     if rest:
-        out += [
+        files += [
             f"In `specs/` and behind no public contract, {sum(it for _, it in rest):,} lines: "
             + ", ".join(f"`{file[len('crates/'):]}` ({lines})" for file, lines in rest)
             + ".",
             "",
         ]
-    return "\n".join(out)
+    return "\n".join(out + crate_table(by_crate) + [""]), "\n".join(files)
 
 
 def main():
-    page, made = read(PAGE), tables()
+    page, (made, by_file) = read(PAGE), tables()
     if BEGIN not in page or END not in page:
         sys.exit("docs/TRUST.md has no place for the tables")
-    new = page[: page.index(BEGIN)] + BEGIN + "\n" + made + page[page.index(END) :]
+    pages = {PAGE: page[: page.index(BEGIN)] + BEGIN + "\n" + made + page[page.index(END) :], FILES: by_file}
+    stale = [it for it, text in pages.items() if not os.path.exists(it) or read(it) != text]
     if "--write" in sys.argv[1:]:
-        with open(PAGE, "w", encoding="utf-8") as file:
-            file.write(new)
-    elif new != page:
+        for it in stale:
+            with open(it, "w", encoding="utf-8") as file:
+                file.write(pages[it])
+    elif stale:
         print(
-            "docs/TRUST.md is out of date: scripts/trust.py --write makes its tables anew,"
-            " and the change is to be looked at"
+            f"{' and '.join(os.path.relpath(it, TOP) for it in stale)} out of date: scripts/trust.py --write makes the"
+            " tables anew, and the change is to be looked at"
         )
         return 1
     else:
