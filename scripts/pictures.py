@@ -32,17 +32,17 @@ MARKED = re.compile(r"; |^\d+ (begin|commit|print)")
 STORED = re.compile(r"; store (@\d+) = ")
 LOADED = re.compile(r"; load (@\d+) = ")
 IN_ORDER = re.compile(r"T(\d+) \((\d+)\)")
-# Each picture of the documents, and what draws it.
+# Each picture of the documents, and what draws it: README and GUIDE say so too.
 SHOWN = {
-    "counter.svg": ["counter.c", "--threads", "2", "--schedule", "schedules/counter.txt"],
-    "booking.svg": ["booking.c", "--threads", "2", "--seed", "3"],
-    "seats.svg": ["seats.c", "--threads", "2", "--order", "0,1,0,1"],
+    "seats.svg": "examples/seats.c --threads 2 --order 0,1,0,1",
+    "counter.svg": "examples/counter.c --threads 2 --schedule examples/schedules/counter.txt",
+    "booking.svg": "examples/booking.c --threads 2 --seed 3",
 }
 
 
 def out_of(txc, *words):
     """What the program prints."""
-    done = subprocess.run([txc, *words], capture_output=True, text=True, check=False, cwd=f"{TOP}/examples")
+    done = subprocess.run([txc, *words], capture_output=True, text=True, check=False, cwd=TOP)
     if done.stderr:
         sys.exit(f"{' '.join(words)}: {done.stderr}")
     return done.stdout
@@ -115,8 +115,12 @@ def main():
     if not os.path.isfile(txc):
         sys.exit(f"{txc} is not there: cd crates/txc && rt run -- --version")
     wrong = 0
+    told = "".join(open(f"{TOP}/{page}", encoding="utf-8").read() for page in ("README.md", "docs/GUIDE.md"))
     for name, replay in SHOWN.items():
-        drawn = out_of(txc, "replay", *replay, "--picture")
+        if f"txc replay {replay} --picture > {name}\n" not in told:
+            wrong += 1
+            print(f"no page says what draws docs/pictures/{name}: txc replay {replay} --picture > {name}")
+        drawn = out_of(txc, "replay", *replay.split(), "--picture")
         path = f"{TOP}/docs/pictures/{name}"
         if write:
             with open(path, "w", encoding="utf-8") as file:
@@ -127,7 +131,7 @@ def main():
     if write:
         return
     for path in sorted(glob.glob(f"{TOP}/examples/*.c")):
-        file, count = os.path.basename(path), 0
+        file, count = os.path.relpath(path, TOP), 0
         for seed in range(1, seeds + 1):
             why = differs(txc, file, ["--threads", str(2 + seed % 3), "--seed", str(seed), "--steps", str(60 * seed)])
             if why:
