@@ -12,7 +12,7 @@ use Rattle.separation.specs.Touching.{IsAccepted}
 use Rattle.command.specs.Asked.{AreThreads, IsListedOrder, words_listed}
 use Rattle.command.specs.declared.request.Claim.{Claim}
 use Rattle.serving.specs.Certified.{Certifies, CertifiesReport, IsPrintedInOrder, IsVerdict, OneReportIsPrinted, WritesVerdict}
-use Rattle.serving.specs.Checks.{IsSourceOf}
+use Rattle.serving.specs.Checks.{Accepts, IsSourceOf}
 use Rattle.serving.specs.Orders.{IsOrderOf, RunsInOrder}
 use Rattle.serving.specs.Shows.{order_shown}
 use Rattle.report.specs.Printed.{Printed}
@@ -90,8 +90,8 @@ due_with p count ticks given order due taken same is so = subst (IsReportOf (IsO
 -- the report of an accepted program in an order is that of its text
 printed_in_order : (claim : Claim) (bytes text order : List ℕ) (source : ParsedSource) → IsListedOrder bytes order → IsSourceOf text source → ∥ IsAccepted source.program ∥₁ → (written : List ℕ) → IsReportOf (IsOrderOf source.program claim.threads claim.ticks order) written → IsPrintedInOrder claim bytes text written
 printed_in_order claim bytes text order source lists spelled accepted written is =
-    let run = record { source = source; spelled = spelled; run = is.1 } in
-    let accepts = record { source = source; spelled = spelled; accepted = accepted } in
+    let run : RunsInOrder claim.threads claim.ticks order text is.0 = record { source = source; spelled = spelled; run = is.1 } in
+    let accepts : Accepts text = record { source = source; spelled = spelled; accepted = accepted } in
     (order, lists, (is.0, (run, accepts), is.2))
 
 certifies_known : (IsDue Is : List ℕ → Type 0) (report : Option (List ℕ)) (status : ℕ) (old new : Option (List ℕ)) → ((text : List ℕ) → IsDue text → Is text) → IfSome report (λ found. Certifies IsDue found status old new) → IfSome report (λ found. Certifies Is found status old new)

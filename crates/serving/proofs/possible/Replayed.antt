@@ -37,7 +37,7 @@ use Rattle.replay.specs.declared.line.Line.{Line}
 use Rattle.replay.proofs.Spans.{named_by_spans}
 use Rattle.report.specs.Printed.{Printed, Shown, ThreadShown}
 use Rattle.serving.specs.Codes.{IsCodeOf}
-use Rattle.serving.specs.Replays.{behind_events, end_after_replay, thread_found, world_shown}
+use Rattle.serving.specs.Replays.{IsReplayOf, behind_events, end_after_replay, thread_found, world_shown}
 use Rattle.serving.specs.Shows.{order_end, shown_globals, thread_shown}
 use Rattle.syntax.specs.declared.thread_end.Halt.TheVariants.{Wants}
 use Rattle.outcomes.specs.Outcomes.{IsFinished, report_of_order}
@@ -101,12 +101,11 @@ module _ (p : Program) (code : Code) (threads ticks : ℕ) (order : List ℕ) (c
 
   -- the steps of the order's lines
   module _ (s : IsStepped (effect code) (beginning code) p threads ticks order) where
+    spans_are : AreSpansOf (effect code) (beginning code) (initial_of code) threads order s.turns.0
+    spans_are = subst (λ m. AreSpansOf (effect code) (beginning code) m threads order s.turns.0) same_first s.turns.1
+
     lines_are : AreLinesOfOrder code threads order (map line_of s.turns.0)
-    lines_are = record {
-      spans = s.turns.0;
-      turns = subst (λ m. AreSpansOf (effect code) (beginning code) m threads order s.turns.0) same_first s.turns.1;
-      found_is = refl;
-    }
+    lines_are = record { spans = s.turns.0; turns = spans_are; found_is = refl }
 
     named : counts (map line_of s.turns.0) ≤ MOST_STEPS → steps_of code MOST_STEPS (map line_of s.turns.0) (first_world code threads) ≡ s.trace
     named enough = named_by_spans code s.turns.0 MOST_STEPS (first_world code threads) enough ∙ sym s.turns.2
@@ -143,7 +142,7 @@ module _ (p : Program) (code : Code) (threads ticks : ℕ) (order : List ℕ) (c
         over = subst (EndsAt (simulation_after code threads made) r.rest) whole r.ends
 
         spans : are.spans ≡ s.turns.0
-        spans = turns_are_determined (effect code) (beginning code) (initial_of code) threads order are.spans s.turns.0 are.turns lines_are.turns
+        spans = turns_are_determined (effect code) (beginning code) (initial_of code) threads order are.spans s.turns.0 are.turns spans_are
 
         lines : found ≡ map line_of s.turns.0
         lines = are.found_is ∙ ap (map line_of) spans
