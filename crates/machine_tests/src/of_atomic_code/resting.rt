@@ -369,7 +369,6 @@ fn done() -> &'static [Turns] {
                 Instr::Begin(3),
                 Instr::Write(0, 0),
                 Instr::Cancel,
-                Instr::Commit,
                 Instr::Jump(0),
             ],
             (9, 7),
