@@ -1,7 +1,7 @@
 -- Beginnings of texts that are written.
-use Rattle.std.proofs.Common.{◌≡◌, ◌∙◌, ◌+◌, ◌-◌, ◌≤◌, arith, ℕ, List, ◌++◌, Option, None, Some, length, take, drop, inl, inr, ap, subst, sym}
+use Rattle.std.proofs.Common.{◌∙◌, ◌+◌, ◌-◌, ◌≤◌, arith, ℕ, List, Option, None, Some, length, take, drop, inl, inr, ap, subst, sym}
 use Rattle.std.proofs.Math.Seq.{take-add}
-use Rattle.std.proofs.lemmas.List.{append-nil, length-drop, take_rest}
+use Rattle.std.proofs.lemmas.List.{length-drop, take_rest}
 use Rattle.std.specs.Io.KnownBytes.{Appends, Keeps}
 use Rattle.serving.specs.Written.{WritesPart}
 use Rattle.serving.proofs.ReplayRuns.{appends_more}

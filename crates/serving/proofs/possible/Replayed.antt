@@ -1,5 +1,5 @@
 -- Orders of the source as replays.
-use Rattle.std.proofs.Common.{◌≡◌, ◌≢◌, All, ◌%◌, ◌≤◌, ◌^◌, ℕ, zero, suc, true, false, List, [], ◌∷◌, ◌++◌, Option, None, Some, refl, sym, ◌∙◌, ap, ap₂, subst, length, map, slice_get, append-nil, arith}
+use Rattle.std.proofs.Common.{◌≡◌, ◌≢◌, All, ◌%◌, ◌≤◌, ◌^◌, ℕ, zero, suc, true, false, List, [], ◌∷◌, ◌++◌, Option, None, Some, refl, sym, ◌∙◌, ap, ap₂, subst, map, slice_get, append-nil, arith}
 use Rattle.std.specs.List.{AllByRecursion}
 use Rattle.std.specs.Prelude.{unwrap_or}
 use Rattle.std.proofs.lemmas.Option.{none-some}

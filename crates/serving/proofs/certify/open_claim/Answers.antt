@@ -1,5 +1,5 @@
 use Rattle.std.specs.Prelude.{IfSome, string_bytes}
-use Rattle.std.proofs.Common.{List, Option, subst}
+use Rattle.std.proofs.Common.{subst}
 use Rattle.serving.specs.Refusals.{IsRefused}
 use Rattle.serving.proofs.Verdicts.{certifies_opened, not_read_certifies, writes_opened}
 use Rattle.serving.proofs.certify.open_claim.Goals as goal

@@ -1,4 +1,4 @@
-use Rattle.std.proofs.Common.{inl, inr, refl, subst}
+use Rattle.std.proofs.Common.{inl, inr, subst}
 use Rattle.std.specs.Prelude.{IfSome}
 use Rattle.serving.specs.inner.Read.{IsTextOf}
 use Rattle.serving.proofs.Refusals.{long_refused}

@@ -1,9 +1,5 @@
-use Rattle.std.proofs.Common.{◌∙◌, arith, inr, subst}
+use Rattle.std.proofs.Common.{◌∙◌, inr, subst}
 use Rattle.std.specs.Io.KnownBytes.{Appends}
-use Rattle.report.specs.Report.{report_text}
-use Rattle.report.specs.Views.{printed_of}
-use Rattle.serving.specs.Written.{AppendsBeginning}
-use Rattle.serving.proofs.Refusals.{neither}
 use Rattle.serving.proofs.replays.print_replay.Goals as goal
 
 pub returns-in-Ok-clause-report : goal.returns-in-Ok-clause-report
