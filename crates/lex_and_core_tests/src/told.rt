@@ -10,7 +10,7 @@ use test_memory::{Refusing, growths};
 type Row = (&'static str, usize, usize, &'static str);
 
 fn spans() -> &'static [Row] {
-    static ROWS: [Row; 8] = [
+    static ROWS: [Row; 11] = [
         ("int x;\nint yy, x;\n", 11, 13, "int yy, x;\n    ^^\n"),
         // a span that is empty, and one that ends behind its line
         ("int x;", 6, 6, "int x;\n      ^\n"),
@@ -26,6 +26,15 @@ fn spans() -> &'static [Row] {
         ),
         ("a\u{1b}[b\r\n", 3, 4, "a?[b\n   ^\n"),
         ("x\n", 2, 2, "\n^\n"),
+        // characters of two columns, of none, and controls of two bytes
+        (
+            "/* \u{6c34}\u{6c34} */ $",
+            13,
+            14,
+            "/* \u{6c34}\u{6c34} */ $\n           ^\n",
+        ),
+        ("x\u{200b};", 1, 4, "x\u{200b};\n ^\n"),
+        ("a\u{9b}b\u{b5}$", 6, 7, "a?b\u{b5}$\n    ^\n"),
     ];
     &ROWS
 }
@@ -37,7 +46,7 @@ fn is_shown(alloc: Global, row: &Row) -> bool {
         end: row.2,
     };
     match underline(alloc, row.0, span) {
-        Ok(shown) => shown.as_slice() == row.3.as_bytes(),
+        Ok(shown) => shown.as_str() == row.3,
         Err(_) => false,
     }
 }
@@ -67,7 +76,7 @@ fn long_line(alloc: Global) -> Result<String, AllocError> {
 }
 
 /// What is shown of a character in the middle of the long line.
-fn shown_middle<A: Allocator>(alloc: A, text: &str) -> Result<Vec<u8, A>, AllocError> {
+fn shown_middle<A: Allocator>(alloc: A, text: &str) -> Result<String<A>, AllocError> {
     let span = Span {
         start: 1000,
         end: 1002,
@@ -76,30 +85,23 @@ fn shown_middle<A: Allocator>(alloc: A, text: &str) -> Result<Vec<u8, A>, AllocE
 }
 
 /// Whether growth `nth` is told where it is refused, and else the same is shown as with ample memory.
-fn tells(alloc: &Refusing<Global>, nth: u64, text: &str, wanted: &[u8]) -> bool {
+fn tells(alloc: &Refusing<Global>, nth: u64, text: &str, wanted: &str) -> bool {
     alloc.refuse(nth);
     match shown_middle(alloc, text) {
-        Ok(shown) => alloc.is_waiting() && shown.as_slice() == wanted,
+        Ok(shown) => alloc.is_waiting() && shown.as_str() == wanted,
         Err(_) => !alloc.is_waiting(),
     }
 }
 
 /// How many growths of the middle of a text can be refused; or the first with which it goes wrong.
-fn growths_of(inner: Global, text: &str, wanted: &[u8]) -> Result<u64, u64> {
+fn growths_of(inner: Global, text: &str, wanted: &str) -> Result<u64, u64> {
     growths(inner, 50, |alloc, nth| tells(alloc, nth, text, wanted))
-}
-
-/// Whether this is a text of less than 400 bytes.
-fn is_part(shown: &[u8]) -> bool {
-    shown.len() < 400 && std::str::from_utf8(shown).is_ok()
 }
 
 /// Whether a part of a text is shown, and growths on the way can be refused.
 fn shows_a_part(alloc: Global, text: &str) -> bool {
     match shown_middle(alloc, text) {
-        Ok(shown) => {
-            is_part(shown.as_slice()) && growths_of(alloc, text, shown.as_slice()).ok() > Some(0)
-        }
+        Ok(shown) => { shown.len() < 400 && growths_of(alloc, text, shown.as_str()).ok() > Some(0) }
         Err(_) => false,
     }
 }

@@ -1,7 +1,9 @@
 //! By which calls a function comes to what is not safe, or to shared data.
 
+use crate::lines::push_place;
 use crate::tokens::{
-    behind_brackets, is_punctuator, is_type, kind_at, kind_before, kind_behind, put_place,
+    behind_brackets, declared, declares, is_punctuator, kind_at, kind_behind, next_declaration,
+    offset_at, open_bracket,
 };
 use lex::token::{Keyword, Kind, Punctuator, Token};
 use std::alloc::{AllocError, Allocator};
@@ -10,7 +12,7 @@ use std::alloc::{AllocError, Allocator};
 const MOST_FUNCTIONS: usize = 64;
 
 /// The most bytes of a source in which it is looked for calls.
-const MOST_BYTES: usize = 65536;
+const MOST_BYTES: usize = 32768;
 
 /// What is looked for in functions.
 #[derive(Clone, Copy, PartialEq, Eq)]
@@ -35,13 +37,6 @@ struct Reason<'t> {
     token: Option<usize>,
 }
 
-/// Whether a token declares a function.
-fn declares_function(tokens: &[Token<'_>], number: usize) -> bool {
-    matches!(kind_at(tokens, number), Some(Kind::Name(_)))
-        && is_type(kind_before(tokens, number))
-        && is_punctuator(kind_behind(tokens, number), Punctuator::OpenParen)
-}
-
 /// The number of the brace that begins the body of a function, whose parameters' bracket is the token of a number.
 fn body_brace(tokens: &[Token<'_>], parameters: usize) -> Option<usize> {
     let mut next = behind_brackets(tokens, parameters)?;
@@ -49,24 +44,21 @@ fn body_brace(tokens: &[Token<'_>], parameters: usize) -> Option<usize> {
         match kind_at(tokens, next)? {
             Kind::Punctuator(Punctuator::OpenBrace) => return Some(next),
             Kind::Punctuator(Punctuator::Semicolon) => return None,
-            Kind::Punctuator(Punctuator::OpenParen | Punctuator::OpenBracket) => next =
-                behind_brackets(tokens, next)?,
-            _ => next = next.saturating_add(1),
+            _ => next = behind_brackets(tokens, next)?,
         }
     }
     None
 }
 
-/// The numbers of the first token of a function, its name, and of the one behind its body.
+/// The number of the first token of a function, its name, and of the one behind its body.
 fn function(tokens: &[Token<'_>], name: &str) -> Option<(usize, usize)> {
-    'tokens: for (number, token) in tokens.iter().enumerate() {
-        let is_name = matches!(token.kind, Kind::Name(other) if other == name);
-        if is_name && declares_function(tokens, number) {
-            if let Some(brace) = body_brace(tokens, number.saturating_add(1)) {
-                return match behind_brackets(tokens, brace) {
-                    Some(end) => Some((number, end)),
-                    None => None,
-                };
+    let mut from = 0usize;
+    'declarations: for _ in 0..tokens.len() {
+        let number = next_declaration(tokens, name, from)?;
+        from = number.saturating_add(1);
+        if is_punctuator(kind_at(tokens, from), Punctuator::OpenParen) {
+            if let Some(brace) = body_brace(tokens, from) {
+                return Some((number, behind_brackets(tokens, brace)?));
             }
         }
     }
@@ -88,100 +80,125 @@ fn is_marked(tokens: &[Token<'_>], name: &str) -> bool {
                 is_marked = false;
                 is_declared = false;
             }
-            Kind::Name(other) => {
-                is_marked = is_marked || other == "transaction_unsafe";
-                is_declared = is_declared || (other == name && declares_function(tokens, number));
-            }
-            _ => {}
+            Kind::Name("transaction_unsafe") => is_marked = true,
+            _ => is_declared = is_declared || declares(tokens, number, name),
         }
     }
     false
 }
 
-/// Whether a name is that of a variable outside of functions.
-fn is_global(tokens: &[Token<'_>], name: &str) -> bool {
-    let mut next = 0usize;
-    'tokens: for (number, token) in tokens.iter().enumerate() {
-        if number >= next {
-            match token.kind {
-                Kind::Punctuator(Punctuator::OpenBrace | Punctuator::OpenParen) => {
-                    let Some(behind) = behind_brackets(tokens, number) else {
-                        return false;
-                    };
-                    next = behind;
-                }
-                Kind::Name(other) if other == name => return !is_punctuator(
-                    kind_behind(tokens, number),
-                    Punctuator::OpenParen,
-                ),
-                _ => {}
-            }
+/// Whether the token of a number is the name of a variable outside of functions.
+fn is_shared(tokens: &[Token<'_>], name: &str, number: usize) -> bool {
+    match declared(tokens, name, number) {
+        Some(first) => {
+            open_bracket(tokens, first).is_none()
+                && !is_punctuator(kind_behind(tokens, first), Punctuator::OpenParen)
         }
+        None => false,
     }
-    false
 }
 
-/// Whether a name is declared between two tokens.
-fn is_declared_between(tokens: &[Token<'_>], name: &str, from: usize, to: usize) -> bool {
-    'tokens: for (number, token) in tokens.iter().enumerate() {
-        let is_name = matches!(token.kind, Kind::Name(other) if other == name);
-        let is_within = number > from && number < to;
-        let before = kind_before(tokens, number);
-        if is_name && is_within && (is_type(before) || is_punctuator(before, Punctuator::Comma)) {
+/// The number of the token behind a transaction, whose word is the token of a number.
+fn behind_transaction(tokens: &[Token<'_>], word: usize) -> Option<usize> {
+    let next = word.saturating_add(1);
+    let body = match kind_at(tokens, next)? {
+        Kind::Keyword(Keyword::Attribute) => behind_brackets(tokens, next.saturating_add(1))?,
+        Kind::Punctuator(Punctuator::OpenBracket) => behind_brackets(tokens, next)?,
+        _ => next,
+    };
+    behind_brackets(tokens, body)
+}
+
+/// Words of a reason, that of the token of a number.
+fn found(words: &'static str, number: usize) -> Option<Reason<'static>> {
+    Some(Reason {
+        words,
+        name: "",
+        token: Some(number),
+    })
+}
+
+/// What the token of a number is a reason for.
+fn reason_at<'t>(tokens: &[Token<'t>], aim: Aim, number: usize) -> Option<Reason<'t>> {
+    match (aim, kind_at(tokens, number)?) {
+        (Aim::Unsafe, Kind::Keyword(Keyword::Printf)) => found("prints", number),
+        (Aim::Unsafe, Kind::Keyword(Keyword::Relaxed)) => {
+            found("begins a relaxed transaction", number)
+        }
+        (Aim::Shared, Kind::Name(name)) if is_shared(tokens, name, number) => Some(Reason {
+            words: "uses ",
+            name,
+            token: Some(number),
+        }),
+        _ => None,
+    }
+}
+
+/// Whether a function is among those looked at.
+fn is_looked_at(looked: &[Called<'_>], name: &str) -> bool {
+    'looked: for called in looked {
+        if called.name == name {
             return true;
         }
     }
     false
 }
 
-/// The number of the token behind a transaction, whose word is the token of a number.
-fn behind_transaction(tokens: &[Token<'_>], word: usize) -> usize {
-    let mut next = word.saturating_add(1);
-    if matches!(
-        kind_at(tokens, next),
-        Some(Kind::Keyword(Keyword::Attribute))
-    ) {
-        next = behind_brackets(tokens, next.saturating_add(1)).unwrap_or(next);
-    } else if is_punctuator(kind_at(tokens, next), Punctuator::OpenBracket) {
-        next = behind_brackets(tokens, next).unwrap_or(next);
+/// Adds the function that the token of a number calls to those looked at.
+fn add_call<'t, A: Allocator>(
+    tokens: &[Token<'t>],
+    looked: &mut Vec<Called<'t>, A>,
+    caller: usize,
+    number: usize,
+) -> Result<(), AllocError> {
+    if let Some(Kind::Name(name)) = kind_at(tokens, number) {
+        let is_call = is_punctuator(kind_behind(tokens, number), Punctuator::OpenParen);
+        if is_call && !is_looked_at(looked.as_slice(), name) {
+            looked.push(Called {
+                name,
+                token: number,
+                caller,
+            })?;
+        }
     }
-    behind_brackets(tokens, next).unwrap_or(next)
+    Ok(())
 }
 
-/// What one token of a function is a reason for.
-fn reason_at<'t>(
+/// Whether a token begins a transaction.
+fn begins_transaction(kind: Kind<'_>) -> bool {
+    matches!(kind, Kind::Keyword(Keyword::Atomic | Keyword::Relaxed))
+}
+
+/// Looks at the tokens from one up to another: gives what is found there, or else adds the functions that are called to
+/// those looked at.
+fn look_between<'t, A: Allocator>(
     tokens: &[Token<'t>],
     aim: Aim,
-    number: usize,
-    first: usize,
-    end: usize,
-) -> Option<Reason<'t>> {
-    let token = Some(number);
-    match (aim, kind_at(tokens, number)?) {
-        (Aim::Unsafe, Kind::Keyword(Keyword::Printf)) => Some(Reason {
-            words: "prints",
-            name: "",
-            token,
-        }),
-        (Aim::Unsafe, Kind::Keyword(Keyword::Relaxed)) => Some(Reason {
-            words: "begins a relaxed transaction",
-            name: "",
-            token,
-        }),
-        (Aim::Shared, Kind::Name(name))
-            if is_global(tokens, name) && !is_declared_between(tokens, name, first, end) => Some(
-            Reason {
-                words: "uses ",
-                name,
-                token,
-            },
-        ),
-        _ => None,
+    looked: &mut Vec<Called<'t>, A>,
+    caller: usize,
+    between: (usize, usize),
+) -> Result<Option<Reason<'t>>, AllocError> {
+    let (from, to) = between;
+    let mut next = from;
+    'tokens: for number in from..to.min(tokens.len()) {
+        if number < next {
+            continue;
+        }
+        if aim == Aim::Shared && begins_transaction(tokens[number].kind) {
+            next = behind_transaction(tokens, number).unwrap_or(to);
+            continue;
+        }
+        let found = reason_at(tokens, aim, number);
+        if found.is_some() {
+            return Ok(found);
+        }
+        add_call(tokens, looked, caller, number)?;
     }
+    Ok(None)
 }
 
 /// Looks into a function: gives what is found there, or else adds the functions that it calls to those looked at.
-fn look_into<'t, A: Allocator + Copy>(
+fn look_into<'t, A: Allocator>(
     tokens: &[Token<'t>],
     aim: Aim,
     looked: &mut Vec<Called<'t>, A>,
@@ -195,104 +212,115 @@ fn look_into<'t, A: Allocator + Copy>(
             token: None,
         }));
     }
-    let Some((first, end)) = function(tokens, name) else {
-        return Ok(None);
-    };
-    let mut next = first.saturating_add(1);
-    'tokens: for (number, token) in tokens.iter().enumerate() {
-        if number >= next && number < end {
-            let begins = matches!(
-                token.kind,
-                Kind::Keyword(Keyword::Atomic | Keyword::Relaxed)
-            );
-            if begins && aim == Aim::Shared {
-                next = behind_transaction(tokens, number);
-                continue;
-            }
-            if let Some(reason) = reason_at(tokens, aim, number, first, end) {
-                return Ok(Some(reason));
-            }
-            if let Kind::Name(called) = token.kind {
-                let is_call = is_punctuator(kind_behind(tokens, number), Punctuator::OpenParen);
-                let mut is_known = !is_call;
-                'looked: for other in looked.iter() {
-                    is_known = is_known || other.name == called;
-                }
-                if !is_known {
-                    looked.push(Called {
-                        name: called,
-                        token: number,
-                        caller,
-                    })?;
-                }
-            }
+    match function(tokens, name) {
+        Some((first, end)) => {
+            let between = (first.saturating_add(1), end);
+            look_between(tokens, aim, looked, caller, between)
+        }
+        None => Ok(None),
+    }
+}
+
+/// Adds the place of the token of a number, behind `at`.
+fn push_at<A: Allocator + Copy>(
+    alloc: A,
+    to: &mut String<A>,
+    text: &str,
+    tokens: &[Token<'_>],
+    number: usize,
+) -> Result<(), AllocError> {
+    to.push_str(" at ")?;
+    push_place(alloc, to, text, offset_at(tokens, number))
+}
+
+/// Adds the call of a function, behind its caller.
+fn push_call<A: Allocator + Copy>(
+    alloc: A,
+    to: &mut String<A>,
+    text: &str,
+    tokens: &[Token<'_>],
+    called: Called<'_>,
+) -> Result<(), AllocError> {
+    to.push_str(" calls ")?;
+    to.push_str(called.name)?;
+    push_at(alloc, to, text, tokens, called.token)?;
+    to.push_str(", which")
+}
+
+/// The number of the caller of one of these functions, so many calls up.
+fn caller_up(looked: &[Called<'_>], last: usize, by: usize) -> usize {
+    let mut at = last;
+    'callers: for _ in 0..by {
+        at = looked.get(at).map_or(0, |it| it.caller);
+    }
+    at
+}
+
+/// By how many calls the first of these functions comes to the one of a number.
+fn depth(looked: &[Called<'_>], last: usize) -> usize {
+    'callers: for by in 0..MOST_FUNCTIONS {
+        if caller_up(looked, last, by) == 0 {
+            return by;
+        }
+    }
+    MOST_FUNCTIONS
+}
+
+/// Adds by which calls the first of these functions comes to the last one.
+fn push_calls<A: Allocator + Copy>(
+    alloc: A,
+    to: &mut String<A>,
+    text: &str,
+    tokens: &[Token<'_>],
+    looked: &[Called<'_>],
+    last: usize,
+) -> Result<(), AllocError> {
+    'calls: for by in (0..depth(looked, last)).rev() {
+        if let Some(called) = looked.get(caller_up(looked, last, by)) {
+            push_call(alloc, to, text, tokens, *called)?;
+        }
+    }
+    Ok(())
+}
+
+/// Adds what is found in a function, as the end of a line.
+fn push_reason<A: Allocator + Copy>(
+    alloc: A,
+    to: &mut String<A>,
+    text: &str,
+    tokens: &[Token<'_>],
+    reason: Reason<'_>,
+) -> Result<(), AllocError> {
+    to.push(' ')?;
+    to.push_str(reason.words)?;
+    to.push_str(reason.name)?;
+    if let Some(number) = reason.token {
+        push_at(alloc, to, text, tokens, number)?;
+    }
+    to.push('\n')
+}
+
+/// Looks into functions, and into those that they call, until something is found, in the one of a number.
+fn look<'t, A: Allocator>(
+    tokens: &[Token<'t>],
+    aim: Aim,
+    looked: &mut Vec<Called<'t>, A>,
+) -> Result<Option<(usize, Reason<'t>)>, AllocError> {
+    'functions: for at in 0..MOST_FUNCTIONS {
+        let Some(function) = looked.get(at).copied() else {
+            return Ok(None);
+        };
+        if let Some(reason) = look_into(tokens, aim, looked, at, function.name)? {
+            return Ok(Some((at, reason)));
         }
     }
     Ok(None)
 }
 
-/// Adds the place of the token of a number, behind `at`.
-fn put_at<A: Allocator + Copy>(
+/// Adds by which calls a function comes to what is looked for, if that is found, and gives whether it is.
+pub(crate) fn push_path<'t, A: Allocator + Copy>(
     alloc: A,
-    to: &mut Vec<u8, A>,
-    text: &str,
-    tokens: &[Token<'_>],
-    number: usize,
-) -> Result<(), AllocError> {
-    to.extend_from_slice(b" at ")?;
-    put_place(
-        alloc,
-        to,
-        text,
-        tokens.get(number).map_or(0, |it| it.span.start),
-    )
-}
-
-/// Adds by which calls the last of these functions is reached, and what is found in it.
-fn put_path<'t, A: Allocator + Copy>(
-    alloc: A,
-    to: &mut Vec<u8, A>,
-    text: &str,
-    tokens: &[Token<'t>],
-    looked: &[Called<'t>],
-    last: usize,
-    reason: Reason<'t>,
-) -> Result<(), AllocError> {
-    let mut path = Vec::new(alloc);
-    let mut at = last;
-    'callers: for _ in 0..MOST_FUNCTIONS {
-        if let Some(called) = looked.get(at) {
-            path.push(*called)?;
-            if at == 0 {
-                break;
-            }
-            at = called.caller;
-        }
-    }
-    'called: for (number, called) in path.iter().rev().enumerate() {
-        if number > 0 {
-            to.extend_from_slice(b" calls ")?;
-        }
-        to.extend_from_slice(called.name.as_bytes())?;
-        if number > 0 {
-            put_at(alloc, to, text, tokens, called.token)?;
-            to.extend_from_slice(b", which")?;
-        }
-    }
-    to.push(b' ')?;
-    to.extend_from_slice(reason.words.as_bytes())?;
-    to.extend_from_slice(reason.name.as_bytes())?;
-    if let Some(number) = reason.token {
-        put_at(alloc, to, text, tokens, number)?;
-    }
-    to.push(b'\n')?;
-    Ok(())
-}
-
-/// Tells by which calls a function comes to what is looked for, if that is found.
-pub(crate) fn tell_calls<'t, A: Allocator + Copy>(
-    alloc: A,
-    to: &mut Vec<u8, A>,
+    to: &mut String<A>,
     text: &str,
     tokens: &[Token<'t>],
     aim: Aim,
@@ -307,14 +335,13 @@ pub(crate) fn tell_calls<'t, A: Allocator + Copy>(
         token: 0,
         caller: 0,
     })?;
-    'functions: for at in 0..MOST_FUNCTIONS {
-        let Some(function) = looked.get(at).copied() else {
-            return Ok(false);
-        };
-        if let Some(reason) = look_into(tokens, aim, &mut looked, at, function.name)? {
-            put_path(alloc, to, text, tokens, looked.as_slice(), at, reason)?;
-            return Ok(true);
+    match look(tokens, aim, &mut looked)? {
+        Some((last, reason)) => {
+            to.push_str(name)?;
+            push_calls(alloc, to, text, tokens, looked.as_slice(), last)?;
+            push_reason(alloc, to, text, tokens, reason)?;
+            Ok(true)
         }
+        None => Ok(false),
     }
-    Ok(false)
 }

@@ -4,6 +4,7 @@ ghost use Rattle.std.specs.Prelude.{◌≤◌, length};
 
 use lex::token::Span;
 use std::alloc::{AllocError, Allocator};
+use unicode_width::UnicodeWidthChar;
 
 /// The most bytes of a line that are shown before an offset.
 const MOST_BEFORE: usize = 100;
@@ -52,49 +53,84 @@ fn shown_to(text: &[u8], offset: usize) -> usize
     if most == text.len() { most } else { to }
 }
 
-/// Adds bytes of a line; a control character is shown as `?`, and a tab stays.
-fn push_shown<A: Allocator>(shown: &mut Vec<u8, A>, line: &[u8]) -> Result<(), AllocError> {
-    'bytes: for byte in line {
-        let is_control = (*byte < b' ' && *byte != b'\t') || *byte == 0x7f;
-        shown.push(if is_control { b'?' } else { *byte })?;
+/// How a character of a text that others made is shown: a control character as `?`, but for these.
+fn shown_as(c: char, but: &str) -> char {
+    if c.is_control() && !but.contains(c) {
+        '?'
+    } else {
+        c
+    }
+}
+
+/// Adds a part of a line; a control character is shown as `?`, and a tab stays.
+fn push_shown<A: Allocator>(shown: &mut String<A>, part: &str) -> Result<(), AllocError> {
+    'characters: for c in part.chars() {
+        shown.push(shown_as(c, "\t"))?;
     }
     Ok(())
 }
 
-/// Adds a caret or a space for each character; a tab stays where a space stands for it.
-fn push_under<A: Allocator>(
-    shown: &mut Vec<u8, A>,
-    line: &[u8],
-    sign: u8,
+/// Adds a sign so many times.
+fn push_times<A: Allocator>(
+    shown: &mut String<A>,
+    sign: char,
+    times: usize,
 ) -> Result<(), AllocError> {
-    'bytes: for byte in line {
-        if *byte == b'\t' && sign == b' ' {
-            shown.push(b'\t')?;
-        } else if !is_continuation(*byte) {
-            shown.push(sign)?;
+    'times: for _ in 0..times {
+        shown.push(sign)?;
+    }
+    Ok(())
+}
+
+/// Adds a sign for each column that a part of a line takes on a terminal; a tab stays where a space stands for it.
+fn push_under<A: Allocator>(
+    shown: &mut String<A>,
+    part: &str,
+    sign: char,
+) -> Result<(), AllocError> {
+    'characters: for c in part.chars() {
+        if c == '\t' && sign == ' ' {
+            shown.push(c)?;
+        } else {
+            push_times(shown, sign, c.width().unwrap_or(1))?;
         }
     }
     Ok(())
 }
 
-/// The line of a text that a span begins in, and a line with a caret under each character of the span in it, or one
+/// Adds carets under a part of a line, one where it takes no column.
+fn push_carets<A: Allocator>(shown: &mut String<A>, part: &str) -> Result<(), AllocError> {
+    let before = shown.len();
+    push_under(shown, part, '^')?;
+    if shown.len() == before {
+        shown.push('^')?;
+    }
+    Ok(())
+}
+
+/// Adds the line of a text that a span begins in, and carets.
+fn push_underlined<A: Allocator>(
+    shown: &mut String<A>,
+    text: &str,
+    span: Span,
+) -> Result<(), AllocError> {
+    let offset = span.start.min(text.len());
+    let from = shown_from(text.as_bytes(), offset);
+    let to = shown_to(text.as_bytes(), offset);
+    let end = span.end.clamp(offset, to);
+    push_shown(shown, text.get(from..to).unwrap_or(""))?;
+    shown.push('\n')?;
+    push_under(shown, text.get(from..offset).unwrap_or(""), ' ')?;
+    push_carets(shown, text.get(offset..end).unwrap_or(""))?;
+    shown.push('\n')
+}
+
+/// The line of a text that a span begins in, and a line with a caret under each column of the span in it, or one
 /// caret where there is none.
 ///
 /// Of a long line at most 100 bytes before the offset and 200 from it on are shown. Both lines end with LF.
-pub fn underline<A: Allocator>(alloc: A, text: &str, span: Span) -> Result<Vec<u8, A>, AllocError> {
-    let bytes = text.as_bytes();
-    let offset = span.start.min(bytes.len());
-    let from = shown_from(bytes, offset);
-    let to = shown_to(bytes, offset);
-    let end = span.end.clamp(offset, to);
-    let mut shown = Vec::new(alloc);
-    push_shown(&mut shown, &bytes[from..to])?;
-    shown.push(b'\n')?;
-    push_under(&mut shown, &bytes[from..offset], b' ')?;
-    if end == offset {
-        shown.push(b'^')?;
-    }
-    push_under(&mut shown, &bytes[offset..end], b'^')?;
-    shown.push(b'\n')?;
+pub fn underline<A: Allocator>(alloc: A, text: &str, span: Span) -> Result<String<A>, AllocError> {
+    let mut shown = String::new(alloc);
+    push_underlined(&mut shown, text, span)?;
     Ok(shown)
 }

@@ -125,11 +125,19 @@ fn types() -> &'static [Candidate] {
     &ROWS
 }
 
+/// Why tokens are no program, if they are none.
+fn fault_of<A: Allocator + Copy>(alloc: A, tokens: &[Token<'_>]) -> Option<ParseFault> {
+    match parse(alloc, tokens) {
+        Ok(_) => None,
+        Err(fault) => Some(fault),
+    }
+}
+
 /// Whether some program begins with these tokens and this one. These tokens begin one.
-fn goes_on<'t, A: Allocator + Copy>(
+fn goes_on<A: Allocator + Copy>(
     alloc: A,
-    tokens: &mut Vec<Token<'t>, A>,
-    kind: Kind<'t>,
+    tokens: &mut Vec<Token<'_>, A>,
+    kind: Candidate,
 ) -> Result<bool, AllocError> {
     let end = match tokens.as_slice() {
         [.., last] => last.span.end,
@@ -139,20 +147,19 @@ fn goes_on<'t, A: Allocator + Copy>(
         kind,
         span: Span { start: end, end },
     })?;
-    let found = parse(alloc, tokens.as_slice());
+    let fault = fault_of(alloc, tokens.as_slice());
     tokens.pop();
-    match found {
-        Ok(_) => Ok(true),
-        Err(ParseFault::TooDeep(_) | ParseFault::Unfinished(_)) => Ok(true),
-        Err(ParseFault::Unexpected(_)) => Ok(false),
-        Err(ParseFault::OutOfMemory) => Err(AllocError),
+    match fault {
+        None | Some(ParseFault::TooDeep(_) | ParseFault::Unfinished(_)) => Ok(true),
+        Some(ParseFault::Unexpected(_)) => Ok(false),
+        Some(ParseFault::OutOfMemory) => Err(AllocError),
     }
 }
 
 /// Whether programs go on with each of these tokens.
-fn all_go_on<'t, A: Allocator + Copy>(
+fn all_go_on<A: Allocator + Copy>(
     alloc: A,
-    tokens: &mut Vec<Token<'t>, A>,
+    tokens: &mut Vec<Token<'_>, A>,
     candidates: &[Candidate],
 ) -> Result<bool, AllocError> {
     'candidates: for candidate in candidates {
@@ -163,41 +170,110 @@ fn all_go_on<'t, A: Allocator + Copy>(
     Ok(true)
 }
 
-/// What could stand behind tokens that begin a program, as it is told: single tokens, and then what has many
-/// beginnings.
-pub(crate) fn expected_tokens<'t, A: Allocator + Copy>(
+/// What of many beginnings could stand behind tokens that begin a program.
+#[derive(Clone, Copy)]
+struct Groups {
+    declaration: bool,
+    statement: bool,
+    expression: bool,
+    assignment: bool,
+    operator: bool,
+}
+
+/// What of many beginnings could stand behind these tokens.
+fn groups_behind<A: Allocator + Copy>(
     alloc: A,
-    tokens: &mut Vec<Token<'t>, A>,
-) -> Result<Vec<&'static str, A>, AllocError> {
-    let is_statement = all_go_on(alloc, tokens, statements())?;
-    let is_expression = all_go_on(alloc, tokens, expressions())?;
-    let is_assignment = all_go_on(alloc, tokens, assignments())?;
-    let is_operator = all_go_on(alloc, tokens, operators())?;
-    let is_type = all_go_on(alloc, tokens, types())?;
-    let mut told = Vec::new(alloc);
+    tokens: &mut Vec<Token<'_>, A>,
+) -> Result<Groups, AllocError> {
+    Ok(Groups {
+        declaration: all_go_on(alloc, tokens, types())?,
+        statement: all_go_on(alloc, tokens, statements())?,
+        expression: all_go_on(alloc, tokens, expressions())?,
+        assignment: all_go_on(alloc, tokens, assignments())?,
+        operator: all_go_on(alloc, tokens, operators())?,
+    })
+}
+
+/// Whether the whole of what a token is a part of could stand.
+fn has_whole(groups: Groups, part: Part) -> bool {
+    match part {
+        Part::Nothing => false,
+        Part::Declaration => groups.declaration,
+        Part::Statement => groups.statement,
+        Part::Expression => groups.expression,
+        Part::Assignment => groups.assignment,
+    }
+}
+
+/// Adds the single tokens that could stand behind these, but those that are a part of what could stand.
+fn push_alone<A: Allocator + Copy>(
+    alloc: A,
+    told: &mut Vec<&'static str, A>,
+    tokens: &mut Vec<Token<'_>, A>,
+    groups: Groups,
+) -> Result<(), AllocError> {
     'alone: for (kind, word, part) in alone() {
-        let is_told_below = match *part {
-            Part::Nothing => false,
-            Part::Declaration => is_type,
-            Part::Statement => is_statement,
-            Part::Expression => is_expression,
-            Part::Assignment => is_assignment,
-        };
-        if !is_told_below && goes_on(alloc, tokens, *kind)? {
+        if !has_whole(groups, *part) && goes_on(alloc, tokens, *kind)? {
             told.push(*word)?;
         }
     }
-    let groups = [
-        (is_type, "a declaration"),
-        (is_statement, "a statement"),
-        (is_expression && !is_statement, "an expression"),
-        (is_assignment, "an assignment"),
-        (is_operator, "an operator"),
+    Ok(())
+}
+
+/// Adds what has many beginnings and could stand.
+fn push_groups<A: Allocator>(
+    told: &mut Vec<&'static str, A>,
+    groups: Groups,
+) -> Result<(), AllocError> {
+    let rows = [
+        (groups.declaration, "a declaration"),
+        (groups.statement, "a statement"),
+        (groups.expression && !groups.statement, "an expression"),
+        (groups.assignment, "an assignment"),
+        (groups.operator, "an operator"),
     ];
-    'groups: for (could_stand, word) in groups {
+    'groups: for (could_stand, word) in rows {
         if could_stand {
             told.push(word)?;
         }
     }
+    Ok(())
+}
+
+/// What could stand behind tokens that begin a program, as it is told: single tokens, and then what has many
+/// beginnings.
+pub(crate) fn expected_tokens<A: Allocator + Copy>(
+    alloc: A,
+    tokens: &mut Vec<Token<'_>, A>,
+) -> Result<Vec<&'static str, A>, AllocError> {
+    let groups = groups_behind(alloc, tokens)?;
+    let mut told: Vec<&'static str, A> = Vec::new(alloc);
+    push_alone(alloc, &mut told, tokens, groups)?;
+    push_groups(&mut told, groups)?;
     Ok(told)
+}
+
+/// What stands before a word of a list, by its number from 0 and by how many words there are.
+fn between(number: usize, count: usize) -> &'static str {
+    match (number, count.saturating_sub(number)) {
+        (0, _) => "expected ",
+        (_, 1) => " or ",
+        _ => ", ",
+    }
+}
+
+/// Adds a line that says what is expected, where there is something.
+pub(crate) fn push_expected<A: Allocator>(
+    to: &mut String<A>,
+    words: &[&str],
+) -> Result<(), AllocError> {
+    'words: for (number, word) in words.iter().enumerate() {
+        to.push_str(between(number, words.len()))?;
+        to.push_str(word)?;
+    }
+    if words.is_empty() {
+        Ok(())
+    } else {
+        to.push('\n')
+    }
 }

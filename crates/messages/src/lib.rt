@@ -8,11 +8,15 @@ mod carets;
 mod characters;
 mod expected;
 mod explanations;
+mod foreign;
 mod formats;
+mod lines;
 mod meant;
+mod names;
 mod near;
 mod table;
 mod tokens;
+mod unexpected;
 
 pub use beside::hints;
 pub use carets::underline;

@@ -1,8 +1,6 @@
 //! What stands where among a source's tokens, as far as it is told beside a fault.
 
-use lex::place;
-use lex::token::{Keyword, Kind, Punctuator, Span, Token};
-use std::alloc::{AllocError, Allocator};
+use lex::token::{Keyword, Kind, Punctuator, Token};
 
 /// The number of the token that begins at an offset.
 pub(crate) fn number_at(tokens: &[Token<'_>], offset: usize) -> Option<usize> {
@@ -12,6 +10,11 @@ pub(crate) fn number_at(tokens: &[Token<'_>], offset: usize) -> Option<usize> {
         }
     }
     None
+}
+
+/// Where the token of a number begins.
+pub(crate) fn offset_at(tokens: &[Token<'_>], number: usize) -> usize {
+    tokens.get(number).map_or(0, |it| it.span.start)
 }
 
 /// What the token of a number is.
@@ -52,167 +55,200 @@ pub(crate) fn is_punctuator(kind: Option<Kind<'_>>, punctuator: Punctuator) -> b
     matches!(kind, Some(Kind::Punctuator(other)) if other == punctuator)
 }
 
-/// What brackets do to how deep tokens stand.
-fn deeper(kind: Kind<'_>) -> (usize, usize) {
-    match kind {
-        Kind::Punctuator(Punctuator::OpenParen | Punctuator::OpenBracket | Punctuator::OpenBrace) =>
-            (1, 0),
-        Kind::Punctuator(
-            Punctuator::CloseParen | Punctuator::CloseBracket | Punctuator::CloseBrace,
-        ) => (0, 1),
-        _ => (0, 0),
+/// Whether a token is a name.
+pub(crate) fn is_name(kind: Option<Kind<'_>>, name: &str) -> bool {
+    matches!(kind, Some(Kind::Name(other)) if other == name)
+}
+
+/// Whether a token opens a bracket.
+fn opens(kind: Kind<'_>) -> bool {
+    matches!(
+        kind,
+        Kind::Punctuator(Punctuator::OpenParen | Punctuator::OpenBracket | Punctuator::OpenBrace)
+    )
+}
+
+/// Whether a token closes a bracket.
+fn closes(kind: Kind<'_>) -> bool {
+    matches!(
+        kind,
+        Kind::Punctuator(Punctuator::CloseParen | Punctuator::CloseBracket | Punctuator::CloseBrace)
+    )
+}
+
+/// How many brackets are open behind a token, of so many before it.
+fn depth_behind(depth: usize, kind: Kind<'_>) -> usize {
+    if opens(kind) {
+        depth.saturating_add(1)
+    } else if closes(kind) {
+        depth.saturating_sub(1)
+    } else {
+        depth
     }
 }
 
-/// How many parts commas make of what stands in a bracket: of its tokens, from the one behind it on. `void` alone, and
-/// nothing, are none, and so is what follows the last comma where that is nothing. Nothing is told where the bracket
-/// does not close.
-pub(crate) fn parts(tokens: &[Token<'_>], first: usize) -> Option<usize> {
-    let mut depth = 1usize;
-    let mut commas = 0usize;
-    let mut is_empty = true;
-    'tokens: for (number, token) in tokens.iter().enumerate() {
-        if number >= first {
-            let (opened, closed) = deeper(token.kind);
-            depth = depth.saturating_add(opened).saturating_sub(closed);
-            if depth == 0 {
-                return Some(commas.saturating_add(if is_empty { 0 } else { 1 }));
-            }
-            if depth == 1 && is_punctuator(Some(token.kind), Punctuator::Comma) {
-                commas = commas.saturating_add(1);
-                is_empty = true;
-            } else {
-                is_empty = is_empty && matches!(token.kind, Kind::Keyword(Keyword::Void));
-            }
+/// Where the brackets that open at a token are closed: the number of the token behind them.
+pub(crate) fn behind_brackets(tokens: &[Token<'_>], open: usize) -> Option<usize> {
+    let mut depth = 0usize;
+    'tokens: for number in open..tokens.len() {
+        depth = depth_behind(depth, tokens[number].kind);
+        if depth == 0 {
+            return Some(number.saturating_add(1));
         }
     }
     None
 }
 
 /// The number of the innermost bracket that is open before a token.
-pub(crate) fn open_bracket<A: Allocator + Copy>(
-    alloc: A,
-    tokens: &[Token<'_>],
-    number: usize,
-) -> Result<Option<usize>, AllocError> {
-    let mut open = Vec::new(alloc);
-    'tokens: for (at, token) in tokens.iter().enumerate() {
-        if at < number {
-            match deeper(token.kind) {
-                (1, _) => open.push(at)?,
-                (_, 1) => {
-                    open.pop();
-                }
-                _ => {}
+pub(crate) fn open_bracket(tokens: &[Token<'_>], number: usize) -> Option<usize> {
+    let mut closed = 0usize;
+    'tokens: for at in (0..number.min(tokens.len())).rev() {
+        let kind = tokens[at].kind;
+        if closes(kind) {
+            closed = closed.saturating_add(1);
+        } else if opens(kind) {
+            if closed == 0 {
+                return Some(at);
             }
-        }
-    }
-    Ok(open.last().copied())
-}
-
-/// A scope that is open.
-#[derive(Clone, Copy)]
-struct Scope {
-    /// The number of the token with which it first declares a name.
-    declared: Option<usize>,
-    /// Whether a declaration goes on, so that a name behind a comma is declared too.
-    is_declaring: bool,
-}
-
-/// The number of the token with which a name is first declared in the scope in which a token stands, and in the
-/// innermost scope round it that declares the name.
-pub(crate) fn declared<A: Allocator + Copy>(
-    alloc: A,
-    tokens: &[Token<'_>],
-    name: &str,
-    number: usize,
-) -> Result<(Option<usize>, Option<usize>), AllocError> {
-    let mut outer: Vec<Scope, A> = Vec::new(alloc);
-    let mut scope = Scope {
-        declared: None,
-        is_declaring: false,
-    };
-    // What the parameters of a function declare is declared in its block too.
-    let mut closed = None;
-    let mut before = None;
-    'tokens: for (at, token) in tokens.iter().enumerate() {
-        if at >= number {
-            break;
-        }
-        match deeper(token.kind) {
-            (1, _) => {
-                outer.push(scope)?;
-                let is_body = is_punctuator(before, Punctuator::CloseParen)
-                    && is_punctuator(Some(token.kind), Punctuator::OpenBrace);
-                scope = Scope {
-                    declared: if is_body { closed } else { None },
-                    is_declaring: false,
-                };
-            }
-            (_, 1) => {
-                closed = scope.declared;
-                if let Some(last) = outer.pop() {
-                    scope = last;
-                }
-            }
-            _ => {}
-        }
-        if is_punctuator(Some(token.kind), Punctuator::Semicolon) {
-            scope.is_declaring = false;
-        }
-        if let Kind::Name(other) = token.kind {
-            scope.is_declaring = scope.is_declaring || is_type(before);
-            let is_next = scope.is_declaring && is_punctuator(before, Punctuator::Comma);
-            if other == name && scope.declared.is_none() && (is_type(before) || is_next) {
-                scope.declared = Some(at);
-            }
-        }
-        before = Some(token.kind);
-    }
-    let here = scope.declared;
-    let mut visible = here;
-    'outer: for round in outer.iter().rev() {
-        if visible.is_none() {
-            visible = round.declared;
-        }
-    }
-    Ok((here, visible))
-}
-
-/// Where the brackets that open at a token are closed: the number of the token behind them.
-pub(crate) fn behind_brackets(tokens: &[Token<'_>], open: usize) -> Option<usize> {
-    let mut depth = 0usize;
-    'tokens: for (number, token) in tokens.iter().enumerate() {
-        if number >= open {
-            let (opened, closed) = deeper(token.kind);
-            depth = depth.saturating_add(opened).saturating_sub(closed);
-            if depth == 0 {
-                return Some(number.saturating_add(1));
-            }
+            closed = closed.saturating_sub(1);
         }
     }
     None
 }
 
-/// Adds the line and the column of an offset, as `3:9`.
-pub(crate) fn put_place<A: Allocator + Copy>(
-    alloc: A,
-    to: &mut Vec<u8, A>,
-    text: &str,
-    offset: usize,
-) -> Result<(), AllocError> {
-    if offset > text.len() {
-        return Ok(());
+/// How many commas stand among the tokens from one up to another, and in no bracket there.
+pub(crate) fn commas(tokens: &[Token<'_>], from: usize, to: usize) -> usize {
+    let mut depth = 0usize;
+    let mut commas = 0usize;
+    'tokens: for at in from..to.min(tokens.len()) {
+        let kind = tokens[at].kind;
+        depth = depth_behind(depth, kind);
+        if depth == 0 && is_punctuator(Some(kind), Punctuator::Comma) {
+            commas = commas.saturating_add(1);
+        }
     }
-    let (line, column) = place(text, offset);
-    to.extend_from_slice(format!(in alloc; "{line}:{column}")?.as_str().as_bytes())
+    commas
 }
 
-/// Adds a span's bytes.
-pub(crate) fn put_span<A: Allocator>(
-    to: &mut Vec<u8, A>,
-    text: &str,
-    span: Span,
-) -> Result<(), AllocError> {
-    to.extend_from_slice(text.as_bytes().get(span.start..span.end).unwrap_or(b""))
+/// How many parts commas make of what stands in the bracket that opens at a token. `void` alone, and nothing, are none,
+/// and so is what follows the last comma where that is nothing. Nothing is told where the bracket does not close.
+pub(crate) fn parts(tokens: &[Token<'_>], open: usize) -> Option<u64> {
+    let close = behind_brackets(tokens, open)?.saturating_sub(1);
+    let first = open.saturating_add(1);
+    let is_last_empty = matches!(
+        kind_before(tokens, close),
+        Some(Kind::Keyword(Keyword::Void) | Kind::Punctuator(Punctuator::Comma))
+    );
+    let whole = commas(tokens, first, close) as u64;
+    Some(if first == close || is_last_empty {
+        whole
+    } else {
+        whole.saturating_add(1)
+    })
+}
+
+/// Whether the token of a number declares a name behind a type.
+pub(crate) fn declares(tokens: &[Token<'_>], number: usize, name: &str) -> bool {
+    is_name(kind_at(tokens, number), name) && is_type(kind_before(tokens, number))
+}
+
+/// The number of the first token from one on that declares a name behind a type.
+pub(crate) fn next_declaration(tokens: &[Token<'_>], name: &str, from: usize) -> Option<usize> {
+    'tokens: for at in from..tokens.len() {
+        if declares(tokens, at, name) {
+            return Some(at);
+        }
+    }
+    None
+}
+
+/// The number of the last token before one that declares a name behind a type.
+pub(crate) fn last_declaration(tokens: &[Token<'_>], name: &str, to: usize) -> Option<usize> {
+    'tokens: for at in (0..to).rev() {
+        if declares(tokens, at, name) {
+            return Some(at);
+        }
+    }
+    None
+}
+
+/// What is found of a name's declarations in a scope, token by token towards its beginning.
+#[derive(Clone, Copy)]
+struct Found {
+    /// The token that declares it, the first one so far.
+    declared: Option<usize>,
+    /// The token that declares it behind a comma, if what it stands in is a declaration.
+    behind_comma: Option<usize>,
+}
+
+/// What is found of a name with one more token before those that were looked at.
+fn found_with(tokens: &[Token<'_>], name: &str, at: usize, found: Found) -> Found {
+    let before = kind_before(tokens, at);
+    match kind_at(tokens, at) {
+        Some(Kind::Punctuator(Punctuator::Semicolon)) => Found {
+            behind_comma: None,
+            ..found
+        },
+        Some(Kind::Name(other)) if is_type(before) => Found {
+            declared: match found.behind_comma {
+                _ if other == name => Some(at),
+                Some(behind) => Some(behind),
+                None => found.declared,
+            },
+            behind_comma: None,
+        },
+        Some(Kind::Name(other)) if other == name && is_punctuator(before, Punctuator::Comma) => {
+            Found {
+                behind_comma: Some(at),
+                ..found
+            }
+        }
+        _ => found,
+    }
+}
+
+/// The number of the first token that declares a name, from the beginning of the scope in which a token stands.
+fn first_in_scope(tokens: &[Token<'_>], name: &str, number: usize) -> Option<usize> {
+    let mut found = Found {
+        declared: None,
+        behind_comma: None,
+    };
+    let mut closed = 0usize;
+    'tokens: for at in (0..number.min(tokens.len())).rev() {
+        let kind = tokens[at].kind;
+        if closes(kind) {
+            closed = closed.saturating_add(1);
+        } else if opens(kind) {
+            if closed == 0 {
+                return found.declared;
+            }
+            closed = closed.saturating_sub(1);
+        } else if closed == 0 {
+            found = found_with(tokens, name, at, found);
+        }
+    }
+    found.declared
+}
+
+/// The number of the token with which a name is first declared, of the innermost scope round a token that declares it.
+pub(crate) fn declared(tokens: &[Token<'_>], name: &str, number: usize) -> Option<usize> {
+    let mut found = None;
+    let mut from = number;
+    'scopes: for _ in 0..tokens.len() {
+        if let Some(first) = first_in_scope(tokens, name, from) {
+            found = Some(first);
+        }
+        let Some(open) = open_bracket(tokens, from) else {
+            return found;
+        };
+        let before = open.saturating_sub(1);
+        // What the parameters of a function declare is declared in the scope of its block.
+        let is_body = is_punctuator(kind_at(tokens, open), Punctuator::OpenBrace)
+            && is_punctuator(kind_at(tokens, before), Punctuator::CloseParen);
+        if found.is_some() && !is_body {
+            return found;
+        }
+        from = if is_body { before } else { open };
+    }
+    found
 }

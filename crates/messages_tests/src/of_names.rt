@@ -53,7 +53,7 @@ fn rows() -> &'static [Row] {
         (
             "void worker(int self) { { int a = 1; } a = 2; }",
             "20 at 1:40",
-            "1:31 declares it, in a block that ends before this\n",
+            "it is declared in a block that ends before this, at 1:31\n",
         ),
         (
             "void worker(int self) { self = slef; }",
@@ -108,7 +108,7 @@ fn rows() -> &'static [Row] {
         (
             "void worker(int self) { for (int i = 0; i < 3; i++) { } self = i; }",
             "20 at 1:64",
-            "1:34 declares it, in a block that ends before this\n",
+            "it is declared in a block that ends before this, at 1:34\n",
         ),
         (
             "void worker(int self) { whlie (1) { } }",

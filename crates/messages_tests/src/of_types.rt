@@ -17,22 +17,22 @@ fn rows() -> &'static [Row] {
         (
             "void worker(void) { }",
             "28 at 1:22",
-            "the function at 1:6 has another type\nthread T runs worker(T), written void worker(int self)\n",
+            "worker has another type at 1:6\nthread T runs worker(T), written void worker(int self)\n",
         ),
         (
             "int worker(int self) { return 0; }",
             "28 at 1:35",
-            "the function at 1:5 has another type\nthread T runs worker(T), written void worker(int self)\n",
+            "worker has another type at 1:5\nthread T runs worker(T), written void worker(int self)\n",
         ),
         (
             "int x;\nvoid Worker(int self) { }\nint f(void) { return 1; }\n",
             "28 at 3:26",
-            "the function at 2:6 has another name\nthread T runs worker(T), written void worker(int self)\n",
+            "worker may be meant at 2:6\nthread T runs worker(T), written void worker(int self)\n",
         ),
         (
             "void wroker(int self) { }\nint f(void) { return 1; }",
             "28 at 2:26",
-            "the function at 1:6 has another name\nthread T runs worker(T), written void worker(int self)\n",
+            "worker may be meant at 1:6\nthread T runs worker(T), written void worker(int self)\n",
         ),
         (
             "int main(void) { return 0; }",
@@ -42,12 +42,12 @@ fn rows() -> &'static [Row] {
         (
             "void worker(unsigned self) { }",
             "28 at 1:31",
-            "the function at 1:6 has another type\nthread T runs worker(T), written void worker(int self)\n",
+            "worker has another type at 1:6\nthread T runs worker(T), written void worker(int self)\n",
         ),
         (
             "void worker(int self, int n) { }",
             "28 at 1:33",
-            "the function at 1:6 has another type\nthread T runs worker(T), written void worker(int self)\n",
+            "worker has another type at 1:6\nthread T runs worker(T), written void worker(int self)\n",
         ),
         (
             "void thread(int self) { }",

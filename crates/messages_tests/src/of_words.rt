@@ -263,7 +263,7 @@ fn rows() -> &'static [Row] {
         (
             "void worker(int self, int n) { }",
             "28 at 1:33",
-            "the function at 1:6 has another type\nthread T runs worker(T), written void worker(int self)\n",
+            "worker has another type at 1:6\nthread T runs worker(T), written void worker(int self)\n",
         ),
         (
             "void worker(int self) { ; else self = 1; }",

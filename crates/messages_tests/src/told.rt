@@ -65,7 +65,7 @@ fn is_told(alloc: Global, row: &Row) -> Result<bool, AllocError> {
     let (line, column) = place(text, span.start.min(text.len()));
     let found = format!(in alloc; "{number:02} at {line}:{column}")?;
     let told = hints(alloc, text, number, span)?;
-    Ok(found.as_str() == fault && told.as_slice() == lines.as_bytes())
+    Ok(found.as_str() == fault && told.as_str() == lines)
 }
 
 /// The source of the first row of which something else is told.

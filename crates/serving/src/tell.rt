@@ -112,7 +112,7 @@ fn tell_place<E: Write>(number: u32, line: usize, column: usize, detail: Detail<
 /// nothing.
 fn show_line<A: Allocator + Copy, E: Write>(alloc: A, text: &str, span: Span, err: &mut E) {
     if let Ok(shown) = underline(alloc, text, span) {
-        let _ = err.write_all(shown.as_slice());
+        let _ = err.write_all(shown.as_str().as_bytes());
     }
 }
 
@@ -125,7 +125,7 @@ fn show_hints<A: Allocator + Copy, E: Write>(
     err: &mut E,
 ) {
     if let Ok(shown) = hints(alloc, text, number, span) {
-        let _ = err.write_all(shown.as_slice());
+        let _ = err.write_all(shown.as_str().as_bytes());
     }
 }
 

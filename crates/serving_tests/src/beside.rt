@@ -100,7 +100,7 @@ fn rows() -> &'static [Row] {
         ),
         (
             "void worker(void) { }",
-            "txc: fault 28 at 1:22: no worker\nvoid worker(void) { }\n                     ^\nthe function at 1:6 has another type\nthread T runs worker(T), written void worker(int self)\ntxc explain 28 says more\n",
+            "txc: fault 28 at 1:22: no worker\nvoid worker(void) { }\n                     ^\nworker has another type at 1:6\nthread T runs worker(T), written void worker(int self)\ntxc explain 28 says more\n",
         ),
         (
             "unsigned long long x;",

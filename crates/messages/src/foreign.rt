@@ -1,0 +1,199 @@
+//! What is told of words that other languages have, and txc's C has not.
+
+use crate::tokens::next_declaration;
+use lex::token::{Kind, Token};
+
+/// A word, and what is told of it.
+type Row = (&'static str, &'static str);
+
+pub(crate) const TYPES: &str = "the types are int, unsigned and long long";
+
+const NO_TYPES: &str = "there are no types but int, unsigned and long long";
+
+const SWITCH: &str = "there is no switch: write if and else";
+
+const NO_WORD: &str = "there is no such word here: leave it out";
+
+const DECLARATIONS: &str = "declarations are as in C: int x = 1; and int f(int a) { .. }";
+
+const TRANSACTIONS: &str =
+    "the words are __transaction_atomic, __transaction_relaxed and __transaction_cancel";
+
+const OPERATORS: &str = "the operators are &&, || and !";
+
+const LIBRARY: &str = "the only function of C's library is printf";
+
+const TRUTH: &str = "numbers alone are constants: write 0 or 1";
+
+const LIMITS: &str = "numbers alone are constants: write the number";
+
+/// Reserved words of C that have no place here.
+fn reserved() -> &'static [Row] {
+    static ROWS: [Row; 21] = [
+        ("char", TYPES),
+        ("short", TYPES),
+        ("float", TYPES),
+        ("double", TYPES),
+        ("struct", NO_TYPES),
+        ("union", NO_TYPES),
+        ("enum", NO_TYPES),
+        ("typedef", NO_TYPES),
+        ("switch", SWITCH),
+        ("case", SWITCH),
+        ("default", SWITCH),
+        ("goto", "there is no goto: write a loop, break and continue"),
+        ("sizeof", "there is no sizeof"),
+        (
+            "static",
+            "there is no static: leave it out, or let a variable be global",
+        ),
+        ("const", NO_WORD),
+        ("extern", NO_WORD),
+        ("inline", NO_WORD),
+        ("volatile", NO_WORD),
+        ("register", NO_WORD),
+        ("restrict", NO_WORD),
+        ("auto", NO_WORD),
+    ];
+    &ROWS
+}
+
+/// Names with which other C, or another language, says what txc's C says otherwise.
+fn foreign_names() -> &'static [Row] {
+    static ROWS: [Row; 37] = [
+        ("bool", TYPES),
+        ("_Bool", TYPES),
+        ("size_t", TYPES),
+        ("int8_t", TYPES),
+        ("int16_t", TYPES),
+        ("int32_t", TYPES),
+        ("int64_t", TYPES),
+        ("uint8_t", TYPES),
+        ("uint16_t", TYPES),
+        ("uint32_t", TYPES),
+        ("uint64_t", TYPES),
+        ("fn", DECLARATIONS),
+        ("def", DECLARATIONS),
+        ("func", DECLARATIONS),
+        ("function", DECLARATIONS),
+        ("let", DECLARATIONS),
+        ("var", DECLARATIONS),
+        ("class", DECLARATIONS),
+        ("atomic", TRANSACTIONS),
+        ("atomic_noexcept", TRANSACTIONS),
+        ("atomic_cancel", TRANSACTIONS),
+        ("atomic_commit", TRANSACTIONS),
+        ("synchronized", TRANSACTIONS),
+        ("cancel", TRANSACTIONS),
+        ("retry", TRANSACTIONS),
+        ("rollback", TRANSACTIONS),
+        ("__transaction", TRANSACTIONS),
+        ("transaction_atomic", TRANSACTIONS),
+        ("_transaction_atomic", TRANSACTIONS),
+        ("transaction_relaxed", TRANSACTIONS),
+        ("_transaction_relaxed", TRANSACTIONS),
+        ("transaction_cancel", TRANSACTIONS),
+        ("_transaction_cancel", TRANSACTIONS),
+        ("and", OPERATORS),
+        ("or", OPERATORS),
+        ("not", OPERATORS),
+        (
+            "then",
+            "a statement follows the condition of if: there is no then",
+        ),
+    ];
+    &ROWS
+}
+
+/// Functions and constants of C's library.
+fn library() -> &'static [Row] {
+    static ROWS: [Row; 26] = [
+        ("scanf", LIBRARY),
+        ("malloc", LIBRARY),
+        ("free", LIBRARY),
+        ("rand", LIBRARY),
+        ("srand", LIBRARY),
+        ("puts", LIBRARY),
+        ("putchar", LIBRARY),
+        ("getchar", LIBRARY),
+        ("fprintf", LIBRARY),
+        ("sprintf", LIBRARY),
+        ("exit", LIBRARY),
+        ("abort", LIBRARY),
+        ("assert", LIBRARY),
+        ("sleep", LIBRARY),
+        ("usleep", LIBRARY),
+        ("abs", LIBRARY),
+        ("memset", LIBRARY),
+        ("memcpy", LIBRARY),
+        ("NULL", TRUTH),
+        ("true", TRUTH),
+        ("false", TRUTH),
+        ("INT_MAX", LIMITS),
+        ("INT_MIN", LIMITS),
+        ("UINT_MAX", LIMITS),
+        ("LLONG_MAX", LIMITS),
+        ("LLONG_MIN", LIMITS),
+    ];
+    &ROWS
+}
+
+/// Beginnings of names, and what is told of names that begin so.
+fn beginnings() -> &'static [Row] {
+    static ROWS: [Row; 4] = [
+        ("__transaction", TRANSACTIONS),
+        ("_transaction", TRANSACTIONS),
+        ("__tm_", TRANSACTIONS),
+        (
+            "pthread_",
+            "threads come of --threads T, and transactions are their locks",
+        ),
+    ];
+    &ROWS
+}
+
+/// What rows tell of a word.
+fn told_of(rows: &[Row], word: &str) -> Option<&'static str> {
+    'rows: for row in rows {
+        if row.0 == word {
+            return Some(row.1);
+        }
+    }
+    None
+}
+
+/// What is told of a reserved word of C that has no place in txc's.
+pub(crate) fn of_reserved(word: &str) -> &'static str {
+    told_of(reserved(), word).unwrap_or("it is no word of txc's C")
+}
+
+/// What is told of a token that is a foreign name, which the source declares nowhere.
+pub(crate) fn of_foreign(tokens: &[Token<'_>], kind: Option<Kind<'_>>) -> Option<&'static str> {
+    match kind {
+        Some(Kind::Name(name)) if next_declaration(tokens, name, 0).is_none() => {
+            told_of(foreign_names(), name)
+        }
+        _ => None,
+    }
+}
+
+/// What is told of a name that is not known, where it is one of C's library or a foreign one.
+pub(crate) fn of_unknown(name: &str) -> Option<&'static str> {
+    match told_of(library(), name) {
+        Some(words) => Some(words),
+        None => told_of(foreign_names(), name),
+    }
+}
+
+/// What is told of a token by the beginning of its name.
+pub(crate) fn of_beginning(kind: Option<Kind<'_>>) -> Option<&'static str> {
+    let Some(Kind::Name(name)) = kind else {
+        return None;
+    };
+    'rows: for row in beginnings() {
+        if name.starts_with(row.0) {
+            return Some(row.1);
+        }
+    }
+    None
+}

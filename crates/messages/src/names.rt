@@ -1,0 +1,190 @@
+//! What is told of names: of unknown ones, of those declared twice or with another type, of calls, and of the worker.
+
+use crate::foreign::{of_beginning, of_unknown};
+use crate::lines::Line;
+use crate::near::is_near;
+use crate::tokens::{
+    declared, is_punctuator, is_type, kind_at, kind_before, kind_behind, last_declaration,
+    next_declaration, offset_at, parts,
+};
+use crate::unexpected::near_word;
+use lex::token::{Keyword, Kind, Punctuator, Token};
+use std::alloc::{AllocError, Allocator};
+
+/// Tells which name of a source is nearly this one.
+fn near_name<'t, A: Allocator + Copy>(
+    alloc: A,
+    tokens: &[Token<'t>],
+    unknown: &str,
+) -> Result<Option<Line<'t>>, AllocError> {
+    'tokens: for (number, token) in tokens.iter().enumerate() {
+        if let Kind::Name(name) = token.kind {
+            let before = kind_before(tokens, number);
+            let may_declare = is_type(before) || is_punctuator(before, Punctuator::Comma);
+            if may_declare && is_near(alloc, unknown, name)? {
+                return Ok(Some(Line::Named("there is a name ", name)));
+            }
+        }
+    }
+    Ok(None)
+}
+
+/// Tells which name or word is nearly an unknown name, the token of a number.
+fn near<'t, A: Allocator + Copy>(
+    alloc: A,
+    tokens: &[Token<'t>],
+    unknown: &str,
+    number: usize,
+) -> Result<Option<Line<'t>>, AllocError> {
+    let kind = kind_at(tokens, number);
+    let near = match near_name(alloc, tokens, unknown)? {
+        Some(line) => Some(line),
+        None => near_word(alloc, tokens, kind)?,
+    };
+    Ok(match (near, of_beginning(kind)) {
+        (None, Some(words)) => Some(Line::Words(words)),
+        _ => near,
+    })
+}
+
+/// Tells where an unknown name, the token of a number, is declared all the same.
+fn declared_elsewhere(tokens: &[Token<'_>], unknown: &str, number: usize) -> Option<Line<'static>> {
+    if next_declaration(tokens, unknown, number).is_some() {
+        return Some(Line::Words(
+            "it is declared further down: a name is declared before it is used",
+        ));
+    }
+    let last = last_declaration(tokens, unknown, number)?;
+    Some(Line::Placed(
+        "it is declared in a block that ends before this, at ",
+        offset_at(tokens, last),
+    ))
+}
+
+/// Tells of a name that is not known, the token of a number, which one may be meant.
+pub(crate) fn of_name<'t, A: Allocator + Copy>(
+    alloc: A,
+    tokens: &[Token<'t>],
+    unknown: &str,
+    number: usize,
+) -> Result<Option<Line<'t>>, AllocError> {
+    if let Some(words) = of_unknown(unknown) {
+        return Ok(Some(Line::Words(words)));
+    }
+    match declared_elsewhere(tokens, unknown, number) {
+        Some(line) => Ok(Some(line)),
+        None => near(alloc, tokens, unknown, number),
+    }
+}
+
+/// Tells behind these words where a name, the token of a number, is declared.
+pub(crate) fn of_declared(
+    tokens: &[Token<'_>],
+    name: &str,
+    number: usize,
+    words: &'static str,
+) -> Option<Line<'static>> {
+    let first = declared(tokens, name, number)?;
+    Some(Line::Placed(words, offset_at(tokens, first)))
+}
+
+/// Tells of a call, the token of a number, how many parameters its function has and how many arguments stand there.
+pub(crate) fn of_call(tokens: &[Token<'_>], name: &str, number: usize) -> Option<Line<'static>> {
+    let first = declared(tokens, name, number)?;
+    let wanted = parts(tokens, first.saturating_add(1))?;
+    let given = parts(tokens, number.saturating_add(1))?;
+    Some(Line::Counted((wanted, "parameter"), (given, "argument")))
+}
+
+/// What a name is declared or used as, by what stands behind it.
+#[derive(Clone, Copy)]
+enum Form {
+    /// A function, a call.
+    Function,
+    /// An array, an element of it.
+    Array,
+    /// Anything else.
+    Plain,
+}
+
+/// What a name, the token of a number, is declared or used as.
+fn form_at(tokens: &[Token<'_>], number: usize) -> Form {
+    match kind_behind(tokens, number) {
+        Some(Kind::Punctuator(Punctuator::OpenParen)) => Form::Function,
+        Some(Kind::Punctuator(Punctuator::OpenBracket)) => Form::Array,
+        _ => Form::Plain,
+    }
+}
+
+/// What is told of a name that is declared as one thing, and used as another.
+fn of_forms(declared: Form, used: Form) -> Option<&'static str> {
+    match (declared, used) {
+        (Form::Function, Form::Plain) => Some("it is a function: its name is no value"),
+        (Form::Function | Form::Plain, Form::Array) => Some("it is no array"),
+        (Form::Array | Form::Plain, Form::Function) => Some("it is no function"),
+        (Form::Array, _) => Some("it is an array: an index stands behind its name"),
+        _ => None,
+    }
+}
+
+/// Tells of a name of a wrong type, the token of a number, what it is.
+fn of_typed_name(tokens: &[Token<'_>], name: &str, number: usize) -> Option<Line<'static>> {
+    if is_type(kind_before(tokens, number)) {
+        let words = "it is declared with other types at ";
+        return of_declared(tokens, name, number, words);
+    }
+    let first = declared(tokens, name, number)?;
+    let (declared, used) = (form_at(tokens, first), form_at(tokens, number));
+    match (of_forms(declared, used), kind_before(tokens, first)) {
+        (Some(words), _) => Some(Line::Words(words)),
+        (None, Some(Kind::Keyword(Keyword::Void))) => Some(Line::Words(
+            "it is a void function, and gives no value",
+        )),
+        (None, _) => None,
+    }
+}
+
+/// Tells of what has a wrong type, whose first token is that of a number.
+pub(crate) fn of_type(tokens: &[Token<'_>], number: usize) -> Option<Line<'static>> {
+    let is_bare = is_punctuator(kind_behind(tokens, number), Punctuator::Semicolon);
+    match kind_at(tokens, number)? {
+        Kind::Keyword(Keyword::Return) if is_bare => Some(Line::Words(
+            "the function gives a value: it stands behind return",
+        )),
+        Kind::Keyword(Keyword::Return) => Some(Line::Words(
+            "a void function gives no value: return stands alone",
+        )),
+        Kind::Name(name) => of_typed_name(tokens, name, number),
+        _ => None,
+    }
+}
+
+/// Tells where a function is that may be meant to be the worker.
+pub(crate) fn near_worker<A: Allocator + Copy>(
+    alloc: A,
+    tokens: &[Token<'_>],
+) -> Result<Option<Line<'static>>, AllocError> {
+    'tokens: for (number, token) in tokens.iter().enumerate() {
+        if let Kind::Name(name) = token.kind {
+            let is_function = is_type(kind_before(tokens, number))
+                && is_punctuator(kind_behind(tokens, number), Punctuator::OpenParen);
+            if is_function && name == "worker" {
+                let words = "worker has another type at ";
+                return Ok(Some(Line::Placed(words, token.span.start)));
+            }
+            if is_function && is_near(alloc, name, "worker")? {
+                let words = "worker may be meant at ";
+                return Ok(Some(Line::Placed(words, token.span.start)));
+            }
+        }
+    }
+    Ok(None)
+}
+
+/// What is told of a program without a worker.
+pub(crate) fn of_worker(tokens: &[Token<'_>]) -> &'static str {
+    match next_declaration(tokens, "main", 0) {
+        Some(_) => "there is no main: thread T runs worker(T), written void worker(int self)",
+        None => "thread T runs worker(T), written void worker(int self)",
+    }
+}

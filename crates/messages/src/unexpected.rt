@@ -1,0 +1,196 @@
+//! What is told of an unexpected token, and of an unexpected end.
+
+use crate::expected::{expected_tokens, push_expected};
+use crate::foreign::of_beginning;
+use crate::lines::{Line, push_line};
+use crate::meant::{called_before, of_token};
+use crate::near::is_near;
+use crate::tokens::{kind_at, kind_before, next_declaration, number_at, offset_at, open_bracket};
+use lex::token::{Kind, Punctuator, Span, Token};
+use std::alloc::{AllocError, Allocator};
+
+/// The most bytes of a source before a place, for which it is looked what could stand there.
+const MOST_BEFORE: usize = 65536;
+
+/// Words of which one may be written otherwise.
+fn written_words() -> &'static [&'static str] {
+    static ROWS: [&str; 14] = [
+        "__transaction_atomic",
+        "__transaction_relaxed",
+        "__transaction_cancel",
+        "break",
+        "continue",
+        "return",
+        "while",
+        "else",
+        "printf",
+        "unsigned",
+        "signed",
+        "void",
+        "int",
+        "long",
+    ];
+    &ROWS
+}
+
+/// Tells which word may be meant by a token, where that is a name that is declared nowhere.
+pub(crate) fn near_word<A: Allocator + Copy>(
+    alloc: A,
+    tokens: &[Token<'_>],
+    kind: Option<Kind<'_>>,
+) -> Result<Option<Line<'static>>, AllocError> {
+    let Some(Kind::Name(name)) = kind else {
+        return Ok(None);
+    };
+    if next_declaration(tokens, name, 0).is_some() {
+        return Ok(None);
+    }
+    'words: for word in written_words() {
+        if is_near(alloc, name, word)? {
+            return Ok(Some(Line::Named("there is a word ", word)));
+        }
+    }
+    Ok(None)
+}
+
+/// Tells which word may be meant by an unexpected token, that of a number, or by one before it.
+fn near_words<A: Allocator + Copy>(
+    alloc: A,
+    tokens: &[Token<'_>],
+    number: usize,
+) -> Result<Option<Line<'static>>, AllocError> {
+    let before = kind_before(tokens, number);
+    let names = [
+        before,
+        kind_at(tokens, number),
+        called_before(tokens, number),
+    ];
+    'names: for name in names {
+        let told = near_word(alloc, tokens, name)?;
+        if told.is_some() {
+            return Ok(told);
+        }
+    }
+    Ok(match of_beginning(before) {
+        Some(words) => Some(Line::Words(words)),
+        None => None,
+    })
+}
+
+/// Tells what is meant by an unexpected token, that of a number, which is spelled so.
+fn meant<A: Allocator + Copy>(
+    alloc: A,
+    tokens: &[Token<'_>],
+    number: usize,
+    word: &str,
+) -> Result<Option<Line<'static>>, AllocError> {
+    match of_token(tokens, number, word) {
+        Some(words) => Ok(Some(Line::Words(words))),
+        None => near_words(alloc, tokens, number),
+    }
+}
+
+/// Whether a word is among some.
+fn is_among(words: &[&str], wanted: &str) -> bool {
+    'words: for word in words {
+        if *word == wanted {
+            return true;
+        }
+    }
+    false
+}
+
+/// Tells where a `;` may be missing: at the end of the last line before an offset.
+fn missing_semicolon(text: &str, before: &[Token<'_>], offset: usize) -> Option<Line<'static>> {
+    let end = before.last()?.span.end;
+    let between = text.as_bytes().get(end..offset).unwrap_or(b"");
+    if between.contains(&b'\n') {
+        Some(Line::Placed("a ';' may be missing at ", end))
+    } else {
+        None
+    }
+}
+
+/// Tells which bracket is open behind tokens, where the one that closes it is expected; of braces only at the end.
+fn open_since(before: &[Token<'_>], expected: &[&str], is_end: bool) -> Option<Line<'static>> {
+    let open = open_bracket(before, before.len())?;
+    let (closing, words) = match kind_at(before, open)? {
+        Kind::Punctuator(Punctuator::OpenParen) => ("')'", "'(' is open since "),
+        Kind::Punctuator(Punctuator::OpenBracket) => ("']'", "'[' is open since "),
+        _ if is_end => ("'}'", "'{' is open since "),
+        _ => return None,
+    };
+    if is_among(expected, closing) {
+        Some(Line::Placed(words, offset_at(before, open)))
+    } else {
+        None
+    }
+}
+
+/// Tells what may be missing behind tokens, where some words are expected.
+fn missing(
+    text: &str,
+    before: &[Token<'_>],
+    expected: &[&str],
+    offset: usize,
+    is_end: bool,
+) -> Option<Line<'static>> {
+    if is_among(expected, "';'") {
+        let told = missing_semicolon(text, before, offset);
+        if told.is_some() {
+            return told;
+        }
+    }
+    open_since(before, expected, is_end)
+}
+
+/// Leaves those tokens that end up to an offset.
+fn cut<A: Allocator>(tokens: &mut Vec<Token<'_>, A>, offset: usize) {
+    let mut count = 0usize;
+    'tokens: for token in tokens.iter() {
+        if token.span.end <= offset {
+            count = count.saturating_add(1);
+        }
+    }
+    tokens.truncate(count);
+}
+
+/// Adds what could stand behind tokens, and gives what may be missing there.
+fn push_missing<A: Allocator + Copy>(
+    alloc: A,
+    to: &mut String<A>,
+    text: &str,
+    before: &mut Vec<Token<'_>, A>,
+    offset: usize,
+    is_end: bool,
+) -> Result<Option<Line<'static>>, AllocError> {
+    let expected = expected_tokens(alloc, before)?;
+    push_expected(to, expected.as_slice())?;
+    Ok(missing(text, before.as_slice(), expected.as_slice(), offset, is_end))
+}
+
+/// Adds what is meant by an unexpected token at a span, or by the end there, what could stand there, and what may be
+/// missing.
+pub(crate) fn push_unexpected<A: Allocator + Copy>(
+    alloc: A,
+    to: &mut String<A>,
+    text: &str,
+    tokens: &mut Vec<Token<'_>, A>,
+    span: Span,
+) -> Result<(), AllocError> {
+    let number = number_at(tokens.as_slice(), span.start);
+    let told = match number {
+        Some(number) => {
+            let word = text.get(span.start..span.end).unwrap_or("");
+            meant(alloc, tokens.as_slice(), number, word)?
+        }
+        None => None,
+    };
+    push_line(alloc, to, text, told)?;
+    if span.start > MOST_BEFORE {
+        return Ok(());
+    }
+    cut(tokens, span.start);
+    let missing = push_missing(alloc, to, text, tokens, span.start, number.is_none())?;
+    push_line(alloc, to, text, if told.is_some() { None } else { missing })
+}
