@@ -4,6 +4,8 @@ ghost use Rattle.std.specs.Prelude.{◌≤◌, length};
 
 use lex::token::Span;
 use std::alloc::{AllocError, Allocator};
+use std::io;
+use std::io::Write;
 use unicode_width::UnicodeWidthChar;
 
 /// The most bytes of a line that are shown before an offset.
@@ -62,8 +64,19 @@ fn shown_as(c: char, but: &str) -> char {
     }
 }
 
+/// Writes a text that others made, as a file's name, with `?` for control characters, but for these.
+pub fn write_shown<W: Write>(text: &str, but: &str, to: &mut W) -> io::Result<()> {
+    'characters: for c in text.chars() {
+        write!(to, "{}", shown_as(c, but))?;
+    }
+    Ok(())
+}
+
 /// Adds a part of a line; a control character is shown as `?`, and a tab stays.
-fn push_shown<A: Allocator>(shown: &mut String<A>, part: &str) -> Result<(), AllocError> {
+pub(crate) fn push_shown<A: Allocator>(
+    shown: &mut String<A>,
+    part: &str,
+) -> Result<(), AllocError> {
     'characters: for c in part.chars() {
         shown.push(shown_as(c, "\t"))?;
     }

@@ -6,6 +6,7 @@ mod beside;
 mod calls;
 mod carets;
 mod characters;
+mod editors;
 mod expected;
 mod explanations;
 mod foreign;
@@ -19,6 +20,7 @@ mod tokens;
 mod unexpected;
 
 pub use beside::hints;
-pub use carets::underline;
+pub use carets::{underline, write_shown};
+pub use editors::{Fault, short_line};
 pub use explanations::explanation;
 pub use table::words;

@@ -178,7 +178,7 @@ fn schedule_of(task: &Task) -> Option<&str>
 }
 
 /// Reads a source. What is wrong with it is told, and the error is then the exit status.
-pub(crate) fn text_of<A: Allocator, R: Read + Drop, E: Write>(
+pub(crate) fn text_of<A: Allocator + Copy, R: Read + Drop, E: Write>(
     alloc: A,
     file: &str,
     source: R,
@@ -192,7 +192,7 @@ pub(crate) fn text_of<A: Allocator, R: Read + Drop, E: Write>(
     match read_source(alloc, source) {
         Ok(SourceText::Text(text)) => Ok(text),
         Ok(SourceText::NotText) => Err(not_text(file, err)),
-        Ok(SourceText::TooLong) => Err(too_long(detail, err)),
+        Ok(SourceText::TooLong) => Err(too_long(alloc, detail, err)),
         Err(error) => Err(not_read(file, &error, detail, err)),
     }
 }

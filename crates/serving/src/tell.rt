@@ -12,7 +12,7 @@ use command::{Format, UsageFault};
 use lex::place;
 use lex::token::Span;
 use meaning::MeaningFault;
-use messages::{hints, underline, words};
+use messages::{Fault, hints, short_line, underline, words, write_shown};
 use replay::ScheduleFault;
 use std::alloc::Allocator;
 use std::io;
@@ -27,24 +27,22 @@ pub struct Detail<'a> {
     pub(crate) lines: bool,
     /// Whether it is said why a file cannot be read.
     reasons: bool,
-    /// The file of the source, where its faults are told in the short form.
-    short: Option<&'a str>,
+    /// The file of the source.
+    file: &'a str,
+    format: Format,
 }
 
 impl<'a> Detail<'a> {
     /// How faults of a file's program are told, as the words ask and where standard error is a terminal or not.
     pub fn of(file: &'a str, verbose: bool, format: Format, is_terminal: bool) -> Detail<'a> {
-        match format {
-            Format::Plain => Detail {
-                lines: verbose || is_terminal,
-                reasons: verbose,
-                short: None,
+        Detail {
+            lines: match format {
+                Format::Plain => verbose || is_terminal,
+                Format::Short => verbose,
             },
-            Format::Short => Detail {
-                lines: verbose,
-                reasons: verbose,
-                short: Some(file),
-            },
+            reasons: verbose,
+            file,
+            format,
         }
     }
 }
@@ -64,7 +62,7 @@ pub fn tell_usage<W: Write, E: Write>(fault: &UsageFault, out: &mut W, err: &mut
             Err(_) => cannot_write(err),
         },
         UsageFault::Wrong { text } => {
-            let _ = write!(err, "{text}");
+            let _ = write_shown(text.as_str(), "\n\t", err);
             UNUSABLE
         }
     }
@@ -86,8 +84,7 @@ pub(crate) fn refuse<A: Allocator + Copy, E: Write>(
     let number = fault.number();
     match fault.span() {
         Some(span) => {
-            let (line, column) = place(text, span.start.min(text.len()));
-            tell_place(number, line, column, detail, err);
+            tell_fault(alloc, text, number, span, detail, err);
             if detail.lines {
                 show_line(alloc, text, span, err);
                 show_hints(alloc, text, number, span, err);
@@ -99,13 +96,45 @@ pub(crate) fn refuse<A: Allocator + Copy, E: Write>(
     }
 }
 
-/// Tells a fault that stands at this place of the source.
-fn tell_place<E: Write>(number: u32, line: usize, column: usize, detail: Detail<'_>, err: &mut E) {
-    let words = words(number);
-    let _ = match detail.short {
-        Some(file) => writeln!(err, "{file}:{line}:{column}: error: {words} [{number:02}]"),
-        None => writeln!(err, "txc: fault {number:02} at {line}:{column}: {words}"),
+/// Tells the fault of a number at a span of the source. Where memory for another form is refused, that is the plain one.
+fn tell_fault<A: Allocator + Copy, E: Write>(
+    alloc: A,
+    text: &str,
+    number: u32,
+    span: Span,
+    detail: Detail<'_>,
+    err: &mut E,
+) {
+    if let Some(line) = line_of(alloc, text, number, span, detail) {
+        let _ = err.write_all(line.as_slice());
+    } else {
+        let (line, column) = place(text, span.start.min(text.len()));
+        let _ = writeln!(
+            err,
+            "txc: fault {number:02} at {line}:{column}: {}",
+            words(number)
+        );
+    }
+}
+
+/// The line in which a fault is told in another form than the plain one.
+fn line_of<A: Allocator + Copy>(
+    alloc: A,
+    text: &str,
+    number: u32,
+    span: Span,
+    detail: Detail<'_>,
+) -> Option<Vec<u8, A>> {
+    let fault = Fault {
+        file: detail.file,
+        text,
+        number,
+        span,
     };
+    match detail.format {
+        Format::Plain => None,
+        Format::Short => short_line(alloc, fault).ok(),
+    }
 }
 
 /// Shows the line of a source that a span begins in, with carets under the span. Where memory is refused it shows
@@ -162,11 +191,13 @@ pub(crate) fn cannot_write<E: Write>(err: &mut E) -> u8
 fn cannot_read<E: Write>(file: &str, error: &io::Error, detail: Detail<'_>, err: &mut E) -> u8
     ensures { result ≡ 2 }
 {
-    if detail.reasons {
-        let _ = writeln!(err, "txc: cannot read {file} ({error})");
+    let _ = err.write_all(b"txc: cannot read ");
+    let _ = write_shown(file, "", err);
+    let _ = if detail.reasons {
+        writeln!(err, " ({error})")
     } else {
-        let _ = writeln!(err, "txc: cannot read {file}");
-    }
+        writeln!(err)
+    };
     UNUSABLE
 }
 
@@ -200,15 +231,21 @@ pub fn unread_words<E: Write>(kind: ErrorKind, err: &mut E) -> u8
 pub(crate) fn not_text<E: Write>(file: &str, err: &mut E) -> u8
     ensures { result ≡ 2 }
 {
-    let _ = writeln!(err, "txc: {file} is not UTF-8");
+    let _ = err.write_all(b"txc: ");
+    let _ = write_shown(file, "", err);
+    let _ = writeln!(err, " is not UTF-8");
     UNUSABLE
 }
 
 /// Says that a source has too many bytes.
-pub(crate) fn too_long<E: Write>(detail: Detail<'_>, err: &mut E) -> u8
+pub(crate) fn too_long<A: Allocator + Copy, E: Write>(
+    alloc: A,
+    detail: Detail<'_>,
+    err: &mut E,
+) -> u8
     ensures { result ≡ 1 }
 {
-    tell_place(5, 1, 1, detail, err);
+    tell_fault(alloc, "", 5, Span { start: 0, end: 0 }, detail, err);
     REFUSED
 }
 

@@ -252,7 +252,7 @@ fn transcripts() -> &'static [Transcript] {
             b"int x;\nvoid worker(int self) { x = 1; }\n",
             b"",
             b"",
-            b"examples/refused/bare.c:2:25: error: shared access outside a transaction [50]\n",
+            b"examples/refused/bare.c:2:25: error: shared access outside a transaction: write __transaction_atomic { .. } round it, or __transaction_atomic ( .. ) round an expression [50]\n",
         ),
         (
             "txc check examples/refused/carts.c",
