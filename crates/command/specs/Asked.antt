@@ -8,7 +8,7 @@ use Rattle.clap.specs.declared.error.kind.ErrorKind.{ErrorKind}
 use Rattle.clap.specs.declared.error.kind.ErrorKind.TheVariants.{DisplayHelp, DisplayVersion}
 use Rattle.command.specs.declared.request.Claim.{Claim}
 use Rattle.command.specs.declared.request.Format.{Format}
-use Rattle.command.specs.declared.request.Format.TheVariants.{Plain, Short}
+use Rattle.command.specs.declared.request.Format.TheVariants.{Plain, Short, Json}
 use Rattle.command.specs.declared.request.Request.{Request}
 use Rattle.command.specs.declared.request.Request.TheVariants.{Program, Certify, Explain}
 use Rattle.command.specs.declared.request.Task.{Task}
@@ -161,6 +161,7 @@ pub record IsClaim (given : List Row) (claim : Claim) : Type 0 where
 abbrev pub IsFormat : Option Text → Format → Type 0
 IsFormat text Plain = text ≡ None
 IsFormat text Short = text ≡ Some (codes "short")
+IsFormat text Json = text ≡ Some (codes "json")
 
 -- a command and what is given for its arguments make this request
 abbrev pub IsRequest : Text → List Row → Request → Type 0

@@ -123,7 +123,7 @@ fn format<'a>(alloc: Global) -> Arg<'a>
         alloc,
         "format",
         "HOW",
-        "How a fault is told: short is FILE:LINE:COL: error: WORDS [NN], for editors",
+        "How a fault is told, in one line: short is FILE:LINE:COL: error: WORDS [NN], for editors, json an object",
     )
 }
 

@@ -65,7 +65,8 @@ fn format_given(alloc: Global, given: &ArgMatches<'_>) -> Result<Format, UsageFa
     match text_given(given, "format") {
         None => Ok(Format::Plain),
         Some("short") => Ok(Format::Short),
-        Some(_) => Err(wrong(alloc, "--format is short")),
+        Some("json") => Ok(Format::Json),
+        Some(_) => Err(wrong(alloc, "--format is short or json")),
     }
 }
 

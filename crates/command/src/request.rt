@@ -49,6 +49,8 @@ pub enum Format {
     Plain,
     /// As compilers tell faults, which editors read.
     Short,
+    /// As an object of JSON.
+    Json,
 }
 
 /// What is done with a program.

@@ -85,7 +85,11 @@ fn takes_each_number_of_threads(rt: HostRuntime) {
 }
 
 fn words() -> &'static [Row] {
-    static ROWS: [Row; 3] = [
+    static ROWS: [Row; 4] = [
+        (
+            "txc|check|a.c|--format=json",
+            br#"Ok(Program { file: "a.c", verbose: false, format: Json, task: Check })"#,
+        ),
         (
             "txc|listing|a.c",
             br#"Ok(Program { file: "a.c", verbose: false, format: Plain, task: Listing })"#,
@@ -281,7 +285,7 @@ fn refused_values() -> &'static [Row] {
         ),
         (
             "txc|check|a.c|--format=long",
-            br#"Err(Wrong { text: "txc: usage: --format is short\n" })"#,
+            br#"Err(Wrong { text: "txc: usage: --format is short or json\n" })"#,
         ),
     ];
     &ROWS

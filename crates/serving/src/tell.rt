@@ -12,7 +12,7 @@ use command::{Format, UsageFault};
 use lex::place;
 use lex::token::Span;
 use meaning::MeaningFault;
-use messages::{Fault, hints, short_line, underline, words, write_shown};
+use messages::{Fault, hints, json_line, short_line, underline, words, write_shown};
 use replay::ScheduleFault;
 use std::alloc::Allocator;
 use std::io;
@@ -39,6 +39,7 @@ impl<'a> Detail<'a> {
             lines: match format {
                 Format::Plain => verbose || is_terminal,
                 Format::Short => verbose,
+                Format::Json => false,
             },
             reasons: verbose,
             file,
@@ -134,6 +135,7 @@ fn line_of<A: Allocator + Copy>(
     match detail.format {
         Format::Plain => None,
         Format::Short => short_line(alloc, fault).ok(),
+        Format::Json => json_line(alloc, fault).ok(),
     }
 }
 

@@ -218,7 +218,7 @@ type Transcript = (
 );
 
 fn transcripts() -> &'static [Transcript] {
-    static ROWS: [Transcript; 50] = [
+    static ROWS: [Transcript; 51] = [
         (
             "txc certify examples/hashset.c --threads 2 --order-file examples/orders/hashset.txt --report examples/orders/hashset.out",
             b"// A set of numbers in a table of 16 places, without a lock of its own: each insertion is one step.\nint place[16], count;\n\nint insert(int key) {\n    int at = key * 7 & 15, added = 0;\n    __transaction_atomic {\n        while (place[at] != 0 && place[at] != key) at = at + 1 & 15;\n        if (place[at] == 0) {\n            place[at] = key;\n            count = count + 1;\n            added = 1;\n        }\n    }\n    return added;\n}\n\nvoid worker(int self) {\n    int i, added = 0;\n    for (i = 1; i <= 4; i++) added = added + insert(i * (self + 1));\n    printf(\"%d added\\n\", added);\n}\n",
@@ -246,6 +246,13 @@ fn transcripts() -> &'static [Transcript] {
             b"",
             b"",
             b"txc: fault 50 at 2:25: shared access outside a transaction\nvoid worker(int self) { x = 1; }\n                        ^\nwrite __transaction_atomic { .. } round it, or __transaction_atomic ( .. ) round an expression\ntxc explain 50 says more\n",
+        ),
+        (
+            "txc check examples/refused/bare.c --format json",
+            b"int x;\nvoid worker(int self) { x = 1; }\n",
+            b"",
+            b"",
+            b"{\"file\":\"examples/refused/bare.c\",\"line\":2,\"column\":25,\"end_line\":2,\"end_column\":26,\"fault\":50,\"message\":\"shared access outside a transaction\",\"notes\":[\"write __transaction_atomic { .. } round it, or __transaction_atomic ( .. ) round an expression\"]}\n",
         ),
         (
             "txc check examples/refused/bare.c --format short",

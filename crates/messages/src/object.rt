@@ -1,0 +1,72 @@
+//! A fault as an object of JSON.
+
+use crate::beside::hints;
+use crate::editors::Fault;
+use crate::table::words;
+use json::Writer;
+use lex::place;
+use std::alloc::{AllocError, Allocator};
+
+/// Adds a member of an object whose value is a text.
+fn put_text<A: Allocator>(to: &mut Writer<A>, key: &str, text: &str) -> Result<(), AllocError> {
+    to.key(key)?;
+    to.string(text)
+}
+
+/// Adds a member of an object whose value is a number.
+fn put_number<A: Allocator>(to: &mut Writer<A>, key: &str, number: u64) -> Result<(), AllocError> {
+    to.key(key)?;
+    to.u64(number)
+}
+
+/// Adds the line and the column of an offset as members of an object.
+fn put_place<A: Allocator>(
+    to: &mut Writer<A>,
+    keys: (&str, &str),
+    text: &str,
+    offset: usize,
+) -> Result<(), AllocError> {
+    let (line, column) = place(text, offset.min(text.len()));
+    put_number(to, keys.0, line as u64)?;
+    put_number(to, keys.1, column as u64)
+}
+
+/// Adds lines as a list of texts.
+fn put_notes<A: Allocator>(to: &mut Writer<A>, lines: &str) -> Result<(), AllocError> {
+    to.key("notes")?;
+    to.begin_array()?;
+    'lines: for line in lines.lines() {
+        to.string(line)?;
+    }
+    to.end_array()
+}
+
+/// Adds a fault as an object, with the lines that are told beside it.
+fn put_fault<A: Allocator>(
+    to: &mut Writer<A>,
+    fault: Fault<'_>,
+    told: &str,
+) -> Result<(), AllocError> {
+    to.begin_object()?;
+    put_text(to, "file", fault.file)?;
+    put_place(to, ("line", "column"), fault.text, fault.span.start)?;
+    put_place(to, ("end_line", "end_column"), fault.text, fault.span.end)?;
+    put_number(to, "fault", u64::from(fault.number))?;
+    put_text(to, "message", words(fault.number))?;
+    put_notes(to, told)?;
+    to.end_object()
+}
+
+/// A fault as an object of JSON (RFC 8259), in one line: the file, the places of its first byte and of the one behind
+/// its last, its number, its words and what is told beside it.
+pub fn json_line<A: Allocator + Copy>(
+    alloc: A,
+    fault: Fault<'_>,
+) -> Result<Vec<u8, A>, AllocError> {
+    let told = hints(alloc, fault.text, fault.number, fault.span)?;
+    let mut object = Writer::new(Vec::new(alloc));
+    put_fault(&mut object, fault, told.as_str())?;
+    let mut line = object.into_inner();
+    line.push(b'\n')?;
+    Ok(line)
+}
