@@ -40,7 +40,9 @@ fn of_number(number: u32) -> Option<&'static str> {
         50 => Some(
             "write __transaction_atomic { .. } round it, or __transaction_atomic ( .. ) round an expression",
         ),
-        51 => Some("write __transaction_atomic { .. } round the call"),
+        51 => Some(
+            "write __transaction_atomic { .. } round the call, or in the function, round what it uses",
+        ),
         62 => Some("a function has at most 16 transactions inside one another"),
         _ => None,
     }
@@ -73,7 +75,7 @@ fn of_token<'t, A: Allocator + Copy>(
     number: usize,
 ) -> Result<Option<Line<'t>>, AllocError> {
     Ok(match (fault, kind_at(tokens, number)) {
-        (20, Some(Kind::Name(name))) => of_name(alloc, tokens, name, number)?,
+        (20, Some(Kind::Name(name))) => Some(of_name(alloc, tokens, name, number)?),
         (21, Some(Kind::Name(name))) => {
             of_declared(tokens, name, number, "it is first declared at ")
         }

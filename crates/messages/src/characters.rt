@@ -1,12 +1,14 @@
 //! What is told of a character that begins no token, and of a string that is none.
 
+const NO_FLOATING: &str = "there are no floating constants";
+
 /// What is told of a letter or a digit right behind a constant, which ends in the byte before it.
 fn of_letter(before: u8, byte: u8) -> &'static str {
     match (before, byte) {
         (b'0', b'x' | b'X') => "hexadecimal digits stand behind 0x",
         (b'0', b'b' | b'B') => "there are no binary constants: write them in decimal, or behind 0x",
         (_, b'8' | b'9') => "a constant that begins with 0 is octal, and has no 8 or 9",
-        (_, b'e' | b'E' | b'f' | b'F') => "there are no floating constants",
+        (_, b'e' | b'E' | b'f' | b'F') => NO_FLOATING,
         (_, b'l' | b'L' | b'u' | b'U') => "a constant's suffix is u or ll",
         (_, b'_' | b'\'') => "no character separates a constant's digits",
         _ => "a constant's suffix is u or ll, and a name begins with a letter or _",
@@ -16,8 +18,10 @@ fn of_letter(before: u8, byte: u8) -> &'static str {
 /// What is told of a byte of ASCII that begins no token.
 fn of_byte(byte: u8) -> Option<&'static str> {
     match byte {
-        b'\'' => Some("there are no character constants: write the number"),
-        b'.' => Some("there are no floating constants, and no structs"),
+        b'\'' => Some(
+            "there are no character constants: write the number; characters stand in a format alone",
+        ),
+        b'.' => Some("there are no structs: write an array for each member"),
         b'\\' => Some("no line goes on behind a backslash, and an escape stands in a string alone"),
         b'#' => Some("a directive stands alone on its line"),
         b'@' | b'$' | b'`' => Some("no name and no operator has this character"),
@@ -55,7 +59,9 @@ pub(crate) fn of_character(text: &[u8], offset: usize) -> Option<&'static str> {
             letter @ (b'0'..=b'9' | b'A'..=b'Z' | b'a'..=b'z' | b'_'),
             ..
         ] => Some(of_letter(before, *letter)),
-        [b'\'', ..] if before >= b'0' && before <= b'9' => Some(of_letter(before, b'\'')),
+        [b'\'', ..] if before.is_ascii_digit() => Some(of_letter(before, b'\'')),
+        [b'.', b'0'..=b'9', ..] => Some(NO_FLOATING),
+        [b'.', ..] if before.is_ascii_digit() => Some(NO_FLOATING),
         [first, ..] => of_byte(*first),
         [] => None,
     }

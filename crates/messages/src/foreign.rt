@@ -42,7 +42,7 @@ fn reserved() -> &'static [Row] {
         ("case", SWITCH),
         ("default", SWITCH),
         ("goto", "there is no goto: write a loop, break and continue"),
-        ("sizeof", "there is no sizeof"),
+        ("sizeof", "there is no sizeof: write the number"),
         (
             "static",
             "there is no static: leave it out, or let a variable be global",
@@ -120,7 +120,10 @@ fn library() -> &'static [Row] {
         ("sprintf", LIBRARY),
         ("exit", LIBRARY),
         ("abort", LIBRARY),
-        ("assert", LIBRARY),
+        (
+            "assert",
+            "there is no assert: 1 / (x > 0); traps where x > 0 does not hold",
+        ),
         ("sleep", LIBRARY),
         ("usleep", LIBRARY),
         ("abs", LIBRARY),

@@ -93,15 +93,20 @@ fn is_alone(conversion: &str) -> bool {
     }
 }
 
+/// Tells of a conversion that there is not.
+fn of_unknown(conversion: &str) -> Line<'_> {
+    match conversion {
+        "%c" | "%s" => Line::Words("there is no %c and no %s: characters stand in the format"),
+        _ if is_alone(conversion) => Line::Words("a % by itself is written %%"),
+        _ => Line::Named("there is no conversion ", conversion),
+    }
+}
+
 /// Tells of a format, the token of a number, which conversion there is not, or how many arguments it asks for.
 fn of_format<'t>(tokens: &[Token<'_>], number: usize, format: &'t str) -> Option<Line<'t>> {
     let found = read_format(format, 0);
     if !found.unknown.is_empty() {
-        return Some(if is_alone(found.unknown) {
-            Line::Words("a % by itself is written %%")
-        } else {
-            Line::Named("there is no conversion ", found.unknown)
-        });
+        return Some(of_unknown(found.unknown));
     }
     // (the format is an argument too)
     let given = parts(tokens, number.saturating_sub(1))?.saturating_sub(1);

@@ -1,7 +1,9 @@
 //! What is told of an unexpected token: by what it is, and by what stands before it.
 
 use crate::foreign::{of_foreign, of_reserved};
-use crate::tokens::{is_punctuator, is_type, kind_at, kind_before, kind_up, open_bracket};
+use crate::tokens::{
+    is_punctuator, is_type, kind_at, kind_before, kind_up, offset_at, open_bracket,
+};
 use lex::token::{Keyword, Kind, Punctuator, Token};
 
 /// What a token is, as far as it is asked here.
@@ -39,20 +41,23 @@ const VOID: &str =
 
 const LONG: &str = "long stands in long long alone, which is signed";
 
-const NO_POINTERS: &str = "there are no pointers";
+const NO_POINTERS: &str = "there are no pointers: a function returns a value, or sets a global";
 
 const COMPARISONS: &str = "the comparisons are <, >, <=, >=, == and !=";
 
+const ONE_LIST: &str = "an array has one dimension: its values stand in one list";
+
 const LENGTH: &str = "an array's length is a number";
 
-/// What is told of tokens, the first row that fits.
-fn rows() -> &'static [Row] {
-    use Class::{Any, Assignment, Border, Literal, Name, Number, Operator, Sign, Step, Type, Word};
-    use Keyword::{Attribute, Long, Printf, Void};
+/// What is told of tokens by what stands before them: of the first row that fits.
+fn pairs() -> &'static [Row] {
+    use Class::{Any, Border, Literal, Name, Number, Operator, Sign, Type, Word};
+    use Keyword::{Attribute, Long, Void};
     use Punctuator::{
-        And, Assign, CloseBracket, Colon, Comma, Greater, Less, Minus, OpenBracket, OpenParen, Star,
+        Assign, CloseBracket, Colon, Comma, Greater, Less, Minus, OpenBrace, OpenBracket,
+        OpenParen, Star,
     };
-    static ROWS: [Row; 29] = [
+    static ROWS: [Row; 23] = [
         (
             [Word(Attribute), Sign(OpenParen), Sign(OpenParen), Any],
             ATTRIBUTES,
@@ -98,24 +103,36 @@ fn rows() -> &'static [Row] {
         ),
         ([Any, Any, Sign(OpenBracket), Sign(CloseBracket)], LENGTH),
         ([Any, Any, Sign(OpenBracket), Name], LENGTH),
-        ([Any, Any, Any, Word(Long)], LONG),
+        ([Any, Any, Sign(OpenBrace), Sign(OpenBrace)], ONE_LIST),
+        ([Any, Any, Sign(Comma), Sign(OpenBrace)], ONE_LIST),
+    ];
+    &ROWS
+}
+
+/// What is told of a token whatever stands before it.
+fn alone() -> &'static [(Class, &'static str)] {
+    static ROWS: [(Class, &str); 8] = [
+        (Class::Word(Keyword::Long), LONG),
         (
-            [Any, Any, Any, Literal],
+            Class::Literal,
             "a string stands first in printf, and nowhere else",
         ),
         (
-            [Any, Any, Any, Word(Printf)],
+            Class::Word(Keyword::Printf),
             "printf is a statement, and has no value",
         ),
-        ([Any, Any, Any, Sign(And)], NO_POINTERS),
-        ([Any, Any, Any, Sign(Star)], NO_POINTERS),
-        ([Any, Any, Any, Sign(Comma)], "there is no comma operator"),
+        (Class::Sign(Punctuator::And), NO_POINTERS),
+        (Class::Sign(Punctuator::Star), NO_POINTERS),
         (
-            [Any, Any, Any, Step],
+            Class::Sign(Punctuator::Comma),
+            "there is no comma operator: write two statements",
+        ),
+        (
+            Class::Step,
             "++ and -- are statements of their own, and have no value: write one before or behind",
         ),
         (
-            [Any, Any, Any, Assignment],
+            Class::Assignment,
             "an assignment is a statement, and has no value: == compares",
         ),
     ];
@@ -188,10 +205,20 @@ fn fits(tokens: &[Token<'_>], number: usize, classes: &[Class]) -> bool {
     true
 }
 
-/// What the rows tell of the token of a number.
-fn of_rows(tokens: &[Token<'_>], number: usize) -> Option<&'static str> {
-    'rows: for row in rows() {
+/// What is told of the token of a number by what stands before it.
+fn of_pairs(tokens: &[Token<'_>], number: usize) -> Option<&'static str> {
+    'rows: for row in pairs() {
         if fits(tokens, number, &row.0) {
+            return Some(row.1);
+        }
+    }
+    None
+}
+
+/// What is told of a token by itself.
+fn of_class(kind: Option<Kind<'_>>) -> Option<&'static str> {
+    'rows: for row in alone() {
+        if is_of(kind, row.0) {
             return Some(row.1);
         }
     }
@@ -237,8 +264,46 @@ fn is_inner_function(tokens: &[Token<'_>], number: usize) -> bool {
         && is_within(tokens, number, Punctuator::OpenBrace)
 }
 
-/// What is told of an unexpected token, that of a number, which is spelled so.
-pub(crate) fn of_token(tokens: &[Token<'_>], number: usize, word: &str) -> Option<&'static str> {
+/// Whether the token of a number assigns a second time in its statement.
+fn assigns_twice(tokens: &[Token<'_>], number: usize) -> bool {
+    if !is_of(kind_at(tokens, number), Class::Assignment) {
+        return false;
+    }
+    'tokens: for at in (0..number.min(tokens.len())).rev() {
+        let kind = Some(tokens[at].kind);
+        if is_of(kind, Class::Border) || is_punctuator(kind, Punctuator::OpenParen) {
+            return false;
+        }
+        if is_of(kind, Class::Assignment) {
+            return true;
+        }
+    }
+    false
+}
+
+/// Whether a token may end a statement but for its `;`.
+fn may_end(kind: Option<Kind<'_>>) -> bool {
+    matches!(
+        kind,
+        Some(
+            Kind::Name(_)
+                | Kind::Constant(..)
+                | Kind::Punctuator(Punctuator::CloseParen | Punctuator::CloseBracket)
+        )
+    )
+}
+
+/// Whether the token of a number begins a line, and the one before it may end a statement: what is unexpected of it is
+/// then rather that it stands there.
+fn begins_line(text: &str, tokens: &[Token<'_>], number: usize) -> bool {
+    let before = number.saturating_sub(1);
+    let end = tokens.get(before).map_or(0, |it| it.span.end);
+    let between = text.get(end..offset_at(tokens, number)).unwrap_or("");
+    may_end(kind_at(tokens, before)) && between.contains('\n')
+}
+
+/// What is told of an unexpected token, that of a number.
+pub(crate) fn of_token(text: &str, tokens: &[Token<'_>], number: usize) -> Option<&'static str> {
     let kind = kind_at(tokens, number);
     // Where an index is not closed before `=`, its bracket is missing rather than a comparison.
     if is_punctuator(kind, Punctuator::Assign)
@@ -249,19 +314,27 @@ pub(crate) fn of_token(tokens: &[Token<'_>], number: usize, word: &str) -> Optio
     if is_inner_function(tokens, number) {
         return Some("a function stands in no other one: a } may be missing before it");
     }
+    if assigns_twice(tokens, number) {
+        return Some("an assignment is a statement, and has no value: write one for each variable");
+    }
     if let Some(Kind::Reserved) = kind {
-        return Some(of_reserved(word));
+        let span = tokens.get(number)?.span;
+        return Some(of_reserved(text.get(span.start..span.end).unwrap_or("")));
     }
     let told = [
         of_body(tokens, number),
         of_foreign(tokens, kind),
         of_foreign(tokens, kind_before(tokens, number)),
-        of_rows(tokens, number),
+        of_pairs(tokens, number),
     ];
     'told: for words in told {
         if words.is_some() {
             return words;
         }
     }
-    None
+    if begins_line(text, tokens, number) {
+        None
+    } else {
+        of_class(kind)
+    }
 }

@@ -29,21 +29,22 @@ fn near_name<'t, A: Allocator + Copy>(
     Ok(None)
 }
 
-/// Tells which name or word is nearly an unknown name, the token of a number.
+/// Tells which name or word is nearly an unknown name, the token of a number, or that none is.
 fn near<'t, A: Allocator + Copy>(
     alloc: A,
     tokens: &[Token<'t>],
     unknown: &str,
     number: usize,
-) -> Result<Option<Line<'t>>, AllocError> {
+) -> Result<Line<'t>, AllocError> {
     let kind = kind_at(tokens, number);
     let near = match near_name(alloc, tokens, unknown)? {
         Some(line) => Some(line),
         None => near_word(alloc, tokens, kind)?,
     };
     Ok(match (near, of_beginning(kind)) {
-        (None, Some(words)) => Some(Line::Words(words)),
-        _ => near,
+        (Some(line), _) => line,
+        (None, Some(words)) => Line::Words(words),
+        (None, None) => Line::Words("it is declared nowhere"),
     })
 }
 
@@ -67,12 +68,12 @@ pub(crate) fn of_name<'t, A: Allocator + Copy>(
     tokens: &[Token<'t>],
     unknown: &str,
     number: usize,
-) -> Result<Option<Line<'t>>, AllocError> {
+) -> Result<Line<'t>, AllocError> {
     if let Some(words) = of_unknown(unknown) {
-        return Ok(Some(Line::Words(words)));
+        return Ok(Line::Words(words));
     }
     match declared_elsewhere(tokens, unknown, number) {
-        Some(line) => Ok(Some(line)),
+        Some(line) => Ok(line),
         None => near(alloc, tokens, unknown, number),
     }
 }

@@ -77,14 +77,14 @@ fn near_words<A: Allocator + Copy>(
     })
 }
 
-/// Tells what is meant by an unexpected token, that of a number, which is spelled so.
+/// Tells what is meant by an unexpected token, that of a number.
 fn meant<A: Allocator + Copy>(
     alloc: A,
+    text: &str,
     tokens: &[Token<'_>],
     number: usize,
-    word: &str,
 ) -> Result<Option<Line<'static>>, AllocError> {
-    match of_token(tokens, number, word) {
+    match of_token(text, tokens, number) {
         Some(words) => Ok(Some(Line::Words(words))),
         None => near_words(alloc, tokens, number),
     }
@@ -180,10 +180,7 @@ pub(crate) fn push_unexpected<A: Allocator + Copy>(
 ) -> Result<(), AllocError> {
     let number = number_at(tokens.as_slice(), span.start);
     let told = match number {
-        Some(number) => {
-            let word = text.get(span.start..span.end).unwrap_or("");
-            meant(alloc, tokens.as_slice(), number, word)?
-        }
+        Some(number) => meant(alloc, text, tokens.as_slice(), number)?,
         None => None,
     };
     push_line(alloc, to, text, told)?;

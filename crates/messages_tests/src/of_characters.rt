@@ -72,12 +72,12 @@ fn rows() -> &'static [Row] {
         (
             "void worker(int self) { self = 'a'; }",
             "01 at 1:32",
-            "there are no character constants: write the number\n",
+            "there are no character constants: write the number; characters stand in a format alone\n",
         ),
         (
             "void worker(int self) { printf('a'); }",
             "01 at 1:32",
-            "there are no character constants: write the number\n",
+            "there are no character constants: write the number; characters stand in a format alone\n",
         ),
         (
             "int x = 08;",
@@ -87,12 +87,12 @@ fn rows() -> &'static [Row] {
         (
             "int x = 1.5;",
             "01 at 1:10",
-            "there are no floating constants, and no structs\n",
+            "there are no floating constants\n",
         ),
         (
             "int x = .5;",
             "01 at 1:9",
-            "there are no floating constants, and no structs\n",
+            "there are no floating constants\n",
         ),
         (
             "int x = 1'000;",

@@ -7,7 +7,7 @@ fn rows() -> &'static [Row] {
         (
             "void worker(int self) { printf(\"%s\", self); }",
             "27 at 1:32",
-            "there is no conversion %s\n%d stands for an int, %u for an unsigned and %lld for a long long, one argument each; there is no other\n",
+            "there is no %c and no %s: characters stand in the format\n%d stands for an int, %u for an unsigned and %lld for a long long, one argument each; there is no other\n",
         ),
         (
             "void worker(int self) { printf(\"%x\", self); }",
@@ -32,7 +32,7 @@ fn rows() -> &'static [Row] {
         (
             "void worker(int self) { printf(\"%c\", self); }",
             "27 at 1:32",
-            "there is no conversion %c\n%d stands for an int, %u for an unsigned and %lld for a long long, one argument each; there is no other\n",
+            "there is no %c and no %s: characters stand in the format\n%d stands for an int, %u for an unsigned and %lld for a long long, one argument each; there is no other\n",
         ),
         (
             "void worker(int self) { printf(\"%d %d\", self); }",
@@ -127,7 +127,7 @@ fn rows() -> &'static [Row] {
         (
             "void worker(int self) { printf(\"%d %s\", self); }",
             "27 at 1:32",
-            "there is no conversion %s\n%d stands for an int, %u for an unsigned and %lld for a long long, one argument each; there is no other\n",
+            "there is no %c and no %s: characters stand in the format\n%d stands for an int, %u for an unsigned and %lld for a long long, one argument each; there is no other\n",
         ),
         (
             "void worker(int self) { printf(\"%.2d\", self); }",

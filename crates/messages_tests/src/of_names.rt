@@ -49,7 +49,11 @@ fn rows() -> &'static [Row] {
             "20 at 1:25",
             "the only function of C's library is printf\n",
         ),
-        ("void worker(int self) { x = 1; }", "20 at 1:25", ""),
+        (
+            "void worker(int self) { x = 1; }",
+            "20 at 1:25",
+            "it is declared nowhere\n",
+        ),
         (
             "void worker(int self) { { int a = 1; } a = 2; }",
             "20 at 1:40",
@@ -63,7 +67,7 @@ fn rows() -> &'static [Row] {
         (
             "void worker(int self) { assert(self); }",
             "20 at 1:25",
-            "the only function of C's library is printf\n",
+            "there is no assert: 1 / (x > 0); traps where x > 0 does not hold\n",
         ),
         (
             "void worker(int self) { malloc(4); }",

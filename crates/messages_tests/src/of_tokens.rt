@@ -3,7 +3,7 @@
 use crate::told::{Row, assert_none, told_otherwise};
 
 fn rows() -> &'static [Row] {
-    static ROWS: [Row; 72] = [
+    static ROWS: [Row; 38] = [
         (
             "int x\nvoid worker(int self) { }",
             "10 at 2:1",
@@ -182,6 +182,12 @@ fn rows() -> &'static [Row] {
             "thread T runs worker(T), written void worker(int self)\n",
         ),
         ("int a[4] = {};", "10 at 1:13", "expected a number\n"),
+    ];
+    &ROWS
+}
+
+fn more_rows() -> &'static [Row] {
+    static ROWS: [Row; 39] = [
         ("int a[4] = 0;", "10 at 1:12", "expected '{'\n"),
         (
             "void worker(int self) { int a[] = {1}; }",
@@ -206,17 +212,17 @@ fn rows() -> &'static [Row] {
         (
             "void worker(int self) { int a, b; a = b = 1; }",
             "10 at 1:41",
-            "an assignment is a statement, and has no value: == compares\nexpected ';', '(', '[' or an operator\n",
+            "an assignment is a statement, and has no value: write one for each variable\nexpected ';', '(', '[' or an operator\n",
         ),
         (
             "void worker(int self) { int a = (1, 2); }",
             "10 at 1:35",
-            "there is no comma operator\nexpected ')' or an operator\n",
+            "there is no comma operator: write two statements\nexpected ')' or an operator\n",
         ),
         (
             "void worker(int self) { for (int i = 0, j = 0; i < 1; i++, j++) { } }",
             "10 at 1:58",
-            "there is no comma operator\nexpected ')'\n",
+            "there is no comma operator: write two statements\nexpected ')'\n",
         ),
         (
             "void worker(int self) { 1 = 2; }",
@@ -233,7 +239,11 @@ fn rows() -> &'static [Row] {
             "10 at 1:38",
             "an assignment is a statement, and has no value: == compares\nexpected ')', '(', '[' or an operator\n",
         ),
-        ("void worker(int self) { f() = 1; }", "20 at 1:25", ""),
+        (
+            "void worker(int self) { f() = 1; }",
+            "20 at 1:25",
+            "it is declared nowhere\n",
+        ),
         (
             "void worker(int self) { 5++; }",
             "24 at 1:25",
@@ -297,12 +307,12 @@ fn rows() -> &'static [Row] {
         (
             "void worker(int self) { for (int i = 0; i < 4, i++) { } }",
             "10 at 1:46",
-            "there is no comma operator\nexpected ';' or an operator\n",
+            "there is no comma operator: write two statements\nexpected ';' or an operator\n",
         ),
         (
             "void worker(int self) { for (i = 0; i < 4; i++) { } }",
             "20 at 1:30",
-            "",
+            "it is declared nowhere\n",
         ),
         (
             "void worker(int self) { return 1 2; }",
@@ -344,6 +354,31 @@ fn rows() -> &'static [Row] {
             "10 at 1:55",
             "expected ')'\n'(' is open since 1:36\n",
         ),
+        (
+            "void worker(int self) { int n = 0; if (++n == self) { } }",
+            "10 at 1:40",
+            "++ and -- are statements of their own, and have no value: write one before or behind\nexpected an expression\n",
+        ),
+        (
+            "void worker(int self) { int n\n    = self\n    printf(\"%d\", n); }",
+            "10 at 3:5",
+            "expected ';', ',', '(', '[' or an operator\na ';' may be missing at 2:11\n",
+        ),
+        (
+            "void worker(int self) { int n = self\n    ++n; }",
+            "10 at 2:5",
+            "expected ';', ',', '(', '[' or an operator\na ';' may be missing at 1:37\n",
+        ),
+        (
+            "int a[4] = {{0, 1}, {2, 3}};",
+            "10 at 1:13",
+            "an array has one dimension: its values stand in one list\nexpected a number\n",
+        ),
+        (
+            "int a[4] = {0, {1, 2}};",
+            "10 at 1:16",
+            "an array has one dimension: its values stand in one list\nexpected '}' or a number\n",
+        ),
     ];
     &ROWS
 }
@@ -351,4 +386,9 @@ fn rows() -> &'static [Row] {
 #[test]
 fn tokens_are_told(rt: HostRuntime) {
     assert_none(&rt, told_otherwise(rt.alloc(), rows()));
+}
+
+#[test]
+fn more_tokens_are_told(rt: HostRuntime) {
+    assert_none(&rt, told_otherwise(rt.alloc(), more_rows()));
 }

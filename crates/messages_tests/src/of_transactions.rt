@@ -32,12 +32,12 @@ fn rows() -> &'static [Row] {
         (
             "int x;\nint get(void) { return x; }\nvoid worker(int self) { self = get(); }",
             "51 at 3:32",
-            "get uses x at 2:24\nwrite __transaction_atomic { .. } round the call\n",
+            "get uses x at 2:24\nwrite __transaction_atomic { .. } round the call, or in the function, round what it uses\n",
         ),
         (
             "int x;\nint get(void) { return x; }\nint twice(void) { return get() * 2; }\nvoid worker(int self) { self = twice(); }",
             "51 at 4:32",
-            "twice calls get at 3:26, which uses x at 2:24\nwrite __transaction_atomic { .. } round the call\n",
+            "twice calls get at 3:26, which uses x at 2:24\nwrite __transaction_atomic { .. } round the call, or in the function, round what it uses\n",
         ),
         (
             "void f(void) { __transaction_relaxed { } }\nvoid worker(int self) { __transaction_atomic { f(); } }",
@@ -72,7 +72,7 @@ fn rows() -> &'static [Row] {
         (
             "int x;\nint f(int n);\nint get(int n) { return f(n); }\nint f(int n) { return x + get(n); }\nvoid worker(int self) { self = get(1); }",
             "51 at 5:32",
-            "get calls f at 3:25, which uses x at 4:23\nwrite __transaction_atomic { .. } round the call\n",
+            "get calls f at 3:25, which uses x at 4:23\nwrite __transaction_atomic { .. } round the call, or in the function, round what it uses\n",
         ),
         (
             "int x;\nvoid worker(int self) { while (x == 0) { } }",
@@ -82,7 +82,7 @@ fn rows() -> &'static [Row] {
         (
             "int x;\nint get(void) { return x; }\nvoid worker(int self) { while (get() == 0) { } }",
             "51 at 3:32",
-            "get uses x at 2:24\nwrite __transaction_atomic { .. } round the call\n",
+            "get uses x at 2:24\nwrite __transaction_atomic { .. } round the call, or in the function, round what it uses\n",
         ),
         (
             "void worker(int self) { __transaction_atomic { __transaction_relaxed { } } }",

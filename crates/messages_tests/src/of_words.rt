@@ -3,7 +3,7 @@
 use crate::told::{Row, assert_none, told_otherwise};
 
 fn rows() -> &'static [Row] {
-    static ROWS: [Row; 64] = [
+    static ROWS: [Row; 65] = [
         (
             "bool b;",
             "10 at 1:1",
@@ -168,17 +168,17 @@ fn rows() -> &'static [Row] {
         (
             "void worker(int self) { self = sizeof(int); }",
             "10 at 1:32",
-            "there is no sizeof\nexpected an expression\n",
+            "there is no sizeof: write the number\nexpected an expression\n",
         ),
         (
             "void worker(int self) { int a = &self; }",
             "10 at 1:33",
-            "there are no pointers\nexpected an expression\n",
+            "there are no pointers: a function returns a value, or sets a global\nexpected an expression\n",
         ),
         (
             "int *p;",
             "10 at 1:5",
-            "there are no pointers\nexpected a name\n",
+            "there are no pointers: a function returns a value, or sets a global\nexpected a name\n",
         ),
         (
             "struct a { int b; };",
@@ -193,12 +193,12 @@ fn rows() -> &'static [Row] {
         (
             "void worker(int self) { self = *self; }",
             "10 at 1:32",
-            "there are no pointers\nexpected an expression\n",
+            "there are no pointers: a function returns a value, or sets a global\nexpected an expression\n",
         ),
         (
             "void worker(int self) { *self = 1; }",
             "10 at 1:25",
-            "there are no pointers\nexpected '}', a declaration or a statement\n",
+            "there are no pointers: a function returns a value, or sets a global\nexpected '}', a declaration or a statement\n",
         ),
         (
             "enum { A, B };",
@@ -228,7 +228,7 @@ fn rows() -> &'static [Row] {
         (
             "int f(int *p) { return 0; }",
             "10 at 1:11",
-            "there are no pointers\nexpected ',', ')' or a name\n",
+            "there are no pointers: a function returns a value, or sets a global\nexpected ',', ')' or a name\n",
         ),
         (
             "void worker(int self) { self->a = 1; }",
@@ -238,7 +238,7 @@ fn rows() -> &'static [Row] {
         (
             "void worker(int self) { self.a = 1; }",
             "01 at 1:29",
-            "there are no floating constants, and no structs\n",
+            "there are no structs: write an array for each member\n",
         ),
         (
             "void worker(int self) { out: self = 1; }",
@@ -319,6 +319,11 @@ fn rows() -> &'static [Row] {
             "void f(void) transaction_safe;",
             "10 at 1:14",
             "expected ';', '{' or '['\n",
+        ),
+        (
+            "int x;\nvoid worker(int self) { int y = &x; }",
+            "10 at 2:33",
+            "there are no pointers: a function returns a value, or sets a global\nexpected an expression\n",
         ),
     ];
     &ROWS

@@ -56,7 +56,7 @@ fn refusal(alloc: Global, text: &str) -> Option<Refusal> {
     }
 }
 
-/// Whether the first fault of a text is this one, and this is told beside it.
+/// Whether the first fault of a text is this one, and this is told beside it, which is something.
 fn is_told(alloc: Global, row: &Row) -> Result<bool, AllocError> {
     let (text, fault, lines) = *row;
     let Some((number, Some(span))) = refusal(alloc, text) else {
@@ -65,7 +65,7 @@ fn is_told(alloc: Global, row: &Row) -> Result<bool, AllocError> {
     let (line, column) = place(text, span.start.min(text.len()));
     let found = format!(in alloc; "{number:02} at {line}:{column}")?;
     let told = hints(alloc, text, number, span)?;
-    Ok(found.as_str() == fault && told.as_str() == lines)
+    Ok(found.as_str() == fault && !lines.is_empty() && told.as_str() == lines)
 }
 
 /// The source of the first row of which something else is told.

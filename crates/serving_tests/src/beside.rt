@@ -28,7 +28,7 @@ fn rows() -> &'static [Row] {
         ),
         (
             "int *p;",
-            "txc: fault 10 at 1:5: unexpected token\nint *p;\n    ^\nthere are no pointers\nexpected a name\ntxc explain 10 says more\n",
+            "txc: fault 10 at 1:5: unexpected token\nint *p;\n    ^\nthere are no pointers: a function returns a value, or sets a global\nexpected a name\ntxc explain 10 says more\n",
         ),
         (
             "void worker(int self) { int a = self",
@@ -36,7 +36,7 @@ fn rows() -> &'static [Row] {
         ),
         (
             "int x = 'a';",
-            "txc: fault 01 at 1:9: bad character\nint x = 'a';\n        ^\nthere are no character constants: write the number\ntxc explain 01 says more\n",
+            "txc: fault 01 at 1:9: bad character\nint x = 'a';\n        ^\nthere are no character constants: write the number; characters stand in a format alone\ntxc explain 01 says more\n",
         ),
         (
             "#define A 1\n",
@@ -64,7 +64,7 @@ fn rows() -> &'static [Row] {
         ),
         (
             "void worker(int self) { int a = &self; }",
-            "txc: fault 10 at 1:33: unexpected token\nvoid worker(int self) { int a = &self; }\n                                ^\nthere are no pointers\nexpected an expression\ntxc explain 10 says more\n",
+            "txc: fault 10 at 1:33: unexpected token\nvoid worker(int self) { int a = &self; }\n                                ^\nthere are no pointers: a function returns a value, or sets a global\nexpected an expression\ntxc explain 10 says more\n",
         ),
         (
             "void worker(int self) { self->a = 1; }",
