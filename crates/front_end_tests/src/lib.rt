@@ -1,6 +1,6 @@
-//! Tests of the parser, of the trees of `syntax`, and of the checks that accept a program, of names and types, of
-//! safety and of separation, in a crate of their own: a crate with tests is proved twice, and each crate of tests reads
-//! and links all that it stands on.
+//! Tests of the parser, of the trees of `syntax`, of the checks that accept a program, of names and types, of safety and
+//! of separation, and of warnings, in a crate of their own: a crate with tests is
+//! proved twice, and each crate of tests reads and links all that it stands on.
 #![tactic(auto)]
 
 #[cfg(test)]
@@ -19,5 +19,7 @@ mod of_separation;
 mod of_syntax;
 #[cfg(test)]
 mod of_types;
+#[cfg(test)]
+mod of_warnings;
 #[cfg(test)]
 mod stages;

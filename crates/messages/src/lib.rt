@@ -19,6 +19,7 @@ mod object;
 mod table;
 mod tokens;
 mod unexpected;
+mod warnings;
 
 pub use beside::hints;
 pub use carets::{underline, write_shown};
@@ -26,3 +27,4 @@ pub use editors::{Fault, short_line};
 pub use explanations::explanation;
 pub use object::json_line;
 pub use table::words;
+pub use warnings::{WarningWords, warning_words};

@@ -1,0 +1,3 @@
+//! Tests of what is warned of a program.
+
+mod rows;

@@ -1,0 +1,332 @@
+//! Sources with what is warned of them, and ones of which nothing is.
+
+use crate::asserted::assert_none;
+use lex::place;
+use lex::token::Span;
+use std::alloc::{AllocError, Global};
+use test_programs::accepted_of;
+use warnings::{Warning, warnings};
+
+/// A source, and a line for each warning: its name and place, and where the other thing stands that it speaks of.
+type Row = (&'static str, &'static str);
+
+/// The rows stand in a function, so that no proof but its own looks at them.
+fn rows() -> &'static [Row] {
+    static ROWS: [Row; 59] = [
+        // waits
+        (
+            "int x; void worker(int self) { __transaction_atomic { while (x == 0) ; } }",
+            "endless-wait 1:62\n",
+        ),
+        (
+            "int x; void worker(int self) { __transaction_atomic { while (x != self) { int k = 1; k++; } } }",
+            "endless-wait 1:62\n",
+        ),
+        (
+            "int x, y; void worker(int self) { __transaction_relaxed { do y++; while (x < 3); for (; x < 3; ) y++; } }",
+            "endless-wait 1:74\nendless-wait 1:89\n",
+        ),
+        (
+            "int a[4]; void worker(int self) { __transaction_atomic { while (a[self]) ; } }",
+            "endless-wait 1:65\n",
+        ),
+        (
+            "int x; void worker(int self) { __transaction_atomic { while (__transaction_atomic (x) == 0) ; } }",
+            "endless-wait 1:62\n",
+        ),
+        (
+            "int x; void wait(void) { while (x == 0) ; } void worker(int self) { __transaction_atomic { wait(); } }",
+            "endless-wait 1:33\n",
+        ),
+        // what is written in the loop, by its step, or by a function that is called
+        (
+            "int x; void worker(int self) { __transaction_atomic { while (x == 0) x = 1; for (; x < 3; x++) ; } }",
+            "",
+        ),
+        (
+            "int a[4]; void worker(int self) { __transaction_atomic { while (a[self]) a[0] = 0; } }",
+            "",
+        ),
+        (
+            "int x; void worker(int self) { int i = 0; __transaction_atomic { while (x == i) i++; } }",
+            "",
+        ),
+        (
+            "int x; void f(void) { x = 1; } void worker(int self) { __transaction_atomic { while (x == 0) f(); } }",
+            "",
+        ),
+        // a way out, and nothing shared
+        (
+            "int x; void worker(int self) { __transaction_atomic { while (x == 0) { if (self) break; } } }",
+            "",
+        ),
+        (
+            "void worker(int self) { __transaction_atomic { while (self) ; } }",
+            "",
+        ),
+        // a transaction each time, also where a function is called in none
+        (
+            "int x; void worker(int self) { while (__transaction_atomic (x) == 0) ; }",
+            "",
+        ),
+        (
+            "int x; void wait(void) { while (__transaction_atomic (x) == 0) ; } void worker(int self) { wait(); }",
+            "",
+        ),
+        // writes that are undone
+        (
+            "int x; void worker(int self) { __transaction_atomic { x++; __transaction_cancel; } }",
+            "undone-write 1:55 1:60\n",
+        ),
+        (
+            "int x, y; void worker(int self) { __transaction_atomic { x++; if (x > 3) { y = 1; __transaction_cancel; } } }",
+            "undone-write 1:76 1:83\n",
+        ),
+        (
+            "int x; void worker(int self) { int no = 0; __transaction_atomic { x++; if (x > 3) { no = 1; __transaction_cancel; } } }",
+            "undone-write 1:85 1:93\n",
+        ),
+        (
+            "int a[4]; void worker(int self) { __transaction_atomic { { a[self] = 1; } { __transaction_cancel; } } }",
+            "undone-write 1:60 1:77\n",
+        ),
+        (
+            "int x, y; void worker(int self) { __transaction_atomic [[outer]] { y = 2; __transaction_atomic { x = 1; __transaction_cancel [[outer]]; } } }",
+            "undone-write 1:68 1:105\nundone-write 1:98 1:105\n",
+        ),
+        (
+            "int x, y; void worker(int self) { __transaction_atomic { y = 2; __transaction_atomic { x = 1; __transaction_cancel; } } }",
+            "undone-write 1:88 1:95\n",
+        ),
+        // the cancel may not come, or a way out comes before it
+        (
+            "int x; void worker(int self) { __transaction_atomic { x++; if (x > 3) __transaction_cancel; } }",
+            "",
+        ),
+        (
+            "int x; void worker(int self) { __transaction_atomic { if (x > 3) { x = 1; return; } __transaction_cancel; } }",
+            "",
+        ),
+        // a local of the transaction itself
+        (
+            "int x; void worker(int self) { __transaction_atomic { int no = 0; x++; if (x > 3) { no = 1; __transaction_cancel; } } }",
+            "",
+        ),
+        // reads that are stale where they decide
+        (
+            "int x; void worker(int self) { int f; __transaction_atomic { f = x > 0; } if (f) { __transaction_atomic { x = x - 1; } } }",
+            "stale-read 1:66 1:107\n",
+        ),
+        (
+            "int x; void worker(int self) { int f = __transaction_atomic (x); __transaction_atomic { x = f + 1; } }",
+            "stale-read 1:62 1:89\n",
+        ),
+        (
+            "int x; void worker(int self) { int f; __transaction_atomic { f = x; } f++; __transaction_atomic { x = f; } }",
+            "stale-read 1:66 1:99\n",
+        ),
+        (
+            "int x; void worker(int self) { if (__transaction_atomic (x) > 0) __transaction_atomic { x--; } }",
+            "stale-read 1:58 1:89\n",
+        ),
+        (
+            "int x; void worker(int self) { if (__transaction_atomic (x) == 0) return; __transaction_atomic { x--; } }",
+            "stale-read 1:58 1:98\n",
+        ),
+        (
+            "int x; void f(void) { int y; __transaction_atomic { y = x; } __transaction_atomic { x = y + 1; } } void worker(int self) { f(); }",
+            "stale-read 1:57 1:85\n",
+        ),
+        // read again where it is written
+        (
+            "int x; void worker(int self) { if (__transaction_atomic (x) > 0) __transaction_atomic { if (x > 0) x--; } }",
+            "",
+        ),
+        (
+            "int x; void worker(int self) { int y = __transaction_atomic (x); __transaction_atomic { if (x == y) x = y + 1; } }",
+            "",
+        ),
+        // the transaction that reads writes too, or all is done in one, or something else is written
+        (
+            "int x; void worker(int self) { int f; __transaction_atomic { f = x > 0; if (f) x = x - 1; } if (f) __transaction_atomic { x = x + 1; } }",
+            "",
+        ),
+        (
+            "int x; void worker(int self) { int i; for (i = 0; i < 3; i++) { int p; __transaction_atomic { p = x / 8; x = x - p; } } }",
+            "",
+        ),
+        (
+            "int x, y; void worker(int self) { int f; __transaction_atomic { f = x > 0; } if (f) { __transaction_atomic { y = 1; } } }",
+            "",
+        ),
+        // a wait for one's turn
+        (
+            "int x; void worker(int self) { while (__transaction_atomic (x) != self) ; __transaction_atomic { x = self + 1; } }",
+            "",
+        ),
+        // a function that runs in transactions alone
+        (
+            "int x; void f(void) { int y; __transaction_atomic { y = x; } __transaction_atomic { x = y + 1; } } void worker(int self) { __transaction_atomic { f(); } }",
+            "",
+        ),
+        // comparisons
+        (
+            "void worker(int self) { unsigned i; for (i = 3; i >= 0; i--) ; }",
+            "never-negative 1:49\n",
+        ),
+        (
+            "void worker(int self) { unsigned u = 1; if (u < 0) u = 1; if (0 <= u) u = 2; if (0 > (u + 1)) u = 3; }",
+            "never-negative 1:45\nnever-negative 1:63\nnever-negative 1:82\n",
+        ),
+        (
+            "void worker(int self) { int i; unsigned u = 1; for (i = 3; i >= 0; i--) ; if (u > 0) u = 1; if (0 < u) u = 2; if (1u >= 0) u = 3; }",
+            "",
+        ),
+        (
+            "void worker(int self) { unsigned u = 1; if (u > -1) u = 2; }",
+            "negative-as-unsigned 1:45\n",
+        ),
+        (
+            "void worker(int self) { unsigned u = 1; if (u > -1) u = 2; if ((-2) == u) u = 3; }",
+            "negative-as-unsigned 1:45\nnegative-as-unsigned 1:64\n",
+        ),
+        (
+            "void worker(int self) { unsigned u = 1; if (u == -1LL) u = 2; if (self == -1) u = 3; if (u == (unsigned) -1) u = 4; }",
+            "",
+        ),
+        // sure traps
+        (
+            "void worker(int self) { int a = self / 0; }",
+            "zero-divisor 1:33\n",
+        ),
+        (
+            "void worker(int self) { int a = self / 0; a = self % (1 - 1); a /= 0; }",
+            "zero-divisor 1:33\nzero-divisor 1:47\nzero-divisor 1:68\n",
+        ),
+        (
+            "void worker(int self) { int a = self / 2; a %= 2; a = 1 / (self <= 1); }",
+            "",
+        ),
+        (
+            "int a[4]; void worker(int self) { __transaction_atomic { a[4] = 1; } }",
+            "index-outside 1:60\n",
+        ),
+        (
+            "int a[4]; void worker(int self) { __transaction_atomic { a[4] = a[-1]; } }",
+            "index-outside 1:60\nindex-outside 1:67\n",
+        ),
+        (
+            "int a[4]; void worker(int self) { __transaction_atomic { a[3] = a[self]; } }",
+            "",
+        ),
+        (
+            "void worker(int self) { int a = 1 << 32; }",
+            "shift-outside 1:33\n",
+        ),
+        (
+            "void worker(int self) { int a = 1 << 32; a = 1 << -1; a <<= 40; long long b = 1LL << 64; }",
+            "shift-outside 1:33\nshift-outside 1:46\nshift-outside 1:61\nshift-outside 1:79\n",
+        ),
+        (
+            "void worker(int self) { int a = self >> 31; long long b = self; b >>= 63; b = b << 32; }",
+            "",
+        ),
+        // functions that may end without a return
+        (
+            "int f(int a) { if (a) return 1; } void worker(int self) { f(self); }",
+            "missing-return 1:5\n",
+        ),
+        (
+            "int f(int a) { while (1) { if (a) break; } } void worker(int self) { f(self); }",
+            "missing-return 1:5\n",
+        ),
+        (
+            "int x; int f(int a) { __transaction_atomic { if (x) __transaction_cancel; return 1; } } void worker(int self) { f(self); }",
+            "missing-return 1:12\n",
+        ),
+        (
+            "int f(int a) { if (a) return 1; else return 2; } void worker(int self) { f(self); }",
+            "",
+        ),
+        (
+            "int f(int a) { for (;;) { if (a) return 1; a++; } } int g(int a) { do { return 1; } while (a); } void worker(int self) { f(self); g(self); }",
+            "",
+        ),
+        (
+            "int x; int f(int a) { __transaction_atomic { x++; return 1; } } void worker(int self) { f(self); }",
+            "",
+        ),
+        // branches
+        (
+            "void worker(int self) { if (self) ; printf(\"a\"); }",
+            "empty-if 1:29\n",
+        ),
+        (
+            "void worker(int self) { if (self) ; else printf(\"a\"); if (self) { } while (self) ; }",
+            "",
+        ),
+    ];
+    &ROWS
+}
+
+/// Adds where a span begins, behind a space.
+fn put_place(to: &mut String, alloc: Global, text: &str, span: Span) -> Result<(), AllocError> {
+    let (line, column) = place(text, span.start.min(text.len()));
+    to.push_str(format!(in alloc; " {line}:{column}")?.as_str())
+}
+
+/// Adds the line of a warning.
+fn put_warning(
+    to: &mut String,
+    alloc: Global,
+    text: &str,
+    warning: Warning,
+) -> Result<(), AllocError> {
+    to.push_str(warning.kind.name())?;
+    put_place(to, alloc, text, warning.span)?;
+    if let Some(other) = warning.other {
+        put_place(to, alloc, text, other)?;
+    }
+    to.push_str("\n")
+}
+
+/// A line for each warning of a source.
+fn lines_of(alloc: Global, text: &str, found: &[Warning]) -> Result<String, AllocError> {
+    let mut told = String::new(alloc);
+    for warning in found {
+        put_warning(&mut told, alloc, text, *warning)?;
+    }
+    Ok(told)
+}
+
+/// A line for each warning of a source; none where it is not accepted, or memory is refused.
+fn told_of(alloc: Global, text: &str) -> Option<String> {
+    let accepted = accepted_of(alloc, text)?;
+    match warnings(alloc, &accepted) {
+        Ok(found) => lines_of(alloc, text, found.as_slice()).ok(),
+        Err(AllocError) => None,
+    }
+}
+
+/// Whether this is told of a source.
+fn is_told(alloc: Global, text: &str, wanted: &str) -> bool {
+    match told_of(alloc, text) {
+        Some(told) => told.as_str() == wanted,
+        None => false,
+    }
+}
+
+/// The first source of which something else is told.
+fn told_otherwise(alloc: Global) -> Option<&'static str> {
+    for (text, wanted) in rows() {
+        if !is_told(alloc, text, wanted) {
+            return Some(*text);
+        }
+    }
+    None
+}
+
+#[test]
+fn sources_are_warned_of(rt: HostRuntime) {
+    assert_none(&rt, told_otherwise(rt.alloc()));
+}

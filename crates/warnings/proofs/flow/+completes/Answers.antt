@@ -1,0 +1,24 @@
+use Rattle.std.proofs.Common.{ap, arith}
+use denote.Param.Weighed.{most, at_most}
+use Rattle.syntax.specs.declared.tree.Stmt.{the_lemmas}
+use Rattle.syntax.proofs.tree.Stmt.TheLaws.{the_size}
+use Rattle.warnings.proofs.flow.+completes.Goals as goal
+
+pub all_complete-completes-requires : goal.all_complete-completes-requires
+all_complete-completes-requires g t c κs within =
+    let size = the_size g.row.A g.A.Allocator g.A.laws in
+    let below = at_most size c.args.all.now c.each.one-index c.one-item.result c.each-test.true in
+    let here = ap size c.one-item.is in
+    (omega (arith, below, here, c.decreases), within)
+
+pub completes-all_complete-requires : goal.completes-all_complete-requires
+completes-all_complete-requires g t c κs within =
+    let size = simp the_lemmas at (ap (the_size g.row.A g.A.Allocator g.A.laws) c.in-Block.is) in
+    let here = ap (most (the_size g.row.A g.A.Allocator g.A.laws)) c.as_slice.ensures in
+    (omega (arith, size, here, c.decreases), within)
+
+pub completes-all_complete-requires-in-Transaction : goal.completes-all_complete-requires-in-Transaction
+completes-all_complete-requires-in-Transaction g t c κs within =
+    let size = simp the_lemmas at (ap (the_size g.row.A g.A.Allocator g.A.laws) c.in-Transaction.is) in
+    let here = ap (most (the_size g.row.A g.A.Allocator g.A.laws)) c.as_slice-in-Transaction.ensures in
+    (omega (arith, size, here, c.decreases), within)

@@ -1,0 +1,22 @@
+//! Warnings: what an accepted program says and hardly means, each with its place.
+//!
+//! A body is read once, into the list of what it does in the order of its text (`action`), over which each group of
+//! warnings goes by itself: waits, writes that are undone, reads that are stale. What is told of numbers is told
+//! expression by expression.
+#![tactic(auto)]
+
+mod action;
+mod body;
+mod constant;
+mod decisions;
+mod expr;
+mod flow;
+mod known;
+mod numbers;
+mod program;
+mod undone;
+mod waits;
+mod warning;
+
+pub use program::warnings;
+pub use warning::{Warning, WarningKind};

@@ -1,0 +1,66 @@
+//! What is warned of, and where.
+
+use lex::token::Span;
+
+/// What a warning says.
+#[derive(Clone, Copy, PartialEq, Eq, Debug)]
+pub enum WarningKind {
+    /// A loop in one transaction whose condition nothing changes: no other thread is seen there.
+    EndlessWait,
+    /// A write before a cancel that always follows in the same transaction.
+    UndoneWrite,
+    /// A read in one transaction by which another one writes what was read.
+    StaleRead,
+    /// A comparison with 0 that holds of each `unsigned`, or of none.
+    NeverNegative,
+    /// A comparison of an `unsigned` with a negative constant, which is converted.
+    NegativeAsUnsigned,
+    /// A division by a constant 0.
+    ZeroDivisor,
+    /// A constant index outside its array.
+    IndexOutside,
+    /// A shift by a constant out of its range.
+    ShiftOutside,
+    /// A function with a value whose end can be reached.
+    MissingReturn,
+    /// An `if` with `;` for its branch.
+    EmptyIf,
+}
+
+impl WarningKind {
+    /// The name by which it is told.
+    pub fn name(self) -> &'static str {
+        match self {
+            WarningKind::EndlessWait => "endless-wait",
+            WarningKind::UndoneWrite => "undone-write",
+            WarningKind::StaleRead => "stale-read",
+            WarningKind::NeverNegative => "never-negative",
+            WarningKind::NegativeAsUnsigned => "negative-as-unsigned",
+            WarningKind::ZeroDivisor => "zero-divisor",
+            WarningKind::IndexOutside => "index-outside",
+            WarningKind::ShiftOutside => "shift-outside",
+            WarningKind::MissingReturn => "missing-return",
+            WarningKind::EmptyIf => "empty-if",
+        }
+    }
+}
+
+/// A warning, and where it stands.
+#[derive(Clone, Copy)]
+pub struct Warning {
+    pub kind: WarningKind,
+    pub span: Span,
+    /// What it speaks of besides: the cancel that undoes a write, the write that a read decides.
+    pub other: Option<Span>,
+}
+
+impl Warning {
+    /// A warning that speaks of nothing besides.
+    pub(crate) fn at(kind: WarningKind, span: Span) -> Warning {
+        Warning {
+            kind,
+            span,
+            other: None,
+        }
+    }
+}
