@@ -1,5 +1,5 @@
 //! Tests of the parser, of the trees of `syntax`, of the checks that accept a program, of names and types, of safety and
-//! of separation, and of warnings, in a crate of their own: a crate with tests is
+//! of separation, and of what is told besides, warnings and further faults, in a crate of their own: a crate with tests is
 //! proved twice, and each crate of tests reads and links all that it stands on.
 #![tactic(auto)]
 
@@ -7,6 +7,8 @@
 mod asserted;
 #[cfg(test)]
 mod large;
+#[cfg(test)]
+mod of_further_faults;
 #[cfg(test)]
 mod of_name_tables;
 #[cfg(test)]

@@ -1,0 +1,3 @@
+//! Tests of the faults that are told beside the first one.
+
+mod rows;
