@@ -1,10 +1,11 @@
 #!/usr/bin/env python3
 """Writes crates/serving_replays_tests/src/examples.rt. It runs each program of examples/, examples/against/ and
-examples/bench/ and compares what it prints with the file of the same name that ends in .out; and it runs each
-transcript of examples/transcripts/, a file whose first line is a command line, `$ txc ..`, and which has under it what
-a terminal then shows. And it writes crates/lower_tests/src/of_meaning/examples.rt, which runs each program of examples/
-from its tree and compares with the same file, and crates/lower_tests/src/of_lower/examples.rt, which lists the programs
-of examples/ and demands a code of each.
+examples/bench/ and compares what it prints with the file of the same name that ends in .out, and whether it is warned
+of with WARNED; and it runs each transcript of examples/transcripts/, a file whose first line is a command line,
+`$ txc ..`, and which has under it what a terminal then shows. And it writes
+crates/lower_tests/src/of_meaning/examples.rt, which runs each program of examples/ from its tree and compares with the
+same file, and crates/lower_tests/src/of_lower/examples.rt, which lists the programs of examples/ and demands a code of
+each.
 
 With --check it writes nothing, and fails where one of the three is not what it would write, or where a document shows
 what the program does not print: a block that begins with `$ txc run examples/NAME.c` has NAME.out under it, any other
@@ -27,6 +28,8 @@ PROGRAM = re.compile(r"^```c\n(.*?)^```$", re.M | re.S)
 RUN = re.compile(r"\$ txc run examples/((?:against/)?\w+)\.c\n")
 # Globals of 64 bits: their names are words of these lines.
 WIDE = re.compile(r"^(?:signed )?long long (.*);$", re.M)
+# Programs of which something is warned: it is what they show.
+WARNED = ["examples/against/nested_cancel.c", "examples/seats.c", "examples/seats_checked.c"]
 SCHEDULE = re.compile(r"^```\n((?:\d+ a?\d+\n)+)```$", re.M)
 
 
@@ -111,6 +114,43 @@ fn wrong_example<H: Threads + Wait + Sync>(rt: &H, alloc: Global) -> Option<&'st
 #[test]
 fn examples_print_what_they_should(rt: HostRuntime) {{
     assert_eq!(rt; wrong_example(&rt, rt.alloc()), None);
+}}
+
+/// The programs that are warned of: what is warned of is what they show.
+const WARNED: [&str; {len(WARNED)}] = [
+{"".join(f"    {literal(name)},{chr(10)}" for name in WARNED)}];
+
+/// Whether a program is among these.
+fn is_to_be_warned_of(file: &str) -> bool {{
+    for warned in WARNED.iter() {{
+        if *warned == file {{
+            return true;
+        }}
+    }}
+    false
+}}
+
+/// Whether a source is accepted and warned of.
+fn is_warned_of<H: Threads + Wait + Sync>(rt: &H, alloc: Global, source: &[u8]) -> bool {{
+    match serve_line(rt, alloc, "txc check a.c --warn", source, b"", false) {{
+        Some(served) => served.status == 0 && !served.err.is_empty(),
+        None => false,
+    }}
+}}
+
+/// The first program that is warned of and is not to be, or the other way round.
+fn wrong_warning<H: Threads + Wait + Sync>(rt: &H, alloc: Global) -> Option<&'static str> {{
+    for (file, source, _) in examples() {{
+        if is_warned_of(rt, alloc, source) != is_to_be_warned_of(file) {{
+            return Some(*file);
+        }}
+    }}
+    None
+}}
+
+#[test]
+fn examples_are_warned_of_where_they_show_it(rt: HostRuntime) {{
+    assert_eq!(rt; wrong_warning(&rt, rt.alloc()), None);
 }}
 
 /// The command line, the source, the schedule or the order, the report, and what a terminal shows.

@@ -1,6 +1,6 @@
 #!/usr/bin/env python3
 """Compares docs/FAULTS.md with the tests that run its examples, with the table of words and
-with what `txc explain` prints.
+with what `txc explain` prints, and the table of warnings in docs/COMMANDS.md likewise.
 
   scripts/faults.py           fails where they differ
   scripts/faults.py --write   writes crates/messages/src/explanations.rt, which is what `txc explain` prints,
@@ -9,6 +9,8 @@ with what `txc explain` prints.
 Each example of the page's first table has to stand in crates/serving_tests/src/refusals.rt, with the same number, place
 and words, in TOLD or LONG; each number of the page has the words of crates/messages/src/table.rt, and so has each variant
 of a type of faults (`#[error("..")]`) for its number; one of a type without numbers has the words of some number.
+Each warning of crates/warnings/src/warning.rt has a row in docs/COMMANDS.md, with its words in crates/messages/src/warnings.rt,
+and an example that crates/front_end_tests/src/of_warnings/rows.rt runs, with its place.
 Prints what differs, and ends in status 1 where something does.
 """
 
@@ -129,6 +131,25 @@ def said_otherwise(words):
     return wrong
 
 
+def wrong_warnings():
+    """What docs/COMMANDS.md says of warnings that the program or its tests do not."""
+    names = re.findall(rf"=> {TEXT}", read("crates/warnings/src/warning.rt"))
+    words = dict(re.findall(rf"{TEXT} => \(\s*{TEXT}", read("crates/messages/src/warnings.rt")))
+    rows = re.findall(rf"\(\s*{TEXT},\s*{TEXT},?\s*\)", read("crates/front_end_tests/src/of_warnings/rows.rt"))
+    told = {(plain(source), plain(lines).strip()) for source, lines in rows}
+    shown, wrong = [], []
+    for row in re.findall(r"^\| `([a-z-]+)` \| (.*?) \| (`.*`) \| (\d+:\d+.*) \|$", read("docs/COMMANDS.md"), re.M):
+        name, said, source, at = row
+        shown.append(name)
+        if words.get(name) != said:
+            wrong.append(f"{name}: docs/COMMANDS.md says {said!r}, the program {words.get(name)!r}")
+        if (example(source.replace("\\|", "|")), f"{name} {at}") not in told:
+            wrong.append(f"no test has the example of {name} at {at} that docs/COMMANDS.md shows")
+    if shown != names or names != list(words):
+        wrong.append(f"docs/COMMANDS.md has the warnings {shown}, the program {names} with words of {list(words)}")
+    return wrong
+
+
 def main():
     if sys.argv[1:] == ["--write"]:
         with open(os.path.join(TOP, EXPLANATIONS), "w", encoding="utf-8") as file:
@@ -148,6 +169,7 @@ def main():
         if words.get(number) != shown.get(number)
     ]
     wrong += said_otherwise(words)
+    wrong += wrong_warnings()
     underlined = re.search(rf"const UNDERLINED: .*?= \(\s*{TEXT},\s*{TEXT},\s*\);", code, re.S)
     if not underlined or f"```\n{plain(underlined[2])}```" not in page:
         wrong.append("the page does not show what the test has of a source's line and its carets")

@@ -10,7 +10,7 @@ _txc() {
                 words='check listing run replay source outcomes certify explain --help --version'
             elif [[ $word == -* ]]; then
                 case ${COMP_WORDS[1]} in
-                    check) words='--verbose --format --help' ;;
+                    check) words='--verbose --format --warn --all --help' ;;
                     listing) words='--verbose --format --help' ;;
                     run) words='--verbose --format --threads --budget --counts --help' ;;
                     replay) words='--verbose --format --threads --schedule --seed --steps --order --timeline --picture --print-schedule --help' ;;

@@ -6,6 +6,8 @@ complete -c txc -n __fish_use_subcommand -a check -d 'Says whether a program is 
 complete -c txc -n '__fish_seen_subcommand_from check' -F
 complete -c txc -n '__fish_seen_subcommand_from check' -l verbose -d 'Shows the line of a fault, and says why a file can'\''t be read'
 complete -c txc -n '__fish_seen_subcommand_from check' -l format -x -a 'short' -d 'How a fault is told, in one line: short is FILE:LINE:COL: error: WORDS [NN], for editors, json an object'
+complete -c txc -n '__fish_seen_subcommand_from check' -l warn -d 'Warns of what an accepted program hardly means, as on a terminal'
+complete -c txc -n '__fish_seen_subcommand_from check' -l all -d 'Tells up to 20 faults of names, types and transactions, as on a terminal'
 complete -c txc -n '__fish_seen_subcommand_from check' -l help -d 'Prints help'
 complete -c txc -n __fish_use_subcommand -a listing -d 'Prints the register code of a program'
 complete -c txc -n '__fish_seen_subcommand_from listing' -F

@@ -121,7 +121,8 @@ pub record AreFlagged (given : List Row) (timeline picture print_schedule : Bool
 -- what is done with a program
 
 abbrev pub IsTask : Text → List Row → Task → Type 0
-IsTask name given Check = name ≡ codes "check"
+IsTask name given (Check warns all) = (name ≡ codes "check") × (IsTrue warns ↔ IsFlagged given (codes "warn"))
+    × (IsTrue all ↔ IsFlagged given (codes "all"))
 IsTask name given Listing = name ≡ codes "listing"
 IsTask name given (Run threads budget counts) = (name ≡ codes "run") × AreThreadsGiven given threads
     × IsNumberInRange given (codes "budget") 4294967295 0 4294967295 budget

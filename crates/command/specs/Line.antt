@@ -34,7 +34,7 @@ file_app name =
     (text_rule (codes "format"))
 
 abbrev pub check_app : App
-check_app = file_app (codes "check")
+check_app = with_rule (with_rule (file_app (codes "check")) (flag_rule (codes "warn"))) (flag_rule (codes "all"))
 
 abbrev pub listing_app : App
 listing_app = file_app (codes "listing")

@@ -145,12 +145,24 @@ fn of_file<'a>(
 fn check<'a>(alloc: Global) -> Result<Command<'a>, AllocError>
     ensures { IfOk result (IsMade check_app) }
 {
-    of_file(
+    let command = of_file(
         alloc,
         "check",
         "Says whether a program is accepted",
-        "Example:\n  txc check first.c",
-    )
+        "Example:\n  txc check first.c --warn",
+    );
+    let warn = flag(
+        alloc,
+        "warn",
+        "Warns of what an accepted program hardly means, as on a terminal",
+    );
+    let command = with(command, warn);
+    let all = flag(
+        alloc,
+        "all",
+        "Tells up to 20 faults of names, types and transactions, as on a terminal",
+    );
+    with(command, all)
 }
 
 /// The command that lists the code of a program.

@@ -57,7 +57,12 @@ pub enum Format {
 #[derive(Debug, Drop)]
 pub enum Task {
     /// Says whether the program is accepted.
-    Check,
+    Check {
+        /// Whether it is told what is warned of one that is accepted.
+        warns: bool,
+        /// Whether more faults than the first are told of one that is refused.
+        all: bool,
+    },
     /// Lists the program's code.
     Listing,
     /// Runs the program: 1 to 64 threads, each with so many steps at most.

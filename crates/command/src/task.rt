@@ -204,7 +204,10 @@ pub(crate) fn task(alloc: Global, name: &str, given: &ArgMatches<'_>) -> Result<
     ensures err { IfErr result (IsOwn (AreNoTask name.now (rows_of (found_of given.now)))) }
 {
     match name {
-        "check" => Ok(Task::Check),
+        "check" => Ok(Task::Check {
+            warns: flag_given(given, "warn"),
+            all: flag_given(given, "all"),
+        }),
         "listing" => Ok(Task::Listing),
         "run" => Ok(Task::Run {
             threads: threads(alloc, given)?,

@@ -96,7 +96,7 @@ fn words() -> &'static [Row] {
         ),
         (
             "txc|check|--verbose|b.c",
-            br#"Ok(Program { file: "b.c", verbose: true, format: Plain, task: Check })"#,
+            br#"Ok(Program { file: "b.c", verbose: true, format: Plain, task: Check { warns: false, all: false } })"#,
         ),
         ("txc|explain|40", b"Ok(Explain { number: 40 })"),
     ];

@@ -25,6 +25,6 @@ pub use beside::hints;
 pub use carets::{underline, write_shown};
 pub use editors::{Fault, short_line};
 pub use explanations::explanation;
-pub use object::json_line;
+pub use object::{json_line, warning_line};
 pub use table::words;
 pub use warnings::{WarningWords, warning_words};

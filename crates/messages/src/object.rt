@@ -3,8 +3,10 @@
 use crate::beside::hints;
 use crate::editors::Fault;
 use crate::table::words;
+use crate::warnings::warning_words;
 use json::Writer;
 use lex::place;
+use lex::token::Span;
 use std::alloc::{AllocError, Allocator};
 
 /// Adds a member of an object whose value is a text.
@@ -66,6 +68,40 @@ pub fn json_line<A: Allocator + Copy>(
     let told = hints(alloc, fault.text, fault.number, fault.span)?;
     let mut object = Writer::new(Vec::new(alloc));
     put_fault(&mut object, fault, told.as_str())?;
+    let mut line = object.into_inner();
+    line.push(b'\n')?;
+    Ok(line)
+}
+
+/// Adds a warning as an object, with what may be done.
+fn put_warning<A: Allocator>(
+    to: &mut Writer<A>,
+    file: &str,
+    text: &str,
+    span: Span,
+    name: &str,
+) -> Result<(), AllocError> {
+    let words = warning_words(name);
+    to.begin_object()?;
+    put_text(to, "file", file)?;
+    put_place(to, ("line", "column"), text, span.start)?;
+    put_place(to, ("end_line", "end_column"), text, span.end)?;
+    put_text(to, "warning", name)?;
+    put_text(to, "message", words.what)?;
+    put_notes(to, words.advice)?;
+    to.end_object()
+}
+
+/// The warning of a name as an object of JSON, in one line, as a fault is.
+pub fn warning_line<A: Allocator + Copy>(
+    alloc: A,
+    file: &str,
+    text: &str,
+    span: Span,
+    name: &str,
+) -> Result<Vec<u8, A>, AllocError> {
+    let mut object = Writer::new(Vec::new(alloc));
+    put_warning(&mut object, file, text, span, name)?;
     let mut line = object.into_inner();
     line.push(b'\n')?;
     Ok(line)

@@ -47,7 +47,7 @@ refused_text : (text : List ℕ) → IsRefused text → HasNoCode text
 refused_text text is = (is.0, faulty text is.0 is.1, is.2)
 
 refused_task : (task : Task) (text : List ℕ) → IsRefused text → IsRefusedFor task text
-refused_task Check text is = is
+refused_task (Check warns all) text is = is
 refused_task Listing text is = refused_text text is
 refused_task (Run threads budget counts) text is = refused_text text is
 refused_task (Replay threads steps) text is = refused_text text is
@@ -69,7 +69,7 @@ neither status zero three (inr e) = three e
 
 -- a status that tells of nothing printed answers each task
 nothing_printed : (task : Task) (schedule : Option (List ℕ)) (text : List ℕ) (status : ℕ) (old new : Option (List ℕ)) → status ≢ 0 → status ≢ 3 → Answers task schedule text status old new
-nothing_printed Check schedule text status old new zero three = λ e. absurd (zero e)
+nothing_printed (Check warns all) schedule text status old new zero three = λ e. absurd (zero e)
 nothing_printed Listing schedule text status old new zero three = λ e. absurd (zero e)
 nothing_printed (Run threads budget counts) schedule text status old new zero three = λ e. absurd (neither status zero three e)
 nothing_printed (Replay threads steps) schedule text status old new zero three = λ e. absurd (neither status zero three e)

@@ -10,7 +10,7 @@ use Rattle.serving.specs.Refusals.{IsRefused}
 
 -- why a task with a text is refused: a limit of code is no reason for one that makes no code
 abbrev pub IsRefusedFor : Task → (text : List ℕ) → Type 0
-IsRefusedFor Check text = IsRefused text
+IsRefusedFor (Check warns all) text = IsRefused text
 IsRefusedFor Listing text = HasNoCode text
 IsRefusedFor (Run threads budget counts) text = HasNoCode text
 IsRefusedFor (Replay threads steps) text = HasNoCode text

@@ -5,16 +5,21 @@ ghost use Rattle.serving.specs.Checks.{Accepts, SaysAccepted};
 ghost use Rattle.serving.specs.Refusals.{IsRefused, IsFaultOfSource};
 ghost use Rattle.serving.specs.Written.{WritesPart};
 
+use crate::further::{tell_faults, tell_warnings};
 use crate::print::print_text;
 use crate::program::{SourceFault, read_accepted};
 use crate::tell::{Detail, refuse};
+use separation::Accepted;
 use std::alloc::Allocator;
 use std::io::Write;
 
-/// Says whether a source is accepted.
+/// Says whether a source is accepted; what is warned of one, and which faults another has besides, where that is asked
+/// for or standard error is a terminal.
 pub(crate) fn check<A: Allocator + Copy, W: Write, E: Write>(
     alloc: A,
     text: &str,
+    warns: bool,
+    all: bool,
     detail: Detail<'_>,
     out: &mut W,
     err: &mut E,
@@ -27,16 +32,27 @@ pub(crate) fn check<A: Allocator + Copy, W: Write, E: Write>(
     ensures untouched { result ≡ 1 → W.contents out.new ≡ W.contents out.old }
 {
     match check_source(alloc, text) {
-        Ok(()) => print_text(b"accepted\n", out, err),
-        Err(fault) => refuse(alloc, text, fault, detail, err),
+        Ok(accepted) => {
+            let status = print_text(b"accepted\n", out, err);
+            if warns || detail.further {
+                tell_warnings(alloc, text, &accepted, detail, err);
+            }
+            status
+        }
+        Err(fault) => {
+            let status = refuse(alloc, text, fault, detail, err);
+            if all || detail.further {
+                tell_faults(alloc, text, fault, detail, err);
+            }
+            status
+        }
     }
 }
 
-/// Says of a source's text whether its program is accepted.
-fn check_source<A: Allocator + Copy>(alloc: A, text: &str) -> Result<(), SourceFault>
+/// The program of a source's text, if it is accepted.
+fn check_source<A: Allocator + Copy>(alloc: A, text: &str) -> Result<Accepted<A>, SourceFault>
     ensures ok { OnOk result (Accepts text.now) }
     ensures err { IfErr result (λ f. IsFaultOfSource text.now f) }
 {
-    let _accepted = read_accepted(alloc, text)?;
-    Ok(())
+    read_accepted(alloc, text)
 }

@@ -6,6 +6,7 @@ mod all_outcomes;
 mod certify;
 mod check;
 mod files;
+mod further;
 mod globals;
 pub mod laws;
 mod listing;

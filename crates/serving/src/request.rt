@@ -151,7 +151,7 @@ fn work_alone<A: Allocator + Copy, S: Read + Drop, W: Write, E: Write>(
     ensures untouched { result ≡ 1 → W.contents out.new ≡ W.contents out.old }
 {
     match task {
-        Task::Check => check(alloc, text, detail, out, err),
+        Task::Check { warns, all } => check(alloc, text, *warns, *all, detail, out, err),
         Task::Listing => list(alloc, text, detail, out, err),
         Task::Run { .. } => refuse_run(RunFault::NotStarted, detail, err),
         Task::Replay { threads, steps } => replay_source(

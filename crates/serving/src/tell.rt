@@ -28,8 +28,10 @@ pub struct Detail<'a> {
     /// Whether it is said why a file cannot be read.
     reasons: bool,
     /// The file of the source.
-    file: &'a str,
-    format: Format,
+    pub(crate) file: &'a str,
+    pub(crate) format: Format,
+    /// Whether `txc check` tells more than was asked for.
+    pub(crate) further: bool,
 }
 
 impl<'a> Detail<'a> {
@@ -44,6 +46,10 @@ impl<'a> Detail<'a> {
             reasons: verbose,
             file,
             format,
+            further: match format {
+                Format::Plain => is_terminal,
+                Format::Short | Format::Json => false,
+            },
         }
     }
 }
@@ -85,15 +91,27 @@ pub(crate) fn refuse<A: Allocator + Copy, E: Write>(
     let number = fault.number();
     match fault.span() {
         Some(span) => {
-            tell_fault(alloc, text, number, span, detail, err);
-            if detail.lines {
-                show_line(alloc, text, span, err);
-                show_hints(alloc, text, number, span, err);
-                show_where_more(number, err);
-            }
+            tell_with_line(alloc, text, number, span, detail, err);
             REFUSED
         }
         None => out_of_memory(err),
+    }
+}
+
+/// Tells the fault of a number at a span of the source, and shows the line of it where that is wanted.
+pub(crate) fn tell_with_line<A: Allocator + Copy, E: Write>(
+    alloc: A,
+    text: &str,
+    number: u32,
+    span: Span,
+    detail: Detail<'_>,
+    err: &mut E,
+) {
+    tell_fault(alloc, text, number, span, detail, err);
+    if detail.lines {
+        show_line(alloc, text, span, err);
+        show_hints(alloc, text, number, span, err);
+        show_where_more(number, err);
     }
 }
 
@@ -141,7 +159,12 @@ fn line_of<A: Allocator + Copy>(
 
 /// Shows the line of a source that a span begins in, with carets under the span. Where memory is refused it shows
 /// nothing.
-fn show_line<A: Allocator + Copy, E: Write>(alloc: A, text: &str, span: Span, err: &mut E) {
+pub(crate) fn show_line<A: Allocator + Copy, E: Write>(
+    alloc: A,
+    text: &str,
+    span: Span,
+    err: &mut E,
+) {
     if let Ok(shown) = underline(alloc, text, span) {
         let _ = err.write_all(shown.as_str().as_bytes());
     }

@@ -208,6 +208,46 @@ fn examples_print_what_they_should(rt: HostRuntime) {
     assert_eq!(rt; wrong_example(&rt, rt.alloc()), None);
 }
 
+/// The programs that are warned of: what is warned of is what they show.
+const WARNED: [&str; 3] = [
+    "examples/against/nested_cancel.c",
+    "examples/seats.c",
+    "examples/seats_checked.c",
+];
+
+/// Whether a program is among these.
+fn is_to_be_warned_of(file: &str) -> bool {
+    for warned in WARNED.iter() {
+        if *warned == file {
+            return true;
+        }
+    }
+    false
+}
+
+/// Whether a source is accepted and warned of.
+fn is_warned_of<H: Threads + Wait + Sync>(rt: &H, alloc: Global, source: &[u8]) -> bool {
+    match serve_line(rt, alloc, "txc check a.c --warn", source, b"", false) {
+        Some(served) => served.status == 0 && !served.err.is_empty(),
+        None => false,
+    }
+}
+
+/// The first program that is warned of and is not to be, or the other way round.
+fn wrong_warning<H: Threads + Wait + Sync>(rt: &H, alloc: Global) -> Option<&'static str> {
+    for (file, source, _) in examples() {
+        if is_warned_of(rt, alloc, source) != is_to_be_warned_of(file) {
+            return Some(*file);
+        }
+    }
+    None
+}
+
+#[test]
+fn examples_are_warned_of_where_they_show_it(rt: HostRuntime) {
+    assert_eq!(rt; wrong_warning(&rt, rt.alloc()), None);
+}
+
 /// The command line, the source, the schedule or the order, the report, and what a terminal shows.
 type Transcript = (
     &'static str,
@@ -218,7 +258,7 @@ type Transcript = (
 );
 
 fn transcripts() -> &'static [Transcript] {
-    static ROWS: [Transcript; 51] = [
+    static ROWS: [Transcript; 54] = [
         (
             "txc certify examples/hashset.c --threads 2 --order-file examples/orders/hashset.txt --report examples/orders/hashset.out",
             b"// A set of numbers in a table of 16 places, without a lock of its own: each insertion is one step.\nint place[16], count;\n\nint insert(int key) {\n    int at = key * 7 & 15, added = 0;\n    __transaction_atomic {\n        while (place[at] != 0 && place[at] != key) at = at + 1 & 15;\n        if (place[at] == 0) {\n            place[at] = key;\n            count = count + 1;\n            added = 1;\n        }\n    }\n    return added;\n}\n\nvoid worker(int self) {\n    int i, added = 0;\n    for (i = 1; i <= 4; i++) added = added + insert(i * (self + 1));\n    printf(\"%d added\\n\", added);\n}\n",
@@ -288,6 +328,27 @@ fn transcripts() -> &'static [Transcript] {
             b"",
             b"",
             b"txc: fault 40 at 8:9: unsafe in atomic\n        printf(\"ticket %d, %d left\\n\", sold, left);\n        ^^^^^^\na print can't be undone: it stands behind the transaction, or in __transaction_relaxed\ntxc explain 40 says more\n",
+        ),
+        (
+            "txc check examples/refused/several.c",
+            b"// Four faults at once: a name that is not known, a print in an atomic transaction, and two accesses outside of transactions.\nint stock = 3, sold;\n\nvoid worker(int self) {\n    int free = stock > 0;\n    if (fre) {\n        __transaction_atomic {\n            stock = stock - 1;\n            printf(\"%d left\\n\", stock);\n        }\n        sold++;\n    }\n}\n",
+            b"",
+            b"",
+            b"txc: fault 20 at 6:9: unknown name\n    if (fre) {\n        ^^^\nthere is a name free\ntxc explain 20 says more\ntxc: fault 50 at 5:16: shared access outside a transaction\n    int free = stock > 0;\n               ^^^^^\nwrite __transaction_atomic { .. } round it, or __transaction_atomic ( .. ) round an expression\ntxc explain 50 says more\ntxc: fault 40 at 9:13: unsafe in atomic\n            printf(\"%d left\\n\", stock);\n            ^^^^^^\na print can't be undone: it stands behind the transaction, or in __transaction_relaxed\ntxc explain 40 says more\ntxc: fault 50 at 11:9: shared access outside a transaction\n        sold++;\n        ^^^^\nwrite __transaction_atomic { .. } round it, or __transaction_atomic ( .. ) round an expression\ntxc explain 50 says more\ntxc: faults: 4\n",
+        ),
+        (
+            "txc check examples/seats.c",
+            b"// One seat and two buyers. Each looks first and buys then, in two transactions: the seat can be sold twice.\nint seats = 1, sold;\n\nvoid worker(int self) {\n    int free;\n    __transaction_atomic { free = seats > 0; }\n    if (free) {\n        __transaction_atomic {\n            seats = seats - 1;\n            sold = sold + 1;\n        }\n    }\n}\n",
+            b"",
+            b"",
+            b"accepted\ntxc: warning stale-read at 6:35: another transaction writes by what is read here\n    __transaction_atomic { free = seats > 0; }\n                                  ^^^^^\nit is written at 9:13\nbetween the two another thread may change it: read it again where it is written, and try txc outcomes\n",
+        ),
+        (
+            "txc check examples/seats.c --format short --warn",
+            b"// One seat and two buyers. Each looks first and buys then, in two transactions: the seat can be sold twice.\nint seats = 1, sold;\n\nvoid worker(int self) {\n    int free;\n    __transaction_atomic { free = seats > 0; }\n    if (free) {\n        __transaction_atomic {\n            seats = seats - 1;\n            sold = sold + 1;\n        }\n    }\n}\n",
+            b"",
+            b"",
+            b"accepted\nexamples/seats.c:6:35: warning: another transaction writes by what is read here [stale-read]\n",
         ),
         (
             "txc explain 20",

@@ -10,6 +10,8 @@ mod certified;
 #[cfg(test)]
 mod fixed;
 #[cfg(test)]
+mod further;
+#[cfg(test)]
 mod hostile;
 #[cfg(test)]
 mod large;

@@ -1,0 +1,118 @@
+//! What `txc check` tells besides: what is warned of a source that is accepted, and the further faults of one that is
+//! refused.
+
+use crate::program::SourceFault;
+use crate::tell::{Detail, show_line, tell_with_line};
+use command::Format;
+use further_faults::{Fault, MOST_FAULTS, further_faults};
+use lex::place;
+use messages::{WarningWords, warning_line, warning_words, write_shown};
+use separation::Accepted;
+use std::alloc::Allocator;
+use std::io::Write;
+use warnings::{Warning, warnings};
+
+/// The most warnings that are told of a source.
+const MOST_WARNINGS: usize = 20;
+
+/// Tells what is warned of a source that is accepted. Where memory is refused it tells nothing.
+pub(crate) fn tell_warnings<A: Allocator + Copy, E: Write>(
+    alloc: A,
+    text: &str,
+    accepted: &Accepted<A>,
+    detail: Detail<'_>,
+    err: &mut E,
+) {
+    if let Ok(found) = warnings(alloc, accepted) {
+        'warnings: for (number, warning) in found.iter().enumerate() {
+            if number < MOST_WARNINGS {
+                tell_warning(alloc, text, *warning, detail, err);
+            }
+        }
+        let more = found.len().saturating_sub(MOST_WARNINGS);
+        if more > 0 {
+            let _ = writeln!(err, "txc: warnings: {MOST_WARNINGS}, and {more} more");
+        }
+    }
+}
+
+/// Tells a warning, and behind it the line that it stands in where that is wanted.
+fn tell_warning<A: Allocator + Copy, E: Write>(
+    alloc: A,
+    text: &str,
+    warning: Warning,
+    detail: Detail<'_>,
+    err: &mut E,
+) {
+    let name = warning.kind.name();
+    let words = warning_words(name);
+    let what = words.what;
+    let (line, column) = place(text, warning.span.start.min(text.len()));
+    match detail.format {
+        Format::Plain => {
+            let _ = writeln!(err, "txc: warning {name} at {line}:{column}: {what}");
+        }
+        Format::Short => {
+            let _ = write_shown(detail.file, "", err);
+            let _ = writeln!(err, ":{line}:{column}: warning: {what} [{name}]");
+        }
+        Format::Json => {
+            if let Ok(object) = warning_line(alloc, detail.file, text, warning.span, name) {
+                let _ = err.write_all(object.as_slice());
+            }
+        }
+    }
+    if detail.lines {
+        show_line(alloc, text, warning.span, err);
+        show_advice(text, warning, words, err);
+    }
+}
+
+/// Shows where the other thing stands that a warning speaks of, and what may be done.
+fn show_advice<E: Write>(text: &str, warning: Warning, words: WarningWords, err: &mut E) {
+    if let Some(other) = warning.other {
+        let besides = words.besides;
+        let (line, column) = place(text, other.start.min(text.len()));
+        let _ = writeln!(err, "{besides}{line}:{column}");
+    }
+    let advice = words.advice;
+    let _ = writeln!(err, "{advice}");
+}
+
+/// Whether a fault is the one that is told first.
+fn is_first(fault: Fault, first: SourceFault) -> bool {
+    match first.span() {
+        Some(span) => fault.number == first.number() && fault.span.start == span.start,
+        None => true,
+    }
+}
+
+/// Tells the faults of a source that can be told beside its first one, and how many there are where they are more than
+/// that. Where memory is refused it tells nothing.
+pub(crate) fn tell_faults<A: Allocator + Copy, E: Write>(
+    alloc: A,
+    text: &str,
+    first: SourceFault,
+    detail: Detail<'_>,
+    err: &mut E,
+) {
+    if let Ok(found) = further_faults(alloc, text) {
+        'faults: for fault in found.iter() {
+            if !is_first(*fault, first) {
+                tell_with_line(alloc, text, fault.number, fault.span, detail, err);
+            }
+        }
+        let count = found.len();
+        let more = if count == MOST_FAULTS {
+            ", and there may be more"
+        } else {
+            ""
+        };
+        match detail.format {
+            Format::Plain if count > 1 => {
+                let _ = writeln!(err, "txc: faults: {count}{more}");
+            }
+            Format::Plain | Format::Short | Format::Json => {}
+        }
+    }
+}
