@@ -154,6 +154,11 @@ def is_named(name, words, text):
     return bool(parts) and all(it in words or (not it.isidentifier() and it in text) for it in parts)
 
 
+def uncommented(lines):
+    """A text of these lines without their comments. Where `--` stands in a text in quotes, a letter follows it."""
+    return "\n".join(re.split(r"--(?!\w)", it)[0] for it in lines)
+
+
 def words_of(text):
     """The words of a text, each up to its first full stop: behind it stand fields."""
     return {it.split(".")[0] for it in WORD.findall(text)}
@@ -183,7 +188,7 @@ def meant(path):
 
 def led(text, keyword, here):
     """What the words of a text lead to, by the imports of its file."""
-    lines = "\n".join(it.split("--")[0] for it in text.split("\n"))
+    lines = uncommented(text.split("\n"))
     words, out = words_of(lines), set()
     for path, name, is_module in imports(here, keyword):
         if not is_module:
@@ -202,11 +207,8 @@ def led(text, keyword, here):
 def sources(crate):
     """The files of a crate's code."""
     src = f"{TOP}/crates/{crate}/src"
-    return (
-        tuple(sorted(f"crates/{crate}/src/{it}" for it in os.listdir(src) if it.endswith(".rt")))
-        if os.path.isdir(src)
-        else ()
-    )
+    found = [f"{at}/{it}" for at, _, names in os.walk(src) for it in names if it.endswith(".rt")]
+    return tuple(sorted(os.path.relpath(it, TOP) for it in found))
 
 
 def block(file, name):
@@ -291,7 +293,7 @@ def public_modules(crate):
     """The files of a crate's public functions, those too that have methods of a type that another one makes public,
     each with a test of which of its free functions are public."""
     src = f"{TOP}/crates/{crate}/src"
-    files = [it.split("/")[-1] for it in sources(crate)]
+    files = [it.split("/src/")[1] for it in sources(crate)]
     root = "main.rt" if "main.rt" in files else "lib.rt"
     top = read(f"{src}/{root}") if root in files else ""
     named = {}
@@ -330,7 +332,7 @@ def next_of(it):
     if is_rust(it):
         return frozenset(rust_led(file, at))
     lines, own = items(file)[at]
-    text = "\n".join(line.split("--")[0] for line in lines)
+    text = uncommented(lines)
     words = words_of(text)
     here = {
         (file, n)
