@@ -4,7 +4,7 @@ use Rattle.std.specs.Prelude.{◌==◌}
 use Rattle.std.specs.List.{list_any}
 use Rattle.std.proofs.lemmas.List.Concat.{flat_map-cons}
 use Rattle.std.proofs.lemmas.List.Folds.{list_any-append}
-use Rattle.picture.specs.Glyphs.{xml_escape, xml}
+use Rattle.picture.specs.Figures.{xml_escape, xml}
 
 -- nor does a byte
 of_byte : (b : ℕ) → list_any (λ c. c == 60) (xml_escape b) ≡ false

@@ -1,4 +1,4 @@
 -- what words are as XML wants them
 mod Escaped
--- titles of glyphs
-mod Titles
+-- the loops that draw
+mod Drawn

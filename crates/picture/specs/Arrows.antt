@@ -1,46 +1,76 @@
--- The arrows of a picture: which drops have one, and from which store it comes.
-use Rattle.std.specs.Prelude.{ℕ, ◌==◌, List, [], ◌∷◌, ◌++◌, Bool, false, nat_le, codes, decimal, Option, Some, None}
-use Rattle.std.specs.Prelude.{if◌then◌else◌}
-use Rattle.std.specs.List.{fold}
+-- The arrows of a picture: which drops have one, from which glyph to which it leads, and how it is drawn.
+use Rattle.std.specs.Prelude.{ℕ, ◌+◌, ◌*◌, ◌==◌, List, [], ◌∷◌, ◌++◌, Bool, false, nat_lt, codes, decimal, Option}
+use Rattle.std.specs.Prelude.{Some, None, fold, if◌then◌else◌, option_map, option_and_then, option_to_list}
 use Rattle.norec_core.specs.declared.step.Access.{Access}
 use Rattle.norec_core.specs.declared.step.Access.TheVariants.{LoadWord, StoreWord}
 use Rattle.machine.specs.declared.event.Event.{Event}
 use Rattle.machine.specs.declared.event.Event.TheVariants.{Abort}
+use Rattle.picture.specs.declared.arrow.Arrow.{Arrow}
+use Rattle.picture.specs.declared.arrow.ArrowEnd.{ArrowEnd}
+use Rattle.picture.specs.Figures.{line_text, measure}
+use Rattle.picture.specs.Glyphs.{Glyph, group_text, height_of}
 
--- a step, as far as arrows go: how many accesses all threads had made with it, its access, and what happened in it
-abbrev pub ArrowStep : Type 0
-ArrowStep = ℕ × Access × Event
+-- where an arrow ends that leads from a glyph or to it: by which access, at which thread and how high
+abbrev pub end_at : Glyph → ArrowEnd
+end_at g = record { access = g.step.accesses; thread = g.step.thread; height = height_of g.figures }
 
 abbrev pub is_store_to : ℕ → Access → Bool
 is_store_to cell (StoreWord to word) = to == cell
 is_store_to cell _ = false
 
--- the last store to a cell among steps: how many accesses had been made with it
-abbrev pub last_store : ℕ → List ArrowStep → Option ℕ
-last_store cell moments = fold (λ found m. if is_store_to cell m.1 then Some m.0 else found) None moments
+-- the last store to a cell among glyphs
+abbrev pub last_store : ℕ → List Glyph → Option ArrowEnd
+last_store cell glyphs =
+    fold (λ found g. if is_store_to cell g.step.access then Some (end_at g) else found) None glyphs
 
 -- the cell for whose word an attempt is dropped in a step
 abbrev pub dropped_for : Access → Event → Option ℕ
 dropped_for (LoadWord cell) Abort = Some cell
 dropped_for _ _ = None
 
--- an arrow's title, if it comes from somewhere
-abbrev pub arrow_words : Option ℕ → ℕ → List (List ℕ)
-arrow_words None to = []
-arrow_words (Some from) to = (codes "access " ++ decimal from ++ codes ", then access " ++ decimal to) ∷ []
+-- the arrow to a glyph behind others, if it has one: where its step drops an attempt for a word that was stored, from the
+-- last such store
+abbrev pub arrow_to : List Glyph → Glyph → Option (ArrowEnd × ArrowEnd)
+arrow_to before g = option_map (λ store. (store, end_at g))
+    (option_and_then (λ cell. last_store cell before) (dropped_for g.step.access g.step.happening))
 
-abbrev pub arrow_to : Option ℕ → List ArrowStep → ℕ → List (List ℕ)
-arrow_to None before to = []
-arrow_to (Some cell) before to = arrow_words (last_store cell before) to
-
--- the title of a step's arrow behind other steps: it has one where an attempt is dropped, up to the 400th access
-abbrev pub arrow_title : List ArrowStep → ArrowStep → List (List ℕ)
-arrow_title before m = arrow_to (if nat_le m.0 400 then dropped_for m.1 m.2 else None) before m.0
-
--- the titles of the arrows of steps behind others, in their order
-abbrev pub arrows_behind : List ArrowStep → List ArrowStep → List (List ℕ)
+-- the arrows to glyphs behind others, in their order
+abbrev pub arrows_behind : List Glyph → List Glyph → List (ArrowEnd × ArrowEnd)
 arrows_behind before [] = []
-arrows_behind before (m ∷ ms) = arrow_title before m ++ arrows_behind (before ++ m ∷ []) ms
+arrows_behind before (g ∷ gs) = option_to_list (arrow_to before g) ++ arrows_behind (before ++ g ∷ []) gs
 
-abbrev pub arrow_titles : List ArrowStep → List (List ℕ)
-arrow_titles moments = arrows_behind [] moments
+abbrev pub arrows_among : List Glyph → List (ArrowEnd × ArrowEnd)
+arrows_among glyphs = arrows_behind [] glyphs
+
+-- the sides of a thread's lane
+abbrev pub left_of : ℕ → ℕ
+left_of thread = 198 * thread + 112
+
+abbrev pub right_of : ℕ → ℕ
+right_of thread = left_of thread + 170
+
+-- the sides at which an arrow begins and ends: those that face each other
+abbrev pub start_of : Arrow → ℕ
+start_of a = if nat_lt a.store.thread a.load.thread then right_of a.store.thread else left_of a.store.thread
+
+abbrev pub tip_of : Arrow → ℕ
+tip_of a = if nat_lt a.store.thread a.load.thread then left_of a.load.thread else right_of a.load.thread
+
+-- across at the store, up or down, and across at the load
+abbrev pub corners : Arrow → List (ℕ × ℕ)
+corners a = (start_of a, a.store.height) ∷ (a.gutter, a.store.height) ∷ (a.gutter, a.load.height)
+    ∷ (tip_of a, a.load.height) ∷ []
+
+abbrev pub dot_text : (x y : ℕ) → List ℕ
+dot_text x y =
+    codes "<circle" ++ measure (codes "cx") x ++ measure (codes "cy") y ++ codes " r=\"2.5\" class=\"dot\"/>\n"
+
+abbrev pub arrow_title : Arrow → List ℕ
+arrow_title a = codes "access " ++ decimal a.store.access ++ codes ", then access " ++ decimal a.load.access
+
+-- an arrow as it is drawn, with a dot at its beginning
+abbrev pub arrow_way : Arrow → List ℕ
+arrow_way a = line_text (corners a) (codes "why") ++ dot_text (start_of a) a.store.height
+
+abbrev pub arrow_text : Arrow → List ℕ
+arrow_text a = group_text (arrow_title a) (arrow_way a)

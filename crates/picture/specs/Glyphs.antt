@@ -1,23 +1,12 @@
--- The glyphs of a picture: which steps have one, and what they are titled by.
-use Rattle.std.specs.Prelude.{ℕ, ◌≡◌, ◌==◌, List, [], ◌∷◌, ◌++◌, Bool, true, false, ◌||◌, ◌&&◌, nat_le, codes, flat_map}
-use Rattle.std.specs.Prelude.{map, if◌then◌else◌}
+-- The glyphs of a picture: which steps have one, and how it is spelled.
+use Rattle.std.specs.Prelude.{ℕ, List, ◌∷◌, ◌++◌, Bool, true, false, ◌||◌, ◌&&◌, nat_le, codes}
 use Rattle.norec_core.specs.declared.step.Access.{Access}
 use Rattle.norec_core.specs.declared.step.Access.TheVariants.{Local, LoadLock, LoadWord, Swap, StoreWord, StoreLock}
 use Rattle.picture.specs.declared.step.LocalAction.{LocalAction}
 use Rattle.picture.specs.declared.step.LocalAction.TheVariants.{Begin, Commit, Print, Other}
 use Rattle.machine.specs.declared.event.Event.{Event}
 use Rattle.machine.specs.declared.event.Event.TheVariants.{Quiet, Commit as Committed, Abort, Cancel, Trap}
-
--- a byte of words for people, as XML wants it; what is not printable ASCII is shown as `?`
-abbrev pub xml_escape : ℕ → List ℕ
-xml_escape b =
-    if b == 38 then codes "&amp;" else
-    if b == 60 then codes "&lt;" else
-    if b == 62 then codes "&gt;" else
-    if nat_le 32 b && nat_le b 126 then b ∷ [] else 63 ∷ []
-
-abbrev pub xml : List ℕ → List ℕ
-xml words = flat_map xml_escape words
+use Rattle.picture.specs.Figures.{Figure, Symbol, figures_text}
 
 abbrev pub is_access : Access → Bool
 is_access Local = false
@@ -48,28 +37,28 @@ is_noted access happening action = is_access access || is_eventful happening || 
 abbrev pub is_drawn : ℕ → Access → Event → LocalAction → Bool
 is_drawn accesses access happening action = nat_le accesses 400 && is_noted access happening action
 
--- the title of a step's glyph, if it is drawn: its line
-abbrev pub title_of : Bool → List ℕ → List (List ℕ)
-title_of drawn line = if drawn then xml line ∷ [] else []
+-- a step that is drawn: how many accesses all threads had made with it, its thread, its access, what happened in it, and
+-- the title of its glyph
+pub record DrawnStep : Type 0 where
+  pub accesses : ℕ
+  pub thread : ℕ
+  pub access : Access
+  pub happening : Event
+  pub title : List ℕ
 
--- the text of a glyph or an arrow: its title, and what is drawn
-abbrev pub glyph_text : List ℕ → List ℕ → List ℕ
-glyph_text title drawn = codes "<g><title>" ++ title ++ codes "</title>" ++ drawn ++ codes "</g>\n"
+-- a step's glyph: what is drawn of the step
+pub record Glyph : Type 0 where
+  pub step : DrawnStep
+  pub figures : List Figure
 
--- texts of glyphs or arrows with these titles, one for each and in their order
-pub record AreTitled (titles : List (List ℕ)) (text : List ℕ) : Type 0 where
-  pub glyphs : List (List ℕ × List ℕ)
-  pub titled : map (λ m. m.0) glyphs ≡ titles
-  pub spelled : text ≡ flat_map (λ m. glyph_text m.0 m.1) glyphs
+-- the height at which a glyph stands: that of its symbol, which is drawn first
+abbrev pub height_of : List Figure → ℕ
+height_of (Symbol name x y ∷ figures) = y
+height_of _ = 0
 
--- a picture's text: arrows with these titles and then glyphs with these, with something in front of them, between and
--- behind
-pub record IsPicture (arrows titles : List (List ℕ)) (svg : List ℕ) : Type 0 where
-  pub front : List ℕ
-  pub drawn_arrows : List ℕ
-  pub between : List ℕ
-  pub drawn_glyphs : List ℕ
-  pub back : List ℕ
-  pub arrows_titled : AreTitled arrows drawn_arrows
-  pub glyphs_titled : AreTitled titles drawn_glyphs
-  pub text : svg ≡ front ++ drawn_arrows ++ between ++ drawn_glyphs ++ back
+-- a group of a picture, with its title
+abbrev pub group_text : List ℕ → List ℕ → List ℕ
+group_text title drawn = codes "<g><title>" ++ title ++ codes "</title>\n" ++ drawn ++ codes "</g>\n"
+
+abbrev pub glyph_text : Glyph → List ℕ
+glyph_text g = group_text g.step.title (figures_text g.figures)

@@ -1,6 +1,12 @@
--- the arrows of a picture
-pub mod Arrows
--- What a picture promises of its glyphs.
+-- the figures of a picture
+pub mod Figures
+-- its glyphs
 pub mod Glyphs
--- the glyphs of a replay
+-- its arrows
+pub mod Arrows
+-- all that stands in it
+pub mod Pictures
+-- the picture of a replay
 pub mod Replayed
+-- what only private functions speak of
+pub mod inner

@@ -1,24 +1,35 @@
 //! Glyphs: what is drawn of one step, in a row of its own or behind others.
 
-use crate::layout::{BOX, baseline, inset, lane, middle};
-use crate::pieces::{Piece, push_pieces, put_text};
+use crate::figure::Figure;
+use crate::layout::{BOX, baseline, inset, left_of, middle};
+use crate::pieces::Piece;
 use crate::sheet::{Fold, Sheet};
+use crate::words::words;
+use machine::Event;
+use norec_core::Access;
 use std::alloc::{AllocError, Allocator, Global};
 
-/// The glyph of a step: its line of the timeline, as XML wants it, and what is drawn.
+/// The glyph of a step.
 #[derive(Drop)]
 pub(crate) struct Glyph<A: Allocator = Global> {
+    /// How many accesses all threads had made with the step.
+    pub accesses: u64,
+    pub thread: u32,
+    pub access: Access,
+    pub event: Event,
+    /// The step's line of the timeline, as XML wants it.
     pub title: Vec<u8, A>,
-    pub drawn: Vec<u8, A>,
+    /// What is drawn of the step, the symbol first.
+    pub figures: Vec<Figure<A>, A>,
 }
 
 /// How a glyph looks.
 #[derive(Clone, Copy)]
 pub(crate) struct Look<'a> {
-    pub symbol: &'a [u8],
+    pub symbol: &'static [u8],
     pub words: &'a [u8],
     /// The class of the glyph's words, or an empty one.
-    pub class: &'a [u8],
+    pub class: &'static [u8],
     /// How many accesses all threads have made, where the step is one.
     pub number: Option<u64>,
     pub fold: Fold,
@@ -27,9 +38,9 @@ pub(crate) struct Look<'a> {
 impl<'a> Look<'a> {
     /// A glyph in a row of its own.
     pub(crate) fn new(
-        symbol: &'a [u8],
+        symbol: &'static [u8],
         words: &'a [u8],
-        class: &'a [u8],
+        class: &'static [u8],
         number: Option<u64>,
     ) -> Look<'a> {
         Look {
@@ -58,23 +69,13 @@ fn behind(fold: Fold, standing: usize) -> u64 {
 
 /// Draws a symbol.
 fn put_symbol<A: Allocator>(
-    to: &mut Vec<u8, A>,
-    symbol: &[u8],
+    to: &mut Vec<Figure<A>, A>,
+    name: &'static [u8],
     x: u64,
     y: u64,
 ) -> Result<(), AllocError> {
-    push_pieces(
-        to,
-        &[
-            Piece::Plain(b"<use href=\"#"),
-            Piece::Plain(symbol),
-            Piece::Plain(b"\" x=\""),
-            Piece::Number(x),
-            Piece::Plain(b"\" y=\""),
-            Piece::Number(y),
-            Piece::Plain(b"\"/>"),
-        ],
-    )
+    to.push(Figure::Symbol { name, x, y })?;
+    Ok(())
 }
 
 impl<'p, A: Allocator + Copy> Sheet<'p, A> {
@@ -87,7 +88,10 @@ impl<'p, A: Allocator + Copy> Sheet<'p, A> {
             lane.standing = None;
         }
         if let Some(number) = look.number {
-            put_text_of_number(&mut self.lines, row, number)?;
+            let said = words(self.alloc, &[Piece::Number(number)])?;
+            let at = (34, baseline(row));
+            self.lines
+                .push(Figure::words(self.alloc, at, b"n", said.as_slice())?)?;
         }
         Ok(())
     }
@@ -106,10 +110,21 @@ impl<'p, A: Allocator + Copy> Sheet<'p, A> {
         before
     }
 
+    /// Draws the words of a glyph.
+    fn put_look(
+        &mut self,
+        to: &mut Vec<Figure<A>, A>,
+        at: (u64, u64),
+        look: &Look<'_>,
+    ) -> Result<(), AllocError> {
+        to.push(Figure::words(self.alloc, at, look.class, look.words)?)?;
+        Ok(())
+    }
+
     /// Draws a glyph of a thread: in a new row, or behind what stands in the last row, where that may go on so.
     pub(crate) fn draw_glyph(
         &mut self,
-        to: &mut Vec<u8, A>,
+        to: &mut Vec<Figure<A>, A>,
         thread: u32,
         look: Look<'_>,
     ) -> Result<(), AllocError> {
@@ -119,17 +134,12 @@ impl<'p, A: Allocator + Copy> Sheet<'p, A> {
         }
         let row = self.last();
         let moved = inset(self.depth(thread));
-        let x = lane(thread).wrapping_add(10).wrapping_add(moved);
+        let x = left_of(thread).wrapping_add(10).wrapping_add(moved);
+        let y = middle(row);
         match self.stand(thread, &look) {
             None => {
-                put_symbol(to, look.symbol, x, middle(row))?;
-                put_text(
-                    to,
-                    x.wrapping_add(11),
-                    baseline(row),
-                    look.class,
-                    look.words,
-                )
+                put_symbol(to, look.symbol, x, y)?;
+                self.put_look(to, (x.wrapping_add(11), baseline(row)), &look)
             }
             Some(standing) => match look.fold {
                 Fold::Print(_) if look.words.is_empty() => Ok(()),
@@ -137,40 +147,22 @@ impl<'p, A: Allocator + Copy> Sheet<'p, A> {
                     let at = x
                         .wrapping_add(11)
                         .wrapping_add((standing as u64).wrapping_mul(7));
-                    put_text(to, at, baseline(row), look.class, look.words)
+                    self.put_look(to, (at, baseline(row)), &look)
                 }
                 Fold::Read(_) => {
-                    let at = lane(thread)
+                    let x = left_of(thread)
                         .wrapping_add(BOX)
                         .wrapping_sub(14)
                         .wrapping_sub(moved);
-                    put_symbol(to, look.symbol, at, middle(row))
+                    put_symbol(to, look.symbol, x, y)
                 }
                 _ => put_symbol(
                     to,
                     look.symbol,
                     x.wrapping_add(behind(look.fold, standing)),
-                    middle(row),
+                    y,
                 ),
             },
         }
     }
-}
-
-/// Adds the number of a row's first access.
-fn put_text_of_number<A: Allocator>(
-    to: &mut Vec<u8, A>,
-    row: u64,
-    number: u64,
-) -> Result<(), AllocError> {
-    push_pieces(
-        to,
-        &[
-            Piece::Plain(b"<text x=\"34\" y=\""),
-            Piece::Number(baseline(row)),
-            Piece::Plain(b"\" class=\"n\">"),
-            Piece::Number(number),
-            Piece::Plain(b"</text>\n"),
-        ],
-    )
 }

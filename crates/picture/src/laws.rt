@@ -2,7 +2,7 @@
 
 ghost use Rattle.std.specs.Prelude.{◌≡◌, ◌==◌, ℕ, List, false};
 ghost use Rattle.std.specs.List.{list_any};
-ghost use Rattle.picture.specs.Glyphs.{xml};
+ghost use Rattle.picture.specs.Figures.{xml};
 
 /// No title holds a `<`: no line of a timeline can end its title, or begin another glyph.
 pub fn no_title_holds_a_bracket()

@@ -1,5 +1,8 @@
 //! Where things stand, in whole pixels. Rows are counted from 0; a row of heads stands before every 40 of them.
 
+ghost use Rattle.std.specs.Prelude.{◌≡◌};
+ghost use Rattle.picture.specs.Arrows.{left_of, right_of};
+
 /// The height of a row.
 pub(crate) const ROW: u64 = 16;
 /// The width of an outermost transaction's box.
@@ -16,8 +19,17 @@ pub(crate) const HEADED: u64 = 40;
 pub(crate) const CHARACTERS: usize = 19;
 
 /// The left side of a thread's lane.
-pub(crate) fn lane(thread: u32) -> u64 {
-    PITCH.wrapping_mul(u64::from(thread)).wrapping_add(FIRST)
+pub(crate) fn left_of(thread: u32) -> u64
+    ensures { result ≡ left_of thread }
+{
+    PITCH * u64::from(thread) + FIRST
+}
+
+/// The right side of a thread's lane.
+pub(crate) fn right_of(thread: u32) -> u64
+    ensures { result ≡ right_of thread }
+{
+    left_of(thread) + BOX
 }
 
 /// The upper side of a row.

@@ -8,6 +8,7 @@ mod arrow;
 mod attempt;
 mod boxes;
 mod cells;
+mod figure;
 mod glyph;
 pub mod laws;
 mod layout;

@@ -1,41 +1,27 @@
 //! The column of the lock.
 
+use crate::figure::Figure;
 use crate::layout::{ROW, baseline, top};
-use crate::pieces::{Piece, push_pieces, put_rectangle};
+use crate::pieces::Piece;
 use crate::sheet::{Holding, Sheet};
+use crate::words::words;
 use std::alloc::{AllocError, Allocator};
 
-/// Adds a text of the column.
-fn put_at<A: Allocator>(
-    to: &mut Vec<u8, A>,
-    row: u64,
-    class: &[u8],
-    words: &[Piece<'_>],
-) -> Result<(), AllocError> {
-    push_pieces(
-        to,
-        &[
-            Piece::Plain(b"<text x=\"46\" y=\""),
-            Piece::Number(baseline(row)),
-            Piece::Plain(b"\""),
-        ],
-    )?;
-    if !class.is_empty() {
-        push_pieces(
-            to,
-            &[
-                Piece::Plain(b" class=\""),
-                Piece::Plain(class),
-                Piece::Plain(b"\""),
-            ],
-        )?;
-    }
-    push_pieces(to, &[Piece::Plain(b">")])?;
-    push_pieces(to, words)?;
-    push_pieces(to, &[Piece::Plain(b"</text>\n")])
-}
-
 impl<'p, A: Allocator + Copy> Sheet<'p, A> {
+    /// Adds words of the column.
+    fn put_at(
+        &mut self,
+        row: u64,
+        class: &'static [u8],
+        what: &[Piece<'_>],
+    ) -> Result<(), AllocError> {
+        let said = words(self.alloc, what)?;
+        let at = (46, baseline(row));
+        self.lock
+            .push(Figure::words(self.alloc, at, class, said.as_slice())?)?;
+        Ok(())
+    }
+
     /// Draws the lock while it was free, up to a row, which is not of it.
     pub(crate) fn draw_free(&mut self, end: u64) -> Result<(), AllocError> {
         let (row, value) = self.free;
@@ -44,27 +30,28 @@ impl<'p, A: Allocator + Copy> Sheet<'p, A> {
         }
         let lower = top(end.saturating_sub(1)).wrapping_add(ROW);
         let size = (50, lower.wrapping_sub(top(row)));
-        put_rectangle(&mut self.lock, (42, top(row)), size, b"free")?;
-        put_at(&mut self.lock, row, b"", &[Piece::Number(value)])
+        self.lock
+            .push(Figure::rectangle((42, top(row)), size, b"free"))?;
+        self.put_at(row, b"", &[Piece::Number(value)])
     }
 
     /// Draws the lock while a thread had it, down to a row.
     pub(crate) fn draw_held(&mut self, held: Holding, end: u64) -> Result<(), AllocError> {
         let lower = top(end).wrapping_add(ROW);
         let size = (50, lower.wrapping_sub(top(held.row)));
-        put_rectangle(&mut self.lock, (42, top(held.row)), size, b"held")?;
-        let words = [
+        self.lock
+            .push(Figure::rectangle((42, top(held.row)), size, b"held"))?;
+        let what = [
             Piece::Number(held.value),
             Piece::Plain(b" T"),
             Piece::Number(u64::from(held.thread)),
         ];
-        put_at(&mut self.lock, held.row, b"w", &words)?;
+        self.put_at(held.row, b"w", &what)?;
         if end <= held.row {
             return Ok(());
         }
         let number = held.value.saturating_add(1) / 2;
-        put_at(
-            &mut self.lock,
+        self.put_at(
             held.row.saturating_add(1),
             b"w",
             &[Piece::Plain(b"#"), Piece::Number(number)],

@@ -1,9 +1,10 @@
 //! What is drawn of an access to the lock or to a word.
 
 use crate::attempt::{KnownAttempt, Load, NextLoad};
+use crate::figure::Figure;
 use crate::glyph::Look;
-use crate::layout::{BOX, lane, middle};
-use crate::pieces::{Piece, push_pieces, put_line};
+use crate::layout::{BOX, left_of, middle};
+use crate::pieces::{Piece, push_pieces};
 use crate::sheet::{Effect, Fold, Sheet, Store};
 use crate::step::Step;
 use crate::words::{put_name, put_value, words, words_of};
@@ -52,8 +53,7 @@ impl<'p, A: Allocator + Copy> Sheet<'p, A> {
     /// A thread begins an attempt at an even lock.
     fn begin(
         &mut self,
-        alloc: A,
-        to: &mut Vec<u8, A>,
+        to: &mut Vec<Figure<A>, A>,
         step: &Step<A>,
         value: u64,
     ) -> Result<(), AllocError> {
@@ -64,7 +64,10 @@ impl<'p, A: Allocator + Copy> Sheet<'p, A> {
             }
             None => 1,
         };
-        let mut said = words(alloc, &[Piece::Plain(b"begin at "), Piece::Number(value)])?;
+        let mut said = words(
+            self.alloc,
+            &[Piece::Plain(b"begin at "), Piece::Number(value)],
+        )?;
         if tries > 1 {
             push_pieces(&mut said, &[Piece::Plain(b", try "), Piece::Number(tries)])?;
         }
@@ -73,22 +76,22 @@ impl<'p, A: Allocator + Copy> Sheet<'p, A> {
             step.thread,
             Look::new(b"lock", said.as_slice(), b"b", Some(step.accesses)),
         )?;
-        let row = self.last();
+        let attempt = KnownAttempt {
+            row: self.last(),
+            snapshot: value,
+            reads: Vec::new(self.alloc),
+            phase: NextLoad::Open,
+            inner: Vec::new(self.alloc),
+            is_kept: false,
+        };
         if let Some(lane) = self.lane(step.thread) {
-            lane.open = Some(KnownAttempt {
-                row,
-                snapshot: value,
-                reads: Vec::new(alloc),
-                phase: NextLoad::Open,
-                inner: Vec::new(alloc),
-                is_kept: false,
-            });
+            lane.open = Some(attempt);
         }
         Ok(())
     }
 
     /// A thread waits.
-    fn wait(&mut self, to: &mut Vec<u8, A>, step: &Step<A>) -> Result<(), AllocError> {
+    fn wait(&mut self, to: &mut Vec<Figure<A>, A>, step: &Step<A>) -> Result<(), AllocError> {
         let look = Look::new(b"wait", b"waits", b"g", Some(step.accesses));
         self.draw_glyph(to, step.thread, look.fold(Fold::Waits))
     }
@@ -96,14 +99,13 @@ impl<'p, A: Allocator + Copy> Sheet<'p, A> {
     /// A load of the lock that is told by these words.
     fn see_lock(
         &mut self,
-        alloc: A,
-        to: &mut Vec<u8, A>,
+        to: &mut Vec<Figure<A>, A>,
         step: &Step<A>,
         what: &[Piece<'_>],
         phase: NextLoad,
     ) -> Result<(), AllocError> {
         self.set_phase(step.thread, phase);
-        let said = words(alloc, what)?;
+        let said = words(self.alloc, what)?;
         self.draw_glyph(
             to,
             step.thread,
@@ -114,8 +116,7 @@ impl<'p, A: Allocator + Copy> Sheet<'p, A> {
     /// A read is done.
     fn end_read(
         &mut self,
-        alloc: A,
-        to: &mut Vec<u8, A>,
+        to: &mut Vec<Figure<A>, A>,
         step: &Step<A>,
         load: Load,
     ) -> Result<(), AllocError> {
@@ -128,7 +129,10 @@ impl<'p, A: Allocator + Copy> Sheet<'p, A> {
         }
         self.set_phase(step.thread, NextLoad::Open);
         let value = self.snapshot(step.thread);
-        let said = words(alloc, &[Piece::Plain(b"lock = "), Piece::Number(value)])?;
+        let said = words(
+            self.alloc,
+            &[Piece::Plain(b"lock = "), Piece::Number(value)],
+        )?;
         let look = Look::new(b"lock", said.as_slice(), b"g", Some(step.accesses));
         self.draw_glyph(to, step.thread, look.fold(Fold::Read(step.thread)))
     }
@@ -136,8 +140,7 @@ impl<'p, A: Allocator + Copy> Sheet<'p, A> {
     /// The words that were read are of the moment of another lock.
     fn end_validation(
         &mut self,
-        alloc: A,
-        to: &mut Vec<u8, A>,
+        to: &mut Vec<Figure<A>, A>,
         step: &Step<A>,
         value: u64,
     ) -> Result<(), AllocError> {
@@ -151,14 +154,13 @@ impl<'p, A: Allocator + Copy> Sheet<'p, A> {
             Piece::Number(value),
             Piece::Plain(b", goes on"),
         ];
-        self.see_lock(alloc, to, step, &what, NextLoad::Open)
+        self.see_lock(to, step, &what, NextLoad::Open)
     }
 
     /// A load of the lock.
     fn load_lock(
         &mut self,
-        alloc: A,
-        to: &mut Vec<u8, A>,
+        to: &mut Vec<Figure<A>, A>,
         step: &Step<A>,
         value: u64,
     ) -> Result<(), AllocError> {
@@ -166,12 +168,12 @@ impl<'p, A: Allocator + Copy> Sheet<'p, A> {
         let lock = Piece::Plain(b"lock = ");
         match self.phase(step.thread) {
             None if is_odd => self.wait(to, step),
-            None => self.begin(alloc, to, step, value),
+            None => self.begin(to, step, value),
             Some((NextLoad::Check(load), moment)) if value == moment => self.end_read(
-                alloc, to, step, load,
+                to, step, load,
             ),
             Some((NextLoad::Compare(time), _)) if value == time => self.end_validation(
-                alloc, to, step, value,
+                to, step, value,
             ),
             Some((NextLoad::Check(_), seen)) | Some((NextLoad::Compare(seen), _)) => {
                 let what = [
@@ -180,12 +182,12 @@ impl<'p, A: Allocator + Copy> Sheet<'p, A> {
                     Piece::Plain(b", not "),
                     Piece::Number(seen),
                 ];
-                self.see_lock(alloc, to, step, &what, NextLoad::Wait)
+                self.see_lock(to, step, &what, NextLoad::Wait)
             }
             Some(_) if is_odd => self.wait(to, step),
             Some(_) => {
                 let what = [lock, Piece::Number(value), Piece::Plain(b", compares")];
-                self.see_lock(alloc, to, step, &what, NextLoad::Compare(value))
+                self.see_lock(to, step, &what, NextLoad::Compare(value))
             }
         }
     }
@@ -193,27 +195,26 @@ impl<'p, A: Allocator + Copy> Sheet<'p, A> {
     /// A load of a word.
     fn load_word(
         &mut self,
-        alloc: A,
-        to: &mut Vec<u8, A>,
+        to: &mut Vec<Figure<A>, A>,
         step: &Step<A>,
         cell: u32,
         word: u64,
     ) -> Result<(), AllocError> {
         let (thread, depth) = (step.thread, self.depth(step.thread));
         if step.event == Event::Abort {
-            let said = words_of(alloc, self.cells, b"again", cell, word, depth)?;
+            let said = words_of(self.alloc, self.cells, b"again", cell, word, depth)?;
             self.draw_glyph(
                 to,
                 thread,
                 Look::new(b"load", said.as_slice(), b"b", Some(step.accesses)),
             )?;
-            return self.drop_attempt(alloc, to, step, cell, word);
+            return self.drop_attempt(to, step, cell, word);
         }
         if let Some((NextLoad::Compare(_), _)) = self.phase(thread) {
             let look = Look::new(b"load", b"same", b"g", Some(step.accesses));
             return self.draw_glyph(to, thread, look.fold(Fold::Same(thread)));
         }
-        let said = words_of(alloc, self.cells, b"load", cell, word, depth)?;
+        let said = words_of(self.alloc, self.cells, b"load", cell, word, depth)?;
         let look = Look::new(b"load", said.as_slice(), b"", Some(step.accesses));
         self.fold = Fold::Never;
         self.draw_glyph(to, thread, look.fold(Fold::Read(thread)))?;
@@ -232,15 +233,13 @@ impl<'p, A: Allocator + Copy> Sheet<'p, A> {
     /// The bracket of a drop, from the read to the load that differs, in the last row.
     fn draw_bracket(&mut self, thread: u32, read: Load) -> Result<(), AllocError> {
         let (inner, outer) = (
-            lane(thread).wrapping_add(BOX - 9),
-            lane(thread).wrapping_add(BOX - 4),
+            left_of(thread).wrapping_add(BOX - 9),
+            left_of(thread).wrapping_add(BOX - 4),
         );
         let (from, to) = (middle(read.row), middle(self.last()));
-        put_line(
-            &mut self.lines,
-            &[(inner, from), (outer, from), (outer, to), (inner, to)],
-            b"was",
-        )
+        let points = [(inner, from), (outer, from), (outer, to), (inner, to)];
+        self.lines.push(Figure::line(self.alloc, &points, b"was")?)?;
+        Ok(())
     }
 
     /// Tells of a drop in a sentence.
@@ -288,15 +287,13 @@ impl<'p, A: Allocator + Copy> Sheet<'p, A> {
     /// An attempt is dropped, since a word that it has read has changed.
     fn drop_attempt(
         &mut self,
-        alloc: A,
-        to: &mut Vec<u8, A>,
+        to: &mut Vec<Figure<A>, A>,
         step: &Step<A>,
         cell: u32,
         word: u64,
     ) -> Result<(), AllocError> {
         self.dropped = self.dropped.saturating_add(1);
-        self.dropped_in = self.last();
-        let mut said = words(alloc, &[Piece::Plain(b"dropped")])?;
+        let mut said = words(self.alloc, &[Piece::Plain(b"dropped")])?;
         if let Some(read) = self.read_of(step.thread, cell) {
             said.extend_from_slice(b": was ")?;
             put_value(&mut said, self.cells, cell, read.word)?;
@@ -305,21 +302,13 @@ impl<'p, A: Allocator + Copy> Sheet<'p, A> {
                 self.tell_drop(step, cell, word, read, store)?;
             }
         }
-        self.leave(
-            alloc,
-            to,
-            step.thread,
-            b"dropped",
-            b"cross",
-            said.as_slice(),
-        )
+        self.leave(to, step.thread, b"dropped", b"cross", said.as_slice())
     }
 
     /// A swap of the lock.
     fn swap(
         &mut self,
-        alloc: A,
-        to: &mut Vec<u8, A>,
+        to: &mut Vec<Figure<A>, A>,
         step: &Step<A>,
         from: u64,
     ) -> Result<(), AllocError> {
@@ -327,7 +316,7 @@ impl<'p, A: Allocator + Copy> Sheet<'p, A> {
         if let Answer::Lost(value) = step.answer {
             self.set_phase(step.thread, NextLoad::Wait);
             let said = words(
-                alloc,
+                self.alloc,
                 &[
                     swap,
                     Piece::Number(from),
@@ -341,7 +330,10 @@ impl<'p, A: Allocator + Copy> Sheet<'p, A> {
                 Look::new(b"miss", said.as_slice(), b"", Some(step.accesses)),
             );
         }
-        let said = words(alloc, &[swap, Piece::Number(from), Piece::Plain(b": won")])?;
+        let said = words(
+            self.alloc,
+            &[swap, Piece::Number(from), Piece::Plain(b": won")],
+        )?;
         self.draw_glyph(
             to,
             step.thread,
@@ -358,14 +350,13 @@ impl<'p, A: Allocator + Copy> Sheet<'p, A> {
     /// A store of a word.
     fn store_word(
         &mut self,
-        alloc: A,
-        to: &mut Vec<u8, A>,
+        to: &mut Vec<Figure<A>, A>,
         step: &Step<A>,
         cell: u32,
         word: u64,
     ) -> Result<(), AllocError> {
         let said = words_of(
-            alloc,
+            self.alloc,
             self.cells,
             b"store",
             cell,
@@ -377,11 +368,9 @@ impl<'p, A: Allocator + Copy> Sheet<'p, A> {
             step.thread,
             Look::new(b"store", said.as_slice(), b"b", Some(step.accesses)),
         )?;
-        let row = self.last();
         self.stores.push(Store {
             cell,
             thread: step.thread,
-            row,
             access: step.accesses,
         })?;
         Ok(())
@@ -390,13 +379,12 @@ impl<'p, A: Allocator + Copy> Sheet<'p, A> {
     /// A store of the lock, with which a transaction took effect.
     fn store_lock(
         &mut self,
-        alloc: A,
-        to: &mut Vec<u8, A>,
+        to: &mut Vec<Figure<A>, A>,
         step: &Step<A>,
         value: u64,
     ) -> Result<(), AllocError> {
         let said = words(
-            alloc,
+            self.alloc,
             &[Piece::Plain(b"store lock = "), Piece::Number(value)],
         )?;
         self.draw_glyph(
@@ -415,19 +403,19 @@ impl<'p, A: Allocator + Copy> Sheet<'p, A> {
         match step.event {
             Event::Trap(trap) => {
                 let mut said = words(
-                    alloc,
+                    self.alloc,
                     &[
                         Piece::Plain(b"trap "),
                         Piece::Number(u64::from(trap.number())),
                     ],
                 )?;
                 push_pieces(&mut said, &number)?;
-                self.leave(alloc, to, step.thread, b"trapped", b"trap", said.as_slice())
+                self.leave(to, step.thread, b"trapped", b"trap", said.as_slice())
             }
             _ => {
-                let mut said = words(alloc, &[Piece::Plain(b"commit")])?;
+                let mut said = words(self.alloc, &[Piece::Plain(b"commit")])?;
                 push_pieces(&mut said, &number)?;
-                self.leave(alloc, to, step.thread, b"wrote", b"done", said.as_slice())
+                self.leave(to, step.thread, b"wrote", b"done", said.as_slice())
             }
         }
     }
@@ -435,18 +423,15 @@ impl<'p, A: Allocator + Copy> Sheet<'p, A> {
     /// Draws the glyph of an access.
     pub(crate) fn make(
         &mut self,
-        alloc: A,
-        to: &mut Vec<u8, A>,
+        to: &mut Vec<Figure<A>, A>,
         step: &Step<A>,
     ) -> Result<(), AllocError> {
         match (step.access, step.answer) {
-            (Access::LoadLock, Answer::Value(value)) => self.load_lock(alloc, to, step, value),
-            (Access::LoadWord(cell), Answer::Value(word)) => self.load_word(
-                alloc, to, step, cell, word,
-            ),
-            (Access::Swap(from), _) => self.swap(alloc, to, step, from),
-            (Access::StoreWord(cell, word), _) => self.store_word(alloc, to, step, cell, word),
-            (Access::StoreLock(value), _) => self.store_lock(alloc, to, step, value),
+            (Access::LoadLock, Answer::Value(value)) => self.load_lock(to, step, value),
+            (Access::LoadWord(cell), Answer::Value(word)) => self.load_word(to, step, cell, word),
+            (Access::Swap(from), _) => self.swap(to, step, from),
+            (Access::StoreWord(cell, word), _) => self.store_word(to, step, cell, word),
+            (Access::StoreLock(value), _) => self.store_lock(to, step, value),
             _ => Ok(()),
         }
     }

@@ -1,7 +1,7 @@
-//! Pieces of an SVG's text, each added at the end of a list.
+//! Pieces of a text, each added at the end of a list.
 
 ghost use Rattle.std.specs.Prelude.{◌≡◌, ◌++◌, OnOk, decimal};
-ghost use Rattle.picture.specs.Glyphs.{xml_escape, xml};
+ghost use Rattle.picture.specs.Figures.{xml_escape, xml};
 
 use itoa::Buffer;
 use std::alloc::{AllocError, Allocator};
@@ -13,8 +13,6 @@ pub(crate) enum Piece<'a> {
     Plain(&'a [u8]),
     /// A number, in decimal.
     Number(u64),
-    /// Words for people: `&`, `<` and `>` are written as XML wants them, and what is not printable ASCII as `?`.
-    Words(&'a [u8]),
 }
 
 /// Adds a byte of words.
@@ -30,7 +28,7 @@ fn put_byte<A: Allocator>(to: &mut Vec<u8, A>, byte: u8) -> Result<(), AllocErro
     }
 }
 
-/// Adds words.
+/// Adds words for people: `&`, `<` and `>` are written as XML wants them, and what is not printable ASCII as `?`.
 pub(crate) fn put_words<A: Allocator>(to: &mut Vec<u8, A>, words: &[u8]) -> Result<(), AllocError>
     ensures { OnOk result (to.new.items ≡ to.old.items ++ xml words.now) }
 {
@@ -56,101 +54,7 @@ pub(crate) fn push_pieces<A: Allocator>(
         match *piece {
             Piece::Plain(bytes) => to.extend_from_slice(bytes)?,
             Piece::Number(number) => put_number(to, number)?,
-            Piece::Words(words) => put_words(to, words)?,
         }
     }
     Ok(())
-}
-
-/// Adds a text whose baseline begins at a point. `class` is its class, and empty where it has none.
-pub(crate) fn put_text<A: Allocator>(
-    to: &mut Vec<u8, A>,
-    x: u64,
-    y: u64,
-    class: &[u8],
-    words: &[u8],
-) -> Result<(), AllocError> {
-    push_pieces(
-        to,
-        &[
-            Piece::Plain(b"<text x=\""),
-            Piece::Number(x),
-            Piece::Plain(b"\" y=\""),
-            Piece::Number(y),
-            Piece::Plain(b"\""),
-        ],
-    )?;
-    if !class.is_empty() {
-        push_pieces(
-            to,
-            &[
-                Piece::Plain(b" class=\""),
-                Piece::Plain(class),
-                Piece::Plain(b"\""),
-            ],
-        )?;
-    }
-    push_pieces(
-        to,
-        &[
-            Piece::Plain(b">"),
-            Piece::Words(words),
-            Piece::Plain(b"</text>"),
-        ],
-    )
-}
-
-/// Adds a rectangle of a class.
-pub(crate) fn put_rectangle<A: Allocator>(
-    to: &mut Vec<u8, A>,
-    corner: (u64, u64),
-    size: (u64, u64),
-    class: &[u8],
-) -> Result<(), AllocError> {
-    push_pieces(
-        to,
-        &[
-            Piece::Plain(b"<rect x=\""),
-            Piece::Number(corner.0),
-            Piece::Plain(b"\" y=\""),
-            Piece::Number(corner.1),
-            Piece::Plain(b"\" width=\""),
-            Piece::Number(size.0),
-            Piece::Plain(b"\" height=\""),
-            Piece::Number(size.1),
-            Piece::Plain(b"\" class=\""),
-            Piece::Plain(class),
-            Piece::Plain(b"\"/>\n"),
-        ],
-    )
-}
-
-/// Adds a line through points, of a class.
-pub(crate) fn put_line<A: Allocator>(
-    to: &mut Vec<u8, A>,
-    points: &[(u64, u64)],
-    class: &[u8],
-) -> Result<(), AllocError> {
-    to.extend_from_slice(b"<polyline points=\"")?;
-    let mut between: &[u8] = b"";
-    'points: for (x, y) in points {
-        push_pieces(
-            to,
-            &[
-                Piece::Plain(between),
-                Piece::Number(*x),
-                Piece::Plain(b","),
-                Piece::Number(*y),
-            ],
-        )?;
-        between = b" ";
-    }
-    push_pieces(
-        to,
-        &[
-            Piece::Plain(b"\" class=\""),
-            Piece::Plain(class),
-            Piece::Plain(b"\"/>\n"),
-        ],
-    )
 }

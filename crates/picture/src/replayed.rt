@@ -1,10 +1,10 @@
 //! The steps of a replay, as they are drawn.
 
-ghost use Rattle.std.specs.Prelude.{◌≡◌, ◌∷◌, ◌++◌, [], IfOk, IfSome, OnSome, flat_map, map, slice_get};
+ghost use Rattle.std.specs.Prelude.{◌≡◌, ◌++◌, IfOk, IfSome, OnSome, flat_map, slice_get};
 ghost use Rattle.replay.specs.Replays.{simulation_after, timeline_of};
-ghost use Rattle.picture.specs.Arrows.{ArrowStep, arrow_titles};
-ghost use Rattle.picture.specs.Glyphs.{IsPicture, is_drawn, title_of};
-ghost use Rattle.picture.specs.Replayed.{IsDrawn, action_at, action_of, step_title, titles};
+ghost use Rattle.picture.specs.Pictures.{IsPicture};
+ghost use Rattle.picture.specs.Replayed.{IsDrawn, action_at, action_of, if_drawn};
+ghost use Rattle.picture.specs.inner.Views.{drawn_of};
 
 use crate::cells::cells_of;
 use crate::step::{LocalAction, Step};
@@ -57,10 +57,7 @@ fn drawn_step<A: Allocator + Copy>(
     shown: &StepShown,
     printed: Vec<u8, A>,
 ) -> Result<Step<A>, AllocError>
-    ensures title { IfOk result (λ s. title_of (is_drawn s.accesses s.access s.event s.action) s.line.items
-        ≡ step_title code.now (accesses, thread, shown.now)) }
-    ensures moment { IfOk result (λ s. (s.accesses ≡ accesses) × (s.access ≡ shown.now.access)
-        × (s.event ≡ shown.now.event)) }
+    ensures { IfOk result (λ s. drawn_of s ≡ if_drawn code.now (accesses, thread, shown.now)) }
 {
     Ok(Step {
         accesses,
@@ -106,13 +103,8 @@ fn add_step<A: Allocator + Copy>(
     thread: u32,
     shown: &StepShown,
 ) -> Option<()>
-    ensures titles { OnSome result
-        (flat_map (λ s. title_of (is_drawn s.accesses s.access s.event s.action) s.line.items) steps.new.items
-        ≡ flat_map (λ s. title_of (is_drawn s.accesses s.access s.event s.action) s.line.items) steps.old.items
-        ++ step_title code.now (accesses, thread, shown.now)) }
-    ensures arrow_steps { OnSome result (map {B = ArrowStep} (λ s. (s.accesses, s.access, s.event)) steps.new.items
-        ≡ map {B = ArrowStep} (λ s. (s.accesses, s.access, s.event)) steps.old.items
-        ++ (accesses, shown.now.access, shown.now.event) ∷ []) }
+    ensures { OnSome result (flat_map drawn_of steps.new.items
+        ≡ flat_map drawn_of steps.old.items ++ if_drawn code.now (accesses, thread, shown.now)) }
 {
     let printed = printed_by(alloc, world, thread)?;
     let Ok(step) = drawn_step(alloc, code, accesses, thread, shown, printed) else {
@@ -131,11 +123,7 @@ fn drawn_steps<A: Allocator + Copy>(
     world: &mut World<A>,
     shown: &[(u64, u32, StepShown)],
 ) -> Option<Vec<Step<A>, A>>
-    ensures titles { IfSome result
-        (λ v. flat_map (λ s. title_of (is_drawn s.accesses s.access s.event s.action) s.line.items) v.items
-        ≡ titles code.now shown.now) }
-    ensures arrow_steps { IfSome result (λ v. map {B = ArrowStep} (λ s. (s.accesses, s.access, s.event)) v.items
-        ≡ map {B = ArrowStep} (λ s. (s.0, s.2.access, s.2.event)) shown.now) }
+    ensures { IfSome result (λ v. flat_map drawn_of v.items ≡ flat_map (if_drawn code.now) shown.now) }
 {
     let mut steps = Vec::new(alloc);
     'shown: for (accesses, thread, step) in shown {
@@ -161,9 +149,7 @@ fn draw_steps<A: Allocator + Copy>(
     world: &World<A>,
     file: &[u8],
 ) -> Result<Vec<u8, A>, AllocError>
-    ensures { IfOk result
-        (λ v. IsPicture (arrow_titles (map {B = ArrowStep} (λ s. (s.accesses, s.access, s.event)) steps.now))
-        (flat_map (λ s. title_of (is_drawn s.accesses s.access s.event s.action) s.line.items) steps.now) v.items) }
+    ensures { IfOk result (λ v. IsPicture (flat_map drawn_of steps.now) v.items) }
 {
     let cells = cells_of(alloc, unit)?;
     let ends = ends_of(alloc, world)?;

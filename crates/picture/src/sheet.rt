@@ -1,6 +1,7 @@
 //! What is drawn so far.
 
 use crate::attempt::Lane;
+use crate::figure::Figure;
 use lex::token::Scalar;
 use std::alloc::{AllocError, Allocator, Global};
 
@@ -33,7 +34,6 @@ pub(crate) enum Fold {
 pub(crate) struct Store {
     pub cell: u32,
     pub thread: u32,
-    pub row: u64,
     /// How many accesses all threads had made with the store.
     pub access: u64,
 }
@@ -60,6 +60,7 @@ pub(crate) struct Holding {
 /// What is drawn so far.
 #[derive(Drop)]
 pub(crate) struct Sheet<'p, A: Allocator = Global> {
+    pub alloc: A,
     pub cells: &'p [Cell<A>],
     pub lanes: Vec<Lane<A>, A>,
     /// How many rows there are.
@@ -71,13 +72,11 @@ pub(crate) struct Sheet<'p, A: Allocator = Global> {
     pub stores: Vec<Store, A>,
     pub effects: Vec<Effect, A>,
     pub dropped: u64,
-    /// The row of the load for which an attempt was dropped last.
-    pub dropped_in: u64,
-    /// Boxes, in the order in which they close; each is a text of its own.
-    pub boxes: Vec<Vec<u8, A>, A>,
-    pub lock: Vec<u8, A>,
+    /// Boxes, in the order in which they close; the sides of one come before its rectangle.
+    pub boxes: Vec<Figure<A>, A>,
+    pub lock: Vec<Figure<A>, A>,
     /// Numbers of accesses, and brackets.
-    pub lines: Vec<u8, A>,
+    pub lines: Vec<Figure<A>, A>,
     /// A sentence for each drop.
     pub drop_sentences: Vec<u8, A>,
 }
@@ -94,6 +93,7 @@ impl<'p, A: Allocator + Copy> Sheet<'p, A> {
             lanes.push(Lane::new())?;
         }
         Ok(Sheet {
+            alloc,
             cells,
             lanes,
             rows: 0,
@@ -103,7 +103,6 @@ impl<'p, A: Allocator + Copy> Sheet<'p, A> {
             stores: Vec::new(alloc),
             effects: Vec::new(alloc),
             dropped: 0,
-            dropped_in: 0,
             boxes: Vec::new(alloc),
             lock: Vec::new(alloc),
             lines: Vec::new(alloc),

@@ -4,6 +4,7 @@ ghost use Rattle.std.specs.Prelude.{◌≡◌};
 ghost use Rattle.picture.specs.Glyphs.{is_noted};
 
 use crate::boxes::Fate;
+use crate::figure::Figure;
 use crate::glyph::Look;
 use crate::layout::CHARACTERS;
 use crate::pieces::Piece;
@@ -100,7 +101,7 @@ impl<'p, A: Allocator + Copy> Sheet<'p, A> {
     }
 
     /// The inner begin of a thread.
-    fn begin_inner(&mut self, to: &mut Vec<u8, A>, thread: u32) -> Result<(), AllocError> {
+    fn begin_inner(&mut self, to: &mut Vec<Figure<A>, A>, thread: u32) -> Result<(), AllocError> {
         self.draw_glyph(to, thread, Look::new(b"in", b"begin inner", b"", None))?;
         let row = self.last();
         let Some(lane) = self.lane(thread) else {
@@ -115,8 +116,7 @@ impl<'p, A: Allocator + Copy> Sheet<'p, A> {
     /// The end of a thread's attempt without the lock: what it is called, then of which moment it is.
     fn leave_after(
         &mut self,
-        alloc: A,
-        to: &mut Vec<u8, A>,
+        to: &mut Vec<Figure<A>, A>,
         step: &Step<A>,
         class: &'static [u8],
         symbol: &'static [u8],
@@ -124,23 +124,23 @@ impl<'p, A: Allocator + Copy> Sheet<'p, A> {
     ) -> Result<(), AllocError> {
         let moment = self.snapshot(step.thread) / 2;
         self.take_effect(step.thread, step.accesses)?;
-        let mut said = words(alloc, what)?;
+        let mut said = words(self.alloc, what)?;
         crate::pieces::push_pieces(
             &mut said,
             &[Piece::Plain(b", after #"), Piece::Number(moment)],
         )?;
-        self.leave(alloc, to, step.thread, class, symbol, said.as_slice())
+        self.leave(to, step.thread, class, symbol, said.as_slice())
     }
 
     /// A print of a thread.
-    fn print(&mut self, alloc: A, to: &mut Vec<u8, A>, step: &Step<A>) -> Result<(), AllocError> {
+    fn print(&mut self, to: &mut Vec<Figure<A>, A>, step: &Step<A>) -> Result<(), AllocError> {
         let fold = Fold::Print(step.thread);
         let standing = match self.lanes.get(step.thread as usize) {
             Some(lane) if self.fold == fold => lane.standing.unwrap_or(0),
             _ => 0,
         };
         let room = CHARACTERS.saturating_sub(standing);
-        let mut spelled = Vec::new(alloc);
+        let mut spelled = Vec::new(self.alloc);
         'bytes: for byte in step.printed.iter() {
             put_spelled(&mut spelled, *byte)?;
         }
@@ -153,16 +153,9 @@ impl<'p, A: Allocator + Copy> Sheet<'p, A> {
     }
 
     /// A cancel of a thread.
-    fn cancel(&mut self, alloc: A, to: &mut Vec<u8, A>, step: &Step<A>) -> Result<(), AllocError> {
+    fn cancel(&mut self, to: &mut Vec<Figure<A>, A>, step: &Step<A>) -> Result<(), AllocError> {
         if step.levels as usize > self.depth(step.thread) {
-            return self.leave_after(
-                alloc,
-                to,
-                step,
-                b"cancelled",
-                b"not",
-                &[Piece::Plain(b"cancel")],
-            );
+            return self.leave_after(to, step, b"cancelled", b"not", &[Piece::Plain(b"cancel")]);
         }
         self.draw_glyph(
             to,
@@ -170,40 +163,32 @@ impl<'p, A: Allocator + Copy> Sheet<'p, A> {
             Look::new(b"not", b"cancel inner", b"b", None),
         )?;
         'levels: for _ in 0..step.levels {
-            self.close_inner(alloc, step.thread, self.last(), Fate::Over(b"cancelled"))?;
+            self.close_inner(step.thread, self.last(), Fate::Over(b"cancelled"))?;
         }
         Ok(())
     }
 
     /// A commit of a thread that wrote nothing, or the end of an inner transaction.
-    fn commit(&mut self, alloc: A, to: &mut Vec<u8, A>, step: &Step<A>) -> Result<(), AllocError> {
+    fn commit(&mut self, to: &mut Vec<Figure<A>, A>, step: &Step<A>) -> Result<(), AllocError> {
         if self.depth(step.thread) == 0 {
-            return self.leave_after(
-                alloc,
-                to,
-                step,
-                b"taken",
-                b"done",
-                &[Piece::Plain(b"commit")],
-            );
+            return self.leave_after(to, step, b"taken", b"done", &[Piece::Plain(b"commit")]);
         }
         self.draw_glyph(to, step.thread, Look::new(b"done", b"end inner", b"", None))?;
-        self.close_inner(alloc, step.thread, self.last(), Fate::Over(b"inner"))
+        self.close_inner(step.thread, self.last(), Fate::Over(b"inner"))
     }
 
     /// A trap of a thread without the lock.
     fn trap(
         &mut self,
-        alloc: A,
-        to: &mut Vec<u8, A>,
+        to: &mut Vec<Figure<A>, A>,
         step: &Step<A>,
         number: u64,
     ) -> Result<(), AllocError> {
         let what = [Piece::Plain(b"trap "), Piece::Number(number)];
         if self.is_open(step.thread) {
-            return self.leave_after(alloc, to, step, b"trapped", b"trap", &what);
+            return self.leave_after(to, step, b"trapped", b"trap", &what);
         }
-        let said = words(alloc, &what)?;
+        let said = words(self.alloc, &what)?;
         self.draw_glyph(
             to,
             step.thread,
@@ -214,19 +199,18 @@ impl<'p, A: Allocator + Copy> Sheet<'p, A> {
     /// Draws the glyph of a step that has one.
     pub(crate) fn draw(
         &mut self,
-        alloc: A,
-        to: &mut Vec<u8, A>,
+        to: &mut Vec<Figure<A>, A>,
         step: &Step<A>,
     ) -> Result<(), AllocError> {
         if step.access != Access::Local {
-            return self.make(alloc, to, step);
+            return self.make(to, step);
         }
         match (step.event, step.action) {
-            (Event::Trap(trap), _) => self.trap(alloc, to, step, u64::from(trap.number())),
-            (Event::Cancel, _) => self.cancel(alloc, to, step),
+            (Event::Trap(trap), _) => self.trap(to, step, u64::from(trap.number())),
+            (Event::Cancel, _) => self.cancel(to, step),
             (_, LocalAction::Begin) => self.begin_inner(to, step.thread),
-            (_, LocalAction::Commit) => self.commit(alloc, to, step),
-            (_, LocalAction::Print) => self.print(alloc, to, step),
+            (_, LocalAction::Commit) => self.commit(to, step),
+            (_, LocalAction::Print) => self.print(to, step),
             _ => Ok(()),
         }
     }

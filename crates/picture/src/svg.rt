@@ -1,19 +1,22 @@
 //! The whole picture.
 
 ghost use Rattle.std.specs.Prelude.{◌≡◌, ◌++◌, OnOk, IfOk, flat_map, map};
-ghost use Rattle.picture.specs.Arrows.{arrow_titles};
-ghost use Rattle.picture.specs.Glyphs.{IsPicture, is_drawn, glyph_text, title_of, xml};
+ghost use Rattle.picture.specs.Arrows.{arrow_text, arrows_among};
+ghost use Rattle.picture.specs.Glyphs.{glyph_text, is_drawn};
+ghost use Rattle.picture.specs.Pictures.{IsPicture, head_text, size_text, told_text, view_box};
+ghost use Rattle.picture.specs.inner.Views.{drawn_of, glyph_of, step_of};
 
-use crate::arrow::add_arrow;
+use crate::arrow::{Arrow, add_arrow, put_arrow};
 use crate::boxes::Fate;
+use crate::figure::{Figure, put_figures, put_measure};
 use crate::glyph::Glyph;
-use crate::layout::{FIRST, HEADED, PITCH, ROW, TOP, foot, heads, lane};
-use crate::legend::{LEGEND, STYLE};
-use crate::pieces::{Piece, push_pieces, put_line, put_rectangle, put_text, put_words};
-use crate::sheet::{Cell, Effect, Sheet};
+use crate::layout::{FIRST, HEADED, PITCH, ROW, TOP, foot, heads, left_of};
+use crate::legend::{STYLE, put_legend};
+use crate::pieces::{Piece, push_pieces, put_number, put_words};
+use crate::sheet::{Cell, Sheet};
 use crate::step::{MOST_ACCESSES, Step};
 use crate::words::words;
-use std::alloc::{AllocError, Allocator};
+use std::alloc::{AllocError, Allocator, Global};
 use syntax::thread_end::Status;
 
 /// Whether a step is drawn: it has a glyph, and is made up to the last access that is drawn.
@@ -24,73 +27,76 @@ fn is_drawn<A: Allocator>(step: &Step<A>) -> bool
 }
 
 /// Draws the glyph of a step.
-fn glyph_of<A: Allocator + Copy>(
-    alloc: A,
+fn draw_step<A: Allocator + Copy>(
     sheet: &mut Sheet<'_, A>,
     step: &Step<A>,
 ) -> Result<Glyph<A>, AllocError>
-    ensures { IfOk result (λ m. m.title.items ≡ xml step.now.line.items) }
+    ensures { IfOk result (λ g. (glyph_of g).step ≡ step_of step.now) }
 {
-    let mut title = Vec::new(alloc);
+    let mut title = Vec::new(sheet.alloc);
     put_words(&mut title, step.line.as_slice())?;
-    let mut drawn = Vec::new(alloc);
-    sheet.draw(alloc, &mut drawn, step)?;
-    Ok(Glyph { title, drawn })
+    let mut figures = Vec::new(sheet.alloc);
+    sheet.draw(&mut figures, step)?;
+    Ok(Glyph {
+        accesses: step.accesses,
+        thread: step.thread,
+        access: step.access,
+        event: step.event,
+        title,
+        figures,
+    })
 }
 
-/// Adds the glyph of a step, if it is drawn.
+/// Adds the glyph of a step, if it is drawn, and the arrow that leads to it, if one does.
 fn add_glyph<A: Allocator + Copy>(
-    alloc: A,
-    glyphs: &mut Vec<Glyph<A>, A>,
     sheet: &mut Sheet<'_, A>,
+    glyphs: &mut Vec<Glyph<A>, A>,
+    arrows: &mut Vec<Arrow, A>,
     step: &Step<A>,
 ) -> Result<(), AllocError>
-    ensures { OnOk result (map (λ m. m.title.items) glyphs.new.items ≡ map (λ m. m.title.items) glyphs.old.items
-        ++ title_of (is_drawn step.now.accesses step.now.access step.now.event step.now.action) step.now.line.items) }
+    requires { map (λ a. (a.store, a.load)) arrows.old.items ≡ arrows_among (map glyph_of glyphs.old.items) }
+    ensures glyphs { OnOk result (map (λ g. (glyph_of g).step) glyphs.new.items
+        ≡ map (λ g. (glyph_of g).step) glyphs.old.items ++ drawn_of step.now) }
+    ensures arrows { OnOk result
+        (map (λ a. (a.store, a.load)) arrows.new.items ≡ arrows_among (map glyph_of glyphs.new.items)) }
 {
     if is_drawn(step) {
-        glyphs.push(glyph_of(alloc, sheet, step)?)?;
+        let glyph = draw_step(sheet, step)?;
+        add_arrow(arrows, sheet, glyphs.as_slice(), &glyph)?;
+        glyphs.push(glyph)?;
     }
     Ok(())
 }
 
-/// The glyphs of the steps that are drawn, in order. Arrows that lead to them are added to a list.
+/// The glyphs of the steps that are drawn, in order, and the arrows among them.
 fn glyphs<A: Allocator + Copy>(
-    alloc: A,
-    steps: &[Step<A>],
     sheet: &mut Sheet<'_, A>,
-    arrows: &mut Vec<Glyph<A>, A>,
-) -> Result<Vec<Glyph<A>, A>, AllocError>
-    ensures glyphs { IfOk result (λ ms. map (λ m. m.title.items) ms.items
-        ≡ flat_map (λ s. title_of (is_drawn s.accesses s.access s.event s.action) s.line.items) steps.now) }
-    ensures arrows { OnOk result (map (λ m. m.title.items) arrows.new.items
-        ≡ map (λ m. m.title.items) arrows.old.items ++ arrow_titles
-        (map (λ s. (s.accesses, s.access, s.event)) steps.now)) }
+    steps: &[Step<A>],
+) -> Result<(Vec<Glyph<A>, A>, Vec<Arrow, A>), AllocError>
+    ensures glyphs { IfOk result
+        (λ r. map (λ g. (glyph_of g).step) r.0.items ≡ flat_map drawn_of steps.now) }
+    ensures arrows { IfOk result
+        (λ r. map (λ a. (a.store, a.load)) r.1.items ≡ arrows_among (map glyph_of r.0.items)) }
 {
-    let mut glyphs = Vec::new(alloc);
-    'steps: for at in 0..steps.len() {
-        let step = &steps[at];
-        add_glyph(alloc, &mut glyphs, sheet, step)?;
-        add_arrow(alloc, arrows, sheet, &steps[..at], step)?;
+    let mut glyphs = Vec::new(sheet.alloc);
+    let mut arrows = Vec::new(sheet.alloc);
+    'steps: for step in steps {
+        add_glyph(sheet, &mut glyphs, &mut arrows, step)?;
     }
-    Ok(glyphs)
+    Ok((glyphs, arrows))
 }
 
 /// Draws what is open at the end.
-fn close<A: Allocator + Copy>(
-    alloc: A,
-    sheet: &mut Sheet<'_, A>,
-    threads: u32,
-) -> Result<(), AllocError> {
+fn close<A: Allocator + Copy>(sheet: &mut Sheet<'_, A>, threads: u32) -> Result<(), AllocError> {
     let last = sheet.last();
     'threads: for thread in 0..threads {
-        sheet.close_all_inner(alloc, thread, last, Fate::Open)?;
+        sheet.close_all_inner(thread, last, Fate::Open)?;
         let open = match sheet.lane(thread) {
             Some(lane) => lane.open.take(),
             None => None,
         };
         if let Some(attempt) = open {
-            sheet.close_attempt(alloc, thread, &attempt, last, Fate::Open)?;
+            sheet.close_attempt(thread, &attempt, last, Fate::Open)?;
         }
     }
     match sheet.held {
@@ -106,17 +112,17 @@ fn in_a_line(threads: u32) -> u64 {
 
 /// What took effect, in an order that explains it: by its moment, and of equal ones first what was without the lock.
 fn put_order<A: Allocator + Copy>(
-    alloc: A,
-    to: &mut Vec<u8, A>,
-    effects: &mut Vec<Effect, A>,
+    to: &mut Vec<Figure<A>, A>,
+    sheet: &mut Sheet<'_, A>,
     lower: u64,
     count: u64,
 ) -> Result<(), AllocError> {
-    effects.sort_by_key(|it| (it.snapshot, it.took_lock))?;
-    put_text(to, 12, lower.wrapping_add(44), b"b", b"In order:")?;
-    to.push(b'\n')?;
+    let alloc = sheet.alloc;
+    sheet.effects.sort_by_key(|it| (it.snapshot, it.took_lock))?;
+    let at = (12, lower.wrapping_add(44));
+    to.push(Figure::words(alloc, at, b"b", b"In order:")?)?;
     let (mut column, mut line) = (0u64, 0u64);
-    'effects: for effect in effects.iter() {
+    'effects: for effect in sheet.effects.iter() {
         let mut said = Vec::new(alloc);
         if effect.took_lock {
             let number = (effect.snapshot / 2).wrapping_add(1);
@@ -139,11 +145,10 @@ fn put_order<A: Allocator + Copy>(
                 Piece::Plain(b")"),
             ],
         )?;
-        let class: &[u8] = if effect.took_lock { b"b" } else { b"" };
+        let class: &'static [u8] = if effect.took_lock { b"b" } else { b"" };
         let x = column.wrapping_mul(98).wrapping_add(90);
         let y = line.wrapping_mul(ROW).wrapping_add(44).wrapping_add(lower);
-        put_text(to, x, y, class, said.as_slice())?;
-        to.push(b'\n')?;
+        to.push(Figure::words(alloc, (x, y), class, said.as_slice())?)?;
         column = column.wrapping_add(1);
         if column >= count {
             column = 0;
@@ -155,14 +160,14 @@ fn put_order<A: Allocator + Copy>(
 
 /// The line of each thread, and at its end how the thread ended.
 fn put_lanes<A: Allocator + Copy>(
-    alloc: A,
-    lanes: &mut Vec<u8, A>,
-    heads: &mut Vec<u8, A>,
+    lanes: &mut Vec<Figure<A>, A>,
+    heads: &mut Vec<Figure<A>, A>,
     sheet: &Sheet<'_, A>,
     ends: &[Status],
     is_cut: bool,
     lower: u64,
 ) -> Result<(), AllocError> {
+    let alloc = sheet.alloc;
     let mut thread = 0u32;
     'threads: for end in ends {
         let latest = match sheet.lanes.get(thread as usize) {
@@ -171,22 +176,16 @@ fn put_lanes<A: Allocator + Copy>(
         };
         let is_over = !is_cut && *end != Status::Running;
         let y = if is_over { foot(latest) } else { lower };
-        let x = lane(thread).wrapping_add(10);
-        put_line(lanes, &[(x, TOP + ROW), (x, y)], b"lane")?;
+        let x = left_of(thread).wrapping_add(10);
+        lanes.push(Figure::line(alloc, &[(x, TOP + ROW), (x, y)], b"lane")?)?;
         let mut said = Vec::new(alloc);
         if is_cut {
             said.extend_from_slice(b"..")?;
         } else {
             put_end(&mut said, *end)?;
         }
-        put_text(
-            heads,
-            lane(thread).wrapping_add(6),
-            y.wrapping_add(13),
-            b"b",
-            said.as_slice(),
-        )?;
-        heads.push(b'\n')?;
+        let at = (left_of(thread).wrapping_add(6), y.wrapping_add(13));
+        heads.push(Figure::words(alloc, at, b"b", said.as_slice())?)?;
         thread = thread.wrapping_add(1);
     }
     Ok(())
@@ -195,7 +194,7 @@ fn put_lanes<A: Allocator + Copy>(
 /// The rows of heads.
 fn put_heads<A: Allocator + Copy>(
     alloc: A,
-    to: &mut Vec<u8, A>,
+    to: &mut Vec<Figure<A>, A>,
     threads: u32,
     rows: u64,
     width: u64,
@@ -203,117 +202,24 @@ fn put_heads<A: Allocator + Copy>(
     'heads: for k in 0..rows.saturating_add(HEADED - 1) / HEADED {
         let y = heads(k.wrapping_mul(HEADED));
         if k == 0 {
-            put_text(to, 42, y.wrapping_add(12), b"h", b"lock")?;
+            to.push(Figure::words(alloc, (42, y.wrapping_add(12)), b"h", b"lock")?)?;
         } else {
-            put_rectangle(
-                to,
+            to.push(Figure::rectangle(
                 (FIRST - 8, y.wrapping_add(1)),
                 (width.wrapping_sub(FIRST), ROW - 2),
                 b"band",
-            )?;
+            ))?;
         }
         'threads: for thread in 0..threads {
             let said = words(
                 alloc,
                 &[Piece::Plain(b"thread "), Piece::Number(u64::from(thread))],
             )?;
-            put_text(
-                to,
-                lane(thread).wrapping_add(6),
-                y.wrapping_add(12),
-                b"h",
-                said.as_slice(),
-            )?;
+            let at = (left_of(thread).wrapping_add(6), y.wrapping_add(12));
+            to.push(Figure::words(alloc, at, b"h", said.as_slice())?)?;
         }
-        to.push(b'\n')?;
     }
     Ok(())
-}
-
-/// Adds the text of a glyph.
-fn put_glyph<A: Allocator>(to: &mut Vec<u8, A>, glyph: &Glyph<A>) -> Result<(), AllocError>
-    ensures { OnOk result (to.new.items ≡ to.old.items ++ glyph_text glyph.now.title.items glyph.now.drawn.items) }
-{
-    to.extend_from_slice(b"<g><title>")?;
-    to.extend_from_slice(glyph.title.as_slice())?;
-    to.extend_from_slice(b"</title>")?;
-    to.extend_from_slice(glyph.drawn.as_slice())?;
-    to.extend_from_slice(b"</g>\n")
-}
-
-/// Adds the text of the glyphs.
-fn put_glyphs<A: Allocator>(to: &mut Vec<u8, A>, glyphs: &[Glyph<A>]) -> Result<(), AllocError>
-    ensures { OnOk result
-        (to.new.items ≡ to.old.items ++ flat_map (λ m. glyph_text m.title.items m.drawn.items) glyphs.now) }
-{
-    'glyphs: for glyph in glyphs {
-        put_glyph(to, glyph)?;
-    }
-    Ok(())
-}
-
-/// What is drawn below the arrows, with the arrows, what is drawn between, and the glyphs.
-fn with_glyphs<A: Allocator>(
-    below: Vec<u8, A>,
-    arrows: &[Glyph<A>],
-    between: &[u8],
-    glyphs: &[Glyph<A>],
-) -> Result<Vec<u8, A>, AllocError>
-    ensures { IfOk result (λ v. IsPicture (map (λ m. m.title.items) arrows.now)
-        (map (λ m. m.title.items) glyphs.now) v.items) }
-{
-    let mut svg = below;
-    put_glyphs(&mut svg, arrows)?;
-    svg.extend_from_slice(between)?;
-    put_glyphs(&mut svg, glyphs)?;
-    svg.extend_from_slice(b"</svg>\n")?;
-    Ok(svg)
-}
-
-/// What stands before all that is drawn.
-fn put_front<'x, A: Allocator>(
-    to: &mut Vec<u8, A>,
-    sheet: &'x Sheet<'_, A>,
-    title: &'x [u8],
-    width: u64,
-    height: u64,
-) -> Result<(), AllocError> {
-    push_pieces(
-        to,
-        &[
-            Piece::Plain(b"<svg xmlns=\"http://www.w3.org/2000/svg\" width=\""),
-            Piece::Number(width),
-            Piece::Plain(b"\" height=\""),
-            Piece::Number(height),
-            Piece::Plain(b"\" viewBox=\"0 0 "),
-            Piece::Number(width),
-            Piece::Plain(b" "),
-            Piece::Number(height),
-            Piece::Plain(b"\" role=\"img\" aria-labelledby=\"t d\">\n<title id=\"t\">"),
-            Piece::Words(title),
-            Piece::Plain(b"</title>\n<desc id=\"d\">"),
-        ],
-    )?;
-    push_pieces(
-        to,
-        &[
-            Piece::Number(sheet.effects.len() as u64),
-            Piece::Plain(b" transactions took effect, "),
-            Piece::Number(sheet.dropped),
-            Piece::Plain(b" attempts were dropped."),
-            Piece::Words(sheet.drop_sentences.as_slice()),
-            Piece::Plain(b"</desc>\n"),
-            Piece::Plain(STYLE),
-            Piece::Plain(b"<rect width=\""),
-            Piece::Number(width),
-            Piece::Plain(b"\" height=\""),
-            Piece::Number(height),
-            Piece::Plain(b"\" class=\"paper\"/>\n<text x=\"12\" y=\"20\" class=\"h\">"),
-            Piece::Words(title),
-            Piece::Plain(b"</text>\n"),
-            Piece::Plain(LEGEND),
-        ],
-    )
 }
 
 /// The title of a picture: the file, the threads and the accesses that are drawn.
@@ -354,7 +260,7 @@ fn put_end<A: Allocator>(to: &mut Vec<u8, A>, status: Status) -> Result<(), Allo
 /// Says how many accesses are not drawn, if some are not.
 fn put_cut<A: Allocator + Copy>(
     alloc: A,
-    to: &mut Vec<u8, A>,
+    to: &mut Vec<Figure<A>, A>,
     left: u64,
     lower: u64,
 ) -> Result<(), AllocError> {
@@ -366,54 +272,200 @@ fn put_cut<A: Allocator + Copy>(
         Piece::Plain(b" further accesses are not drawn"),
     ];
     let said = words(alloc, &what)?;
-    put_text(
-        to,
-        FIRST + 30,
-        lower.wrapping_add(13),
-        b"b",
-        said.as_slice(),
-    )?;
-    to.push(b'\n')?;
+    let at = (FIRST + 30, lower.wrapping_add(13));
+    to.push(Figure::words(alloc, at, b"b", said.as_slice())?)?;
     Ok(())
 }
 
-/// Adds the boxes: those that close first are above.
-fn put_boxes<A: Allocator>(to: &mut Vec<u8, A>, boxes: &[Vec<u8, A>]) -> Result<(), AllocError> {
-    'boxes: for drawn in boxes.iter().rev() {
-        to.extend_from_slice(drawn.as_slice())?;
-    }
-    Ok(())
+/// What a picture is made of, but for its arrows and glyphs.
+#[derive(Drop)]
+pub(crate) struct Page<A: Allocator = Global> {
+    pub width: u64,
+    pub height: u64,
+    pub title: Vec<u8, A>,
+    pub description: Vec<u8, A>,
+    /// What is drawn beneath the arrows: those that come later are above.
+    pub below: Vec<Figure<A>, A>,
+    /// What is drawn above the arrows and beneath the glyphs.
+    pub between: Vec<Figure<A>, A>,
 }
 
-/// Adds all that is drawn below the arrows, and what is drawn between these and the glyphs. So many accesses were made.
+/// What a picture says of itself: what took effect, and of each drop why.
+fn description_of<A: Allocator + Copy>(sheet: &Sheet<'_, A>) -> Result<Vec<u8, A>, AllocError> {
+    let what = [
+        Piece::Number(sheet.effects.len() as u64),
+        Piece::Plain(b" transactions took effect, "),
+        Piece::Number(sheet.dropped),
+        Piece::Plain(b" attempts were dropped."),
+        Piece::Plain(sheet.drop_sentences.as_slice()),
+    ];
+    words(sheet.alloc, &what)
+}
+
+/// Adds all that is drawn beneath the arrows, with the lanes of threads. Boxes that close first are above.
 fn put_below<A: Allocator + Copy>(
-    alloc: A,
-    to: &mut Vec<u8, A>,
-    between: &mut Vec<u8, A>,
+    to: &mut Vec<Figure<A>, A>,
+    sheet: &mut Sheet<'_, A>,
+    lanes: &mut Vec<Figure<A>, A>,
+    size: (u64, u64),
+    title: &[u8],
+) -> Result<(), AllocError> {
+    to.push(Figure::rectangle((0, 0), size, b"paper"))?;
+    to.push(Figure::words(sheet.alloc, (12, 20), b"h", title)?)?;
+    put_legend(sheet.alloc, to)?;
+    to.append(lanes)?;
+    to.append(&mut sheet.lock)?;
+    sheet.boxes.reverse();
+    to.append(&mut sheet.boxes)?;
+    to.append(&mut sheet.lines)
+}
+
+/// All of a picture but its arrows and glyphs. So many accesses were made.
+fn page_of<A: Allocator + Copy>(
     sheet: &mut Sheet<'_, A>,
     ends: &[Status],
     accesses: u64,
     file: &[u8],
-) -> Result<(), AllocError> {
+) -> Result<Page<A>, AllocError> {
+    let alloc = sheet.alloc;
     let threads = ends.len().min(64) as u32;
     let left = accesses.saturating_sub(MOST_ACCESSES);
     let lower = foot(sheet.last());
     let count = in_a_line(threads).max(4);
-    let wide = lane(threads);
+    let wide = left_of(threads);
     let lines = (sheet.effects.len() as u64) / count;
     let height = lines.wrapping_mul(ROW).wrapping_add(54).wrapping_add(lower);
+    let width = wide.max(660);
     let mut lanes = Vec::new(alloc);
-    put_lanes(alloc, &mut lanes, between, sheet, ends, left > 0, lower)?;
-    put_heads(alloc, between, threads, sheet.rows.max(1), wide)?;
-    put_cut(alloc, between, left, lower)?;
-    put_order(alloc, between, &mut sheet.effects, lower, count)?;
+    let mut between = Vec::new(alloc);
+    put_lanes(&mut lanes, &mut between, sheet, ends, left > 0, lower)?;
+    put_heads(alloc, &mut between, threads, sheet.rows.max(1), wide)?;
+    put_cut(alloc, &mut between, left, lower)?;
+    put_order(&mut between, sheet, lower, count)?;
     let mut title = Vec::new(alloc);
     put_title(&mut title, file, threads, accesses.min(MOST_ACCESSES))?;
-    put_front(to, sheet, title.as_slice(), wide.max(660), height)?;
-    to.extend_from_slice(lanes.as_slice())?;
-    to.extend_from_slice(sheet.lock.as_slice())?;
-    put_boxes(to, sheet.boxes.as_slice())?;
-    to.extend_from_slice(sheet.lines.as_slice())
+    let description = description_of(sheet)?;
+    let mut below = Vec::new(alloc);
+    put_below(
+        &mut below,
+        sheet,
+        &mut lanes,
+        (width, height),
+        title.as_slice(),
+    )?;
+    Ok(Page {
+        width,
+        height,
+        title,
+        description,
+        below,
+        between,
+    })
+}
+
+/// Spells the part of its plane that a picture shows.
+fn put_view_box<A: Allocator>(
+    to: &mut Vec<u8, A>,
+    width: u64,
+    height: u64,
+) -> Result<(), AllocError>
+    ensures { OnOk result (to.new.items ≡ to.old.items ++ view_box width height) }
+{
+    to.extend_from_slice(b" viewBox=\"0 0 ")?;
+    put_number(to, width)?;
+    to.extend_from_slice(b" ")?;
+    put_number(to, height)?;
+    to.extend_from_slice(b"\"")?;
+    Ok(())
+}
+
+/// Spells the size of a picture.
+fn put_size<A: Allocator>(to: &mut Vec<u8, A>, width: u64, height: u64) -> Result<(), AllocError>
+    ensures { OnOk result (to.new.items ≡ to.old.items ++ size_text width height) }
+{
+    put_measure(to, b"width", width)?;
+    put_measure(to, b"height", height)?;
+    put_view_box(to, width, height)
+}
+
+/// Spells what a picture is, in words for people.
+fn put_told<A: Allocator>(
+    to: &mut Vec<u8, A>,
+    title: &[u8],
+    description: &[u8],
+) -> Result<(), AllocError>
+    ensures { OnOk result (to.new.items ≡ to.old.items ++ told_text title.now description.now) }
+{
+    to.extend_from_slice(b"<title id=\"t\">")?;
+    put_words(to, title)?;
+    to.extend_from_slice(b"</title>\n<desc id=\"d\">")?;
+    put_words(to, description)?;
+    to.extend_from_slice(b"</desc>\n")?;
+    Ok(())
+}
+
+/// Spells the head of a picture.
+fn put_head<A: Allocator>(to: &mut Vec<u8, A>, page: &Page<A>) -> Result<(), AllocError>
+    ensures { OnOk result (to.new.items ≡ to.old.items
+        ++ head_text page.now.width page.now.height page.now.title.items page.now.description.items) }
+{
+    to.extend_from_slice(b"<svg xmlns=\"http://www.w3.org/2000/svg\"")?;
+    put_size(to, page.width, page.height)?;
+    to.extend_from_slice(b" role=\"img\" aria-labelledby=\"t d\">\n")?;
+    put_told(to, page.title.as_slice(), page.description.as_slice())?;
+    to.extend_from_slice(STYLE)?;
+    Ok(())
+}
+
+/// Spells a glyph.
+fn put_glyph<A: Allocator>(to: &mut Vec<u8, A>, glyph: &Glyph<A>) -> Result<(), AllocError>
+    ensures { OnOk result (to.new.items ≡ to.old.items ++ glyph_text (glyph_of glyph.now)) }
+{
+    to.extend_from_slice(b"<g><title>")?;
+    to.extend_from_slice(glyph.title.as_slice())?;
+    to.extend_from_slice(b"</title>\n")?;
+    put_figures(to, glyph.figures.as_slice())?;
+    to.extend_from_slice(b"</g>\n")
+}
+
+/// Spells glyphs.
+fn put_glyphs<A: Allocator>(to: &mut Vec<u8, A>, glyphs: &[Glyph<A>]) -> Result<(), AllocError>
+    ensures { OnOk result (to.new.items ≡ to.old.items ++ flat_map glyph_text (map glyph_of glyphs.now)) }
+{
+    'glyphs: for glyph in glyphs {
+        put_glyph(to, glyph)?;
+    }
+    Ok(())
+}
+
+/// Spells arrows.
+fn put_arrows<A: Allocator>(to: &mut Vec<u8, A>, arrows: &[Arrow]) -> Result<(), AllocError>
+    ensures { OnOk result (to.new.items ≡ to.old.items ++ flat_map arrow_text arrows.now) }
+{
+    'arrows: for arrow in arrows {
+        put_arrow(to, arrow)?;
+    }
+    Ok(())
+}
+
+/// The text of a picture.
+fn picture_text<A: Allocator>(
+    alloc: A,
+    page: &Page<A>,
+    arrows: &[Arrow],
+    glyphs: &[Glyph<A>],
+) -> Result<Vec<u8, A>, AllocError>
+    requires { map (λ a. (a.store, a.load)) arrows.now ≡ arrows_among (map glyph_of glyphs.now) }
+    ensures { IfOk result (λ v. IsPicture (map (λ g. (glyph_of g).step) glyphs.now) v.items) }
+{
+    let mut svg = Vec::new(alloc);
+    put_head(&mut svg, page)?;
+    put_figures(&mut svg, page.below.as_slice())?;
+    put_arrows(&mut svg, arrows)?;
+    put_figures(&mut svg, page.between.as_slice())?;
+    put_glyphs(&mut svg, glyphs)?;
+    svg.extend_from_slice(b"</svg>\n")?;
+    Ok(svg)
 }
 
 /// How many accesses all threads had made behind these steps.
@@ -433,30 +485,12 @@ pub fn picture<A: Allocator + Copy>(
     ends: &[Status],
     file: &[u8],
 ) -> Result<Vec<u8, A>, AllocError>
-    ensures glyphs { IfOk result
-        (λ v. IsPicture (arrow_titles (map (λ s. (s.accesses, s.access, s.event)) steps.now))
-        (flat_map (λ s. title_of (is_drawn s.accesses s.access s.event s.action) s.line.items) steps.now) v.items) }
+    ensures { IfOk result (λ v. IsPicture (flat_map drawn_of steps.now) v.items) }
 {
     let threads = ends.len().min(64) as u32;
     let mut sheet = Sheet::new(alloc, cells, threads)?;
-    let mut arrows = Vec::new(alloc);
-    let glyphs = glyphs(alloc, steps, &mut sheet, &mut arrows)?;
-    close(alloc, &mut sheet, threads)?;
-    let mut below = Vec::new(alloc);
-    let mut between = Vec::new(alloc);
-    put_below(
-        alloc,
-        &mut below,
-        &mut between,
-        &mut sheet,
-        ends,
-        accesses_of(steps),
-        file,
-    )?;
-    with_glyphs(
-        below,
-        arrows.as_slice(),
-        between.as_slice(),
-        glyphs.as_slice(),
-    )
+    let (glyphs, arrows) = glyphs(&mut sheet, steps)?;
+    close(&mut sheet, threads)?;
+    let page = page_of(&mut sheet, ends, accesses_of(steps), file)?;
+    picture_text(alloc, &page, arrows.as_slice(), glyphs.as_slice())
 }

@@ -1,5 +1,5 @@
 use Rattle.std.proofs.Common.{◌≡◌, ◌++◌, drop}
-use Rattle.picture.specs.Glyphs.{xml}
+use Rattle.picture.specs.Figures.{xml}
 use Rattle.picture.proofs.pieces.put_words.Given as goal
 
 -- what is written and what is to come make up the whole

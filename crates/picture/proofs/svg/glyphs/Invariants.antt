@@ -1,16 +1,13 @@
-use Rattle.std.proofs.Common.{◌≡◌, ◌++◌, take, drop}
+use Rattle.std.proofs.Common.{◌≡◌, ◌++◌, drop}
 use Rattle.std.specs.Prelude.{flat_map, map}
-use Rattle.picture.specs.Arrows.{arrow_titles, arrows_behind}
-use Rattle.picture.specs.Glyphs.{is_drawn, title_of}
+use Rattle.picture.specs.Arrows.{arrows_among}
+use Rattle.picture.specs.inner.Views.{drawn_of, glyph_of}
 use Rattle.picture.proofs.svg.glyphs.Given as goal
 
--- the titles of what is made, and those of the steps to come, make up the whole, of glyphs and of arrows
+-- the steps of the glyphs that are made, and those to come that are drawn, make up the whole; and each arrow among these
+-- glyphs is made
 abbrev pub invariant-steps : goal.invariant-steps
 invariant-steps g l =
-    (map (λ m. m.title.items) l.glyphs.items
-    ++ flat_map (λ s. title_of (is_drawn s.accesses s.access s.event s.action) s.line.items) (drop l.at l.steps)
-    ≡ flat_map (λ s. title_of (is_drawn s.accesses s.access s.event s.action) s.line.items) l.steps)
-    × (map (λ m. m.title.items) l.arrows.items
-    ++ arrows_behind (map (λ s. (s.accesses, s.access, s.event)) (take l.at l.steps)) (map (λ s. (s.accesses, s.access, s.event)) (drop l.at l.steps))
-    ≡ map (λ m. m.title.items) l.initial.arrows.items
-    ++ arrow_titles (map (λ s. (s.accesses, s.access, s.event)) l.steps))
+    (map (λ g. (glyph_of g).step) l.glyphs.items ++ flat_map drawn_of (drop l.step-index l.steps)
+    ≡ flat_map drawn_of l.steps)
+    × (map (λ a. (a.store, a.load)) l.arrows.items ≡ arrows_among (map glyph_of l.glyphs.items))

@@ -1,0 +1,2 @@
+-- the Rust types as plain ones
+pub mod Views
