@@ -1,0 +1,15 @@
+//! Tests of `walks`.
+#![tactic(auto)]
+
+#[cfg(test)]
+mod asserted;
+#[cfg(test)]
+mod counted;
+#[cfg(test)]
+mod cut;
+#[cfg(test)]
+mod led;
+#[cfg(test)]
+mod programs;
+#[cfg(test)]
+mod walked;

@@ -1,0 +1,62 @@
+//! Walks over the states of programs.
+
+ghost use Rattle.std.specs.Prelude.{IfOk, IfSome};
+ghost use Rattle.walks.specs.Walks.{IsWalk};
+
+use atomic_code::is_memory;
+use bytecode::Code;
+use lower::lower;
+use separation::Accepted;
+use std::alloc::{AllocError, Allocator};
+use walks::{Progress, Walk, walk_states};
+
+/// How many states were told last.
+#[derive(Drop)]
+struct Told {
+    states: usize,
+}
+
+impl Progress for Told {
+    fn tell(&mut self, states: usize) {
+        self.states = states;
+    }
+}
+
+/// The code of a program, if it has one.
+pub fn code_of<A: Allocator + Copy>(alloc: A, accepted: &Accepted<A>) -> Option<Code<A>> {
+    lower(alloc, accepted).ok()
+}
+
+/// The first memory of a code.
+fn memory_of<A: Allocator + Copy>(alloc: A, code: &Code<A>) -> Result<Vec<u64, A>, AllocError> {
+    let mut memory = Vec::new(alloc);
+    code.push_initial(&mut memory)?;
+    Ok(memory)
+}
+
+/// The walk of so many threads of a code, to at most so many states: none where one of them doesn't come to rest in a
+/// thousand instructions.
+pub fn walk_of<A: Allocator + Copy>(
+    alloc: A,
+    code: &Code<A>,
+    threads: u32,
+    limit: u32,
+) -> Result<Option<Walk<A>>, AllocError>
+    ensures { IfOk result (λ r. IfSome r (IsWalk code.now)) }
+{
+    let memory = memory_of(alloc, code)?;
+    if threads == 0 || !is_memory(code, memory.as_slice()) {
+        return Ok(None);
+    }
+    let mut told = Told { states: 0 };
+    walk_states(
+        alloc,
+        code,
+        memory.as_slice(),
+        threads,
+        1000,
+        limit,
+        7,
+        &mut told,
+    )
+}
