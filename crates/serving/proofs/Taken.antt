@@ -5,7 +5,7 @@ use Rattle.std.specs.Io.Take.{take_limit, take_inner, take_remaining}
 use Rattle.std.specs.declared.io.traits.Take.{Take}
 use Rattle.std.proofs.lemmas.List.{length-take, take_all}
 use Rattle.serving.specs.declared.files.SourceText.{SourceText}
-use Rattle.serving.specs.inner.Read.{IsTextOf}
+use Rattle.serving.specs.Sources.{IsTextOf}
 
 taken_known : (known : Option (List ℕ)) (n : ℕ) (before ys : List ℕ) → before ≡ [] → IfSome (option_map (take n) known) (λ xs. ys ≡ before ++ xs) → IfSome known (λ xs. ys ≡ take n xs)
 taken_known None n before ys empty is = tt

@@ -2,6 +2,8 @@
 pub mod Usage
 -- what a status says of a report
 pub mod Reports
+-- what a file holds, as a source
+pub mod Sources
 -- which sources are accepted
 pub mod Checks
 -- what the report of an order shows

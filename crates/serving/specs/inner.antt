@@ -1,7 +1,5 @@
 -- what is shown of a reported thread
 pub mod ThreadReports
--- what was read
-pub mod Read
 -- what is shown of a replay's report
 pub mod Replayed
 -- the words beyond those of globals

@@ -7,7 +7,7 @@ ghost use Rattle.serving.specs.Files.{AnswersFiles, RefusesSource, WritesForFile
 ghost use Rattle.serving.specs.Refused.{IsRefusedFor};
 ghost use Rattle.serving.specs.Written.{IsAskedFor, WritesPart};
 ghost use Rattle.serving.specs.Refusals.{IsRefused};
-ghost use Rattle.serving.specs.inner.Read.{IsTextOf};
+ghost use Rattle.serving.specs.Sources.{IsTextOf};
 ghost use Rattle.replay.specs.declared.line.TheConstants.{MOST_STEPS};
 ghost use Rattle.replay.specs.Schedules.{counts};
 ghost use Rattle.replay.specs.Turns.{AreLinesOfOrder};
@@ -200,11 +200,13 @@ pub(crate) fn text_of<A: Allocator + Copy, R: Read + Drop, E: Write>(
 /// One byte more than a source may have.
 const BEYOND_MOST_BYTES: u64 = MOST_BYTES as u64 + 1;
 
-/// What a file holds.
+/// What a file holds, as a source.
 #[derive(Drop)]
-pub(crate) enum SourceText<A: Allocator> {
+pub enum SourceText<A: Allocator = Global> {
     Text(String<A>),
+    /// Its bytes are not UTF-8.
     NotText,
+    /// It has more bytes than a source may have.
     TooLong,
 }
 
@@ -227,8 +229,8 @@ fn source_of<A: Allocator>(bytes: Vec<u8, A>) -> SourceText<A>
     }
 }
 
-/// Reads a source: all of it, where it is a text.
-fn read_source<A: Allocator, R: Read + Drop>(alloc: A, source: R) -> io::Result<SourceText<A>>
+/// Reads a source: all of it, where it is a text, and else up to one byte past the most that it may have.
+pub fn read_source<A: Allocator, R: Read + Drop>(alloc: A, source: R) -> io::Result<SourceText<A>>
     ensures { IfOk result (λ s. IfSome (R.remaining source) (λ bytes. IsTextOf bytes s)) }
 {
     let bytes = read_bytes(alloc, source)?;

@@ -22,7 +22,7 @@ mod tell;
 mod words;
 
 pub use all_outcomes::{OutcomesFound, list_outcomes};
-pub use files::{Files, serve_files};
+pub use files::{Files, SourceText, read_source, serve_files};
 pub use listing::list_source;
 pub use program::{Compiled, SourceFault, compile};
 pub use replays::{Replayed, lines_shown, replay_code};

@@ -1,6 +1,6 @@
 use Rattle.std.proofs.Common.{inl, inr, subst}
 use Rattle.std.specs.Prelude.{IfSome}
-use Rattle.serving.specs.inner.Read.{IsTextOf}
+use Rattle.serving.specs.Sources.{IsTextOf}
 use Rattle.serving.proofs.Refusals.{long_refused}
 use Rattle.serving.proofs.files.text_of.Goals as goal
 
