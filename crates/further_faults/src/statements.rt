@@ -108,7 +108,7 @@ fn else_without<A: Allocator + Copy>(
     stmt: &Option<Boxed<Stmt<A>, A>>,
 ) -> Result<Option<Boxed<Stmt<A>, A>>, AllocError> {
     match stmt {
-        Some(stmt) => Ok(Some(boxed_without(alloc, left, stmt)?)),
+        Some(stmt) => Ok(Some(Boxed::new(alloc, stmt_without(alloc, left, stmt.get())?)?)),
         None => Ok(None),
     }
 }

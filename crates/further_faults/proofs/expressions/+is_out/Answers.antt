@@ -1,0 +1,11 @@
+use Rattle.std.proofs.Common.{ap, arith}
+use denote.Param.Weighed.{most}
+use Rattle.syntax.specs.declared.tree.Expr.{the_lemmas}
+use Rattle.syntax.proofs.tree.Expr.TheLaws.{the_size}
+use Rattle.further_faults.proofs.expressions.+is_out.Goals as goal
+
+pub is_out-any_out-requires : goal.is_out-any_out-requires
+is_out-any_out-requires g t c κs within =
+    let size = simp the_lemmas at (ap (the_size g.row.A g.A.Allocator g.A.laws) c.in-Call.is) in
+    let here = ap (most (the_size g.row.A g.A.Allocator g.A.laws)) c.as_slice.ensures in
+    (omega (arith, size, here, c.decreases), within)
