@@ -1,5 +1,6 @@
 //! Replays of orders: each entry is a whole turn of its thread, which nobody disturbs.
 
+use std::alloc::Global;
 use std::sync::Wait;
 use std::thread::Threads;
 use test_serving::{ADDS, Row, answers, serve_line, wrong_row};
