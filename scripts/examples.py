@@ -28,6 +28,9 @@ PROGRAM = re.compile(r"^```c\n(.*?)^```$", re.M | re.S)
 RUN = re.compile(r"\$ txc run examples/((?:against/)?\w+)\.c\n")
 # Globals of 64 bits: their names are words of these lines.
 WIDE = re.compile(r"^(?:signed )?long long (.*);$", re.M)
+# Transcripts stand in tables of at most so many rows, with these names.
+MOST_ROWS = 18
+PARTS = ("first", "second", "third", "fourth", "fifth")
 # Programs of which something is warned: it is what they show.
 WARNED = ["examples/against/nested_cancel.c", "examples/seats.c", "examples/seats_checked.c"]
 SCHEDULE = re.compile(r"^```\n((?:\d+ a?\d+\n)+)```$", re.M)
@@ -70,12 +73,35 @@ def transcript(path):
     return words, *(read(found[1]) if found else "" for found in files), shown
 
 
+def table(name, rows):
+    return f"""fn {name}() -> &'static [Transcript] {{
+    static ROWS: [Transcript; {len(rows)}] = [
+{"".join(rows)}    ];
+    &ROWS
+}}
+
+"""
+
+
+def shown_test(which):
+    return f"""#[test]
+fn {which}_transcripts_show_what_they_should(rt: HostRuntime) {{
+    assert_eq!(rt;
+        wrong_transcript(&rt, rt.alloc(), {which}_transcripts()),
+        None
+    );
+}}
+"""
+
+
 def tests():
     examples = [row([literal(name), data(read(name)), data(read(name[:-2] + ".out"))], 8) for name in programs()]
     transcripts = [
         row([literal(words), *map(data, shown)], 8)
         for words, *shown in map(transcript, names("examples/transcripts/*.txt"))
     ]
+    # (the proof of a table grows faster than its rows)
+    parts = [transcripts[at : at + MOST_ROWS] for at in range(0, len(transcripts), MOST_ROWS)]
     return f"""//! The programs of examples/ with what each prints, and its transcripts: written by scripts/examples.py.
 
 use std::alloc::Global;
@@ -162,13 +188,7 @@ type Transcript = (
     &'static [u8],
 );
 
-fn transcripts() -> &'static [Transcript] {{
-    static ROWS: [Transcript; {len(transcripts)}] = [
-{"".join(transcripts)}    ];
-    &ROWS
-}}
-
-/// Whether this is what was served: the output, and behind it the standard error.
+{"".join(table(f"{which}_transcripts", part) for which, part in zip(PARTS, parts, strict=False))}/// Whether this is what was served: the output, and behind it the standard error.
 fn shows(served: &Served, shown: &[u8]) -> bool {{
     let out = served.out.as_slice();
     shown.starts_with(out) && shown.get(out.len()..) == Some(served.err.as_slice())
@@ -194,8 +214,12 @@ fn is_shown<H: Threads + Wait + Sync>(
 }}
 
 /// The first command line of which a terminal shows something else.
-fn wrong_transcript<H: Threads + Wait + Sync>(rt: &H, alloc: Global) -> Option<&'static str> {{
-    for (line, source, schedule, report, shown) in transcripts() {{
+fn wrong_transcript<H: Threads + Wait + Sync>(
+    rt: &H,
+    alloc: Global,
+    rows: &'static [Transcript],
+) -> Option<&'static str> {{
+    for (line, source, schedule, report, shown) in rows {{
         if !is_shown(rt, alloc, line, source, schedule, report, shown) {{
             return Some(*line);
         }}
@@ -203,11 +227,7 @@ fn wrong_transcript<H: Threads + Wait + Sync>(rt: &H, alloc: Global) -> Option<&
     None
 }}
 
-#[test]
-fn transcripts_show_what_they_should(rt: HostRuntime) {{
-    assert_eq!(rt; wrong_transcript(&rt, rt.alloc()), None);
-}}
-"""
+{chr(10).join(shown_test(which) for which, _ in zip(PARTS, parts, strict=False))}"""
 
 
 def told(source, out):

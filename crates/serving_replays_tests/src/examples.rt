@@ -257,8 +257,8 @@ type Transcript = (
     &'static [u8],
 );
 
-fn transcripts() -> &'static [Transcript] {
-    static ROWS: [Transcript; 54] = [
+fn first_transcripts() -> &'static [Transcript] {
+    static ROWS: [Transcript; 18] = [
         (
             "txc certify examples/hashset.c --threads 2 --order-file examples/orders/hashset.txt --report examples/orders/hashset.out",
             b"// A set of numbers in a table of 16 places, without a lock of its own: each insertion is one step.\nint place[16], count;\n\nint insert(int key) {\n    int at = key * 7 & 15, added = 0;\n    __transaction_atomic {\n        while (place[at] != 0 && place[at] != key) at = at + 1 & 15;\n        if (place[at] == 0) {\n            place[at] = key;\n            count = count + 1;\n            added = 1;\n        }\n    }\n    return added;\n}\n\nvoid worker(int self) {\n    int i, added = 0;\n    for (i = 1; i <= 4; i++) added = added + insert(i * (self + 1));\n    printf(\"%d added\\n\", added);\n}\n",
@@ -385,6 +385,12 @@ fn transcripts() -> &'static [Transcript] {
             b"",
             b"== outcome --order 0,1\n== thread 0: ended\n== thread 1: ended\n160\n== memory\nchecking = 70\nsavings = 90\n== outcomes: 1, orders: 2\n",
         ),
+    ];
+    &ROWS
+}
+
+fn second_transcripts() -> &'static [Transcript] {
+    static ROWS: [Transcript; 18] = [
         (
             "txc outcomes examples/counter.c --threads 2",
             b"// Each thread adds one, three times. No addition is lost, whatever the threads do.\nint x;\n\nvoid worker(int self) {\n    int i;\n    for (i = 0; i < 3; i++) {\n        __transaction_atomic { x = x + 1; }\n    }\n}\n",
@@ -511,6 +517,12 @@ fn transcripts() -> &'static [Transcript] {
             b"",
             b"0 1\n1 1\n0 7\n1 7\n0 16\n1 16\n",
         ),
+    ];
+    &ROWS
+}
+
+fn third_transcripts() -> &'static [Transcript] {
+    static ROWS: [Transcript; 18] = [
         (
             "txc replay examples/transfer.c --threads 2 --schedule examples/schedules/transfer.txt",
             b"// Both accounts change in one step, or neither does.\nint checking = 120, savings = 40;\n\nvoid worker(int self) {\n    __transaction_atomic {\n        checking = checking - 50;\n        savings = savings + 50;\n    }\n    __transaction_atomic {\n        savings = savings + 1;\n    }\n}\n",
@@ -667,8 +679,12 @@ fn is_shown<H: Threads + Wait + Sync>(
 }
 
 /// The first command line of which a terminal shows something else.
-fn wrong_transcript<H: Threads + Wait + Sync>(rt: &H, alloc: Global) -> Option<&'static str> {
-    for (line, source, schedule, report, shown) in transcripts() {
+fn wrong_transcript<H: Threads + Wait + Sync>(
+    rt: &H,
+    alloc: Global,
+    rows: &'static [Transcript],
+) -> Option<&'static str> {
+    for (line, source, schedule, report, shown) in rows {
         if !is_shown(rt, alloc, line, source, schedule, report, shown) {
             return Some(*line);
         }
@@ -677,6 +693,25 @@ fn wrong_transcript<H: Threads + Wait + Sync>(rt: &H, alloc: Global) -> Option<&
 }
 
 #[test]
-fn transcripts_show_what_they_should(rt: HostRuntime) {
-    assert_eq!(rt; wrong_transcript(&rt, rt.alloc()), None);
+fn first_transcripts_show_what_they_should(rt: HostRuntime) {
+    assert_eq!(rt;
+        wrong_transcript(&rt, rt.alloc(), first_transcripts()),
+        None
+    );
+}
+
+#[test]
+fn second_transcripts_show_what_they_should(rt: HostRuntime) {
+    assert_eq!(rt;
+        wrong_transcript(&rt, rt.alloc(), second_transcripts()),
+        None
+    );
+}
+
+#[test]
+fn third_transcripts_show_what_they_should(rt: HostRuntime) {
+    assert_eq!(rt;
+        wrong_transcript(&rt, rt.alloc(), third_transcripts()),
+        None
+    );
 }
