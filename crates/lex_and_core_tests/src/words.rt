@@ -88,7 +88,7 @@ fn words() -> &'static [Row] {
     static ROWS: [Row; 4] = [
         (
             "txc|check|a.c|--format=json",
-            br#"Ok(Program { file: "a.c", verbose: false, format: Json, task: Check })"#,
+            br#"Ok(Program { file: "a.c", verbose: false, format: Json, task: Check { warns: false, all: false } })"#,
         ),
         (
             "txc|listing|a.c",

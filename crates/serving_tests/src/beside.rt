@@ -60,7 +60,7 @@ fn rows() -> &'static [Row] {
         ),
         (
             "void worker(int self) { int a, b; a = b = 1; }",
-            "txc: fault 10 at 1:41: unexpected token\nvoid worker(int self) { int a, b; a = b = 1; }\n                                        ^\nan assignment is a statement, and has no value: == compares\nexpected ';', '(', '[' or an operator\ntxc explain 10 says more\n",
+            "txc: fault 10 at 1:41: unexpected token\nvoid worker(int self) { int a, b; a = b = 1; }\n                                        ^\nan assignment is a statement, and has no value: write one for each variable\nexpected ';', '(', '[' or an operator\ntxc explain 10 says more\n",
         ),
         (
             "void worker(int self) { int a = &self; }",

@@ -102,7 +102,7 @@ fn rows() -> &'static [Row] {
             (
                 1,
                 b"",
-                b"txc: fault 20 at 1:32: unknown name\nint x; void worker(int self) { y = 1; x = 1; }\n                               ^\ntxc explain 20 says more\n",
+                b"txc: fault 20 at 1:32: unknown name\nint x; void worker(int self) { y = 1; x = 1; }\n                               ^\nit is declared nowhere\ntxc explain 20 says more\n",
             ),
         ),
         (
@@ -122,14 +122,18 @@ fn rows() -> &'static [Row] {
             (
                 1,
                 b"",
-                b"txc: fault 20 at 1:32: unknown name\nint x; void worker(int self) { y = 1; x = 1; }\n                               ^\ntxc explain 20 says more\ntxc: fault 50 at 1:39: shared access outside a transaction\nint x; void worker(int self) { y = 1; x = 1; }\n                                      ^\nwrite __transaction_atomic { .. } round it, or __transaction_atomic ( .. ) round an expression\ntxc explain 50 says more\ntxc: faults: 2\n",
+                b"txc: fault 20 at 1:32: unknown name\nint x; void worker(int self) { y = 1; x = 1; }\n                               ^\nit is declared nowhere\ntxc explain 20 says more\ntxc: fault 50 at 1:39: shared access outside a transaction\nint x; void worker(int self) { y = 1; x = 1; }\n                                      ^\nwrite __transaction_atomic { .. } round it, or __transaction_atomic ( .. ) round an expression\ntxc explain 50 says more\ntxc: faults: 2\n",
             ),
         ),
         (
             "txc check a.c --format short",
             b"int x; void worker(int self) { y = 1; x = 1; }",
             true,
-            (1, b"", b"a.c:1:32: error: unknown name [20]\n"),
+            (
+                1,
+                b"",
+                b"a.c:1:32: error: unknown name: it is declared nowhere [20]\n",
+            ),
         ),
         (
             "txc check a.c --format short --all",
@@ -138,7 +142,7 @@ fn rows() -> &'static [Row] {
             (
                 1,
                 b"",
-                b"a.c:1:32: error: unknown name [20]\na.c:1:39: error: shared access outside a transaction [50]\n",
+                b"a.c:1:32: error: unknown name: it is declared nowhere [20]\na.c:1:39: error: shared access outside a transaction: write __transaction_atomic { .. } round it, or __transaction_atomic ( .. ) round an expression [50]\n",
             ),
         ),
         (
@@ -148,7 +152,7 @@ fn rows() -> &'static [Row] {
             (
                 1,
                 b"",
-                b"txc: fault 20 at 1:32: unknown name\nint x; void worker(int self) { y = 1; x = 1; }\n                               ^\ntxc explain 20 says more\n",
+                b"txc: fault 20 at 1:32: unknown name\nint x; void worker(int self) { y = 1; x = 1; }\n                               ^\nit is declared nowhere\ntxc explain 20 says more\n",
             ),
         ),
         (

@@ -332,7 +332,7 @@ fn what_has_no_code_is_told(rt: HostRuntime) {
 /// What is told on a terminal of a source.
 const UNDERLINED: (&str, &str) = (
     "void worker(int self) { __transaction_atomic { zoo = 1; } }",
-    "txc: fault 20 at 1:48: unknown name\nvoid worker(int self) { __transaction_atomic { zoo = 1; } }\n                                               ^^^\ntxc explain 20 says more\n",
+    "txc: fault 20 at 1:48: unknown name\nvoid worker(int self) { __transaction_atomic { zoo = 1; } }\n                                               ^^^\nit is declared nowhere\ntxc explain 20 says more\n",
 );
 
 #[test]
