@@ -183,34 +183,32 @@ def turns(rounds):
             print(f'| {n:,} | {1000 * least:.0f} |')
 
 
-# A source for all outcomes of it: how it is called, its file or its text, how many threads, and how many outcomes over
-# how many orders there are.
+# A source for all outcomes of it: how it is called, its file or its text, how many threads, and the list's last line.
 ALL = [
+    ('`examples/counter.c`', 'counter.c', 3, 'outcomes: 1, stuck: 0, states: 64'),
+    ('`examples/counter.c`', 'counter.c', 8, 'outcomes: 1, stuck: 0, states: 65536'),
+    ('`examples/locks.c`', 'locks.c', 2, 'outcomes: 1, stuck: 1, states: 20'),
+    ('`examples/ticket.c`', 'ticket.c', 4, 'outcomes: 1, stuck: 0, states: 141260'),
+    ('`examples/queue.c`', 'queue.c', 2, 'outcomes: 128, stuck: 0, states: 1208'),
+    ('`examples/queue.c`', 'queue.c', 3, 'outcomes: 104919, stuck: 0, states: 642454'),
     (
-        '`counter.c`, three transactions each',
-        os.path.join(TOP, 'examples', 'counter.c'),
-        3,
-        'outcomes: 1, orders: 1680',
-    ),
-    (
-        'two transactions each that add to a word',
-        'int x; void worker(int self) { int i; for (i = 0; i < 2; i++) { __transaction_atomic { x = x + 1; } } }',
-        4,
-        'outcomes: 1, orders: 2520',
+        'reads a word in a transaction, and adds 1 in the next',
+        'int x; void worker(int self) { int t; __transaction_atomic { t = x; } __transaction_atomic { x = t + 1; } }',
+        8,
+        'outcomes: 8, stuck: 0, states: 741218',
     ),
     (
         'one transaction each that shows how many were before',
         'int x; void worker(int self) { int k; __transaction_atomic { k = x; x = x + 1; } printf("%d", k); }',
         6,
-        'outcomes: 720, orders: 720',
+        'outcomes: 720, stuck: 0, states: 1957',
     ),
     (
-        '`counter.c`, stopped at 100,000 states',
-        os.path.join(TOP, 'examples', 'counter.c'),
-        4,
-        'outcomes: 0, orders: 0, stopped at the limit',
+        'three transactions each on an element of its own, stopped',
+        'int a[16]; void worker(int self) { int i; for (i = 0; i < 3; i++) __transaction_atomic { a[self] = a[self] + 1; } }',
+        10,
+        'outcomes: 1, stuck: 0, states: 1000000, stopped at the limit',
     ),
-    ('`queue.c`, stopped at 100,000 states', os.path.join(TOP, 'examples', 'queue.c'), 2, 'stopped at the limit'),
 ]
 
 
@@ -220,7 +218,7 @@ def outcomes(rounds):
     print('\n`txc outcomes`, processor time and the most memory held\n\n| Of | Threads | ms | MiB |\n|---|---|---|---|')
     with tempfile.TemporaryDirectory() as place:
         for name, source, threads, last in ALL:
-            file = source
+            file = os.path.join(TOP, 'examples', source)
             if not source.endswith('.c'):
                 file = os.path.join(place, 'all.c')
                 with open(file, 'w', encoding='utf-8') as text:

@@ -44,7 +44,7 @@ PROMISES = (
     ("`txc replay --print-schedule`", "PrintsSchedule lines_of_seed PrintsOrder"),
     ("`txc check`", "SaysAccepted"),
     ("`txc listing`", "PrintsListing"),
-    ("a refusal by `check`, `source`, `outcomes` (status 1)", "IsRefused"),
+    ("a refusal by `check`, `source`, `certify` (status 1)", "IsRefused"),
     ("a refusal where code is made (status 1)", "HasNoCode"),
     ("what is written, whatever the status", "WritesFor"),
     ("`serve`: all of these", "AnswersRequest WritesFor IsRequestRefused"),

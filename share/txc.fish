@@ -43,13 +43,13 @@ complete -c txc -n '__fish_seen_subcommand_from source' -l threads -x -d 'How ma
 complete -c txc -n '__fish_seen_subcommand_from source' -l order -x -d 'Whose turn it is, turn by turn: thread numbers joined by commas, or an empty word'
 complete -c txc -n '__fish_seen_subcommand_from source' -l ticks -x -d 'How many ticks each thread has: 0 to 1000000, and 100000 if not given'
 complete -c txc -n '__fish_seen_subcommand_from source' -l help -d 'Prints help'
-complete -c txc -n __fish_use_subcommand -a outcomes -d 'Lists what can come out of a program: each outcome of its source once, with an order of threads that gives it'
+complete -c txc -n __fish_use_subcommand -a outcomes -d 'Lists what can come out of a program: each outcome once, with an order of threads that gives it, and deadlocks'
 complete -c txc -n '__fish_seen_subcommand_from outcomes' -F
 complete -c txc -n '__fish_seen_subcommand_from outcomes' -l verbose -d 'Shows the line of a fault, and says why a file can'\''t be read'
 complete -c txc -n '__fish_seen_subcommand_from outcomes' -l format -x -a 'short' -d 'How a fault is told, in one line: short is FILE:LINE:COL: error: WORDS [NN], for editors, json an object'
 complete -c txc -n '__fish_seen_subcommand_from outcomes' -l threads -x -d 'How many threads there are: 1 to 64, and 1 if not given'
-complete -c txc -n '__fish_seen_subcommand_from outcomes' -l ticks -x -d 'How many ticks each thread has: 0 to 1000000, and 100000 if not given'
-complete -c txc -n '__fish_seen_subcommand_from outcomes' -l limit -x -d 'How many states are looked at before it stops: 0 to 4294967295, and 100000 if not given'
+complete -c txc -n '__fish_seen_subcommand_from outcomes' -l steps -x -d 'How many steps of its code a thread makes in one turn: 0 to 4294967295, and 1000000 if not given'
+complete -c txc -n '__fish_seen_subcommand_from outcomes' -l limit -x -d 'How many states are looked at before it stops: 0 to 4294967295, and 1000000 if not given'
 complete -c txc -n '__fish_seen_subcommand_from outcomes' -l help -d 'Prints help'
 complete -c txc -n __fish_use_subcommand -a certify -d 'Says whether a report is what the source prints in an order of threads, byte for byte, and else where it differs'
 complete -c txc -n '__fish_seen_subcommand_from certify' -F

@@ -19,7 +19,7 @@ no_replay given none (Picture threads steps) is = none steps is.2
 no_replay given none (PrintSchedule threads seed count) is = none (Seed seed count) is.2
 no_replay given none (PrintOrder threads order) is = none (Order order) is.2
 no_replay given none (Source threads order ticks) is = let e : 114 ≡ 115 = ap (λ l. slice_index l 0) is.0 in absurd (omega (arith, e))
-no_replay given none (Outcomes threads ticks limit) is = let e : 114 ≡ 111 = ap (λ l. slice_index l 0) is.0 in absurd (omega (arith, e))
+no_replay given none (Outcomes threads steps limit) is = let e : 114 ≡ 111 = ap (λ l. slice_index l 0) is.0 in absurd (omega (arith, e))
 
 -- an order that is given makes other steps none
 pub no_ordered : (given : List Row) (text : Text) → first_of (codes "order") given ≡ Some text → ((ns : List ℕ) → IsOrderGiven given ns → (n : ℕ) → AreCounted given n → ⊥) → (steps : Steps) → AreSteps given steps → ⊥
@@ -38,7 +38,7 @@ no_source given none (Picture threads steps) is = let e : 115 ≡ 114 = ap (λ l
 no_source given none (PrintSchedule threads seed count) is = let e : 115 ≡ 114 = ap (λ l. slice_index l 0) is.0 in absurd (omega (arith, e))
 no_source given none (PrintOrder threads order) is = let e : 115 ≡ 114 = ap (λ l. slice_index l 0) is.0 in absurd (omega (arith, e))
 no_source given none (Source threads order ticks) is = none order.items is.2
-no_source given none (Outcomes threads ticks limit) is = let e : 115 ≡ 111 = ap (λ l. slice_index l 0) is.0 in absurd (omega (arith, e))
+no_source given none (Outcomes threads steps limit) is = let e : 115 ≡ 111 = ap (λ l. slice_index l 0) is.0 in absurd (omega (arith, e))
 
 -- a text that lists no threads is no order
 pub no_order : (given : List Row) (taken text : Text) → ((order : List ℕ) → IsOrder taken order → ⊥) → taken ≡ text → first_of (codes "order") given ≡ Some text → (order : List ℕ) → IsOrderGiven given order → ⊥

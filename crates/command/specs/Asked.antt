@@ -140,9 +140,9 @@ IsTask name given (PrintOrder threads order) = (name ≡ codes "replay") × AreT
 IsTask name given (Source threads order ticks) = (name ≡ codes "source") × AreThreadsGiven given threads
     × IsOrderGiven given order.items
     × IsNumberInRange given (codes "ticks") 100000 0 1000000 ticks
-IsTask name given (Outcomes threads ticks limit) = (name ≡ codes "outcomes") × AreThreadsGiven given threads
-    × IsNumberInRange given (codes "ticks") 100000 0 1000000 ticks
-    × IsNumberInRange given (codes "limit") 100000 0 4294967295 limit
+IsTask name given (Outcomes threads steps limit) = (name ≡ codes "outcomes") × AreThreadsGiven given threads
+    × IsNumberInRange given (codes "steps") 1000000 0 4294967295 steps
+    × IsNumberInRange given (codes "limit") 1000000 0 4294967295 limit
 
 -- a file of an order, and one of a report; at most one of these and the source is standard input
 pub record AreClaimFiles (given : List Row) (order report : Text) : Type 0 where

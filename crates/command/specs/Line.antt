@@ -64,7 +64,7 @@ source_app =
 abbrev pub outcomes_app : App
 outcomes_app =
     let threads = with_rule (file_app (codes "outcomes")) (text_rule (codes "threads")) in
-    with_rule (with_rule threads (text_rule (codes "ticks"))) (text_rule (codes "limit"))
+    with_rule (with_rule threads (text_rule (codes "steps"))) (text_rule (codes "limit"))
 
 abbrev pub certify_app : App
 certify_app =

@@ -311,16 +311,22 @@ fn outcomes<'a>(alloc: Global) -> Result<Command<'a>, AllocError>
     let command = of_file(
         alloc,
         "outcomes",
-        "Lists what can come out of a program: each outcome of its source once, with an order of threads that gives it",
+        "Lists what can come out of a program: each outcome once, with an order of threads that gives it, and deadlocks",
         "Example:\n  txc outcomes counter.c --threads 2",
     );
     let command = with(command, threads(alloc));
-    let command = with(command, ticks(alloc));
+    let steps = text(
+        alloc,
+        "steps",
+        "N",
+        "How many steps of its code a thread makes in one turn: 0 to 4294967295, and 1000000 if not given",
+    );
+    let command = with(command, steps);
     let limit = text(
         alloc,
         "limit",
         "L",
-        "How many states are looked at before it stops: 0 to 4294967295, and 100000 if not given",
+        "How many states are looked at before it stops: 0 to 4294967295, and 1000000 if not given",
     );
     with(command, limit)
 }

@@ -104,11 +104,11 @@ pub enum Task {
         order: Vec<u32>,
         ticks: u32,
     },
-    /// Lists the outcomes of 1 to 64 threads in all orders, each with 0 to 1,000,000 ticks, over at most so many
-    /// states.
+    /// Lists the outcomes of 1 to 64 threads in all orders, over at most so many states. In a turn a thread makes at
+    /// most so many steps of its code.
     Outcomes {
         threads: u32,
-        ticks: u32,
+        steps: u32,
         limit: u32,
     },
 }

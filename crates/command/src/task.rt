@@ -193,8 +193,8 @@ fn outcomes(alloc: Global, given: &ArgMatches<'_>) -> Result<Task, UsageFault>
 {
     Ok(Task::Outcomes {
         threads: threads(alloc, given)?,
-        ticks: number(alloc, given, "ticks", 100000, 0, MOST_TICKS)?,
-        limit: number(alloc, given, "limit", 100000, 0, u32::MAX)?,
+        steps: number(alloc, given, "steps", 1000000, 0, u32::MAX)?,
+        limit: number(alloc, given, "limit", 1000000, 0, u32::MAX)?,
     })
 }
 

@@ -148,15 +148,15 @@ fn outcomes() -> &'static [Row] {
     static ROWS: [Row; 8] = [
         (
             "txc|outcomes|a.c",
-            br#"Ok(Program { file: "a.c", verbose: false, format: Plain, task: Outcomes { threads: 1, ticks: 100000, limit: 100000 } })"#,
+            br#"Ok(Program { file: "a.c", verbose: false, format: Plain, task: Outcomes { threads: 1, steps: 1000000, limit: 1000000 } })"#,
         ),
         (
-            "txc|outcomes|--threads=64|--ticks=1000000|--limit=4294967295|a.c|--verbose",
-            br#"Ok(Program { file: "a.c", verbose: true, format: Plain, task: Outcomes { threads: 64, ticks: 1000000, limit: 4294967295 } })"#,
+            "txc|outcomes|--threads=64|--steps=4294967295|--limit=4294967295|a.c|--verbose",
+            br#"Ok(Program { file: "a.c", verbose: true, format: Plain, task: Outcomes { threads: 64, steps: 4294967295, limit: 4294967295 } })"#,
         ),
         (
-            "txc|outcomes|a.c|--limit|0|--ticks|0|--threads|2",
-            br#"Ok(Program { file: "a.c", verbose: false, format: Plain, task: Outcomes { threads: 2, ticks: 0, limit: 0 } })"#,
+            "txc|outcomes|a.c|--limit|0|--steps|0|--threads|2",
+            br#"Ok(Program { file: "a.c", verbose: false, format: Plain, task: Outcomes { threads: 2, steps: 0, limit: 0 } })"#,
         ),
         (
             "txc|outcomes|--threads=0|a.c",
@@ -167,17 +167,17 @@ fn outcomes() -> &'static [Row] {
             br#"Err(Wrong { text: "txc: usage: --threads is 1 to 64\n" })"#,
         ),
         (
-            "txc|outcomes|--ticks=1000001|a.c",
-            br#"Err(Wrong { text: "txc: usage: --ticks is 0 to 1000000\n" })"#,
+            "txc|outcomes|--steps=4294967296|a.c",
+            br#"Err(Wrong { text: "txc: usage: --steps is 0 to 4294967295\n" })"#,
         ),
         // the first value that is wrong is told
         (
-            "txc|outcomes|--ticks=1000001|--threads=0|a.c",
+            "txc|outcomes|--steps=4294967296|--threads=0|a.c",
             br#"Err(Wrong { text: "txc: usage: --threads is 1 to 64\n" })"#,
         ),
         (
-            "txc|outcomes|--limit=4294967295|--ticks=1000000|a.c",
-            br#"Ok(Program { file: "a.c", verbose: false, format: Plain, task: Outcomes { threads: 1, ticks: 1000000, limit: 4294967295 } })"#,
+            "txc|outcomes|--limit=4294967295|--steps=7|a.c",
+            br#"Ok(Program { file: "a.c", verbose: false, format: Plain, task: Outcomes { threads: 1, steps: 7, limit: 4294967295 } })"#,
         ),
     ];
     &ROWS
@@ -652,11 +652,11 @@ fn told_ranges() -> &'static [(&'static str, &'static str)] {
         ("txc|outcomes|--help", "1 to 64, and 1 if not given"),
         (
             "txc|outcomes|--help",
-            "0 to 1000000, and 100000 if not given",
+            "in one turn: 0 to 4294967295, and 1000000 if not given",
         ),
         (
             "txc|outcomes|--help",
-            "0 to 4294967295, and 100000 if not given",
+            "before it stops: 0 to 4294967295, and 1000000 if not given",
         ),
         (
             "txc|certify|--help",

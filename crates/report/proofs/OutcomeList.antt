@@ -1,4 +1,4 @@
--- One step of a loop that adds outcomes to a list.
+-- One step of a loop that adds orders to a list.
 use Rattle.std.proofs.Common.{◌≡◌, ◌∙◌, ℕ, suc, ◌+◌, ◌<◌, ◌≤◌, List, [], ◌∷◌, ◌++◌, map, length, drop, get_or, ap, ap₂, sym, append_assoc, append-nil, add-one, drop-cons, arith}
 use Rattle.std.proofs.lemmas.List.{length-map}
 use Rattle.std.proofs.lemmas.Grind.{common_steps}
@@ -18,17 +18,21 @@ next_outcome view text xs i x before now whole e h was new =
     let at_here = rw split at was in
     rw (new, append_assoc before) at_here
 
--- behind all of them a line with how many they are
-pub last_line : {X Y : Type 0} (view : X → Y) (text : Y → List ℕ) (line : ℕ → List ℕ) (xs : List X) (i : ℕ) (before now whole : List ℕ) → length xs ≤ i → before ++ flat_map text (map view (drop i xs)) ≡ whole → now ≡ before ++ line (length xs) → now ≡ whole ++ line (length (map view xs))
-last_line view text line xs i before now whole over was new =
+-- all are written
+pub all_pushed : {X Y : Type 0} (view : X → Y) (text : Y → List ℕ) (xs : List X) (i : ℕ) (before whole : List ℕ) → length xs ≤ i → before ++ flat_map text (map view (drop i xs)) ≡ whole → before ≡ whole
+all_pushed view text xs i before whole over was =
     let none : drop i xs ≡ [] = all_dropped i xs over in
-    let all : before ≡ whole = sym (append-nil before) ∙ ap (λ ys. before ++ flat_map text (map view ys)) (sym none) ∙ was in
-    new ∙ ap₂ (λ b n. b ++ line n) all (sym (length-map xs view))
+    sym (append-nil before) ∙ ap (λ ys. before ++ flat_map text (map view ys)) (sym none) ∙ was
 
 -- ---- pieces, each put behind those before
 
 pub four_joined : (before a b c d one two three four : List ℕ) → one ≡ before ++ a → two ≡ one ++ b → three ≡ two ++ c → four ≡ three ++ d → four ≡ before ++ (a ++ b ++ c ++ d)
 four_joined before a b c d one two three four first second third fourth = rw (fourth, third, second, first) (simp append_assoc)
 
-pub five_joined : (before a b c d e one two three four five : List ℕ) → one ≡ before ++ a → two ≡ one ++ b → three ≡ two ++ c → four ≡ three ++ d → five ≡ four ++ e → five ≡ before ++ (a ++ b ++ c ++ d ++ e)
-five_joined before a b c d e one two three four five first second third fourth fifth = rw (fifth, fourth, third, second, first) (simp append_assoc)
+pub seven_joined : (before a b c d e f g one two three four five six seven : List ℕ) → one ≡ before ++ a → two ≡ one ++ b → three ≡ two ++ c → four ≡ three ++ d → five ≡ four ++ e → six ≡ five ++ f → seven ≡ six ++ g → seven ≡ before ++ (a ++ b ++ c ++ d ++ e ++ f ++ g)
+seven_joined before a b c d e f g one two three four five six seven first second third fourth fifth sixth seventh = rw (seventh, sixth, fifth, fourth, third, second, first) (simp append_assoc)
+
+-- outcomes, stuck orders, and behind them a line with how many they are
+pub list_is : {X Y : Type 0} (view : X → Y) (outcome stuck : Y → List ℕ) (line : ℕ → ℕ → List ℕ) (xs ys : List X) (one two three : List ℕ) → one ≡ [] ++ flat_map outcome (map view xs) → two ≡ one ++ flat_map stuck (map view ys) → three ≡ two ++ line (length xs) (length ys) → three ≡ flat_map outcome (map view xs) ++ flat_map stuck (map view ys) ++ line (length (map view xs)) (length (map view ys))
+list_is view outcome stuck line xs ys one two three first second third =
+    rw (third, second, first, length-map xs view, length-map ys view) (simp append_assoc)

@@ -2,9 +2,13 @@
 pub mod Printed
 -- the text of a report
 pub mod Report
--- the text of a list of outcomes
+-- the text of a list of outcomes and of stuck orders
 pub mod OutcomeList
 -- the text of a timeline
 pub mod Timeline
 -- the Rust types as plain ones
 pub mod Views
+-- the orders of a set
+pub mod Listed
+-- what only private functions speak of
+pub mod inner

@@ -5,7 +5,7 @@ use Rattle.report.specs.declared.printed.ThreadShown.{ThreadShown}
 use Rattle.report.specs.declared.printed.Shown.{Shown}
 use Rattle.report.specs.declared.printed.Printed.{Printed}
 use Rattle.report.specs.OutcomeList as lists
-use Rattle.report.specs.declared.outcome_list.OutcomeShown.{OutcomeShown}
+use Rattle.report.specs.declared.outcome_list.ReportedOrder.{ReportedOrder}
 
 module _ {A : Type 0} where
   abbrev pub thread_of : ThreadShown A → plain.ThreadShown
@@ -22,5 +22,5 @@ module _ {A : Type 0} where
     holder = p.holder;
   }
 
-  abbrev pub outcome_of : OutcomeShown A → lists.OutcomeShown
-  outcome_of o = record { order = o.order; shown = printed_of o.shown }
+  abbrev pub reported_of : ReportedOrder A → lists.ReportedOrder
+  reported_of o = record { order = o.order; shown = printed_of o.shown }

@@ -1,14 +1,18 @@
-//! Reports: what a run, a replay or a run of the source leaves, as text; lists of outcomes, each with a report; and
-//! what is shown of each step of a replay.
+//! Reports: what a run, a replay or a run of the source leaves, as text; lists of outcomes and of stuck orders, each with
+//! a report; and what is shown of each step of a replay.
 #![tactic(auto)]
 
+mod each_once;
 mod outcome_list;
 mod printed;
 mod push;
 mod report;
+mod report_set;
+mod same;
 mod timeline;
 
-pub use outcome_list::{OutcomeShown, list_text};
+pub use outcome_list::{ReportedOrder, WalkEnd, list_text};
 pub use printed::{End, Printed, Shown, ThreadShown};
 pub use report::report_text;
+pub use report_set::ReportSet;
 pub use timeline::{step_text, timeline_text};

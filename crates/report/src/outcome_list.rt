@@ -1,9 +1,10 @@
-//! The text of a list of outcomes: each with an order of threads that leads to it and the report of that order.
+//! The text of a list of outcomes: each with an order of threads that leads to it and the report of that order; and of
+//! orders that are stuck.
 
 ghost use Rattle.std.specs.Prelude.{◌≡◌, ◌++◌, OnOk, IfOk, codes, decimal, flat_map, map};
-ghost use Rattle.report.specs.OutcomeList.{count_line, order_word, outcome_text, stop_words};
+ghost use Rattle.report.specs.OutcomeList.{count_line, order_text, order_word, stop_words};
 ghost use Rattle.report.specs.OutcomeList as spec;
-ghost use Rattle.report.specs.Views.{outcome_of};
+ghost use Rattle.report.specs.Views.{reported_of};
 
 use crate::printed::Printed;
 use crate::push::{push_bytes, push_number};
@@ -11,13 +12,24 @@ use crate::report::report_text;
 use containers::Items;
 use std::alloc::{AllocError, Allocator};
 
-/// What is shown of an outcome of a source.
+/// An order of a source's threads, with its report.
 #[derive(Drop)]
-pub struct OutcomeShown<A: Allocator = std::alloc::Global> {
-    /// The threads' numbers in an order that leads to the outcome.
+pub struct ReportedOrder<A: Allocator = std::alloc::Global> {
+    /// The threads' numbers.
     pub order: Items<u32, A>,
     /// What the report of that order shows.
     pub shown: Printed<A>,
+}
+
+/// How a walk over the states of threads came to its end.
+#[derive(Clone, Copy, PartialEq, Eq)]
+pub enum WalkEnd {
+    /// All states were found.
+    Whole,
+    /// There are more of them than the limit.
+    AtLimit,
+    /// A thread makes more steps in one turn than it may.
+    AtSteps,
 }
 
 /// Adds thread numbers, with a comma before each.
@@ -42,62 +54,90 @@ fn push_order<A: Allocator>(list: &mut Vec<u8, A>, order: &[u32]) -> Result<(), 
     push_others(list, others)
 }
 
-/// Adds an outcome: its order, and the report of that.
-fn push_outcome<A: Allocator + Copy>(
+/// Adds orders, each behind these words and with its report.
+fn push_orders<A: Allocator + Copy>(
     alloc: A,
     list: &mut Vec<u8, A>,
-    outcome: &OutcomeShown<A>,
+    words: &[u8],
+    orders: &[ReportedOrder<A>],
 ) -> Result<(), AllocError>
-    ensures { OnOk result (list.new.items ≡ list.old.items ++ outcome_text (outcome_of outcome.now)) }
+    ensures { OnOk result (list.new.items
+        ≡ list.old.items ++ flat_map (order_text words.now) (map reported_of orders.now)) }
 {
-    push_bytes(list, b"== outcome --order ")?;
-    push_order(list, outcome.order.as_slice())?;
+    'orders: for one in orders {
+        push_reported(alloc, list, words, one)?;
+    }
+    Ok(())
+}
+
+/// Adds an order behind these words, and its report.
+fn push_reported<A: Allocator + Copy>(
+    alloc: A,
+    list: &mut Vec<u8, A>,
+    words: &[u8],
+    one: &ReportedOrder<A>,
+) -> Result<(), AllocError>
+    ensures { OnOk result (list.new.items ≡ list.old.items ++ order_text words.now (reported_of one.now)) }
+{
+    push_bytes(list, words)?;
+    push_order(list, one.order.as_slice())?;
     push_bytes(list, b"\n")?;
-    let report = report_text(alloc, &outcome.shown)?;
+    let report = report_text(alloc, &one.shown)?;
     push_bytes(list, report.as_slice())
 }
 
-/// Adds the end of the last line: that a walk was stopped, where there may be more outcomes.
-fn push_stop<A: Allocator>(list: &mut Vec<u8, A>, is_whole: bool) -> Result<(), AllocError>
-    ensures { OnOk result (list.new.items ≡ list.old.items ++ stop_words is_whole) }
+/// Adds the end of the last line: at what a walk was stopped, where there may be more.
+fn push_stop<A: Allocator>(list: &mut Vec<u8, A>, end: WalkEnd) -> Result<(), AllocError>
+    ensures { OnOk result (list.new.items ≡ list.old.items ++ stop_words end) }
 {
-    if is_whole {
-        push_bytes(list, b"\n")
-    } else {
-        push_bytes(list, b", stopped at the limit\n")
+    match end {
+        WalkEnd::Whole => push_bytes(list, b"\n"),
+        WalkEnd::AtLimit => push_bytes(list, b", stopped at the limit\n"),
+        WalkEnd::AtSteps => push_bytes(list, b", stopped at the steps\n"),
     }
 }
 
-/// Adds how many outcomes there are, over how many orders, and whether there may be more.
+/// Adds how many outcomes and stuck orders there are, over how many states, and whether there may be more.
 fn push_count<A: Allocator>(
     list: &mut Vec<u8, A>,
-    count: u64,
-    orders: u64,
-    is_whole: bool,
+    outcomes: u64,
+    stuck: u64,
+    states: u64,
+    end: WalkEnd,
 ) -> Result<(), AllocError>
-    ensures { OnOk result (list.new.items ≡ list.old.items ++ count_line count orders is_whole) }
+    ensures { OnOk result (list.new.items ≡ list.old.items ++ count_line outcomes stuck states end) }
 {
     push_bytes(list, b"== outcomes: ")?;
-    push_number(list, count)?;
-    push_bytes(list, b", orders: ")?;
-    push_number(list, orders)?;
-    push_stop(list, is_whole)
+    push_number(list, outcomes)?;
+    push_bytes(list, b", stuck: ")?;
+    push_number(list, stuck)?;
+    push_bytes(list, b", states: ")?;
+    push_number(list, states)?;
+    push_stop(list, end)
 }
 
-/// The text of a list of outcomes: each with its order and the report of that, and then a line with how many they
-/// are, over how many orders they were found, and `stopped at the limit` where there may be more.
+/// The text of a list: each outcome with its order and the report of that, each stuck order likewise, and then a line
+/// with how many they are, over how many states they were found, and at what the walk was stopped, where it was and there
+/// may be more.
 pub fn list_text<A: Allocator + Copy>(
     alloc: A,
-    outcomes: &[OutcomeShown<A>],
-    orders: u64,
-    is_whole: bool,
+    outcomes: &[ReportedOrder<A>],
+    stuck: &[ReportedOrder<A>],
+    states: u64,
+    end: WalkEnd,
 ) -> Result<Vec<u8, A>, AllocError>
-    ensures { IfOk result (λ r. r.items ≡ spec.list_text (map outcome_of outcomes.now) orders is_whole) }
+    ensures { IfOk result (λ r. r.items
+        ≡ spec.list_text (map reported_of outcomes.now) (map reported_of stuck.now) states end) }
 {
     let mut list = Vec::new(alloc);
-    'outcomes: for outcome in outcomes {
-        push_outcome(alloc, &mut list, outcome)?;
-    }
-    push_count(&mut list, outcomes.len() as u64, orders, is_whole)?;
+    push_orders(alloc, &mut list, b"== outcome --order ", outcomes)?;
+    push_orders(alloc, &mut list, b"== stuck --order ", stuck)?;
+    push_count(
+        &mut list,
+        outcomes.len() as u64,
+        stuck.len() as u64,
+        states,
+        end,
+    )?;
     Ok(list)
 }

@@ -5,9 +5,9 @@ use Rattle.std.specs.Prelude.{if◌then◌else◌}
 use Rattle.report.specs.declared.printed.End.{End}
 use Rattle.report.specs.declared.printed.ThreadShown.{ThreadShown}
 use Rattle.report.specs.Printed as plain
-use Rattle.report.specs.declared.outcome_list.OutcomeShown.{OutcomeShown}
+use Rattle.report.specs.declared.outcome_list.ReportedOrder.{ReportedOrder}
 use Rattle.report.specs.OutcomeList as lists
-use Rattle.report.specs.Views.{outcome_of}
+use Rattle.report.specs.Views.{reported_of}
 use Rattle.report.specs.Views.{thread_of}
 use Rattle.serving.specs.Reports.{exit_status, has_stopped, has_trapped, is_stopped, is_trapped}
 
@@ -16,9 +16,9 @@ any_shown p [] = refl
 any_shown p (t ∷ threads) = ap (λ b. p t.end || b) (any_shown p threads)
 
 -- and so over outcomes
-pub any_outcome : {A : Type 0} (outcomes : List (OutcomeShown A)) → list_any (λ (o : lists.OutcomeShown). has_trapped o.shown) (map outcome_of outcomes) ≡ list_any (λ (o : OutcomeShown A). has_trapped (outcome_of o).shown) outcomes
+pub any_outcome : {A : Type 0} (outcomes : List (ReportedOrder A)) → list_any (λ (o : lists.ReportedOrder). has_trapped o.shown) (map reported_of outcomes) ≡ list_any (λ (o : ReportedOrder A). has_trapped (reported_of o).shown) outcomes
 any_outcome [] = refl
-any_outcome (o ∷ outcomes) = ap (λ b. has_trapped (outcome_of o).shown || b) (any_outcome outcomes)
+any_outcome (o ∷ outcomes) = ap (λ b. has_trapped (reported_of o).shown || b) (any_outcome outcomes)
 
 -- where the status is 0 or 3 no thread has stopped
 none_by : (stopped trapped : Bool) (status : ℕ) → (status ≡ 0) ⊎ (status ≡ 3) → status ≡ (if stopped then 4 else if trapped then 3 else 0) → stopped ≡ false

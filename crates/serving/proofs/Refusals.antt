@@ -56,7 +56,7 @@ refused_task (Picture threads steps) text is = refused_text text is
 refused_task (PrintSchedule threads seed count) text is = refused_text text is
 refused_task (PrintOrder threads order) text is = refused_text text is
 refused_task (Source threads order ticks) text is = is
-refused_task (Outcomes threads ticks limit) text is = is
+refused_task (Outcomes threads steps limit) text is = refused_text text is
 
 -- a file that is too long is refused
 pub long_refused : (known : Option (List ℕ)) → IfSome known (λ bytes. MOST_BYTES < length bytes) → IfSome known (λ bytes. IsRefused bytes)

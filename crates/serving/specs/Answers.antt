@@ -40,7 +40,7 @@ Answers (PrintOrder threads order) schedule text status old new =
     PrintsOrder threads order.items text status old new
 Answers (Source threads order ticks) schedule text status old new =
     PrintsReport (λ shown. RunsInOrder threads ticks order.items text shown × Accepts text) status old new
-Answers (Outcomes threads ticks limit) schedule text status old new = PrintsOutcomes threads ticks text status old new
+Answers (Outcomes threads steps limit) schedule text status old new = PrintsOutcomes threads text status old new
 
 -- a request, where these bytes are those of the file
 abbrev pub AnswersRequest : Request → (schedule report : Option (List ℕ)) → (bytes : List ℕ) → (status : ℕ) →

@@ -7,7 +7,7 @@ use Rattle.world.specs.declared.stop.WorldStop.{WorldStop}
 use Rattle.replay.specs.declared.line.Line.{Line}
 use Rattle.command.specs.declared.request.Steps.{Steps}
 use Rattle.report.specs.Printed.{Printed}
-use Rattle.report.specs.OutcomeList.{OutcomeShown}
+use Rattle.report.specs.OutcomeList.{ReportedOrder, reports}
 use Rattle.lower.specs.Answers.{span_of}
 use Rattle.lower.specs.declared.fault.LowerFault.{LowerFault}
 use Rattle.serving.specs.Checks.{Accepts}
@@ -16,7 +16,7 @@ use Rattle.serving.specs.Limits.{HasNoCode, PassesLimit}
 use Rattle.serving.specs.Refusals.{IsRefused}
 use Rattle.serving.specs.Reports.{has_stopped}
 use Rattle.serving.specs.Orders.{LeavesSomeOrder, RunsInSomeOrder}
-use Rattle.serving.specs.Outcomes.{AreAllOutcomes, reports}
+use Rattle.serving.specs.Outcomes.{AreAllOutcomes}
 use Rattle.serving.specs.Runs.{IsConcurrentRun, RunsConcurrently}
 use Rattle.serving.specs.Replays.{IsReplayOf, Replays, behind_events}
 
@@ -50,9 +50,9 @@ ConcurrentRunsLeaveOrders =
 -- outcomes
 abbrev pub OrdersAreListed : Type 0
 OrdersAreListed =
-    (threads ticks : ℕ) (text : List ℕ) (os : List OutcomeShown) (shown : Printed) →
-    AreAllOutcomes threads ticks text os → RunsInSomeOrder threads text shown → has_stopped shown ≡ false →
-    Contains (reports os) shown
+    (threads : ℕ) (text : List ℕ) (outcomes : List ReportedOrder) (shown : Printed) →
+    AreAllOutcomes threads text outcomes → RunsInSomeOrder threads text shown → has_stopped shown ≡ false →
+    Contains (reports outcomes) shown
 
 -- an accepted program within the depth is not refused
 abbrev pub AcceptedAreNotRefused : Type 0

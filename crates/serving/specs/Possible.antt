@@ -1,5 +1,5 @@
 -- What orders show is what the machine can come to: the same globals, texts and ends.
-use Rattle.std.specs.Prelude.{Bool, Contains, ◌≡◌, ℕ, ◌≤◌, ◌<◌, ◌-◌, ◌^◌, List, length, map, None}
+use Rattle.std.specs.Prelude.{◌≡◌, ℕ, ◌≤◌, ◌<◌, ◌-◌, ◌^◌, List, length, map, None}
 use Rattle.syntax.specs.Names.{initial_memory}
 use Rattle.syntax.specs.Orders.{in_order}
 use Rattle.syntax.specs.Threads.{thread}
@@ -18,9 +18,8 @@ use Rattle.report.specs.declared.printed.End.{End}
 use Rattle.report.specs.declared.printed.End.TheVariants as end
 use Rattle.serving.specs.Codes.{IsCodeOf}
 use Rattle.serving.specs.Replays.{IsReplayOf, behind_events, world_shown}
-use Rattle.serving.specs.Outcomes.{AreOutcomesOf}
-use Rattle.outcomes.specs.Outcomes.{NeverSpent}
-use Rattle.report.specs.OutcomeList.{OutcomeShown}
+use Rattle.serving.specs.Outcomes.{IsOutcomeOf}
+use Rattle.report.specs.OutcomeList.{ReportedOrder}
 use Rattle.world.specs.Simulations.{IsHolder, world_of}
 use Rattle.replay.specs.Replays.{simulation_after}
 use Rattle.replay.specs.Schedules.{counts}
@@ -71,13 +70,12 @@ OrdersAreReplays =
     (p : Program) (code : Code) (threads ticks : ℕ) (order : List ℕ) → CanBeReplayed p code threads ticks order →
     OrderIsReplayed p code threads ticks order
 
--- Each outcome that is listed is what the machine can do: some list of steps, none of which stops, leaves a world whose
+-- Each outcome is what the machine can do: some list of steps, none of which stops, leaves a world whose
 -- report is that of the outcome, word for word.
 abbrev pub OutcomesAreDone : Type 0
 OutcomesAreDone =
-    (p : Program) (code : Code) (threads ticks : ℕ) (is_whole : Bool) (os : List OutcomeShown) (o : OutcomeShown) →
-    IsCodeOf p code → FitsCells (effect code) (bounds_of code) → threads ≤ 2 ^ 32 →
-    AreOutcomesOf p threads ticks is_whole os → NeverSpent p threads ticks → Contains os o →
+    (p : Program) (code : Code) (threads : ℕ) (o : ReportedOrder) → IsCodeOf p code →
+    FitsCells (effect code) (bounds_of code) → threads ≤ 2 ^ 32 → IsOutcomeOf p threads o →
     length o.order < 2 ^ 63 - 1 →
     (made : List ℕ) × Reached (effect code) (beginning code) (initial_of code) threads
     (world_of (simulation_after code threads made))

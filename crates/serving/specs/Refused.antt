@@ -19,7 +19,7 @@ IsRefusedFor (Picture threads steps) text = HasNoCode text
 IsRefusedFor (PrintSchedule threads seed count) text = HasNoCode text
 IsRefusedFor (PrintOrder threads order) text = HasNoCode text
 IsRefusedFor (Source threads order ticks) text = IsRefused text
-IsRefusedFor (Outcomes threads ticks limit) text = IsRefused text
+IsRefusedFor (Outcomes threads steps limit) text = HasNoCode text
 
 -- why a request is refused, where these bytes are those of the file
 abbrev pub IsRequestRefused : Request → (bytes : Option (List ℕ)) → Type 0

@@ -17,12 +17,20 @@ is_stopped end.Ended = false
 is_stopped (end.Trapped k) = false
 is_stopped _ = true
 
--- some thread has trapped, and some thread has neither ended nor trapped
+-- whether a thread's ticks are used up
+abbrev pub is_spent : End → Bool
+is_spent end.Spent = true
+is_spent _ = false
+
+-- some thread has trapped, some thread has neither ended nor trapped, and some thread's ticks are used up
 abbrev pub has_trapped : Printed → Bool
 has_trapped shown = list_any (λ (t : ThreadShown). is_trapped t.end) shown.threads
 
 abbrev pub has_stopped : Printed → Bool
 has_stopped shown = list_any (λ (t : ThreadShown). is_stopped t.end) shown.threads
+
+abbrev pub has_spent : Printed → Bool
+has_spent shown = list_any (λ (t : ThreadShown). is_spent t.end) shown.threads
 
 -- the exit status where a report was printed: by the ends of its threads
 abbrev pub exit_status : Printed → ℕ

@@ -74,7 +74,7 @@ IsAskedFor (PrintSchedule threads seed count) schedule text written = IsSeedSche
 IsAskedFor (PrintOrder threads order) schedule text written = IsOrderSchedule threads order.items text written
 IsAskedFor (Source threads order ticks) schedule text written =
     IsReportOf (λ shown. RunsInOrder threads ticks order.items text shown × Accepts text) written
-IsAskedFor (Outcomes threads ticks limit) schedule text written = IsListOfOutcomes threads ticks text written
+IsAskedFor (Outcomes threads steps limit) schedule text written = IsListOfOutcomes threads text written
 
 -- a text is written, or a beginning of it
 abbrev pub AppendsBeginning : Option (List ℕ) → Option (List ℕ) → List ℕ → Type 0

@@ -10,3 +10,5 @@ pub mod Printing
 pub mod Threads
 -- reports by runs of the source
 pub mod Serial
+-- what the states of a walk show
+pub mod Walked

@@ -17,7 +17,6 @@ ghost use Rattle.serving.specs.Possible.{OrdersAreReplays, OutcomesAreDone};
 
 use bytecode::laws::valid_code_fits_its_cells;
 use lex::laws::{one_list_of_tokens, tokens_leave_no_fault};
-use outcomes::laws::ticks_change_nothing;
 use parse::one_tree;
 use safety::laws::a_safe_program_has_no_fault;
 use separation::laws::a_fault_touches;
@@ -52,16 +51,14 @@ pub fn reports_are_orders()
     threads_leave_memories();
 }
 
-/// A list of all outcomes has every report. Where all outcomes of a source were listed, and in no order a thread's
-/// ticks are used up, whatever its threads show in some order, with whatever number of ticks, is in the list, if each
-/// of them has ended or trapped. And so is what a run of all threads at once shows: `reports_are_orders` says that it
+/// A list of all outcomes has every report. Where all outcomes of a source were listed, whatever its threads show in some
+/// order, with whatever number of ticks, is in the list, if each of them has ended or trapped. And so is what a run of all threads at once shows: `reports_are_orders` says that it
 /// is what an order shows.
 pub fn orders_are_listed()
     ensures { OrdersAreListed }
 {
     one_list_of_tokens();
     one_tree();
-    ticks_change_nothing();
 }
 
 /// What orders show, the machine can come to.
@@ -71,8 +68,7 @@ pub fn orders_are_listed()
 /// order's globals, texts and ends, with `running` for a thread that waits, the lock is free, and no attempt was
 /// dropped; and where there are few enough for a schedule they can be made.
 ///
-/// Each outcome that is listed, where in no order a thread's ticks are used up, is word for word the report of a world
-/// that steps which do not stop lead to. With `reports_are_orders` and `orders_are_listed` such a list is exact.
+/// Each outcome that is listed is word for word the report of a world that steps which do not stop lead to. With `reports_are_orders` and `orders_are_listed` such a list is exact.
 pub fn orders_are_replays()
     ensures replays { OrdersAreReplays }
     ensures outcomes { OutcomesAreDone }

@@ -3,7 +3,7 @@
 ghost use Rattle.std.specs.Prelude.{◌≡◌, OnOk, ◌≢◌, ◌≤◌, ◌⊎◌};
 ghost use Rattle.std.specs.List.{list_any};
 ghost use Rattle.report.specs.Views.{printed_of};
-ghost use Rattle.serving.specs.Reports.{exit_status, is_stopped, is_trapped};
+ghost use Rattle.serving.specs.Reports.{exit_status, is_spent, is_stopped, is_trapped};
 ghost use Rattle.std.specs.Io.KnownBytes.{Appends};
 ghost use Rattle.serving.specs.Written.{AppendsBeginning, WritesPart};
 ghost use Rattle.report.specs.Report.{report_text};
@@ -45,10 +45,24 @@ fn is_trapped(end: End) -> bool
 }
 
 /// Whether some thread has neither ended nor trapped.
-fn has_stopped<A: Allocator>(threads: &[ThreadShown<A>]) -> bool
+pub(crate) fn has_stopped<A: Allocator>(threads: &[ThreadShown<A>]) -> bool
     ensures { result ≡ list_any (λ t. is_stopped t.end) threads.now }
 {
     threads.iter().any(|thread| is_stopped(thread.end))
+}
+
+/// Whether a thread's ticks are used up.
+fn is_spent(end: End) -> bool
+    ensures { result ≡ is_spent end }
+{
+    matches!(end, End::Spent)
+}
+
+/// Whether some thread's ticks are used up.
+pub(crate) fn has_spent<A: Allocator>(threads: &[ThreadShown<A>]) -> bool
+    ensures { result ≡ list_any (λ t. is_spent t.end) threads.now }
+{
+    threads.iter().any(|thread| is_spent(thread.end))
 }
 
 /// Whether some thread has trapped.

@@ -187,14 +187,14 @@ fn work_alone<A: Allocator + Copy, S: Read + Drop, W: Write, E: Write>(
         ),
         Task::Outcomes {
             threads,
-            ticks,
+            steps,
             limit,
         } => all_outcomes(
             alloc,
             text,
             *threads,
-            u64::from(*ticks),
-            *limit as usize,
+            u64::from(*steps),
+            *limit,
             detail,
             out,
             err,

@@ -25,6 +25,8 @@ use world::{StopReason, WorldFault, WorldStop};
 pub struct Detail<'a> {
     /// Whether the line of the source follows.
     pub(crate) lines: bool,
+    /// Whether it is shown how far a walk is.
+    pub(crate) progress: bool,
     /// Whether it is said why a file cannot be read.
     reasons: bool,
     /// The file of the source.
@@ -47,6 +49,10 @@ impl<'a> Detail<'a> {
             file,
             format,
             further: match format {
+                Format::Plain => is_terminal,
+                Format::Short | Format::Json => false,
+            },
+            progress: match format {
                 Format::Plain => is_terminal,
                 Format::Short | Format::Json => false,
             },

@@ -1,6 +1,6 @@
 //! The outcomes of sources over all orders of their threads, and that what is listed is what orders and runs show.
 
-use report::{Printed, report_text};
+use report::{Printed, WalkEnd, report_text};
 use serving::{OutcomesFound, list_outcomes, run_in_order};
 use std::alloc::Global;
 use std::sync::Wait;
@@ -25,15 +25,31 @@ const THIRD: &str =
 const TRAPS: &str =
     "int x; void worker(int self) { int k; __transaction_atomic { k = x; x = 1; } k = 1 / k; }";
 
+/// Two locks, which two threads take in two orders.
+const LOCKS: &[u8] = b"int locked[2], done;
+void take(int which) {
+    int mine = 0;
+    while (!mine) { __transaction_atomic { mine = !locked[which]; if (mine) locked[which] = 1; } }
+}
+void worker(int self) {
+    take(self);
+    take(1 - self);
+    __transaction_atomic { done = done + 1; locked[0] = 0; locked[1] = 0; }
+}";
+
+/// 17 transactions inside one another: an accepted program that has no code.
+const DEEP: &[u8] =
+    b"int x; void worker(int self) { __transaction_atomic { __transaction_atomic { __transaction_atomic { __transaction_atomic { __transaction_atomic { __transaction_atomic { __transaction_atomic { __transaction_atomic { __transaction_atomic { __transaction_atomic { __transaction_atomic { __transaction_atomic { __transaction_atomic { __transaction_atomic { __transaction_atomic { __transaction_atomic { __transaction_atomic { x = 1; } } } } } } } } } } } } } } } } } }";
+
 fn outcome_rows() -> &'static [Row] {
-    static ROWS: [Row; 14] = [
+    static ROWS: [Row; 22] = [
         (
             "txc outcomes a.c --threads 2",
             ADDS,
             b"",
             (
                 0,
-                b"== outcome --order 0,1\n== thread 0: ended\n== thread 1: ended\n== memory\nx = 2\n== outcomes: 1, orders: 2\n",
+                b"== outcome --order 0,1\n== thread 0: ended\n== thread 1: ended\n== memory\nx = 2\n== outcomes: 1, stuck: 0, states: 4\n",
                 b"",
             ),
         ),
@@ -43,7 +59,7 @@ fn outcome_rows() -> &'static [Row] {
             b"",
             (
                 0,
-                b"== outcome --order 0,1\n== thread 0: ended\n== thread 1: ended\n== memory\nx = 1\n== outcome --order 1,0\n== thread 0: ended\n== thread 1: ended\n== memory\nx = 0\n== outcomes: 2, orders: 2\n",
+                b"== outcome --order 0,1\n== thread 0: ended\n== thread 1: ended\n== memory\nx = 1\n== outcome --order 1,0\n== thread 0: ended\n== thread 1: ended\n== memory\nx = 0\n== outcomes: 2, stuck: 0, states: 5\n",
                 b"",
             ),
         ),
@@ -53,7 +69,7 @@ fn outcome_rows() -> &'static [Row] {
             b"",
             (
                 0,
-                b"== outcome --order 0,1\n== thread 0: ended\n== thread 1: ended\n== memory\na = 1\nb = 0\n== outcome --order 1,0\n== thread 0: ended\n== thread 1: ended\n== memory\na = 0\nb = 1\n== outcomes: 2, orders: 2\n",
+                b"== outcome --order 0,1\n== thread 0: ended\n== thread 1: ended\n== memory\na = 1\nb = 0\n== outcome --order 1,0\n== thread 0: ended\n== thread 1: ended\n== memory\na = 0\nb = 1\n== outcomes: 2, stuck: 0, states: 5\n",
                 b"",
             ),
         ),
@@ -64,7 +80,7 @@ fn outcome_rows() -> &'static [Row] {
             b"",
             (
                 3,
-                b"== outcome --order 0,1\n== thread 0: trap 2\n== thread 1: ended\n1\n== memory\nx = 1\n== outcome --order 1,0\n== thread 0: ended\n1\n== thread 1: trap 2\n== memory\nx = 1\n== outcomes: 2, orders: 2\n",
+                b"== outcome --order 0,1\n== thread 0: trap 2\n== thread 1: ended\n1\n== memory\nx = 1\n== outcome --order 1,0\n== thread 0: ended\n1\n== thread 1: trap 2\n== memory\nx = 1\n== outcomes: 2, stuck: 0, states: 5\n",
                 b"",
             ),
         ),
@@ -75,38 +91,48 @@ fn outcome_rows() -> &'static [Row] {
             b"",
             (
                 0,
-                b"== outcome --order ''\n== thread 0: ended\n0\n== memory\n== outcomes: 1, orders: 1\n",
+                b"== outcome --order ''\n== thread 0: ended\n0\n== memory\n== outcomes: 1, stuck: 0, states: 1\n",
                 b"",
             ),
         ),
-        // a thread whose ticks are used up; one that waits for nothing until they are, and one that has none
+        // a turn without an end; one of which only some are, and one before the first transaction
         (
-            "txc outcomes a.c --ticks 1000",
+            "txc outcomes a.c --steps 1000",
             b"int x; void worker(int self) { __transaction_atomic { x = 5; } while (1) { } }",
             b"",
             (
                 4,
-                b"== outcome --order 0\n== thread 0: spent\n== memory\nx = 5\n== outcomes: 1, orders: 1\n",
+                b"== outcomes: 0, stuck: 0, states: 1, stopped at the steps\n",
                 b"",
             ),
         ),
         (
-            "txc outcomes a.c --threads 2 --ticks 1000",
+            "txc outcomes a.c --threads 2 --steps 1000",
             b"int x; void worker(int self) { int k; __transaction_atomic { k = x; x = 1; } while (k) { } }",
             b"",
             (
                 4,
-                b"== outcome --order 0,1\n== thread 0: ended\n== thread 1: spent\n== memory\nx = 1\n== outcome --order 1,0\n== thread 0: spent\n== thread 1: ended\n== memory\nx = 1\n== outcomes: 2, orders: 2\n",
+                b"== outcomes: 0, stuck: 0, states: 3, stopped at the steps\n",
                 b"",
             ),
         ),
         (
-            "txc outcomes a.c --ticks 0",
+            "txc outcomes a.c --steps 1000",
+            b"int x; void worker(int self) { while (1) { } __transaction_atomic { x = 5; } }",
+            b"",
+            (
+                4,
+                b"== outcomes: 0, stuck: 0, states: 0, stopped at the steps\n",
+                b"",
+            ),
+        ),
+        (
+            "txc outcomes a.c --steps 0",
             ADDS,
             b"",
             (
                 4,
-                b"== outcome --order ''\n== thread 0: spent\n== memory\nx = 0\n== outcomes: 1, orders: 1\n",
+                b"== outcomes: 0, stuck: 0, states: 0, stopped at the steps\n",
                 b"",
             ),
         ),
@@ -115,13 +141,52 @@ fn outcome_rows() -> &'static [Row] {
             "txc outcomes a.c --threads 2 --limit 0",
             ADDS,
             b"",
-            (4, b"== outcomes: 0, orders: 0, stopped at the limit\n", b""),
+            (
+                4,
+                b"== outcomes: 0, stuck: 0, states: 1, stopped at the limit\n",
+                b"",
+            ),
         ),
         (
             "txc outcomes a.c --threads 2 --limit 1",
             ADDS,
             b"",
-            (4, b"== outcomes: 0, orders: 0, stopped at the limit\n", b""),
+            (
+                4,
+                b"== outcomes: 0, stuck: 0, states: 1, stopped at the limit\n",
+                b"",
+            ),
+        ),
+        (
+            "txc outcomes a.c --threads 2 --limit 3",
+            ADDS,
+            b"",
+            (
+                4,
+                b"== outcomes: 0, stuck: 0, states: 3, stopped at the limit\n",
+                b"",
+            ),
+        ),
+        (
+            "txc outcomes a.c --threads 2 --limit 4",
+            ADDS,
+            b"",
+            (
+                0,
+                b"== outcome --order 0,1\n== thread 0: ended\n== thread 1: ended\n== memory\nx = 2\n== outcomes: 1, stuck: 0, states: 4\n",
+                b"",
+            ),
+        ),
+        // what is listed where it stops
+        (
+            "txc outcomes a.c --threads 2 --limit 4",
+            b"int x; void worker(int self) { __transaction_atomic { x = self; } }",
+            b"",
+            (
+                4,
+                b"== outcome --order 0,1\n== thread 0: ended\n== thread 1: ended\n== memory\nx = 1\n== outcomes: 1, stuck: 0, states: 4, stopped at the limit\n",
+                b"",
+            ),
         ),
         (
             "txc outcomes a.c --limit 2",
@@ -129,7 +194,7 @@ fn outcome_rows() -> &'static [Row] {
             b"",
             (
                 0,
-                b"== outcome --order 0\n== thread 0: ended\n== memory\nx = 1\n== outcomes: 1, orders: 1\n",
+                b"== outcome --order 0\n== thread 0: ended\n== memory\nx = 1\n== outcomes: 1, stuck: 0, states: 2\n",
                 b"",
             ),
         ),
@@ -139,7 +204,7 @@ fn outcome_rows() -> &'static [Row] {
             b"",
             (
                 0,
-                b"== outcome --order ''\n== thread 0: ended\n== memory\nx = 0\n== outcomes: 1, orders: 1\n",
+                b"== outcome --order ''\n== thread 0: ended\n== memory\nx = 0\n== outcomes: 1, stuck: 0, states: 1\n",
                 b"",
             ),
         ),
@@ -160,8 +225,51 @@ fn outcome_rows() -> &'static [Row] {
             b"",
             (
                 0,
-                b"== outcome --order 0,1\n== thread 0: ended\n== thread 1: ended\n== memory\nx = 4294967300\n== outcome --order 1,0\n== thread 0: ended\n== thread 1: ended\n== memory\nx = 8589934596\n== outcomes: 2, orders: 2\n",
+                b"== outcome --order 0,1\n== thread 0: ended\n== thread 1: ended\n== memory\nx = 4294967300\n== outcome --order 1,0\n== thread 0: ended\n== thread 1: ended\n== memory\nx = 8589934596\n== outcomes: 2, stuck: 0, states: 5\n",
                 b"",
+            ),
+        ),
+        // a thread that waits for the other one's flag, and one that waits for ever
+        (
+            "txc outcomes a.c --threads 2",
+            b"int flag, seen; void worker(int self) { int f = self == 0; while (!f) { __transaction_atomic { f = flag; } } __transaction_atomic { if (self) seen = flag; else flag = 7; } }",
+            b"",
+            (
+                0,
+                b"== outcome --order 0,1,1\n== thread 0: ended\n== thread 1: ended\n== memory\nflag = 7\nseen = 7\n== outcomes: 1, stuck: 0, states: 4\n",
+                b"",
+            ),
+        ),
+        (
+            "txc outcomes a.c --threads 2",
+            b"int flag; void worker(int self) { int f = 0; while (!f) { __transaction_atomic { f = flag; } } }",
+            b"",
+            (
+                4,
+                b"== stuck --order ''\n== thread 0: waits\n== thread 1: waits\n== memory\nflag = 0\n== outcomes: 0, stuck: 1, states: 1\n",
+                b"",
+            ),
+        ),
+        // two that wait for each other in some orders alone
+        (
+            "txc outcomes a.c --threads 2",
+            LOCKS,
+            b"",
+            (
+                4,
+                b"== outcome --order 0,0,0,1,1,1\n== thread 0: ended\n== thread 1: ended\n== memory\nlocked = 0 0\ndone = 2\n== stuck --order 0,1\n== thread 0: waits\n== thread 1: waits\n== memory\nlocked = 1 1\ndone = 0\n== outcomes: 1, stuck: 1, states: 20\n",
+                b"",
+            ),
+        ),
+        // a program that has no code is refused
+        (
+            "txc outcomes a.c --threads 2",
+            DEEP,
+            b"",
+            (
+                1,
+                b"",
+                b"txc: fault 62 at 1:400: transactions nested too deep\n",
             ),
         ),
     ];
@@ -179,11 +287,13 @@ const MANY: &[u8] =
 
 #[test]
 fn shows_how_far_it_is(rt: HostRuntime) {
-    let line = "txc outcomes a.c --threads 2 --limit 2500";
-    let told = b"== outcomes: 0, orders: 0, stopped at the limit\n".as_slice();
-    let shown = b"txc: 2001 states\n".as_slice();
-    assert!(rt; answers(&rt, rt.alloc(), line, MANY, b"", false, (4, told, b"")));
-    assert!(rt; answers(&rt, rt.alloc(), line, MANY, b"", true, (4, told, shown)));
+    let line = "txc outcomes a.c --threads 2";
+    let told =
+        b"== outcome --order 0,0,0,0,0,0,0,0,0,0,0,0,0,0,0,0,0,0,0,0,0,0,0,0,0,0,0,0,0,0,0,0,0,0,0,0,0,0,0,0,1,1,1,1,1,1,1,1,1,1,1,1,1,1,1,1,1,1,1,1,1,1,1,1,1,1,1,1,1,1,1,1,1,1,1,1,1,1,1,1\n== thread 0: ended\n== thread 1: ended\n== memory\nx = 80\n== outcomes: 1, stuck: 0, states: 1681\n".as_slice();
+    let shown =
+        b"\rtxc: 1000 states\r                                                            \r".as_slice();
+    assert!(rt; answers(&rt, rt.alloc(), line, MANY, b"", false, (0, told, b"")));
+    assert!(rt; answers(&rt, rt.alloc(), line, MANY, b"", true, (0, told, shown)));
 }
 
 /// Sources with their numbers of threads, and how many outcomes there are.
@@ -233,7 +343,7 @@ fn are_of_orders(alloc: Global, source: &str, threads: u32, count: usize) -> boo
             return false;
         }
     }
-    found.is_whole && !found.is_spent && found.outcomes.len() == count
+    found.end == WalkEnd::Whole && found.stuck.is_empty() && found.outcomes.len() == count
 }
 
 /// The first of these sources whose outcomes are not those of their orders.

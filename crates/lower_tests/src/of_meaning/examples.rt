@@ -10,7 +10,7 @@ use test_programs::accepted_of;
 type Row = (&'static str, u32, &'static str, &'static [u64]);
 
 fn examples() -> &'static [Row] {
-    static EXAMPLES: [Row; 19] = [
+    static EXAMPLES: [Row; 21] = [
         (
             "// Thread 0 moves 50 in two transactions. Thread 1 counts the money, and can find that 50 are missing.\nint checking = 120, savings = 40;\n\nvoid worker(int self) {\n    int total;\n    if (self == 0) {\n        __transaction_atomic { checking = checking - 50; }\n        __transaction_atomic { savings = savings + 50; }\n    } else {\n        __transaction_atomic { total = checking + savings; }\n        printf(\"%d\\n\", total);\n    }\n}\n",
             0,
@@ -66,6 +66,12 @@ fn examples() -> &'static [Row] {
             &[0, 0, 0, 0, 0, 3, 0, 1, 0, 0, 0, 0, 4, 0, 2, 0, 4],
         ),
         (
+            "// Two locks, which thread 0 takes in one order and thread 1 in the other: each can have one and wait for the other's.\nint locked[2], done;\n\nvoid take(int which) {\n    int mine = 0;\n    while (!mine) {\n        __transaction_atomic { mine = !locked[which]; if (mine) locked[which] = 1; }\n    }\n}\n\nvoid worker(int self) {\n    take(self);\n    take(1 - self);\n    __transaction_atomic { done = done + 1; locked[0] = 0; locked[1] = 0; }\n}\n",
+            0,
+            "",
+            &[0, 0, 1],
+        ),
+        (
             "// A sum that leaves the range of `int` is trap 1: the thread ends, and nothing of the transaction is left.\nint total = 2147483647, entries = 5;\n\nvoid worker(int self) {\n    __transaction_atomic {\n        entries = entries + 1;\n        total = total + 1;\n    }\n}\n",
             1,
             "",
@@ -112,6 +118,12 @@ fn examples() -> &'static [Row] {
             0,
             "12\n",
             &[5],
+        ),
+        (
+            "// A ticket lock made of transactions: each thread takes a number, waits in a loop until it is served, and enters twice. What is\n// counted inside is the most threads that were there at one time.\nint next, serving, inside, most, entered;\n\nvoid worker(int self) {\n    int i, mine, mine_now;\n    for (i = 0; i < 2; i++) {\n        __transaction_atomic { mine = next; next = next + 1; }\n        do {\n            __transaction_atomic { mine_now = serving == mine; }\n        } while (!mine_now);\n        __transaction_atomic { inside = inside + 1; if (inside > most) most = inside; }\n        __transaction_atomic { inside = inside - 1; entered = entered + 1; serving = serving + 1; }\n    }\n}\n",
+            0,
+            "",
+            &[2, 2, 0, 1, 2],
         ),
         (
             "// Both accounts change in one step, or neither does.\nint checking = 120, savings = 40;\n\nvoid worker(int self) {\n    __transaction_atomic {\n        checking = checking - 50;\n        savings = savings + 50;\n    }\n    __transaction_atomic {\n        savings = savings + 1;\n    }\n}\n",

@@ -40,9 +40,10 @@ use Rattle.serving.specs.Codes.{IsCodeOf}
 use Rattle.serving.specs.Replays.{IsReplayOf, behind_events, end_after_replay, thread_found, world_shown}
 use Rattle.serving.specs.Shows.{order_end, shown_globals, thread_shown}
 use Rattle.syntax.specs.declared.thread_end.Halt.TheVariants.{Wants}
-use Rattle.outcomes.specs.Outcomes.{IsFinished, report_of_order}
-use Rattle.serving.specs.Outcomes.{IsOutcomeOf, shown_in}
-use Rattle.states.specs.Shown.{told_in, told_of_outcome}
+use Rattle.serving.specs.Outcomes.{shown_in}
+use Rattle.serving.specs.Reports.{has_stopped}
+use Rattle.serving.proofs.ListedOutcomes.{none_stopped_spent, none_waits}
+use Rattle.states.specs.Shown.{NoneWants, told_in, told_of_outcome}
 use Rattle.order_steps.specs.Stepped.{IsStepped, end_when_idle, told_when_idle}
 use Rattle.order_steps.proofs.Determined.{turns_are_determined}
 use Rattle.order_steps.proofs.Sourced.{machine_does_all}
@@ -175,7 +176,7 @@ module _ (p : Program) (code : Code) (threads ticks : ℕ) (order : List ℕ) (c
         same = same_steps found made shown are enough r
 
   -- where no thread wants a memory the report is that of the order
-  same_report : (s : IsStepped (effect code) (beginning code) p threads ticks order) → IsFinished (report_of_order p threads ticks order) → behind_events (world_shown p None None (simulation_after code threads s.trace)) ≡ shown_in p threads ticks order
+  same_report : (s : IsStepped (effect code) (beginning code) p threads ticks order) → NoneWants (told_in p threads ticks order) → behind_events (world_shown p None None (simulation_after code threads s.trace)) ≡ shown_in p threads ticks order
   same_report s finished =
       let w = world_of (simulation_after code threads s.trace) in
       let told : map told_when_idle w.parts ≡ told_in p threads ticks order = ap (λ (x : World Configuration). map told_when_idle x.parts) (sym (stepped_world s)) ∙ s.told in
@@ -196,12 +197,14 @@ orders_are_replays p code threads ticks order c =
     }
 
 pub outcomes_are_done : OutcomesAreDone
-outcomes_are_done p code threads ticks is_whole os o compiled fits few are never has short =
-    let one : IsOutcomeOf p threads ticks o = All-contains (IsOutcomeOf p threads ticks) os o are.each has in
+outcomes_are_done p code threads o compiled fits few one short =
+    let ticks = one.0.ticks in
+    let this = one.0.order in
+    let goes = subst (λ (x : Printed). has_stopped x ≡ false) this.shows one.1 in
     let cells_are : bounds p ≡ bounds_of code = ap cell_bounds (sym compiled.globals) in
-    let s = machine_does_all (effect code) (beginning code) p (subst (FitsCells (effect code)) (sym cells_are) fits) compiled.means threads ticks o.order few one.order.named (never o.order one.order.named) short in (
+    let s = machine_does_all (effect code) (beginning code) p (subst (FitsCells (effect code)) (sym cells_are) fits) compiled.means threads ticks o.order few this.named (none_stopped_spent p threads ticks o.order goes) short in (
       s.trace,
       subst (λ m. Reached (effect code) (beginning code) m threads (world_after (effect code) (beginning code) m threads s.trace)) (ap initial_from (sym compiled.globals)) s.reached,
       free_lock p code threads ticks o.order compiled fits few s,
-      same_report p code threads ticks o.order compiled fits few s one.finished ∙ sym one.order.shows,
+      same_report p code threads ticks o.order compiled fits few s (none_waits p threads ticks o.order goes) ∙ sym this.shows,
     )

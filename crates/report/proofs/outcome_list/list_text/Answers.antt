@@ -1,10 +1,11 @@
-use Rattle.report.specs.OutcomeList.{count_line, outcome_text}
-use Rattle.report.specs.Views.{outcome_of}
-use Rattle.report.proofs.OutcomeList.{last_line, next_outcome}
+use Rattle.std.proofs.Common.{◌∙◌, ◌++◌, ap, map}
+use Rattle.std.specs.Prelude.{codes, flat_map}
+use Rattle.report.specs.OutcomeList.{count_line, order_text}
+use Rattle.report.specs.Views.{reported_of}
+use Rattle.report.proofs.OutcomeList.{list_is}
 use Rattle.report.proofs.outcome_list.list_text.Goals as goal
 
-pub outcomes-preserved : goal.outcomes-preserved
-outcomes-preserved g c = next_outcome outcome_of outcome_text c.args.outcomes.now c.outcomes.outcome-index c.outcome-item.result c.outcomes.list.items _ _ c.outcome-item.is c.outcomes-test.true c.outcomes.invariant c.in_ok-push_outcome.ensures
-
 pub returns : goal.returns
-returns g c = last_line outcome_of outcome_text (λ n. count_line n c.args.orders c.args.is_whole) c.args.outcomes.now c.outcomes.outcome-index c.outcomes.list.items _ _ c.outcomes-test.false c.outcomes.invariant c.in_ok-push_count.ensures
+returns g c =
+    let first = c.in_ok-push_orders.ensures ∙ ap (λ xs. xs ++ flat_map (order_text (codes "== outcome --order ")) (map reported_of c.args.outcomes.now)) c.new-list.ensures.items in
+    list_is reported_of (order_text (codes "== outcome --order ")) (order_text (codes "== stuck --order ")) (λ n m. count_line n m c.args.states c.args.end) c.args.outcomes.now c.args.stuck.now _ _ _ first c.in_ok-push_orders-2.ensures c.in_ok-push_count.ensures

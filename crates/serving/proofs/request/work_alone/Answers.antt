@@ -10,4 +10,4 @@ pub returns-in-Picture-clause-written : goal.returns-in-Picture-clause-written
 returns-in-Picture-clause-written g c = rw c.in-Picture.is c.draw.ensures.written
 
 pub returns-in-Outcomes-clause-written : goal.returns-in-Outcomes-clause-written
-returns-in-Outcomes-clause-written g c = rw c.in-Outcomes.is (rw c.from-in-Outcomes.ensures at c.all_outcomes.ensures.written)
+returns-in-Outcomes-clause-written g c = rw c.in-Outcomes.is c.all_outcomes.ensures.written

@@ -1,0 +1,2 @@
+-- by which number a report is found
+pub mod Hashed
