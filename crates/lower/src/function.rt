@@ -17,6 +17,7 @@ use bytecode::{Instr, MOST_REGISTERS};
 use lex::token::Scalar;
 use lower_exprs::fault::LowerFailure;
 use lower_exprs::lists::Lists;
+use lower_exprs::origins::note;
 use lower_exprs::preloaded::set_all;
 use lower_exprs::program::ProgramNames;
 use lower_exprs::put::{after, put};
@@ -91,6 +92,7 @@ fn lower_body<'p, A: Allocator + Copy>(
     let last = lower_stmts(names, &mut scope, lists, code, body, exits, from)?;
     put(code, Instr::Return)?;
     let to = after(last, 1)?;
+    note(lists, to, f.name.span)?;
     Ok(to)
 }
 
@@ -100,6 +102,7 @@ struct Lengths {
     code: usize,
     arguments: usize,
     texts: usize,
+    origins: usize,
 }
 
 /// Cuts lists to these lengths.
@@ -115,6 +118,7 @@ fn cut_to<A: Allocator>(lists: &mut Lists<A>, code: &mut Vec<Instr, A>, lengths:
     code.truncate(lengths.code);
     lists.arguments.truncate(lengths.arguments);
     lists.texts.truncate(lengths.texts);
+    lists.origins.truncate(lengths.origins);
 }
 
 /// A function's body as it stands; the place behind it.
@@ -163,6 +167,7 @@ fn lower_preloaded<'p, A: Allocator + Copy>(
         return Err(LowerFailure::OutOfMemory);
     }
     set_all(code, writable, constants.as_slice())?;
+    note(lists, from + count, f.name.span)?;
     lists.writable = writable;
     lists.constants = constants;
     let to = lower_body(names, lists, code, f, body, from + count)?;
@@ -209,6 +214,7 @@ pub(crate) fn lower_function<'p, A: Allocator + Copy>(
         code: code.len(),
         arguments: lists.arguments.len(),
         texts: lists.texts.len(),
+        origins: lists.origins.len(),
     };
     let to = lower_plain(names, lists, code, f, body, from)?;
     let constants = in_loops_behind(names.alloc, code.as_slice(), lengths.code, from)?;

@@ -18,7 +18,7 @@ ghost use Rattle.lower_exprs.specs.Views.{program_in};
 use crate::deep::first_too_deep;
 use crate::fault::LowerFault;
 use crate::function::lower_function;
-use bytecode::{Code, FunctionCode, Instr, MOST_INSTRUCTIONS, MOST_REGISTERS, Parts};
+use bytecode::{Code, FunctionCode, Instr, MOST_INSTRUCTIONS, MOST_REGISTERS, Origin, Parts};
 use containers::{Copied, Items};
 use lower_exprs::fault::LowerFailure;
 use lower_exprs::lists::Lists;
@@ -150,8 +150,11 @@ fn lower_item<'p, A: Allocator + Copy>(
     }
 }
 
-/// The parts of a program's code.
-fn lower_parts<'p, A: Allocator + Copy>(names: &ProgramNames<'p, A>) -> Result<Parts<A>, LowerFault>
+/// The parts of a program's code. Where its instructions come from is put into a list of its own.
+fn lower_parts<'p, A: Allocator + Copy>(
+    names: &ProgramNames<'p, A>,
+    origins: &mut Vec<Origin, A>,
+) -> Result<Parts<A>, LowerFault>
     ensures code { IfOk result (λ parts. code_of parts ≡ picked_code (program_in names.now)) }
     ensures few { IfOk result (λ parts. AllByRecursion (λ f. f.registers ≤ 65535) (map code_function parts.functions)) }
     ensures short { IfOk result (λ parts. length parts.instructions ≤ 1048576) }
@@ -166,6 +169,7 @@ fn lower_parts<'p, A: Allocator + Copy>(names: &ProgramNames<'p, A>) -> Result<P
             registers: 0,
             writable: 0,
             constants: Vec::new(names.alloc),
+            origins: Vec::new(names.alloc),
         },
         globals: Vec::new(names.alloc),
         to: 0,
@@ -174,6 +178,7 @@ fn lower_parts<'p, A: Allocator + Copy>(names: &ProgramNames<'p, A>) -> Result<P
         lower_item(names, &mut making, item)?;
     }
     let lists = making.lists;
+    *origins = lists.origins;
     Ok(Parts {
         functions: Items::from_vec(making.functions),
         instructions: Items::from_vec(making.code),
@@ -183,10 +188,10 @@ fn lower_parts<'p, A: Allocator + Copy>(names: &ProgramNames<'p, A>) -> Result<P
     })
 }
 
-/// The code of a program: its functions in file order, each with its instructions. Takes memory for the code, once more
-/// for its words, for the code of the statements that lie round the one that is made, and for tables of the program's
-/// names; and time for the program's size, but for each instruction that of the loops, branches and transactions round
-/// it.
+/// The code of a program: its functions in file order, each with its instructions, and where these come from in the
+/// text, which no contract speaks of. Takes memory for the code, once more for its words, for where they come from, for
+/// the code of the statements that lie round the one that is made, and for tables of the program's names; and time for
+/// the program's size, but for each instruction that of the loops, branches and transactions round it.
 pub fn lower<A: Allocator + Copy>(alloc: A, accepted: &Accepted<A>) -> Result<Code<A>, LowerFault>
     ensures means { IfOk result (MeansItsProgram (program_of accepted.now.safe.typed.unit)) }
     ensures globals { IfOk result (λ code. code.globals ≡ Names.globals (program_of accepted.now.safe.typed.unit)) }
@@ -207,9 +212,10 @@ pub fn lower<A: Allocator + Copy>(alloc: A, accepted: &Accepted<A>) -> Result<Co
         Ok(names) => names,
         Err(_) => return Err(LowerFault::OutOfMemory),
     };
-    let parts = lower_parts(&names)?;
+    let mut origins = Vec::new(alloc);
+    let parts = lower_parts(&names, &mut origins)?;
     match Code::from_valid(alloc, parts) {
-        Ok(code) => Ok(code),
+        Ok(code) => Ok(code.with_origins(origins)),
         Err(_) => Err(LowerFault::OutOfMemory),
     }
 }

@@ -10,6 +10,7 @@ mod fault;
 mod function;
 mod generate;
 mod loops;
+mod origins;
 mod print;
 mod stmt;
 

@@ -19,12 +19,14 @@ ghost use Rattle.lower_exprs.specs.Lists.{lists_of};
 ghost use Rattle.lower_exprs.specs.Fragments.{Adds, AddsTest, AddsWritten, of_written};
 ghost use Rattle.lower_exprs.specs.Views.{program_in, scope_in};
 
+use crate::origins::{note_first, note_stmt};
 use crate::print::put_pieces;
 use bytecode::Instr;
 use lower_exprs::draft::{put_back, put_test};
 use lower_exprs::expr::{lower_all, lower_as, lower_condition};
 use lower_exprs::fault::LowerFailure;
 use lower_exprs::lists::Lists;
+use lower_exprs::origins::{note, span_of};
 use lower_exprs::program::ProgramNames;
 use lower_exprs::put::{after, append, put};
 use lower_exprs::scope::LocalRegisters;
@@ -106,7 +108,7 @@ fn looping(exits: Exits, break_to: u32, continue_to: u32) -> Exits
     }
 }
 
-/// A condition behind the locals.
+/// A condition behind the locals. It is noted where it stands, of its own instructions and of the jump behind it.
 fn lower_head<A: Allocator + Copy>(
     names: &ProgramNames<'_, A>,
     scope: &LocalRegisters<'_, A>,
@@ -119,7 +121,10 @@ fn lower_head<A: Allocator + Copy>(
         (length (scope_in scope.now)) (lists_of lists.old)) drafts.old drafts.new lists.new result }
 {
     let free = scope.len();
-    lower_condition(names, scope, lists, drafts, c, from, free)
+    let t = lower_condition(names, scope, lists, drafts, c, from, free)?;
+    let jumped = after(t.to, 1)?;
+    note(lists, jumped, span_of(c))?;
+    Ok(t)
 }
 
 /// A condition, and a jump back where it holds.
@@ -339,9 +344,30 @@ fn lower_return<A: Allocator + Copy>(
     }
 }
 
-/// A statement's instructions; the place behind them.
+/// A statement's instructions; the place behind them. It is noted of its own instructions where it stands.
 #[cycle(lower_stmt)]
 pub(crate) fn lower_stmt<'p, A: Allocator + Copy>(
+    names: &ProgramNames<'p, A>,
+    scope: &mut LocalRegisters<'p, A>,
+    lists: &mut Lists<A>,
+    code: &mut Vec<Instr, A>,
+    s: &'p Stmt<A>,
+    exits: Exits,
+    from: u32,
+) -> Result<u32, LowerFailure>
+    ensures scope { OnOk result (scope_in scope.new ≡ locals_after (stmt_of s.now) (scope_in scope.old)) }
+    ensures code { AddsWritten (stmt_code (program_in names.now) (stmt_of s.now) exits (scope_in scope.old) from
+        (lists_of lists.old)) code.old code.new lists.new result }
+{
+    note_first(lists, from, s)?;
+    let to = lower_kind(names, scope, lists, code, s, exits, from)?;
+    note_stmt(lists, to, s)?;
+    Ok(to)
+}
+
+/// `lower_stmt`, by the statement's kind; what is noted is left to it.
+#[cycle(lower_stmt)]
+fn lower_kind<'p, A: Allocator + Copy>(
     names: &ProgramNames<'p, A>,
     scope: &mut LocalRegisters<'p, A>,
     lists: &mut Lists<A>,

@@ -24,6 +24,10 @@ written_behind code w = record w { code = code ++ w.code }
 pub same : {I E : Type 0} {old new : List I} {l : Lists} {a b : Fragment I E} {r : Result E LowerFailure} → a ≡ b → Adds a old new l r → Adds b old new l r
 same {I = I} {E = E} {old = old} {new = new} {l = l} {r = r} e k = subst (λ (u : Fragment I E). Adds u old new l r) e k
 
+-- where instructions come from is none of what is picked
+pub noted : {I E : Type 0} {old new : List I} {l noted : Lists} {a : Fragment I E} {r : Result E LowerFailure} → noted ≡ l → Adds a old new l r → Adds a old new noted r
+noted {I = I} {E = E} {old = old} {new = new} {a = a} {r = r} is k = subst (λ (m : Lists). Adds a old new m r) (sym is) k
+
 -- a second call goes on where the first one ended
 pub in_turn : {I E F : Type 0} {old mid new : List I} {la l : Lists} {a : Fragment I E} {b n : Fragment I F} {e : E} {r : Result F LowerFailure} →
     Adds a old mid la (Ok e) → b ≡ n → Adds b mid new l r → Adds (behind a n) old new l r

@@ -26,6 +26,7 @@ use crate::draft::{keep, put_first, turn};
 use crate::fault::LowerFailure;
 use crate::lists::Lists;
 use crate::names::{Callee, callee_of, global};
+use crate::origins::{note, span_of};
 use crate::preloaded::{constant_of, constant_word, preloaded_constant};
 use crate::program::ProgramNames;
 use crate::put::{
@@ -143,9 +144,29 @@ fn add_operand<A: Allocator>(
 }
 
 /// An expression's value. A result that is computed comes into the register `into`; registers from `free` on may be
-/// written.
+/// written. It is noted of its own instructions where it stands.
 #[cycle(lower_expr)]
 pub fn lower_expr<A: Allocator + Copy>(
+    names: &ProgramNames<'_, A>,
+    scope: &LocalRegisters<'_, A>,
+    lists: &mut Lists<A>,
+    code: &mut Vec<Instr, A>,
+    e: &Expr<A>,
+    from: u32,
+    into: usize,
+    free: usize,
+) -> Result<ValueRegister, LowerFailure>
+    ensures { AddsValue (emit (program_in names.now) (scope_in scope.now) (expr_of e.now) from into free
+        (lists_of lists.old)) code.old code.new lists.new result }
+{
+    let location = lower_node(names, scope, lists, code, e, from, into, free)?;
+    note(lists, location.to, span_of(e))?;
+    Ok(location)
+}
+
+/// `lower_expr`, of whose instructions only those are noted that its parts put.
+#[cycle(lower_expr)]
+fn lower_node<A: Allocator + Copy>(
     names: &ProgramNames<'_, A>,
     scope: &LocalRegisters<'_, A>,
     lists: &mut Lists<A>,
@@ -266,9 +287,17 @@ pub fn lower_expr<A: Allocator + Copy>(
                 free,
             )
         }
-        Expr::InTransaction(_, _, e, _) => {
-            lower_in_transaction(names, scope, lists, code, e.get(), from, into, free)
-        }
+        Expr::InTransaction(_, keyword, e, _) => lower_in_transaction(
+            names,
+            scope,
+            lists,
+            code,
+            e.get(),
+            *keyword,
+            from,
+            into,
+            free,
+        ),
     }
 }
 
@@ -479,7 +508,7 @@ fn lower_into<A: Allocator + Copy>(
     put_into(lists, code, location, into)
 }
 
-/// A value that is computed in a transaction of its own.
+/// A value that is computed in a transaction of its own, which begins with this keyword.
 #[cycle(lower_expr)]
 fn lower_in_transaction<A: Allocator + Copy>(
     names: &ProgramNames<'_, A>,
@@ -487,6 +516,7 @@ fn lower_in_transaction<A: Allocator + Copy>(
     lists: &mut Lists<A>,
     code: &mut Vec<Instr, A>,
     e: &Expr<A>,
+    keyword: Span,
     from: u32,
     into: usize,
     free: usize,
@@ -497,6 +527,7 @@ fn lower_in_transaction<A: Allocator + Copy>(
         code.old code.new lists.new result }
 {
     let next = after(from, 1)?;
+    note(lists, next, keyword)?;
     let mut operand = Vec::new(names.alloc);
     let location = lower_expr(names, scope, lists, &mut operand, e, next, into, free)?;
     put_in_transaction(code, &mut operand, location)

@@ -13,6 +13,7 @@ pub mod expr;
 pub mod fault;
 pub mod lists;
 mod names;
+pub mod origins;
 pub mod preloaded;
 pub mod program;
 pub mod put;

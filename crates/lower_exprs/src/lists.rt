@@ -1,5 +1,6 @@
 //! The lists of a code as it is made.
 
+use bytecode::Origin;
 use containers::Text;
 use std::alloc::Allocator;
 
@@ -11,6 +12,9 @@ pub struct Lists<A: Allocator> {
 
     /// The texts that are printed.
     pub texts: Vec<Text<A>, A>,
+
+    /// Where the instructions come from, one entry a place. No contract speaks of it.
+    pub origins: Vec<Origin, A>,
 
     /// How many registers the function needs as far as it is made.
     pub registers: u32,

@@ -25,6 +25,7 @@ use crate::expr::{lower_expr, lower_operand};
 use crate::fault::LowerFailure;
 use crate::lists::Lists;
 use crate::names::global;
+use crate::origins::{note, span_of, span_of_simple};
 use crate::preloaded::{constant_of, preloaded};
 use crate::program::ProgramNames;
 use crate::put::{above, after, put, put_both, put_constant, put_one, take};
@@ -32,7 +33,7 @@ use crate::scope::LocalRegisters;
 use crate::value_type::value_type;
 use bytecode::Instr;
 use global_tables::Shared;
-use lex::token::Scalar;
+use lex::token::{Scalar, Span};
 use selection::locations::{AssignmentTarget, ValueRegister};
 use std::alloc::Allocator;
 use syntax::tree::{BinaryOp, Declarator, Expr, Simple, Start};
@@ -89,8 +90,27 @@ fn put_check<A: Allocator + Copy>(
     Ok(aim_at(target, index.to))
 }
 
-/// Where an assignment goes.
+/// Where an assignment goes, and it is noted of the test of an index where the element stands.
 fn aim<A: Allocator + Copy>(
+    names: &ProgramNames<'_, A>,
+    scope: &LocalRegisters<'_, A>,
+    lists: &mut Lists<A>,
+    code: &mut Vec<Instr, A>,
+    check: bool,
+    e: &Expr<A>,
+    from: u32,
+    free: usize,
+) -> Result<Aim, LowerFailure>
+    ensures { Aims (target_code (program_in names.now) (scope_in scope.now) check (expr_of e.now) from free
+        (lists_of lists.old)) code.old code.new lists.new result }
+{
+    let aim = find_aim(names, scope, lists, code, check, e, from, free)?;
+    note(lists, aim.to, span_of(e))?;
+    Ok(aim)
+}
+
+/// Where an assignment goes.
+fn find_aim<A: Allocator + Copy>(
     names: &ProgramNames<'_, A>,
     scope: &LocalRegisters<'_, A>,
     lists: &mut Lists<A>,
@@ -136,8 +156,24 @@ fn home_or(target: AssignmentTarget, free: usize) -> usize
     }
 }
 
-/// The old value.
+/// The old value, and it is noted where the target stands.
 fn fetch<A: Allocator>(
+    lists: &mut Lists<A>,
+    code: &mut Vec<Instr, A>,
+    target: AssignmentTarget,
+    at: Span,
+    from: u32,
+    free: usize,
+) -> Result<ValueRegister, LowerFailure>
+    ensures { AddsValue (target_value target from free (lists_of lists.old)) code.old code.new lists.new result }
+{
+    let old = put_old(lists, code, target, from, free)?;
+    note(lists, old.to, at)?;
+    Ok(old)
+}
+
+/// The old value.
+fn put_old<A: Allocator>(
     lists: &mut Lists<A>,
     code: &mut Vec<Instr, A>,
     target: AssignmentTarget,
@@ -333,7 +369,7 @@ fn lower_by<A: Allocator + Copy>(
     }
 }
 
-/// The old value, another one, and the operator on both, as it goes to the target.
+/// The old value, another one, and the operator on both, as it goes to the target, which stands there in the source.
 fn lower_changed<'e, A: Allocator + Copy>(
     names: &ProgramNames<'_, A>,
     scope: &LocalRegisters<'_, A>,
@@ -342,6 +378,7 @@ fn lower_changed<'e, A: Allocator + Copy>(
     op: BinaryOp,
     by: Option<&'e Expr<A>>,
     target: AssignmentTarget,
+    at: Span,
     from: u32,
     free: usize,
 ) -> Result<ValueRegister, LowerFailure>
@@ -353,7 +390,7 @@ fn lower_changed<'e, A: Allocator + Copy>(
     let other = type_or_int(names, scope, by);
     let ty = operand_type(op, own, other);
     let due = operand_type(op, other, own);
-    let first = fetch(lists, code, target, from, free)?;
+    let first = fetch(lists, code, target, at, from, free)?;
     let old = put_converted(lists, code, first, own, ty, free)?;
     let behind = above(free, old.register);
     let right = lower_by(names, scope, lists, code, due, by, old.to, behind)?;
@@ -380,12 +417,33 @@ fn lower_adjust<'e, A: Allocator + Copy>(
 {
     let aim = aim(names, scope, lists, code, false, to, from, free)?;
     let later = above_target(aim.target, free);
-    let location = lower_changed(names, scope, lists, code, op, by, aim.target, aim.to, later)?;
+    let at = span_of(to);
+    let location = lower_changed(
+        names, scope, lists, code, op, by, aim.target, at, aim.to, later,
+    )?;
     store(code, aim.target, location.register, location.to)
 }
 
-/// An expression that stands as a statement, or an assignment.
+/// An expression that stands as a statement, or an assignment. It is noted of its own instructions where it stands.
 pub fn lower_simple<A: Allocator + Copy>(
+    names: &ProgramNames<'_, A>,
+    scope: &LocalRegisters<'_, A>,
+    lists: &mut Lists<A>,
+    code: &mut Vec<Instr, A>,
+    s: &Simple<A>,
+    from: u32,
+    free: usize,
+) -> Result<u32, LowerFailure>
+    ensures { AddsWritten (simple_written (program_in names.now) (scope_in scope.now) (simple_of s.now) from free
+        (lists_of lists.old)) code.old code.new lists.new result }
+{
+    let to = lower_effect(names, scope, lists, code, s, from, free)?;
+    note(lists, to, span_of_simple(s))?;
+    Ok(to)
+}
+
+/// `lower_simple`, of whose instructions only those are noted that its parts put.
+fn lower_effect<A: Allocator + Copy>(
     names: &ProgramNames<'_, A>,
     scope: &LocalRegisters<'_, A>,
     lists: &mut Lists<A>,
@@ -449,8 +507,28 @@ fn lower_first<A: Allocator + Copy>(
     }
 }
 
-/// A declared local is 0 and then has its first value.
+/// A declared local is 0 and then has its first value. It is noted of its own instructions where its name stands.
 fn lower_declarator<'p, A: Allocator + Copy>(
+    names: &ProgramNames<'p, A>,
+    scope: &mut LocalRegisters<'p, A>,
+    lists: &mut Lists<A>,
+    code: &mut Vec<Instr, A>,
+    ty: Scalar,
+    d: &'p Declarator<A>,
+    from: u32,
+) -> Result<u32, LowerFailure>
+    ensures scope { OnOk result (scope_in scope.new ≡ with_local (scope_in scope.old) d.now.name.text ty) }
+    ensures code { AddsWritten
+        (declarator_written (program_in names.now) ty (declarator_of d.now) (scope_in scope.old) from
+        (lists_of lists.old)) code.old code.new lists.new result }
+{
+    let to = lower_local(names, scope, lists, code, ty, d, from)?;
+    note(lists, to, d.name.span)?;
+    Ok(to)
+}
+
+/// `lower_declarator`, of whose instructions only those are noted that its first value puts.
+fn lower_local<'p, A: Allocator + Copy>(
     names: &ProgramNames<'p, A>,
     scope: &mut LocalRegisters<'p, A>,
     lists: &mut Lists<A>,

@@ -19,7 +19,7 @@ returns g c =
     let k = same body c.in_ok-last.ensures.code in
     record {
       code = c.in_ok-put.ensures ∙ ap (λ xs. xs ++ instr.Return ∷ []) k.code ∙ append_assoc c.args.code.now.items _ (instr.Return ∷ []);
-      lists = k.lists;
+      lists = c.note.ensures ∙ k.lists;
       end = c.in_ok-to.ensures ∙ ap (λ k. k + 1) k.end;
       fails = tt;
     }

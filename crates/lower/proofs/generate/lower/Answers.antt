@@ -22,16 +22,16 @@ pub returns-in-Ok-from_valid-clause-means : goal.returns-in-Ok-from_valid-clause
 returns-in-Ok-from_valid-clause-means g c =
     let p = program_of c.args.accepted.now.safe.typed.unit in
     let own : program_in c.in-Ok.names ≡ p = lent_program c.args.accepted.now c.in-Ok.ensures c.typed-typed.ensures c.safe.ensures in
-    let is : c.in-Ok-from_valid.code ≡ picked_code p = c.in-Ok-from_valid.ensures.made ∙ c.in_ok-parts.ensures.code ∙ ap picked_code own in
-    code_means p c.args.accepted.now.safe.typed.typed c.args.accepted.now.safe.safe c.picked_code_stands.ensures c.lowered_code_means.ensures c.never_astray.ensures c.args.accepted.now.accepted c.in-Ok-from_valid.code is
+    let is : c.with_origins.result ≡ picked_code p = c.with_origins.ensures ∙ c.in-Ok-from_valid.ensures.made ∙ c.in_ok-parts.ensures.code ∙ ap picked_code own in
+    code_means p c.args.accepted.now.safe.typed.typed c.args.accepted.now.safe.safe c.picked_code_stands.ensures c.lowered_code_means.ensures c.never_astray.ensures c.args.accepted.now.accepted c.with_origins.result is
 
 pub returns-in-Ok-from_valid-clause-worker : goal.returns-in-Ok-from_valid-clause-worker
 returns-in-Ok-from_valid-clause-worker g c =
     let p = program_of c.args.accepted.now.safe.typed.unit in
     let own : program_in c.in-Ok.names ≡ p = lent_program c.args.accepted.now c.in-Ok.ensures c.typed-typed.ensures c.safe.ensures in
     let is : code_of c.in_ok-parts.parts ≡ picked_code p = c.in_ok-parts.ensures.code ∙ ap picked_code own in
-    let valid : IsValid c.in-Ok-from_valid.code =
-    subst IsValid (sym c.in-Ok-from_valid.ensures.made)
+    let valid : IsValid c.with_origins.result =
+    subst IsValid (sym (c.with_origins.ensures ∙ c.in-Ok-from_valid.ensures.made))
     (parts_are_valid p c.args.accepted.now.safe.typed.typed c.args.accepted.now.safe.safe c.picked_code_is_valid.ensures c.in_ok-parts.parts is c.in_ok-parts.ensures.few c.in_ok-parts.ensures.short) in
     valid.worker
 

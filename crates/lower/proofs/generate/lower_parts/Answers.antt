@@ -24,7 +24,7 @@ items-init g c =
         lists = record { arguments = c.new-3.ensures.items j; texts = c.new-4.ensures.items j; registers = 0; layout = record { writable = 0; constants = c.new-5.ensures.items j } };
         to = 0;
       };
-      globals = λ j. map global_of (c.new-6.ensures.items j) ++ globals p;
+      globals = λ j. map global_of (c.new-7.ensures.items j) ++ globals p;
       few = subst (λ xs. AllByRecursion (λ (f : FunctionCode). f.registers ≤ 65535) (map code_function xs)) (sym c.new.ensures.items) tt;
       short = omega (arith, short);
     }

@@ -15,7 +15,7 @@ use Rattle.selection.proofs.GrowingStmts.{written_more}
 use Rattle.lower_exprs.specs.Lists.{lists_of}
 use Rattle.lower_exprs.specs.Fragments.{of_written}
 use Rattle.lower_exprs.specs.Views.{program_in, scope_in}
-use Rattle.lower_exprs.proofs.Adding.{same, in_turn, gathered, written_alone, stops, no_less}
+use Rattle.lower_exprs.proofs.Adding.{same, noted, in_turn, gathered, written_alone, stops, no_less}
 use Rattle.lower.proofs.Within.{test_within, step_within, body_within, start_within}
 use Rattle.lower.proofs.Written.{first_within, next_stmt, next_scope, last_scope, no_more_stmts}
 use Rattle.lower.proofs.Leaving.{start_longer, start_left, stmt_longer, stmt_left, stmts_longer, stmts_left}
@@ -27,68 +27,81 @@ holds : {X Y P : Type 0} (r : Result X Y) → P → OnOk r P
 holds (Ok x) p = p
 holds (Err e) p = tt
 
-pub lower_stmt-returns-in-Declare : goal.lower_stmt-returns-in-Declare
-lower_stmt-returns-in-Declare g t c =
+pub lower_stmt-returns-clause-code : goal.lower_stmt-returns-clause-code
+lower_stmt-returns-clause-code g t c =
+    let first = ap (λ l. of_written (stmt_code (program_in c.args.names.now) (stmt_of c.args.s.now) c.args.exits (scope_in c.args.scope.now) c.args.from l)) c.note_first.ensures in
+    noted c.note_stmt.ensures (same first c.in_ok-to.ensures.code)
+
+pub lower_stmt-returns-in_err-to-clause-code : goal.lower_stmt-returns-in_err-to-clause-code
+lower_stmt-returns-in_err-to-clause-code g t c =
+    let first = ap (λ l. of_written (stmt_code (program_in c.args.names.now) (stmt_of c.args.s.now) c.args.exits (scope_in c.args.scope.now) c.args.from l)) c.note_first.ensures in
+    stops (same first c.lower_kind.ensures.code) c.in_err-to.was c.from_residual-in_err-to.ensures (no_less _)
+
+pub lower_stmt-lower_kind-requires : goal.lower_stmt-lower_kind-requires
+lower_stmt-lower_kind-requires g t c κs within = (omega (arith, c.decreases), within)
+
+pub lower_kind-returns-in-Declare : goal.lower_kind-returns-in-Declare
+lower_kind-returns-in-Declare g t c =
     let is = declare_is c.in-Declare.is c.as_slice.ensures in
     record { scope = scope_there (scope_in c.args.scope.now) (scope_in c.lower_declarators.new.scope) c.lower_declarators.result is c.lower_declarators.ensures.scope; code = code_there (program_in c.args.names.now) c.args.exits (scope_in c.args.scope.now) c.args.from (lists_of c.args.lists.now) is c.lower_declarators.ensures.code }
 
-pub lower_stmt-returns-in-Do : goal.lower_stmt-returns-in-Do
-lower_stmt-returns-in-Do g t c =
+pub lower_kind-returns-in-Do : goal.lower_kind-returns-in-Do
+lower_kind-returns-in-Do g t c =
     let is = simple_is c.in-Do.is in
     record { scope = scope_there (scope_in c.args.scope.now) (scope_in c.args.scope.now) c.lower_do.result is (holds c.lower_do.result refl); code = code_there (program_in c.args.names.now) c.args.exits (scope_in c.args.scope.now) c.args.from (lists_of c.args.lists.now) is c.lower_do.ensures }
 
-pub lower_stmt-returns-in-Block : goal.lower_stmt-returns-in-Block
-lower_stmt-returns-in-Block g t c =
+pub lower_kind-returns-in-Block : goal.lower_kind-returns-in-Block
+lower_kind-returns-in-Block g t c =
     let is = block_is c.in-Block.is c.as_slice-in-Block.ensures in
     record { scope = scope_there (scope_in c.args.scope.now) (scope_in c.lower_block.new.scope) c.lower_block.result is c.lower_block.ensures.scope; code = code_there (program_in c.args.names.now) c.args.exits (scope_in c.args.scope.now) c.args.from (lists_of c.args.lists.now) is c.lower_block.ensures.code }
 
-pub lower_stmt-returns-in-Print : goal.lower_stmt-returns-in-Print
-lower_stmt-returns-in-Print g t c =
+pub lower_kind-returns-in-Print : goal.lower_kind-returns-in-Print
+lower_kind-returns-in-Print g t c =
     let is = print_is c.in-Print.is c.as_str.ensures c.as_slice-in-Print.ensures in
     record { scope = scope_there (scope_in c.args.scope.now) (scope_in c.args.scope.now) c.lower_print.result is (holds c.lower_print.result refl); code = code_there (program_in c.args.names.now) c.args.exits (scope_in c.args.scope.now) c.args.from (lists_of c.args.lists.now) is c.lower_print.ensures }
 
-pub lower_stmt-returns-in-None : goal.lower_stmt-returns-in-None
-lower_stmt-returns-in-None g t c =
+pub lower_kind-returns-in-None : goal.lower_kind-returns-in-None
+lower_kind-returns-in-None g t c =
     let is = if_is (c.in-If.is ∙ ap (λ o. own_stmt.If c.in-If.c c.in-If.then o) c.in-None.is) c.get.ensures in
     record { scope = scope_there (scope_in c.args.scope.now) (scope_in c.lower_if.new.scope) c.lower_if.result is c.lower_if.ensures.scope; code = code_there (program_in c.args.names.now) c.args.exits (scope_in c.args.scope.now) c.args.from (lists_of c.args.lists.now) is c.lower_if.ensures.code }
 
-pub lower_stmt-returns-in-Some : goal.lower_stmt-returns-in-Some
-lower_stmt-returns-in-Some g t c =
+pub lower_kind-returns-in-Some : goal.lower_kind-returns-in-Some
+lower_kind-returns-in-Some g t c =
     let is = if_else_is (c.in-If.is ∙ ap (λ o. own_stmt.If c.in-If.c c.in-If.then o) c.in-Some.is) c.get-in-Some.ensures c.get-in-Some-2.ensures in
     record { scope = scope_there (scope_in c.args.scope.now) (scope_in c.lower_if_else.new.scope) c.lower_if_else.result is c.lower_if_else.ensures.scope; code = code_there (program_in c.args.names.now) c.args.exits (scope_in c.args.scope.now) c.args.from (lists_of c.args.lists.now) is c.lower_if_else.ensures.code }
 
-pub lower_stmt-returns-in-While : goal.lower_stmt-returns-in-While
-lower_stmt-returns-in-While g t c =
+pub lower_kind-returns-in-While : goal.lower_kind-returns-in-While
+lower_kind-returns-in-While g t c =
     let is = while_is c.in-While.is c.get-in-While.ensures in
     record { scope = scope_there (scope_in c.args.scope.now) (scope_in c.lower_while.new.scope) c.lower_while.result is c.lower_while.ensures.scope; code = code_there (program_in c.args.names.now) c.args.exits (scope_in c.args.scope.now) c.args.from (lists_of c.args.lists.now) is c.lower_while.ensures.code }
 
-pub lower_stmt-returns-in-DoWhile : goal.lower_stmt-returns-in-DoWhile
-lower_stmt-returns-in-DoWhile g t c =
+pub lower_kind-returns-in-DoWhile : goal.lower_kind-returns-in-DoWhile
+lower_kind-returns-in-DoWhile g t c =
     let is = do_is c.in-DoWhile.is c.get-in-DoWhile.ensures in
     record { scope = scope_there (scope_in c.args.scope.now) (scope_in c.lower_do_while.new.scope) c.lower_do_while.result is c.lower_do_while.ensures.scope; code = code_there (program_in c.args.names.now) c.args.exits (scope_in c.args.scope.now) c.args.from (lists_of c.args.lists.now) is c.lower_do_while.ensures.code }
 
-pub lower_stmt-returns-in-For : goal.lower_stmt-returns-in-For
-lower_stmt-returns-in-For g t c =
+pub lower_kind-returns-in-For : goal.lower_kind-returns-in-For
+lower_kind-returns-in-For g t c =
     let is = for_is c.in-For.is c.get-in-For.ensures c.get-in-For-2.ensures in
     record { scope = scope_there (scope_in c.args.scope.now) (scope_in c.lower_for.new.scope) c.lower_for.result is c.lower_for.ensures.scope; code = code_there (program_in c.args.names.now) c.args.exits (scope_in c.args.scope.now) c.args.from (lists_of c.args.lists.now) is c.lower_for.ensures.code }
 
-pub lower_stmt-returns-in-Break : goal.lower_stmt-returns-in-Break
-lower_stmt-returns-in-Break g t c =
+pub lower_kind-returns-in-Break : goal.lower_kind-returns-in-Break
+lower_kind-returns-in-Break g t c =
     let is = break_is c.in-Break.is in
     record { scope = scope_there (scope_in c.args.scope.now) (scope_in c.args.scope.now) c.leave.result is (holds c.leave.result refl); code = code_there (program_in c.args.names.now) c.args.exits (scope_in c.args.scope.now) c.args.from (lists_of c.args.lists.now) is (c.leave.ensures (lists_of c.args.lists.now)) }
 
-pub lower_stmt-returns-in-Continue : goal.lower_stmt-returns-in-Continue
-lower_stmt-returns-in-Continue g t c =
+pub lower_kind-returns-in-Continue : goal.lower_kind-returns-in-Continue
+lower_kind-returns-in-Continue g t c =
     let is = continue_is c.in-Continue.is in
     record { scope = scope_there (scope_in c.args.scope.now) (scope_in c.args.scope.now) c.leave-in-Continue.result is (holds c.leave-in-Continue.result refl); code = code_there (program_in c.args.names.now) c.args.exits (scope_in c.args.scope.now) c.args.from (lists_of c.args.lists.now) is (c.leave-in-Continue.ensures (lists_of c.args.lists.now)) }
 
-pub lower_stmt-returns-in-Return : goal.lower_stmt-returns-in-Return
-lower_stmt-returns-in-Return g t c =
+pub lower_kind-returns-in-Return : goal.lower_kind-returns-in-Return
+lower_kind-returns-in-Return g t c =
     let is = return_is c.in-Return.is in
     record { scope = scope_there (scope_in c.args.scope.now) (scope_in c.args.scope.now) c.lower_return.result is (holds c.lower_return.result refl); code = code_there (program_in c.args.names.now) c.args.exits (scope_in c.args.scope.now) c.args.from (lists_of c.args.lists.now) is c.lower_return.ensures }
 
-pub lower_stmt-returns-in-Transaction : goal.lower_stmt-returns-in-Transaction
-lower_stmt-returns-in-Transaction g t c =
+pub lower_kind-returns-in-Transaction : goal.lower_kind-returns-in-Transaction
+lower_kind-returns-in-Transaction g t c =
     let is = transaction_is c.in-Transaction.is c.as_slice-all.ensures in
     record { scope = scope_there (scope_in c.args.scope.now) (scope_in c.lower_transaction.new.scope) c.lower_transaction.result is c.lower_transaction.ensures.scope; code = code_there (program_in c.args.names.now) c.args.exits (scope_in c.args.scope.now) c.args.from (lists_of c.args.lists.now) is c.lower_transaction.ensures.code }
 
@@ -275,8 +288,8 @@ lower_scoped-returns-clause-scope g t c = c.leave.ensures ∙ stmt_left (scope_i
 pub lower_for-returns-clause-scope : goal.lower_for-returns-clause-scope
 lower_for-returns-clause-scope g t c = c.leave.ensures ∙ start_left (scope_in c.args.scope.now) (scope_in c.lower_scoped.new.scope) c.len-outer.result c.len-outer.ensures (start_of c.args.head.now.start) (c.in_ok-step_at.ensures.scope ∙ c.in_ok-jumps_at.ensures.scope)
 
-pub lower_stmt-lower_block-requires : goal.lower_stmt-lower_block-requires
-lower_stmt-lower_block-requires g t c κs within =
+pub lower_kind-lower_block-requires : goal.lower_kind-lower_block-requires
+lower_kind-lower_block-requires g t c κs within =
     let size = simp the_lemmas at (ap (the_size g.row.A g.A.Allocator g.A.laws) c.in-Block.is) in
     let here = ap (most (the_size g.row.A g.A.Allocator g.A.laws)) c.as_slice-in-Block.ensures in
     (omega (arith, size, here, c.decreases), within)
@@ -288,32 +301,32 @@ lower_stmts-lower_stmt-requires g t c κs within =
     let here = ap size c.s-item.is in
     (omega (arith, below, here, c.decreases), within)
 
-pub lower_stmt-lower_if-requires : goal.lower_stmt-lower_if-requires
-lower_stmt-lower_if-requires g t c κs within =
+pub lower_kind-lower_if-requires : goal.lower_kind-lower_if-requires
+lower_kind-lower_if-requires g t c κs within =
     let size = simp the_lemmas at (ap (the_size g.row.A g.A.Allocator g.A.laws) (c.in-If.is ∙ ap (λ o. own_stmt.If c.in-If.c c.in-If.then o) c.in-None.is)) in
     let here = ap (the_size g.row.A g.A.Allocator g.A.laws) c.get.ensures in
     (omega (arith, size, here, c.decreases), (within, (c.new-test.ensures.items, c.new-branch.ensures.items)))
 
-pub lower_stmt-lower_if_else-requires : goal.lower_stmt-lower_if_else-requires
-lower_stmt-lower_if_else-requires g t c κs within =
+pub lower_kind-lower_if_else-requires : goal.lower_kind-lower_if_else-requires
+lower_kind-lower_if_else-requires g t c κs within =
     let some = c.in-If.is ∙ ap (λ o. own_stmt.If c.in-If.c c.in-If.then o) c.in-Some.is in
     let parts = some ∙ (λ j. own_stmt.If c.in-If.c (sym c.get-in-Some.ensures j) (Some (sym c.get-in-Some-2.ensures j))) in
     (omega (arith, c.decreases), (within, (c.new-test-in-Some.ensures.items, (c.new-first.ensures.items, (c.new-second.ensures.items, parts)))))
 
-pub lower_stmt-lower_while-requires : goal.lower_stmt-lower_while-requires
-lower_stmt-lower_while-requires g t c κs within =
+pub lower_kind-lower_while-requires : goal.lower_kind-lower_while-requires
+lower_kind-lower_while-requires g t c κs within =
     let size = simp the_lemmas at (ap (the_size g.row.A g.A.Allocator g.A.laws) c.in-While.is) in
     let here = ap (the_size g.row.A g.A.Allocator g.A.laws) c.get-in-While.ensures in
     (omega (arith, size, here, c.decreases), (within, c.new-inner.ensures.items))
 
-pub lower_stmt-lower_do_while-requires : goal.lower_stmt-lower_do_while-requires
-lower_stmt-lower_do_while-requires g t c κs within =
+pub lower_kind-lower_do_while-requires : goal.lower_kind-lower_do_while-requires
+lower_kind-lower_do_while-requires g t c κs within =
     let size = simp the_lemmas at (ap (the_size g.row.A g.A.Allocator g.A.laws) c.in-DoWhile.is) in
     let here = ap (the_size g.row.A g.A.Allocator g.A.laws) c.get-in-DoWhile.ensures in
     (omega (arith, size, here, c.decreases), (within, c.new-inner-in-DoWhile.ensures.items))
 
-pub lower_stmt-lower_for-requires : goal.lower_stmt-lower_for-requires
-lower_stmt-lower_for-requires g t c κs within =
+pub lower_kind-lower_for-requires : goal.lower_kind-lower_for-requires
+lower_kind-lower_for-requires g t c κs within =
     let size = simp the_lemmas at (ap (the_size g.row.A g.A.Allocator g.A.laws) c.in-For.is) in
     let here = ap (the_size g.row.A g.A.Allocator g.A.laws) c.get-in-For-2.ensures in
     (omega (arith, size, here, c.decreases), (within, c.new-inner-in-For.ensures.items))
@@ -348,8 +361,8 @@ lower_scoped-leave-requires g t c = stmt_longer (scope_in c.args.scope.now) (sco
 pub lower_for-leave-requires : goal.lower_for-leave-requires
 lower_for-leave-requires g t c = start_longer (scope_in c.args.scope.now) (scope_in c.lower_scoped.new.scope) c.len-outer.result c.len-outer.ensures (start_of c.args.head.now.start) (c.in_ok-step_at.ensures.scope ∙ c.in_ok-jumps_at.ensures.scope)
 
-pub lower_stmt-lower_transaction-requires : goal.lower_stmt-lower_transaction-requires
-lower_stmt-lower_transaction-requires g t c κs within =
+pub lower_kind-lower_transaction-requires : goal.lower_kind-lower_transaction-requires
+lower_kind-lower_transaction-requires g t c κs within =
     let size = simp the_lemmas at (ap (the_size g.row.A g.A.Allocator g.A.laws) c.in-Transaction.is) in
     let here = ap (most (the_size g.row.A g.A.Allocator g.A.laws)) c.as_slice-all.ensures in
     (omega (arith, size, here, c.decreases), (within, c.new-inner-in-Transaction.ensures.items))

@@ -16,7 +16,7 @@ use Rattle.lower_exprs.specs.Fragments.{of_value, of_test}
 use Rattle.lower_exprs.specs.inner.Stretches.{in_place, all_in_place}
 use Rattle.global_tables.specs.Tables.{shared_in}
 use Rattle.lower_exprs.specs.inner.Tables.{callee_in}
-use Rattle.lower_exprs.proofs.Adding.{same, in_turn, gathered, value_alone, stops, no_less}
+use Rattle.lower_exprs.proofs.Adding.{same, noted, in_turn, gathered, value_alone, stops, no_less}
 use Rattle.lower_exprs.proofs.Nodes.{variable_is, constant_is, call_is, element_is, parenthesized_is, cast_is, unary_is, binary_is, logical_is, conditional_is, in_transaction_is, value_there, test_there, value_test_there, due_constant, due_there, due_within, cast_test_there, cast_by_value}
 use Rattle.lower_exprs.proofs.Conditional.{into_behind, condition_within, second_within, one_is, two_is, chosen_there}
 use Rattle.lower_exprs.proofs.Operating.{left_within, right_within, left_constant, left_converted, left_there, right_there, whole_there}
@@ -24,43 +24,53 @@ use Rattle.lower_exprs.proofs.Within.{logical_within, arguments_within}
 use Rattle.lower_exprs.proofs.Rows.{type_there, no_type, next_value, first_within, no_more_values}
 use Rattle.lower_exprs.proofs.expr.+lower_expr.Goals as goal
 
-pub lower_expr-returns-in-Parenthesized : goal.lower_expr-returns-in-Parenthesized
-lower_expr-returns-in-Parenthesized g t c =
+pub lower_expr-returns : goal.lower_expr-returns
+lower_expr-returns g t c = noted c.note.ensures c.in_ok-location.ensures
+
+pub lower_expr-returns-in_err-location : goal.lower_expr-returns-in_err-location
+lower_expr-returns-in_err-location g t c =
+    stops c.lower_node.ensures c.in_err-location.was c.from_residual.ensures (no_less _)
+
+pub lower_expr-lower_node-requires : goal.lower_expr-lower_node-requires
+lower_expr-lower_node-requires g t c κs within = (omega (arith, c.decreases), within)
+
+pub lower_node-returns-in-Parenthesized : goal.lower_node-returns-in-Parenthesized
+lower_node-returns-in-Parenthesized g t c =
     value_there (program_in c.args.names.now) (scope_in c.args.scope.now) c.args.from c.args.into c.args.free (lists_of c.args.lists.now) (parenthesized_is c.in-Parenthesized.is c.get-in-Parenthesized.ensures) c.lower_expr-in-Parenthesized.ensures
 
-pub lower_expr-returns-in-Keep : goal.lower_expr-returns-in-Keep
-lower_expr-returns-in-Keep g t c =
+pub lower_node-returns-in-Keep : goal.lower_node-returns-in-Keep
+lower_node-returns-in-Keep g t c =
     value_there (program_in c.args.names.now) (scope_in c.args.scope.now) c.args.from c.args.into c.args.free (lists_of c.args.lists.now) (unary_is c.in-Unary.is c.in-Keep.is c.get-in-Keep.ensures) c.lower_expr-in-Keep.ensures
 
-pub lower_expr-returns-in-Constant : goal.lower_expr-returns-in-Constant
-lower_expr-returns-in-Constant g t c =
+pub lower_node-returns-in-Constant : goal.lower_node-returns-in-Constant
+lower_node-returns-in-Constant g t c =
     value_there (program_in c.args.names.now) (scope_in c.args.scope.now) c.args.from c.args.into c.args.free (lists_of c.args.lists.now) (constant_is c.in-Constant.is) c.put_number.ensures
 
-pub lower_expr-returns-in-Logical : goal.lower_expr-returns-in-Logical
-lower_expr-returns-in-Logical g t c =
+pub lower_node-returns-in-Logical : goal.lower_node-returns-in-Logical
+lower_node-returns-in-Logical g t c =
     value_there (program_in c.args.names.now) (scope_in c.args.scope.now) c.args.from c.args.into c.args.free (lists_of c.args.lists.now) (logical_is c.in-Logical.is c.get-in-Logical.ensures c.get-in-Logical-2.ensures) c.lower_logical.ensures
 
-pub lower_expr-returns-in-Conditional : goal.lower_expr-returns-in-Conditional
-lower_expr-returns-in-Conditional g t c =
+pub lower_node-returns-in-Conditional : goal.lower_node-returns-in-Conditional
+lower_node-returns-in-Conditional g t c =
     value_there (program_in c.args.names.now) (scope_in c.args.scope.now) c.args.from c.args.into c.args.free (lists_of c.args.lists.now) (conditional_is c.in-Conditional.is c.get-in-Conditional.ensures c.get-in-Conditional-2.ensures c.get-in-Conditional-3.ensures) c.lower_conditional.ensures
 
-pub lower_expr-returns-in-InTransaction : goal.lower_expr-returns-in-InTransaction
-lower_expr-returns-in-InTransaction g t c =
+pub lower_node-returns-in-InTransaction : goal.lower_node-returns-in-InTransaction
+lower_node-returns-in-InTransaction g t c =
     value_there (program_in c.args.names.now) (scope_in c.args.scope.now) c.args.from c.args.into c.args.free (lists_of c.args.lists.now) (in_transaction_is c.in-InTransaction.is c.get-in-InTransaction.ensures) c.lower_in_transaction.ensures
 
-pub lower_expr-returns-in-Variable : goal.lower_expr-returns-in-Variable
-lower_expr-returns-in-Variable g t c =
+pub lower_node-returns-in-Variable : goal.lower_node-returns-in-Variable
+lower_node-returns-in-Variable g t c =
     let named = ap (λ x. of_value (variable (newest (scope_in c.args.scope.now) x) (global_of (program_in c.args.names.now) x) c.args.from c.args.into (lists_of c.args.lists.now))) c.as_str.ensures in
     value_there (program_in c.args.names.now) (scope_in c.args.scope.now) c.args.from c.args.into c.args.free (lists_of c.args.lists.now) (variable_is c.in-Variable.is) (same named c.lower_variable.ensures)
 
-pub lower_expr-returns-in-None : goal.lower_expr-returns-in-None
-lower_expr-returns-in-None g t c =
+pub lower_node-returns-in-None : goal.lower_node-returns-in-None
+lower_node-returns-in-None g t c =
     let found = sym (ap (option_map shared_in) c.in-None.is) ∙ c.global.ensures.value ∙ ap (global_of (program_in c.args.names.now)) c.as_str-in-Element.ensures in
     let index = emit (program_in c.args.names.now) (scope_in c.args.scope.now) (expr_of c.in-Element.index) c.args.from c.args.free c.args.free (lists_of c.args.lists.now) in
     value_there (program_in c.args.names.now) (scope_in c.args.scope.now) c.args.from c.args.into c.args.free (lists_of c.args.lists.now) (element_is c.in-Element.is refl) (same (ap (λ o. of_value (element o index c.args.from c.args.into (lists_of c.args.lists.now))) found) c.put_constant.ensures)
 
-pub lower_expr-returns-in_ok-i-in-Some : goal.lower_expr-returns-in_ok-i-in-Some
-lower_expr-returns-in_ok-i-in-Some g t c =
+pub lower_node-returns-in_ok-i-in-Some : goal.lower_node-returns-in_ok-i-in-Some
+lower_node-returns-in_ok-i-in-Some g t c =
     let found = c.in-Some.ensures.value ∙ ap (global_of (program_in c.args.names.now)) c.as_str-in-Element.ensures in
     let index = emit (program_in c.args.names.now) (scope_in c.args.scope.now) (expr_of c.get.result.now) c.args.from c.args.free c.args.free (lists_of c.args.lists.now) in
     let x = shared_in c.in-Some.g in
@@ -68,52 +78,52 @@ lower_expr-returns-in_ok-i-in-Some g t c =
     let made = in_turn i (λ j. of_value (element (Some x) (in_place (i.end j) (i.lists j)) (i.end j).to c.args.into (i.lists j))) c.put_read_at.ensures in
     value_there (program_in c.args.names.now) (scope_in c.args.scope.now) c.args.from c.args.into c.args.free (lists_of c.args.lists.now) (element_is c.in-Element.is c.get.ensures) (same (ap (λ o. of_value (element o index c.args.from c.args.into (lists_of c.args.lists.now))) found) made)
 
-pub lower_expr-returns-in_err-i-in-Some : goal.lower_expr-returns-in_err-i-in-Some
-lower_expr-returns-in_err-i-in-Some g t c =
+pub lower_node-returns-in_err-i-in-Some : goal.lower_node-returns-in_err-i-in-Some
+lower_node-returns-in_err-i-in-Some g t c =
     let found = c.in-Some.ensures.value ∙ ap (global_of (program_in c.args.names.now)) c.as_str-in-Element.ensures in
     let index = emit (program_in c.args.names.now) (scope_in c.args.scope.now) (expr_of c.get.result.now) c.args.from c.args.free c.args.free (lists_of c.args.lists.now) in
     value_there (program_in c.args.names.now) (scope_in c.args.scope.now) c.args.from c.args.into c.args.free (lists_of c.args.lists.now) (element_is c.in-Element.is c.get.ensures)
     (same (ap (λ o. of_value (element o index c.args.from c.args.into (lists_of c.args.lists.now))) found)
     (stops c.lower_expr.ensures c.in_err-i-in-Some.was c.from_residual.ensures (used_more c.args.into index.lists)))
 
-pub lower_expr-returns-in-None-callee_of : goal.lower_expr-returns-in-None-callee_of
-lower_expr-returns-in-None-callee_of g t c =
+pub lower_node-returns-in-None-callee_of : goal.lower_node-returns-in-None-callee_of
+lower_node-returns-in-None-callee_of g t c =
     let found = sym (ap (option_map callee_in) c.in-None-callee_of.is) ∙ c.callee_of.ensures ∙ ap (callee_of (program_in c.args.names.now)) c.as_str-in-Call.ensures in
     let args = emit_all (program_in c.args.names.now) (scope_in c.args.scope.now) (taken_types (callee_of (program_in c.args.names.now) (name_of c.in-Call.f).text)) (exprs_of c.in-Call.args) c.args.from c.args.free (lists_of c.args.lists.now) in
     value_there (program_in c.args.names.now) (scope_in c.args.scope.now) c.args.from c.args.into c.args.free (lists_of c.args.lists.now) (call_is c.in-Call.is refl) (same (ap (λ o. of_value (call_code o args c.args.from c.args.into (lists_of c.args.lists.now))) found) c.put_constant-in-None-callee_of.ensures)
 
-pub lower_expr-returns-in-Some-callee_of : goal.lower_expr-returns-in-Some-callee_of
-lower_expr-returns-in-Some-callee_of g t c =
+pub lower_node-returns-in-Some-callee_of : goal.lower_node-returns-in-Some-callee_of
+lower_node-returns-in-Some-callee_of g t c =
     let found = c.in-Some-callee_of.ensures ∙ ap (callee_of (program_in c.args.names.now)) c.as_str-in-Call.ensures in
     value_there (program_in c.args.names.now) (scope_in c.args.scope.now) c.args.from c.args.into c.args.free (lists_of c.args.lists.now) (call_is c.in-Call.is c.as_slice-all.ensures) (same (ap (λ o. of_value (call_code o (emit_all (program_in c.args.names.now) (scope_in c.args.scope.now) (taken_types o) (exprs_of c.as_slice-all.result.now) c.args.from c.args.free (lists_of c.args.lists.now)) c.args.from c.args.into (lists_of c.args.lists.now))) found) c.lower_call.ensures)
 
-pub lower_expr-returns-in_ok-a-in-Negate : goal.lower_expr-returns-in_ok-a-in-Negate
-lower_expr-returns-in_ok-a-in-Negate g t c =
+pub lower_node-returns-in_ok-a-in-Negate : goal.lower_node-returns-in_ok-a-in-Negate
+lower_node-returns-in_ok-a-in-Negate g t c =
     let a = c.in_ok-a-in-Negate.ensures in
     value_there (program_in c.args.names.now) (scope_in c.args.scope.now) c.args.from c.args.into c.args.free (lists_of c.args.lists.now) (unary_is c.in-Unary.is c.in-Negate.is c.get-in-Negate.ensures) (in_turn a (λ j. of_value (negation (in_place (a.end j) (a.lists j)) c.args.into)) c.put_negated.ensures)
 
-pub lower_expr-returns-in_err-a-in-Negate : goal.lower_expr-returns-in_err-a-in-Negate
-lower_expr-returns-in_err-a-in-Negate g t c =
+pub lower_node-returns-in_err-a-in-Negate : goal.lower_node-returns-in_err-a-in-Negate
+lower_node-returns-in_err-a-in-Negate g t c =
     value_there (program_in c.args.names.now) (scope_in c.args.scope.now) c.args.from c.args.into c.args.free (lists_of c.args.lists.now) (unary_is c.in-Unary.is c.in-Negate.is c.get-in-Negate.ensures)
     (stops c.lower_expr-in-Negate.ensures c.in_err-a-in-Negate.was c.from_residual-in_err-a-in-Negate.ensures (used_more c.args.into (emit (program_in c.args.names.now) (scope_in c.args.scope.now) (expr_of c.get-in-Negate.result.now) c.args.from c.args.free c.args.free (lists_of c.args.lists.now)).lists))
 
-pub lower_expr-returns-in_ok-a-in-Complement : goal.lower_expr-returns-in_ok-a-in-Complement
-lower_expr-returns-in_ok-a-in-Complement g t c =
+pub lower_node-returns-in_ok-a-in-Complement : goal.lower_node-returns-in_ok-a-in-Complement
+lower_node-returns-in_ok-a-in-Complement g t c =
     let a = c.in_ok-a-in-Complement.ensures in
     value_there (program_in c.args.names.now) (scope_in c.args.scope.now) c.args.from c.args.into c.args.free (lists_of c.args.lists.now) (unary_is c.in-Unary.is c.in-Complement.is c.get-in-Complement.ensures) (in_turn a (λ j. of_value (complement (in_place (a.end j) (a.lists j)) c.args.into)) c.put_complemented.ensures)
 
-pub lower_expr-returns-in_err-a-in-Complement : goal.lower_expr-returns-in_err-a-in-Complement
-lower_expr-returns-in_err-a-in-Complement g t c =
+pub lower_node-returns-in_err-a-in-Complement : goal.lower_node-returns-in_err-a-in-Complement
+lower_node-returns-in_err-a-in-Complement g t c =
     value_there (program_in c.args.names.now) (scope_in c.args.scope.now) c.args.from c.args.into c.args.free (lists_of c.args.lists.now) (unary_is c.in-Unary.is c.in-Complement.is c.get-in-Complement.ensures)
     (stops c.lower_expr-in-Complement.ensures c.in_err-a-in-Complement.was c.from_residual-in_err-a-in-Complement.ensures (used_more c.args.into (emit (program_in c.args.names.now) (scope_in c.args.scope.now) (expr_of c.get-in-Complement.result.now) c.args.from c.args.free c.args.free (lists_of c.args.lists.now)).lists))
 
-pub lower_expr-returns-in_ok-a-in-Not : goal.lower_expr-returns-in_ok-a-in-Not
-lower_expr-returns-in_ok-a-in-Not g t c =
+pub lower_node-returns-in_ok-a-in-Not : goal.lower_node-returns-in_ok-a-in-Not
+lower_node-returns-in_ok-a-in-Not g t c =
     let a = c.in_ok-a-in-Not.ensures in
     value_there (program_in c.args.names.now) (scope_in c.args.scope.now) c.args.from c.args.into c.args.free (lists_of c.args.lists.now) (unary_is c.in-Unary.is c.in-Not.is c.get-in-Not.ensures) (in_turn a (λ j. of_value (logical_negation (in_place (a.end j) (a.lists j)) c.args.into c.args.free)) c.put_compared.ensures)
 
-pub lower_expr-returns-in_err-a-in-Not : goal.lower_expr-returns-in_err-a-in-Not
-lower_expr-returns-in_err-a-in-Not g t c =
+pub lower_node-returns-in_err-a-in-Not : goal.lower_node-returns-in_err-a-in-Not
+lower_node-returns-in_err-a-in-Not g t c =
     value_there (program_in c.args.names.now) (scope_in c.args.scope.now) c.args.from c.args.into c.args.free (lists_of c.args.lists.now) (unary_is c.in-Unary.is c.in-Not.is c.get-in-Not.ensures)
     (stops c.lower_expr-in-Not.ensures c.in_err-a-in-Not.was c.from_residual-in_err-a-in-Not.ensures (compared_more (emit (program_in c.args.names.now) (scope_in c.args.scope.now) (expr_of c.get-in-Not.result.now) c.args.from c.args.free c.args.free (lists_of c.args.lists.now)) c.args.into c.args.free))
 
@@ -156,7 +166,7 @@ lower_into-returns-clause-code g t c =
 
 pub lower_in_transaction-returns : goal.lower_in_transaction-returns
 lower_in_transaction-returns g t c =
-    let next = ap of_value (λ j. emit (program_in c.args.names.now) (scope_in c.args.scope.now) (expr_of c.args.e.now) (c.in_ok-next.ensures j) c.args.into c.args.free (lists_of c.args.lists.now)) in
+    let next = ap of_value (λ j. emit (program_in c.args.names.now) (scope_in c.args.scope.now) (expr_of c.args.e.now) (c.in_ok-next.ensures j) c.args.into c.args.free (c.note.ensures j)) in
     let value = value_alone (same next c.in_ok-location.ensures) c.new-operand.ensures.items in
     same (ap (λ v. of_value (in_own_transaction v)) value) (c.put_in_transaction.ensures (lists_of c.lower_expr.new.lists))
 
@@ -220,60 +230,60 @@ lower_condition-returns-in-None g t c =
     let own = condition (program_in c.args.names.now) (scope_in c.args.scope.now) (expr_of c.in-Binary.a) c.args.from c.args.free (lists_of c.args.lists.now) in
     value_test_there (program_in c.args.names.now) (scope_in c.args.scope.now) c.args.from c.args.free (lists_of c.args.lists.now) (binary_is c.in-Binary.is refl c.get-in-Binary.ensures) (ap (λ o. zero_tested o own) (sym c.zero_test.ensures ∙ c.in-None.is)) c.lower_value-in-None.ensures
 
-pub lower_expr-lower_call-requires : goal.lower_expr-lower_call-requires
-lower_expr-lower_call-requires g t c κs within =
+pub lower_node-lower_call-requires : goal.lower_node-lower_call-requires
+lower_node-lower_call-requires g t c κs within =
     let size = simp the_lemmas at (ap (the_size g.row.A g.A.Allocator g.A.laws) c.in-Call.is) in
     let here = ap (most (the_size g.row.A g.A.Allocator g.A.laws)) c.as_slice-all.ensures in
     (omega (arith, size, here, c.decreases), (within, (omega arith, c.new-registers.ensures.items)))
 
-pub lower_expr-lower_expr-requires : goal.lower_expr-lower_expr-requires
-lower_expr-lower_expr-requires g t c κs within =
+pub lower_node-lower_expr-requires : goal.lower_node-lower_expr-requires
+lower_node-lower_expr-requires g t c κs within =
     let size = simp the_lemmas at (ap (the_size g.row.A g.A.Allocator g.A.laws) c.in-Element.is) in
     let here = ap (the_size g.row.A g.A.Allocator g.A.laws) c.get.ensures in
     (omega (arith, size, here, c.decreases), within)
 
-pub lower_expr-lower_expr-requires-in-Parenthesized : goal.lower_expr-lower_expr-requires-in-Parenthesized
-lower_expr-lower_expr-requires-in-Parenthesized g t c κs within =
+pub lower_node-lower_expr-requires-in-Parenthesized : goal.lower_node-lower_expr-requires-in-Parenthesized
+lower_node-lower_expr-requires-in-Parenthesized g t c κs within =
     let size = simp the_lemmas at (ap (the_size g.row.A g.A.Allocator g.A.laws) c.in-Parenthesized.is) in
     let here = ap (the_size g.row.A g.A.Allocator g.A.laws) c.get-in-Parenthesized.ensures in
     (omega (arith, size, here, c.decreases), within)
 
-pub lower_expr-lower_expr-requires-in-Keep : goal.lower_expr-lower_expr-requires-in-Keep
-lower_expr-lower_expr-requires-in-Keep g t c κs within =
+pub lower_node-lower_expr-requires-in-Keep : goal.lower_node-lower_expr-requires-in-Keep
+lower_node-lower_expr-requires-in-Keep g t c κs within =
     let size = simp the_lemmas at (ap (the_size g.row.A g.A.Allocator g.A.laws) c.in-Unary.is) in
     let here = ap (the_size g.row.A g.A.Allocator g.A.laws) c.get-in-Keep.ensures in
     (omega (arith, size, here, c.decreases), within)
 
-pub lower_expr-lower_expr-requires-in-Negate : goal.lower_expr-lower_expr-requires-in-Negate
-lower_expr-lower_expr-requires-in-Negate g t c κs within =
+pub lower_node-lower_expr-requires-in-Negate : goal.lower_node-lower_expr-requires-in-Negate
+lower_node-lower_expr-requires-in-Negate g t c κs within =
     let size = simp the_lemmas at (ap (the_size g.row.A g.A.Allocator g.A.laws) c.in-Unary.is) in
     let here = ap (the_size g.row.A g.A.Allocator g.A.laws) c.get-in-Negate.ensures in
     (omega (arith, size, here, c.decreases), within)
 
-pub lower_expr-lower_expr-requires-in-Not : goal.lower_expr-lower_expr-requires-in-Not
-lower_expr-lower_expr-requires-in-Not g t c κs within =
+pub lower_node-lower_expr-requires-in-Not : goal.lower_node-lower_expr-requires-in-Not
+lower_node-lower_expr-requires-in-Not g t c κs within =
     let size = simp the_lemmas at (ap (the_size g.row.A g.A.Allocator g.A.laws) c.in-Unary.is) in
     let here = ap (the_size g.row.A g.A.Allocator g.A.laws) c.get-in-Not.ensures in
     (omega (arith, size, here, c.decreases), within)
 
-pub lower_expr-lower_expr-requires-in-Complement : goal.lower_expr-lower_expr-requires-in-Complement
-lower_expr-lower_expr-requires-in-Complement g t c κs within =
+pub lower_node-lower_expr-requires-in-Complement : goal.lower_node-lower_expr-requires-in-Complement
+lower_node-lower_expr-requires-in-Complement g t c κs within =
     let size = simp the_lemmas at (ap (the_size g.row.A g.A.Allocator g.A.laws) c.in-Unary.is) in
     let here = ap (the_size g.row.A g.A.Allocator g.A.laws) c.get-in-Complement.ensures in
     (omega (arith, size, here, c.decreases), within)
 
-pub lower_expr-lower_logical-requires : goal.lower_expr-lower_logical-requires
-lower_expr-lower_logical-requires g t c κs within =
+pub lower_node-lower_logical-requires : goal.lower_node-lower_logical-requires
+lower_node-lower_logical-requires g t c κs within =
     let parts = c.in-Logical.is ∙ (λ j. own_expr.Logical c.in-Logical.op (sym c.get-in-Logical.ensures j) (sym c.get-in-Logical-2.ensures j) c.in-Logical.at) in
     (omega (arith, c.decreases), (within, (c.new-test.ensures.items, parts)))
 
-pub lower_expr-lower_conditional-requires : goal.lower_expr-lower_conditional-requires
-lower_expr-lower_conditional-requires g t c κs within =
+pub lower_node-lower_conditional-requires : goal.lower_node-lower_conditional-requires
+lower_node-lower_conditional-requires g t c κs within =
     let parts = c.in-Conditional.is ∙ (λ j. own_expr.Conditional (sym c.get-in-Conditional.ensures j) (sym c.get-in-Conditional-2.ensures j) (sym c.get-in-Conditional-3.ensures j) c.in-Conditional.at) in
     (omega (arith, c.decreases), (within, (c.new-test-in-Conditional.ensures.items, (c.new-first.ensures.items, (c.new-second.ensures.items, parts)))))
 
-pub lower_expr-lower_in_transaction-requires : goal.lower_expr-lower_in_transaction-requires
-lower_expr-lower_in_transaction-requires g t c κs within =
+pub lower_node-lower_in_transaction-requires : goal.lower_node-lower_in_transaction-requires
+lower_node-lower_in_transaction-requires g t c κs within =
     let size = simp the_lemmas at (ap (the_size g.row.A g.A.Allocator g.A.laws) c.in-InTransaction.is) in
     let here = ap (the_size g.row.A g.A.Allocator g.A.laws) c.get-in-InTransaction.ensures in
     (omega (arith, size, here, c.decreases), within)
@@ -387,8 +397,8 @@ lower_condition-lower_value-requires-in-Conditional g t c κs within = (omega (a
 pub lower_condition-lower_value-requires-in-InTransaction : goal.lower_condition-lower_value-requires-in-InTransaction
 lower_condition-lower_value-requires-in-InTransaction g t c κs within = (omega (arith, c.decreases), within)
 
-pub lower_expr-returns-in-Cast : goal.lower_expr-returns-in-Cast
-lower_expr-returns-in-Cast g t c =
+pub lower_node-returns-in-Cast : goal.lower_node-returns-in-Cast
+lower_node-returns-in-Cast g t c =
     value_there (program_in c.args.names.now) (scope_in c.args.scope.now) c.args.from c.args.into c.args.free (lists_of c.args.lists.now) (cast_is c.in-Cast.is c.get-in-Cast.ensures) c.lower_as.ensures
 
 pub lower_conditional-returns : goal.lower_conditional-returns
@@ -414,8 +424,8 @@ lower_conditional-returns-in_err-b g t c =
     let two = ap of_value (two_is (program_in c.args.names.now) (scope_in c.args.scope.now) (expr_of c.args.c.now) (expr_of c.args.left.now) (expr_of c.args.right.now) c.args.from c.args.into c.args.free (lists_of c.args.lists.now) c.in_ok-t.ensures c.in_ok-next.ensures ty a c.in_ok-other.ensures) in
     stops (same two c.lower_into-2.ensures.code) c.in_err-b.was c.from_residual-in_err-b.ensures (no_less _)
 
-pub lower_expr-lower_as-requires : goal.lower_expr-lower_as-requires
-lower_expr-lower_as-requires g t c κs within =
+pub lower_node-lower_as-requires : goal.lower_node-lower_as-requires
+lower_node-lower_as-requires g t c κs within =
     let size = simp the_lemmas at (ap (the_size g.row.A g.A.Allocator g.A.laws) c.in-Cast.is) in
     let here = ap (the_size g.row.A g.A.Allocator g.A.laws) c.get-in-Cast.ensures in
     (omega (arith, size, here, c.decreases), within)
@@ -504,34 +514,34 @@ lower_all-lower_argument-requires g t c κs within =
     let here = ap size c.one-item.is in
     (omega (arith, below, here, c.decreases), within)
 
-pub lower_expr-returns-in_ok-b-in-Binary : goal.lower_expr-returns-in_ok-b-in-Binary
-lower_expr-returns-in_ok-b-in-Binary g t c =
+pub lower_node-returns-in_ok-b-in-Binary : goal.lower_node-returns-in_ok-b-in-Binary
+lower_node-returns-in_ok-b-in-Binary g t c =
     let et = c.value_type-other.ensures ∙ ap (λ x. emitted_type (program_in c.args.names.now) (scope_in c.args.scope.now) (expr_of x)) (c.get-in-Binary.ensures ∙ sym c.get-in-Binary-3.ensures) in
     let a = left_there (program_in c.args.names.now) (scope_in c.args.scope.now) c.in-Binary.op (expr_of c.get-in-Binary-2.result.now) (expr_of c.get-in-Binary-3.result.now) c.in-Binary.field-3 c.args.from c.args.into c.args.free (lists_of c.args.lists.now) et c.in_ok-a-in-Binary.ensures in
     let b = right_there (program_in c.args.names.now) (scope_in c.args.scope.now) c.in-Binary.op (expr_of c.get-in-Binary-2.result.now) (expr_of c.get-in-Binary-3.result.now) c.in-Binary.field-3 c.args.from c.args.into c.args.free (lists_of c.args.lists.now) et a c.above-later.ensures c.operand_type-due.ensures c.in_ok-b-in-Binary.ensures in
     value_there (program_in c.args.names.now) (scope_in c.args.scope.now) c.args.from c.args.into c.args.free (lists_of c.args.lists.now) (binary_is c.in-Binary.is c.get-in-Binary-2.ensures c.get-in-Binary-3.ensures)
     (whole_there (program_in c.args.names.now) (scope_in c.args.scope.now) c.in-Binary.op (expr_of c.get-in-Binary-2.result.now) (expr_of c.get-in-Binary-3.result.now) c.in-Binary.field-3 c.args.from c.args.into c.args.free (lists_of c.args.lists.now) et a c.above-later.ensures c.operand_type-due.ensures b c.put_both.ensures)
 
-pub lower_expr-returns-in_err-b-in-Binary : goal.lower_expr-returns-in_err-b-in-Binary
-lower_expr-returns-in_err-b-in-Binary g t c =
+pub lower_node-returns-in_err-b-in-Binary : goal.lower_node-returns-in_err-b-in-Binary
+lower_node-returns-in_err-b-in-Binary g t c =
     let et = c.value_type-other.ensures ∙ ap (λ x. emitted_type (program_in c.args.names.now) (scope_in c.args.scope.now) (expr_of x)) (c.get-in-Binary.ensures ∙ sym c.get-in-Binary-3.ensures) in
     let a = left_there (program_in c.args.names.now) (scope_in c.args.scope.now) c.in-Binary.op (expr_of c.get-in-Binary-2.result.now) (expr_of c.get-in-Binary-3.result.now) c.in-Binary.field-3 c.args.from c.args.into c.args.free (lists_of c.args.lists.now) et c.in_ok-a-in-Binary.ensures in
     value_there (program_in c.args.names.now) (scope_in c.args.scope.now) c.args.from c.args.into c.args.free (lists_of c.args.lists.now) (binary_is c.in-Binary.is c.get-in-Binary-2.ensures c.get-in-Binary-3.ensures)
     (stops (right_there (program_in c.args.names.now) (scope_in c.args.scope.now) c.in-Binary.op (expr_of c.get-in-Binary-2.result.now) (expr_of c.get-in-Binary-3.result.now) c.in-Binary.field-3 c.args.from c.args.into c.args.free (lists_of c.args.lists.now) et a c.above-later.ensures c.operand_type-due.ensures c.lower_operand.ensures) c.in_err-b-in-Binary.was c.from_residual-in_err-b-in-Binary.ensures (right_within (program_in c.args.names.now) (scope_in c.args.scope.now) c.in-Binary.op (expr_of c.get-in-Binary-2.result.now) (expr_of c.get-in-Binary-3.result.now) c.in-Binary.field-3 c.args.from c.args.into c.args.free (lists_of c.args.lists.now)))
 
-pub lower_expr-returns-in_err-a-in-Binary : goal.lower_expr-returns-in_err-a-in-Binary
-lower_expr-returns-in_err-a-in-Binary g t c =
+pub lower_node-returns-in_err-a-in-Binary : goal.lower_node-returns-in_err-a-in-Binary
+lower_node-returns-in_err-a-in-Binary g t c =
     value_there (program_in c.args.names.now) (scope_in c.args.scope.now) c.args.from c.args.into c.args.free (lists_of c.args.lists.now) (binary_is c.in-Binary.is c.get-in-Binary-2.ensures c.get-in-Binary.ensures)
     (stops (left_there (program_in c.args.names.now) (scope_in c.args.scope.now) c.in-Binary.op (expr_of c.get-in-Binary-2.result.now) (expr_of c.get-in-Binary.result.now) c.in-Binary.field-3 c.args.from c.args.into c.args.free (lists_of c.args.lists.now) c.value_type-other.ensures c.lower_left.ensures) c.in_err-a-in-Binary.was c.from_residual-in_err-a-in-Binary.ensures (left_within (program_in c.args.names.now) (scope_in c.args.scope.now) c.in-Binary.op (expr_of c.get-in-Binary-2.result.now) (expr_of c.get-in-Binary.result.now) c.in-Binary.field-3 c.args.from c.args.into c.args.free (lists_of c.args.lists.now)))
 
-pub lower_expr-lower_left-requires : goal.lower_expr-lower_left-requires
-lower_expr-lower_left-requires g t c κs within =
+pub lower_node-lower_left-requires : goal.lower_node-lower_left-requires
+lower_node-lower_left-requires g t c κs within =
     let size = simp the_lemmas at (ap (the_size g.row.A g.A.Allocator g.A.laws) c.in-Binary.is) in
     let here = ap (the_size g.row.A g.A.Allocator g.A.laws) c.get-in-Binary-2.ensures in
     (omega (arith, size, here, c.decreases), within)
 
-pub lower_expr-lower_operand-requires : goal.lower_expr-lower_operand-requires
-lower_expr-lower_operand-requires g t c κs within =
+pub lower_node-lower_operand-requires : goal.lower_node-lower_operand-requires
+lower_node-lower_operand-requires g t c κs within =
     let size = simp the_lemmas at (ap (the_size g.row.A g.A.Allocator g.A.laws) c.in-Binary.is) in
     let here = ap (the_size g.row.A g.A.Allocator g.A.laws) c.get-in-Binary-3.ensures in
     (omega (arith, size, here, c.decreases), within)
