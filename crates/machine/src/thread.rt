@@ -21,6 +21,7 @@ ghost use Rattle.machine.specs.inner.Contexts.{cost_if};
 use crate::context::ThreadContext;
 use crate::event::Event;
 use crate::loads::Loads;
+use crate::place::{PlaceShown, place_shown};
 use crate::validation::is_validated;
 use bytecode::Code;
 use frames::{Doing, Frames};
@@ -414,6 +415,12 @@ impl<A: Allocator + Copy> Thread<A> {
         ensures { result ≡ self.now.thread.configuration.place }
     {
         self.context.frames.place()
+    }
+
+    /// What is shown of the place at which the thread stands, with the words that it computes with there.
+    pub fn place_shown<B: Allocator>(&self, code: &Code<B>) -> PlaceShown {
+        let frames = &self.context.frames;
+        place_shown(code, frames.place(), frames.registers())
     }
 
     /// What the thread has printed.

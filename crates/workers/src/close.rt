@@ -13,7 +13,8 @@ use crate::hall::Hall;
 use crate::tally::Tally;
 use crate::worker::Worker;
 use atomic_table::Seat;
-use machine::Thread;
+use bytecode::Code;
+use machine::{PlaceShown, Thread};
 use shared_words::{View, Words, join};
 use std::alloc::{Allocator, Global};
 use syntax::thread_end::Status;
@@ -97,6 +98,11 @@ impl<A: Allocator + Copy> Finished<A> {
         ensures { result ≡ finished_accesses self.now }
     {
         self.thread.accesses()
+    }
+
+    /// What is shown of the place at which the thread stands in the code.
+    pub fn place_shown<B: Allocator>(&self, code: &Code<B>) -> PlaceShown {
+        self.thread.place_shown(code)
     }
 
     /// What was counted of the thread's attempts.

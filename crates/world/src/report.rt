@@ -7,7 +7,7 @@ ghost use Rattle.world.specs.Reports.{stop_with, threads_of, threads_shown};
 
 use crate::stop::{StopReason, WorldStop};
 use crate::world::World;
-use machine::Event;
+use machine::{Event, PlaceShown};
 use std::alloc::{AllocError, Allocator, Global};
 use syntax::thread_end::{Status, Trap};
 
@@ -34,6 +34,8 @@ pub struct Report<A: Allocator = Global> {
     pub events: Vec<(u64, u32, Event), A>,
     /// How each thread is found, and what it has printed, from thread 0 on.
     pub threads: Vec<(WorldEnd, String<A>), A>,
+    /// What is shown of the place at which each thread stands. No contract speaks of it.
+    pub places: Vec<PlaceShown, A>,
     /// The words of the cells.
     pub words: Vec<u64, A>,
     /// The thread that has the lock, if one has.
@@ -118,11 +120,13 @@ impl<A: Allocator + Copy> World<A> {
         ensures trace { IfOk result (λ r. r.trace.items ≡ self.now.trace) }
     {
         let threads = self.thread_reports(alloc, stop)?;
+        let places = self.places(alloc)?;
         let words = Vec::from_slice(alloc, self.words())?;
         let trace = Vec::from_slice(alloc, self.trace())?;
         Ok(Report {
             events: Vec::new(alloc),
             threads,
+            places,
             words,
             holder: self.holder(),
             stop: self.stop_with(stop),

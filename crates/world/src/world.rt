@@ -12,7 +12,7 @@ ghost use Rattle.world.specs.inner.Following.{AreFirstFrom};
 use crate::make::{cost, make};
 use crate::stop::{StopReason, WorldFault, WorldStop};
 use bytecode::Code;
-use machine::{Event, StepShown, Thread};
+use machine::{Event, PlaceShown, StepShown, Thread};
 use norec_core::Stop;
 use std::alloc::{AllocError, Allocator, Global};
 use std::marker::Model;
@@ -289,6 +289,15 @@ impl<A: Allocator + Copy> World<A> {
     {
         let thread = &self.threads[t as usize];
         thread.output()
+    }
+
+    /// What is shown of the place at which each thread stands.
+    pub(crate) fn places(&self, alloc: A) -> Result<Vec<PlaceShown, A>, AllocError> {
+        let mut places = Vec::new(alloc);
+        'threads: for thread in self.threads.as_slice() {
+            places.push(thread.place_shown(&self.code))?;
+        }
+        Ok(places)
     }
 
     /// The thread that has the lock, if one has.
