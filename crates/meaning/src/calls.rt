@@ -1,7 +1,6 @@
 //! Calls (C11 6.5.2.2): their arguments, how they begin, and what they give.
 
 ghost use Rattle.std.specs.Prelude.{◌≡◌, ◌≤◌, map, option_map, unwrap_or, IfOk};
-ghost use Rattle.lex.specs.declared.token.Span.{Span};
 ghost use Rattle.syntax.specs.Meaning as meaning;
 ghost use Rattle.syntax.specs.Views.{exprs_of, name_of, parameter_of, stmts_of};
 ghost use Rattle.syntax.specs.Depth.{block_depth, program_depth};
@@ -15,11 +14,13 @@ ghost use Rattle.meaning.specs.inner.SourceThread.{state_in};
 use crate::arithmetic::convert;
 use crate::expr::eval;
 use crate::names::definition;
+use crate::outcome::TrapCause;
+use crate::places::note;
 use crate::program::ProgramTables;
 use crate::source_thread::{Halted, Local, SourceThread, StmtCompletion, tick, trap};
 use crate::stmt::stmts;
 use crate::word::{Word, convert_word, flag, unpack};
-use lex::token::Scalar;
+use lex::token::{Scalar, Span};
 use std::alloc::{AllocError, Allocator};
 use std::mem;
 use syntax::thread_end::{Halt, Trap};
@@ -120,13 +121,14 @@ pub(crate) fn begin<'p, A: Allocator + Copy>(
     })
 }
 
-/// A call's arguments, its tick, and then the function.
+/// The arguments of a call that stands there, its tick, and then the function.
 #[cycle(run)]
 pub(crate) fn call<'p, A: Allocator + Copy>(
     source: &ProgramTables<'p, A>,
     frames: u64,
     f: &Name<A>,
     args: &'p [Expr<A>],
+    span: Span,
     m: &mut SourceThread<'p, '_, A>,
 ) -> Result<Word, Halted>
     ensures { (at : Span)
@@ -134,6 +136,7 @@ pub(crate) fn call<'p, A: Allocator + Copy>(
         (tree.Call (name_of f.now) (exprs_of args.now) at) (state_in m.old)) m.new }
 {
     let values = values(source, frames, args, m)?;
+    note(&mut m.at, span, Some(TrapCause::Call));
     tick(m)?; // the call's
     enter_function(source, frames, f.text.as_str(), values.as_slice(), m)
 }

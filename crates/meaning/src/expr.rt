@@ -1,6 +1,5 @@
 //! Expressions (C11 6.5).
 
-ghost use Rattle.lex.specs.declared.token.Span.{Span};
 ghost use Rattle.syntax.specs.Views.{expr_of};
 ghost use Rattle.syntax.specs.Tree as tree;
 ghost use Rattle.syntax.specs.Actions as act;
@@ -10,10 +9,12 @@ ghost use Rattle.meaning.specs.inner.Does.{caller_in, does_expr};
 
 use crate::calls::call;
 use crate::lvalues::{common_value, element_cell, variable};
+use crate::places::note;
 use crate::program::ProgramTables;
 use crate::source_thread::{Halted, Lvalue, SourceThread, fetch, operate, operate_unary};
 use crate::transactions::value_transaction;
 use crate::word::{Word, constant, convert_word, flag, is_zero};
+use lex::token::Span;
 use std::alloc::Allocator;
 use syntax::tree::{Expr, LogicalOp, Name};
 
@@ -30,28 +31,31 @@ pub(crate) fn eval<'p, A: Allocator + Copy>(
     match e {
         Expr::Variable(x) => variable(source, x, m),
         Expr::Constant(n, ty, _) => Ok(constant(*n, *ty)),
-        Expr::Element(x, i, _) => {
-            let at = element(source, frames, x, i.get(), m)?;
+        Expr::Element(x, i, span) => {
+            let at = element(source, frames, x, i.get(), *span, m)?;
             fetch(m, at)
         }
-        Expr::Call(f, args, _) => call(source, frames, f, args.as_slice(), m),
+        Expr::Call(f, args, at) => call(source, frames, f, args.as_slice(), *at, m),
         Expr::Parenthesized(e, _) => eval(source, frames, e.get(), m),
         Expr::Cast(ty, e, _) => {
             let v = eval(source, frames, e.get(), m)?;
             Ok(convert_word(*ty, v))
         }
-        Expr::Unary(op, e, _) => {
+        Expr::Unary(op, e, at) => {
             let v = eval(source, frames, e.get(), m)?;
-            operate_unary(m, *op, v)
+            operate_unary(m, *op, v, *at)
         }
-        Expr::Binary(op, a, b, _) => {
+        Expr::Binary(op, a, b, at) => {
             let v = eval(source, frames, a.get(), m)?;
             let w = eval(source, frames, b.get(), m)?;
-            operate(m, *op, v, w)
+            operate(m, *op, v, w, *at)
         }
         Expr::Logical(op, a, b, _) => logical(source, frames, *op, a.get(), b.get(), m),
         Expr::Conditional(c, a, b, _) => conditional(source, frames, c.get(), a.get(), b.get(), m),
-        Expr::InTransaction(mode, _, e, _) => value_transaction(source, frames, *mode, e.get(), m),
+        Expr::InTransaction(mode, keyword, e, _) => {
+            note(&mut m.at, *keyword, None);
+            value_transaction(source, frames, *mode, e.get(), m)
+        }
     }
 }
 
@@ -112,13 +116,14 @@ fn conditional<'p, A: Allocator + Copy>(
     common_value(source, a, b, w, m)
 }
 
-/// The cell of an element, its index computed and tested.
+/// The cell of an element that stands there, its index computed and tested.
 #[cycle(run)]
 pub(crate) fn element<'p, A: Allocator + Copy>(
     source: &ProgramTables<'p, A>,
     frames: u64,
     x: &Name<A>,
     i: &'p Expr<A>,
+    at: Span,
     m: &mut SourceThread<'p, '_, A>,
 ) -> Result<Lvalue, Halted>
     ensures { MeansLvalue result
@@ -126,5 +131,5 @@ pub(crate) fn element<'p, A: Allocator + Copy>(
         (λ k. meaning.element (program_in source.now) (caller_in source.now frames) x.now.text k)) m.new }
 {
     let k = eval(source, frames, i, m)?;
-    element_cell(source, x, k, m)
+    element_cell(source, x, k, at, m)
 }

@@ -18,13 +18,15 @@ ghost use Rattle.meaning.specs.inner.Does.{caller_in, does_turn};
 use crate::calls::{Begun, begin as begin_body, result_of, values};
 use crate::expr::eval;
 use crate::loops::{Loop, for_condition, for_start, for_step, left_by_body, loop_test};
+use crate::outcome::TrapCause;
+use crate::places::{note, note_stmt};
 use crate::program::ProgramTables;
 use crate::source_thread::{Halted, Local, SourceThread, StmtCompletion, tick};
 use crate::stmt::stmt;
 use crate::transactions::copy_locals;
 use crate::word::is_zero;
 use containers::Boxed;
-use lex::token::Scalar;
+use lex::token::{Scalar, Span};
 use std::alloc::Allocator;
 use std::mem;
 use syntax::thread_end::{Halt, Trap};
@@ -195,6 +197,7 @@ pub(crate) fn open<'p, A: Allocator + Copy>(
         (lefts.first_step source.now frames (stmt_of s.now) parts.now (state_in m.old))
         m.new }
 {
+    note_stmt(&mut m.at, s);
     tick(m)?;
     match parts {
         StmtParts::Block(ss) => Ok(Stepped::Nests(
@@ -206,13 +209,13 @@ pub(crate) fn open<'p, A: Allocator + Copy>(
     }
 }
 
-/// The call that an expression is, perhaps in parentheses: its function's name and its arguments.
-fn call_in<'p, A: Allocator + Copy>(e: &'p Expr<A>) -> Option<(&'p Name<A>, &'p [Expr<A>])>
+/// The call that an expression is, perhaps in parentheses: its function's name, its arguments and where it stands.
+fn call_in<'p, A: Allocator + Copy>(e: &'p Expr<A>) -> Option<(&'p Name<A>, &'p [Expr<A>], Span)>
     ensures { IfSome result (λ c. (p : Program) (call : meaning.Caller)
         → meaning.expr p call (expr_of e.now) ≡ going.call_of p call c.0.now.text (exprs_of c.1.now)) }
 {
     match e {
-        Expr::Call(f, args, _) => Some((f, args.as_slice())),
+        Expr::Call(f, args, at) => Some((f, args.as_slice(), *at)),
         Expr::Parenthesized(e, _) => call_in(e.get()),
         _ => None,
     }
@@ -221,7 +224,7 @@ fn call_in<'p, A: Allocator + Copy>(e: &'p Expr<A>) -> Option<(&'p Name<A>, &'p 
 /// The call that is all of a statement.
 pub(crate) fn call_alone<'p, A: Allocator + Copy>(
     s: &'p Stmt<A>,
-) -> Option<(&'p Name<A>, &'p [Expr<A>])>
+) -> Option<(&'p Name<A>, &'p [Expr<A>], Span)>
     ensures { IfSome result (λ c. (p : Program) (call : meaning.Caller)
         → meaning.stmt p call (stmt_of s.now) ≡ going.call_alone p call c.0.now.text (exprs_of c.1.now)) }
 {
@@ -269,13 +272,16 @@ pub(crate) fn open_call<'p, A: Allocator + Copy>(
     frames: u64,
     f: &Name<A>,
     args: &'p [Expr<A>],
+    span: Span,
     m: &mut SourceThread<'p, '_, A>,
 ) -> Result<Stepped<'p, A>, Halted>
     ensures { MeansStepped source.now result
         (going.call_begun (program_in source.now) frames f.now.text (exprs_of args.now) (state_in m.old)) m.new }
 {
+    note(&mut m.at, span, Some(TrapCause::Call));
     tick(m)?;
     let values = values(source, frames, args, m)?;
+    note(&mut m.at, span, Some(TrapCause::Call));
     tick(m)?; // the call's
     begin_frame(source, frames, f.text.as_str(), values.as_slice(), m)
 }
@@ -324,6 +330,7 @@ fn begin_turns<'p, A: Allocator + Copy>(
         (going.turns_begun (program_in source.now) (caller_in source.now frames) (stmt_of s.now) turns (state_in m.old))
         m.new }
 {
+    note_stmt(&mut m.at, s);
     let Some(which) = loop_of(s) else {
         m.why = None; // never so: turns are those of a loop
         return Err(Halted {});

@@ -15,6 +15,7 @@ mod memory;
 mod names;
 mod orders;
 mod outcome;
+mod places;
 mod print;
 mod program;
 mod simple;
@@ -27,5 +28,7 @@ mod transactions;
 mod word;
 
 pub use orders::{last_memory, run_order, wants};
-pub use outcome::{MeaningFault, SourceOutcome, ThreadEnd, ThreadOutcome, ThreadReport};
+pub use outcome::{
+    HaltPlace, MeaningFault, SourceOutcome, ThreadEnd, ThreadOutcome, ThreadReport, TrapCause,
+};
 pub use threads::thread;

@@ -11,6 +11,7 @@ ghost use Rattle.meaning.specs.inner.Does.{caller_in, does_turn, do_turn, for_al
 ghost use Rattle.meaning.specs.inner.Does.{loop_condition as tested_due, while_turn};
 
 use crate::expr::eval;
+use crate::places::note_loop;
 use crate::program::ProgramTables;
 use crate::simple::{declare, simple};
 use crate::source_thread::{Halted, SourceThread, StmtCompletion, tick};
@@ -53,6 +54,7 @@ pub(crate) fn repeat<'p, A: Allocator + Copy>(
 {
     let most = m.ticks;
     'turns: for _ in 0..most {
+        note_loop(&mut m.at, which);
         tick(m)?; // the turn's
         if let Some(end) = turn(source, frames, which, m)? {
             return Ok(end);

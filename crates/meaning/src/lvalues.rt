@@ -12,9 +12,12 @@ ghost use Rattle.meaning.specs.inner.Does.{caller_in};
 ghost use Rattle.meaning.specs.inner.Word.{value_of};
 
 use crate::names::{global, type_of};
+use crate::outcome::TrapCause;
+use crate::places::note_trap;
 use crate::program::ProgramTables;
 use crate::source_thread::{Halted, Lvalue, SourceThread, fetch, lvalue_trap, newest};
 use crate::word::{Word, convert_word, unpack};
+use lex::token::Span;
 use std::alloc::Allocator;
 use syntax::thread_end::{Halt, Trap};
 use syntax::tree::{Expr, Name};
@@ -56,11 +59,12 @@ pub(crate) fn variable<'p, A: Allocator + Copy>(
     fetch(m, at)
 }
 
-/// The cell of an element by its index, which is tested.
+/// The cell of an element that stands there by its index, which is tested.
 pub(crate) fn element_cell<'p, A: Allocator + Copy>(
     source: &ProgramTables<'p, A>,
     x: &Name<A>,
     index: Word,
+    at: Span,
     m: &mut SourceThread<'p, '_, A>,
 ) -> Result<Lvalue, Halted>
     ensures { MeansLvalue result
@@ -75,6 +79,8 @@ pub(crate) fn element_cell<'p, A: Allocator + Copy>(
     if k < g.global.cell_count() {
         Ok(Lvalue::InCell(g.cell + k, g.global.ty))
     } else {
+        let cause = TrapCause::Index(unpack(index).word, g.global.cell_count());
+        note_trap(&mut m.at, at, cause);
         lvalue_trap(m, Trap::Index)
     }
 }

@@ -3,8 +3,10 @@
 ghost use Rattle.std.specs.Prelude.{◌≡◌};
 ghost use Rattle.meaning.specs.InOrder.{number_in};
 
+use lex::token::{Scalar, Span};
 use std::alloc::Allocator;
 use syntax::thread_end::Trap;
+use syntax::tree::BinaryOp;
 use thiserror::Error;
 
 /// How a thread of an accepted program is found after its ticks.
@@ -17,6 +19,32 @@ pub enum ThreadEnd {
     Wants,
     /// A tick is due, and none is left.
     Spent,
+}
+
+/// What could not be computed where a thread trapped, with the words of its operands.
+#[derive(Clone, Copy)]
+pub enum TrapCause {
+    /// A call, for which no frame was left.
+    Call,
+
+    /// An operator on two words, of which the left one is of this type, and so is the right one but in a shift.
+    Operator(BinaryOp, Scalar, u64, u64),
+
+    /// `-` before a word of this type.
+    Negation(Scalar, u64),
+
+    /// An index, of an array of so many cells.
+    Index(u64, usize),
+}
+
+/// Where in the source a thread trapped or went no further, so that people see it. No contract speaks of it.
+#[derive(Clone, Copy)]
+pub struct HaltPlace {
+    /// The innermost expression or statement that the thread had come to, as far as the tree says where it stands.
+    pub at: Span,
+
+    /// What could not be computed, where the thread trapped.
+    pub cause: Option<TrapCause>,
 }
 
 /// What a thread leaves and prints.
@@ -35,6 +63,9 @@ pub struct ThreadReport<A: Allocator = std::alloc::Global> {
     /// The bytes printed.
     pub text: Vec<u8, A>,
     pub end: ThreadEnd,
+
+    /// Where the thread goes no further, if that is known.
+    pub at: Option<HaltPlace>,
 }
 
 /// What threads have done.

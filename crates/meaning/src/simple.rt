@@ -13,12 +13,13 @@ ghost use Rattle.meaning.specs.inner.Does.{caller_in, declared_one};
 
 use crate::expr::{element, eval};
 use crate::lvalues::name_lvalue;
+use crate::places::span_of_simple;
 use crate::program::ProgramTables;
 use crate::source_thread::{
     Halted, Local, Lvalue, SourceThread, StmtCompletion, assign, fetch, operate,
 };
 use crate::word::{Word, flag};
-use lex::token::Scalar;
+use lex::token::{Scalar, Span};
 use std::alloc::Allocator;
 use syntax::thread_end::Halt;
 use syntax::tree::{BinaryOp, Declarator, Expr, Simple};
@@ -30,12 +31,13 @@ fn rewrite<A: Allocator>(
     op: BinaryOp,
     old: Word,
     by: Word,
+    span: Span,
 ) -> Result<StmtCompletion, Halted>
     ensures { MeansCompletion result
         (act.go_on (act.go_on (act.or_trap (binary op (value_of old) (value_of by)) (state_in m.old))
         (meaning.assign (lvalue_of at))) (λ _. act.pure meaning.Next)) m.new }
 {
-    let new = operate(m, op, old, by)?;
+    let new = operate(m, op, old, by, span)?;
     assign(m, at, new)?;
     Ok(StmtCompletion::Next)
 }
@@ -53,7 +55,7 @@ fn target<'p, A: Allocator + Copy>(
 {
     match e {
         Expr::Variable(x) => name_lvalue(source, x, m),
-        Expr::Element(x, i, _) => element(source, frames, x, i.get(), m),
+        Expr::Element(x, i, at) => element(source, frames, x, i.get(), *at, m),
         _ => {
             m.why = Some(Halt::Astray);
             Err(Halted {})
@@ -88,6 +90,7 @@ fn compound_assignment<'p, A: Allocator + Copy>(
     to: &'p Expr<A>,
     op: BinaryOp,
     e: &'p Expr<A>,
+    span: Span,
     m: &mut SourceThread<'p, '_, A>,
 ) -> Result<StmtCompletion, Halted>
     ensures { MeansCompletion result
@@ -97,7 +100,7 @@ fn compound_assignment<'p, A: Allocator + Copy>(
     let at = target(source, frames, to, m)?;
     let before = fetch(m, at)?;
     let v = eval(source, frames, e, m)?;
-    rewrite(m, at, op, before, v)
+    rewrite(m, at, op, before, v, span)
 }
 
 /// What an expression, an assignment or a step does.
@@ -119,12 +122,12 @@ pub(crate) fn simple<'p, A: Allocator + Copy>(
         }
         Simple::Assign(to, op, e) => match op {
             None => simple_assignment(source, frames, to, e, m),
-            Some(op) => compound_assignment(source, frames, to, *op, e, m),
+            Some(op) => { compound_assignment(source, frames, to, *op, e, span_of_simple(s), m) }
         },
         Simple::Adjust(to, by) => {
             let at = target(source, frames, to, m)?;
             let old = fetch(m, at)?;
-            rewrite(m, at, by.operator(), old, flag(true))
+            rewrite(m, at, by.operator(), old, flag(true), span_of_simple(s))
         }
     }
 }

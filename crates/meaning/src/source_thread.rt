@@ -10,8 +10,10 @@ ghost use Rattle.meaning.specs.inner.Word.{value_of};
 ghost use Rattle.meaning.specs.inner.SourceThread.{Means, MeansLvalue, MeansWord, state_in, local_in, lvalue_of};
 
 use crate::arithmetic::{apply, apply_unary, convert};
+use crate::outcome::{HaltPlace, TrapCause};
+use crate::places::{note_trap, operator_cause};
 use crate::word::{Word, pack, pack_value, unpack};
-use lex::token::Scalar;
+use lex::token::{Scalar, Span};
 use std::alloc::Allocator;
 use syntax::thread_end::{Halt, Trap};
 use syntax::tree::{BinaryOp, Mode, UnaryOp};
@@ -38,6 +40,10 @@ pub(crate) enum Context<'f, A: Allocator> {
 pub(crate) struct SourceThread<'p, 'f, A: Allocator> {
     pub ticks: u64,
     pub why: Option<Halt>,
+
+    /// Where in the source it is, as far as that is noted.
+    pub at: Option<HaltPlace>,
+
     pub locals: Vec<Local<'p>, A>,
     pub context: Context<'f, A>,
     pub text: Vec<u8, A>,
@@ -103,32 +109,41 @@ pub(crate) fn lvalue_trap<A: Allocator>(
     Err(Halted {})
 }
 
-/// What an operator on two values gives, or its trap.
+/// What an operator on two values gives that stands there, or its trap.
 pub(crate) fn operate<A: Allocator>(
     m: &mut SourceThread<A>,
     op: BinaryOp,
     x: Word,
     y: Word,
+    at: Span,
 ) -> Result<Word, Halted>
     ensures { MeansWord result (or_trap_due (binary op (value_of x) (value_of y)) (state_in m.old)) m.new }
 {
     match apply(op, unpack(x), unpack(y)) {
         Ok(v) => Ok(pack_value(v)),
-        Err(why) => trap(m, why),
+        Err(why) => {
+            note_trap(&mut m.at, at, operator_cause(op, unpack(x), unpack(y)));
+            trap(m, why)
+        }
     }
 }
 
-/// What an operator on one value gives, or its trap.
+/// What an operator on one value gives that stands there, or its trap.
 pub(crate) fn operate_unary<A: Allocator>(
     m: &mut SourceThread<A>,
     op: UnaryOp,
     x: Word,
+    at: Span,
 ) -> Result<Word, Halted>
     ensures { MeansWord result (or_trap_due (unary op (value_of x)) (state_in m.old)) m.new }
 {
     match apply_unary(op, unpack(x)) {
         Ok(v) => Ok(pack_value(v)),
-        Err(why) => trap(m, why),
+        Err(why) => {
+            let v = unpack(x);
+            note_trap(&mut m.at, at, TrapCause::Negation(v.ty, v.word));
+            trap(m, why)
+        }
     }
 }
 

@@ -19,11 +19,12 @@ use crate::calls::{Begun, begin};
 use crate::left::{
     Direction, Left, Pending, Stepped, StmtParts, call_alone, open, open_call, parts_of, step,
 };
+use crate::outcome::HaltPlace;
 use crate::program::ProgramTables;
 use crate::source_thread::{Context, Local, SourceThread, StmtCompletion};
 use crate::threads::start;
 use crate::transactions::{copy_locals, copy_memory};
-use lex::token::Scalar;
+use lex::token::{Scalar, Span};
 use std::alloc::{AllocError, Allocator};
 use syntax::thread_end::Halt;
 use syntax::tree::{Expr, Name, Stmt};
@@ -42,6 +43,9 @@ pub(crate) struct Point<'p, A: Allocator> {
 pub(crate) struct Observed<A: Allocator> {
     pub lefts: Vec<Vec<u64, A>, A>,
     pub text: Vec<u8, A>,
+
+    /// Where the thread goes no further, if it does and that is known.
+    pub at: Option<HaltPlace>,
 }
 
 /// A thread that stands at a point: what it has still to do, the end of what it did last, and what it has shown so far.
@@ -95,6 +99,7 @@ fn thread_at<'p, 'f, A: Allocator + Copy>(
     Ok(SourceThread {
         ticks: at.ticks,
         why: None,
+        at: None,
         locals,
         context: Context::Outside(at.due.as_slice(), Vec::new(alloc)),
         text: Vec::new(alloc),
@@ -113,6 +118,7 @@ fn went<'p, A: Allocator + Copy>(
     let SourceThread {
         ticks,
         why: _,
+        at: _,
         locals,
         context,
         text,
@@ -121,7 +127,15 @@ fn went<'p, A: Allocator + Copy>(
         Context::Outside(founds, lefts) => {
             let due = copy_memories(alloc, founds)?; // mostly none
             let at = Point { ticks, locals, due };
-            Ok(Gone::Went(next, at, Observed { lefts, text }))
+            Ok(Gone::Went(
+                next,
+                at,
+                Observed {
+                    lefts,
+                    text,
+                    at: None,
+                },
+            ))
         }
         Context::Inside(_, _) => Err(AllocError), // never so: what begins outside ends outside
     }
@@ -136,6 +150,7 @@ fn stop_thread<'p, A: Allocator>(m: SourceThread<'p, '_, A>) -> Result<Gone<'p, 
     let SourceThread {
         ticks: _,
         why,
+        at,
         locals: _locals,
         context,
         text,
@@ -144,7 +159,7 @@ fn stop_thread<'p, A: Allocator>(m: SourceThread<'p, '_, A>) -> Result<Gone<'p, 
         return Err(AllocError);
     };
     match context {
-        Context::Outside(_, lefts) => Ok(Gone::Stopped(why, Observed { lefts, text })),
+        Context::Outside(_, lefts) => Ok(Gone::Stopped(why, Observed { lefts, text, at })),
         Context::Inside(_, _) => Err(AllocError), // never so: what begins outside stops outside
     }
 }
@@ -189,6 +204,7 @@ fn go_call<'p, A: Allocator + Copy>(
     frames: u64,
     f: &Name<A>,
     args: &'p [Expr<A>],
+    span: Span,
     at: &Point<'p, A>,
 ) -> Result<Gone<'p, A>, AllocError>
     ensures { IfOk result
@@ -196,7 +212,7 @@ fn go_call<'p, A: Allocator + Copy>(
         (call_begun (program_in source.now) frames f.now.text (exprs_of args.now) (bare at.now))) }
 {
     let mut m = thread_at(source.alloc, at)?;
-    match open_call(source, frames, f, args, &mut m) {
+    match open_call(source, frames, f, args, span, &mut m) {
         Ok(next) => went(source.alloc, next, m),
         Err(_) => stop_thread(m),
     }
@@ -289,8 +305,8 @@ fn try_step<'p, A: Allocator + Copy>(
         return Ok(opened);
     }
     match call_alone(s) {
-        Some((f, args)) => {
-            let entered = go_call(source, frames, f, args, at)?;
+        Some((f, args, span)) => {
+            let entered = go_call(source, frames, f, args, span, at)?;
             Ok(entered)
         }
         None => Ok(gone),
@@ -306,6 +322,7 @@ fn at_end<A: Allocator + Copy>(alloc: A, ticks: u64) -> StoppedThread<A>
     let shown = Observed {
         lefts: Vec::new(alloc),
         text: Vec::new(alloc),
+        at: None,
     };
     StoppedThread { why, shown }
 }
@@ -386,6 +403,7 @@ pub(crate) fn stand<'p, A: Allocator + Copy>(
         shown: Observed {
             lefts: Vec::new(source.alloc),
             text: Vec::new(source.alloc),
+            at: None,
         },
     })
 }

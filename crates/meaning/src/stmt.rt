@@ -12,6 +12,7 @@ ghost use Rattle.meaning.specs.inner.Does.{caller_in, does_stmt, does_stmts, if_
 use crate::calls::values;
 use crate::expr::eval;
 use crate::loops::{Loop, for_scoped, repeat};
+use crate::places::note_stmt;
 use crate::print::{may_print, print_pieces};
 use crate::program::ProgramTables;
 use crate::simple::{declare, simple};
@@ -32,6 +33,7 @@ pub(crate) fn stmt<'p, A: Allocator + Copy>(
 ) -> Result<StmtCompletion, Halted>
     ensures { MeansCompletion result (does_stmt source.now frames s.now (state_in m.old)) m.new }
 {
+    note_stmt(&mut m.at, s);
     tick(m)?;
     match s {
         Stmt::Empty => Ok(StmtCompletion::Next),

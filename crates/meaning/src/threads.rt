@@ -75,6 +75,7 @@ pub(crate) fn start<'p, 'f, A: Allocator + Copy>(
     SourceThread {
         ticks,
         why: None,
+        at: None,
         locals: Vec::new(alloc),
         context: Context::Outside(founds, Vec::new(alloc)),
         text: Vec::new(alloc),
