@@ -226,7 +226,7 @@ fn due_report<A: Allocator + Copy>(
     ensures { IfOk result
         (λ v. IsReportOf (IsOrderOf (program_of accepted.now.safe.typed.unit) threads ticks order.now) v.items) }
 {
-    let printed = order_accepted(alloc, accepted, threads, order, ticks)?;
+    let (printed, _stood) = order_accepted(alloc, accepted, threads, order, ticks)?;
     match report_text(alloc, &printed) {
         Ok(due) => Ok(due),
         Err(_) => Err(MeaningFault::OutOfMemory),

@@ -5,6 +5,7 @@
 mod all_outcomes;
 mod certify;
 mod check;
+mod ends;
 mod files;
 mod further;
 mod globals;

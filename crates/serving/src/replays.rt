@@ -22,6 +22,7 @@ ghost use Rattle.serving.specs.Codes.{IsCodeOf};
 ghost use Rattle.serving.specs.Replays as spec;
 ghost use Rattle.serving.specs.inner.Replayed.{report_shown};
 
+use crate::ends::{Stood, all_stood_in_code, tell_ends};
 use crate::files::{lines_in_order, lines_of, lines_picked};
 use crate::globals::globals_shown;
 use crate::laws::reports_are_orders;
@@ -60,9 +61,25 @@ pub(crate) fn replay_source<A: Allocator + Copy, S: Read + Drop, W: Write, E: Wr
 {
     reports_are_orders();
     match replay_text(alloc, text, threads, steps, schedule, detail, err) {
-        Ok((_compiled, replayed)) => print_replay(alloc, &replayed, detail, out, err),
+        Ok((_compiled, replayed)) => {
+            let status = print_replay(alloc, &replayed, detail, out, err);
+            tell_replayed(alloc, text, &replayed, detail, err);
+            status
+        }
         Err(status) => status,
     }
+}
+
+/// Tells where threads stand that a replay leaves before their ends, where that is wanted.
+fn tell_replayed<A: Allocator + Copy, E: Write>(
+    alloc: A,
+    text: &str,
+    replayed: &Replayed<A>,
+    detail: Detail<'_>,
+    err: &mut E,
+) {
+    let found = replayed.printed.threads.as_slice();
+    tell_ends(alloc, text, found, replayed.stood.as_slice(), detail, err);
 }
 
 /// Replays steps of a source's threads, and prints what is shown of each and their report.
@@ -88,7 +105,17 @@ pub(crate) fn show_steps<A: Allocator + Copy, S: Read + Drop, W: Write, E: Write
     reports_are_orders();
     match replay_text(alloc, text, threads, steps, schedule, detail, err) {
         Ok((compiled, replayed)) => {
-            print_timeline(alloc, &compiled.code, threads, &replayed, detail, out, err)
+            let status = print_timeline(
+                alloc,
+                &compiled.code,
+                threads,
+                &replayed,
+                detail,
+                out,
+                err,
+            );
+            tell_replayed(alloc, text, &replayed, detail, err);
+            status
         }
         Err(status) => status,
     }
@@ -293,6 +320,8 @@ pub struct Replayed<A: Allocator = Global> {
     pub stop: Option<WorldStop>,
     /// The thread of each step that was made.
     pub made: Vec<u32, A>,
+    /// Where each thread stands in the source, as far as memory was had for it.
+    pub(crate) stood: Vec<Stood, A>,
 }
 
 /// Makes the steps that lines name, with so many threads of a program's code. What it promises is of code that means
@@ -310,7 +339,7 @@ pub fn replay_code<A: Allocator + Copy>(
     ensures wrong { (result ≡ Err WorldFault.WrongThreads) ↔ ((threads ≡ 0) ⊎ (64 < threads)) }
 {
     let report = replay(alloc, &compiled.code, threads, lines)?;
-    match shown_after_replay(alloc, unit_of(&compiled.accepted), report) {
+    match shown_after_replay(alloc, unit_of(&compiled.accepted), &compiled.code, report) {
         Ok(replayed) => Ok(replayed),
         Err(_) => Err(WorldFault::OutOfMemory),
     }
@@ -320,6 +349,7 @@ pub fn replay_code<A: Allocator + Copy>(
 fn shown_after_replay<A: Allocator + Copy>(
     alloc: A,
     unit: &Unit<A>,
+    code: &Code<A>,
     report: Report<A>,
 ) -> Result<Replayed<A>, AllocError>
     ensures printed { IfOk result (λ r. printed_of r.printed ≡ report_shown (program_of unit.now) report) }
@@ -327,6 +357,7 @@ fn shown_after_replay<A: Allocator + Copy>(
     ensures made { IfOk result (λ r. r.made.items ≡ report.trace.items) }
 {
     let globals = globals_shown(alloc, unit, report.words.as_slice())?;
+    let stood = all_stood_in_code(alloc, code, report.places.as_slice());
     let threads = threads_shown(alloc, report.threads)?;
     Ok(Replayed {
         printed: Printed {
@@ -337,6 +368,7 @@ fn shown_after_replay<A: Allocator + Copy>(
         },
         stop: report.stop,
         made: report.trace,
+        stood,
     })
 }
 

@@ -17,11 +17,13 @@ ghost use Rattle.std.specs.List.{find};
 ghost use Rattle.std.specs.Option.{option_and_then};
 ghost use Rattle.serving.specs.Runs as spec;
 
+use crate::ends::{Stood, stood_in_code, stood_somewhere, tell_ends};
 use crate::globals::globals_shown;
 use crate::laws::reports_are_orders;
 use crate::print::print_report;
 use crate::program::{Compiled, SourceFault, compile, unit_of};
 use crate::tell::{Detail, refuse, refuse_run, tell_counts};
+use bytecode::Code;
 use containers::Items;
 use norec_core::Stop;
 use report::{End, Printed, Shown, ThreadShown};
@@ -33,7 +35,8 @@ use syntax::thread_end::Status;
 use syntax::tree::Unit;
 use workers::{Ending, Finished, Gate, RunFault, RunMemory, RunReport, run_all};
 
-/// Runs all threads of a source at once, prints their report, and tells what was counted where that is wanted.
+/// Runs all threads of a source at once, prints their report, and tells where threads stand that did not end and what
+/// was counted, where that is wanted.
 pub(crate) fn run<H: Threads + Wait + Sync, W: Write, E: Write>(
     rt: &H,
     alloc: Global,
@@ -55,9 +58,11 @@ pub(crate) fn run<H: Threads + Wait + Sync, W: Write, E: Write>(
 {
     reports_are_orders();
     match run_threads(rt, alloc, text, threads, budget) {
-        Ok((printed, finished)) => {
+        Ok((printed, beside)) => {
             let status = print_report(alloc, &printed, out, err);
-            tell_counts(counts, threads, finished.as_slice(), err);
+            let found = printed.threads.as_slice();
+            tell_ends(alloc, text, found, beside.stood.as_slice(), detail, err);
+            tell_counts(counts, threads, beside.finished.as_slice(), err);
             status
         }
         Err(ThreadsFault::Source(fault)) => refuse(alloc, text, fault, detail, err),
@@ -87,6 +92,14 @@ pub(crate) enum ThreadsFault {
     Run(RunFault),
 }
 
+/// What is told beside the report of a run: the threads, and where each of them stands in the source, by its number, as
+/// far as memory is had for it.
+#[derive(Drop)]
+struct Beside {
+    finished: Vec<Finished>,
+    stood: Vec<Stood>,
+}
+
 /// Runs all threads of a source's text at once, each with so many steps at most: what their report shows, and the
 /// threads.
 fn run_threads<H: Threads + Wait + Sync>(
@@ -95,7 +108,7 @@ fn run_threads<H: Threads + Wait + Sync>(
     text: &str,
     threads: u32,
     budget: u64,
-) -> Result<(Printed, Vec<Finished>), ThreadsFault>
+) -> Result<(Printed, Beside), ThreadsFault>
     ensures ok { IfOk result (λ r. RunsConcurrently threads budget text.now (printed_of r.0)) }
     ensures err { IfErr result (λ f. IsThreadsFault text.now threads f) }
 {
@@ -116,7 +129,7 @@ fn run_code<H: Threads + Wait + Sync>(
     compiled: &Compiled,
     threads: u32,
     budget: u64,
-) -> Result<(Printed, Vec<Finished>), RunFault>
+) -> Result<(Printed, Beside), RunFault>
     ensures ok { IfOk result (λ r. IsCodeOf (program_of compiled.now.accepted.safe.typed.unit) compiled.now.code
         → IsConcurrentRun (program_of compiled.now.accepted.safe.typed.unit) compiled.now.code threads budget
         (printed_of r.0)) }
@@ -124,7 +137,7 @@ fn run_code<H: Threads + Wait + Sync>(
 {
     let ran = run_all(rt, alloc, &compiled.code, threads, budget, &OpenGate)?;
     match shown_concurrently(alloc, unit_of(&compiled.accepted), threads, &ran) {
-        Ok(printed) => Ok((printed, finished_of(ran))),
+        Ok(printed) => Ok((printed, beside(alloc, &compiled.code, threads, ran))),
         Err(_) => Err(RunFault::OutOfMemory),
     }
 }
@@ -138,6 +151,28 @@ fn finished_of(ran: RunReport) -> Vec<Finished> {
         overheld: _overheld,
     } = ran;
     threads
+}
+
+/// What is told beside the report of a run of so many threads.
+fn beside(alloc: Global, code: &Code, threads: u32, ran: RunReport) -> Beside {
+    let finished = finished_of(ran);
+    let stood = all_stood(alloc, code, threads, finished.as_slice());
+    Beside { finished, stood }
+}
+
+/// Where so many threads stand, by their numbers, as far as memory is had for it.
+fn all_stood(alloc: Global, code: &Code, threads: u32, finished: &[Finished]) -> Vec<Stood> {
+    let mut all = Vec::new(alloc);
+    'threads: for number in 0..threads {
+        let stood = match thread_numbered(finished, number) {
+            Some(thread) => stood_in_code(code, thread.place_shown(code)),
+            None => stood_somewhere(),
+        };
+        if all.push(stood).is_err() {
+            return all;
+        }
+    }
+    all
 }
 
 /// What the report of a run of all threads at once shows.

@@ -13,6 +13,7 @@ ghost use Rattle.meaning.specs.Outcomes.{thread_end_in};
 ghost use Rattle.serving.specs.Shows.{program_shown, order_end};
 ghost use Rattle.serving.specs.inner.ThreadReports.{report_shown};
 
+use crate::ends::{Stood, all_stood_in_source, tell_ends};
 use crate::globals::globals_shown;
 use crate::print::print_report;
 use crate::program::{SourceFault, read_accepted, unit_of};
@@ -46,8 +47,13 @@ pub(crate) fn in_order<A: Allocator + Copy, W: Write, E: Write>(
         (W.contents out.old) (W.contents out.new) }
     ensures untouched { result ≡ 1 → W.contents out.new ≡ W.contents out.old }
 {
-    match run_in_order(alloc, text, threads, order, ticks) {
-        Ok(printed) => print_report(alloc, &printed, out, err),
+    match order_of_text(alloc, text, threads, order, ticks) {
+        Ok((printed, stood)) => {
+            let status = print_report(alloc, &printed, out, err);
+            let found = printed.threads.as_slice();
+            tell_ends(alloc, text, found, stood.as_slice(), detail, err);
+            status
+        }
         Err(OrderFault::Source(fault)) => refuse(alloc, text, fault, detail, err),
         Err(OrderFault::Order(fault)) => refuse_order(fault, detail, err),
     }
@@ -88,30 +94,49 @@ pub fn run_in_order<A: Allocator + Copy>(
     ensures accepted { OnOk result (Accepts text.now) }
     ensures err { IfErr result (λ f. IsFaultInOrder text.now threads order.now f) }
 {
+    match order_of_text(alloc, text, threads, order, ticks) {
+        Ok((printed, _stood)) => Ok(printed),
+        Err(fault) => Err(fault),
+    }
+}
+
+/// Runs threads of a source's text in an order: what their report shows, and where they stand.
+fn order_of_text<A: Allocator + Copy>(
+    alloc: A,
+    text: &str,
+    threads: u32,
+    order: &[u32],
+    ticks: u64,
+) -> Result<(Printed<A>, Vec<Stood, A>), OrderFault>
+    ensures ok { IfOk result (λ r. RunsInOrder threads ticks order.now text.now (printed_of r.0)) }
+    ensures accepted { OnOk result (Accepts text.now) }
+    ensures err { IfErr result (λ f. IsFaultInOrder text.now threads order.now f) }
+{
     match read_accepted(alloc, text) {
         Ok(accepted) => match order_accepted(alloc, &accepted, threads, order, ticks) {
-            Ok(printed) => Ok(printed),
+            Ok(ran) => Ok(ran),
             Err(fault) => Err(OrderFault::Order(fault)),
         },
         Err(fault) => Err(OrderFault::Source(fault)),
     }
 }
 
-/// Runs threads of an accepted program in an order.
+/// Runs threads of an accepted program in an order: what their report shows, and where they stand.
 pub(crate) fn order_accepted<A: Allocator + Copy>(
     alloc: A,
     accepted: &Accepted<A>,
     threads: u32,
     order: &[u32],
     ticks: u64,
-) -> Result<Printed<A>, MeaningFault>
+) -> Result<(Printed<A>, Vec<Stood, A>), MeaningFault>
     ensures ok { IfOk result
-        (λ r. IsOrderOf (program_of accepted.now.safe.typed.unit) threads ticks order.now (printed_of r)) }
+        (λ r. IsOrderOf (program_of accepted.now.safe.typed.unit) threads ticks order.now (printed_of r.0)) }
     ensures err { IfErr result (λ f. IsFaultOfOrder threads order.now f) }
 {
     let ran = run_order(alloc, accepted, threads, order, ticks)?;
+    let stood = all_stood_in_source(alloc, ran.threads.as_slice());
     match shown_in_order(alloc, unit_of(accepted), ran) {
-        Ok(printed) => Ok(printed),
+        Ok(printed) => Ok((printed, stood)),
         Err(_) => Err(MeaningFault::OutOfMemory),
     }
 }

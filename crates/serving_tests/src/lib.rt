@@ -18,6 +18,8 @@ mod large;
 #[cfg(test)]
 mod opened;
 #[cfg(test)]
+mod places;
+#[cfg(test)]
 mod refusals;
 #[cfg(test)]
 mod served;

@@ -1,0 +1,277 @@
+//! Where threads stand that trapped or go no further, told behind a report.
+
+use crate::tell::{Detail, show_line};
+use bytecode::{Code, InstrView};
+use lex::place;
+use lex::token::{Scalar, Span};
+use machine::PlaceShown;
+use meaning::{HaltPlace, ThreadReport, TrapCause};
+use report::{End, ThreadShown};
+use std::alloc::Allocator;
+use std::io::Write;
+use syntax::number::number;
+use syntax::thread_end::Trap;
+use syntax::tree::BinaryOp;
+
+/// Where a thread stands in the source, and what it could not compute there. No contract speaks of it.
+#[derive(Clone, Copy)]
+pub(crate) struct Stood {
+    at: Option<Span>,
+    cause: Option<TrapCause>,
+}
+
+/// Where a thread stands of which that is not known.
+pub(crate) fn stood_somewhere() -> Stood {
+    Stood {
+        at: None,
+        cause: None,
+    }
+}
+
+/// What a thread could not compute that trapped at an instruction, by the words there.
+fn cause_in_code<A: Allocator>(code: &Code<A>, shown: PlaceShown) -> Option<TrapCause> {
+    match code.instr(shown.place as usize)? {
+        InstrView::Compute(op, ty, _, _, _) => {
+            Some(TrapCause::Operator(op, ty, shown.left, shown.right))
+        }
+        InstrView::Negate(ty, _, _) => Some(TrapCause::Negation(ty, shown.left)),
+        InstrView::Check(_, length)
+        | InstrView::ReadAt(_, _, length, _)
+        | InstrView::WriteAt(_, length, _, _) => {
+            Some(TrapCause::Index(shown.left, length as usize))
+        }
+        InstrView::Call(_, _, _) => Some(TrapCause::Call),
+        _ => None,
+    }
+}
+
+/// Where a thread of a code stands.
+pub(crate) fn stood_in_code<A: Allocator>(code: &Code<A>, shown: PlaceShown) -> Stood {
+    Stood {
+        at: code.span_at(shown.place as usize),
+        cause: cause_in_code(code, shown),
+    }
+}
+
+/// Where a thread of the source stands.
+fn stood_in_source(halted: Option<HaltPlace>) -> Stood {
+    match halted {
+        Some(halted) => Stood {
+            at: Some(halted.at),
+            cause: halted.cause,
+        },
+        None => stood_somewhere(),
+    }
+}
+
+/// Where threads of the source stand, as far as memory is had for it.
+pub(crate) fn all_stood_in_source<A: Allocator + Copy>(
+    alloc: A,
+    threads: &[ThreadReport<A>],
+) -> Vec<Stood, A> {
+    let mut all = Vec::new(alloc);
+    'threads: for thread in threads {
+        if all.push(stood_in_source(thread.at)).is_err() {
+            return all;
+        }
+    }
+    all
+}
+
+/// Where threads of a code stand, as far as memory is had for it.
+pub(crate) fn all_stood_in_code<A: Allocator + Copy>(
+    alloc: A,
+    code: &Code<A>,
+    places: &[PlaceShown],
+) -> Vec<Stood, A> {
+    let mut all = Vec::new(alloc);
+    'places: for shown in places {
+        if all.push(stood_in_code(code, *shown)).is_err() {
+            return all;
+        }
+    }
+    all
+}
+
+/// Tells where each thread stands that trapped or goes no further, where lines are wanted, with the line of the source:
+/// once, where several stand at one place one after another.
+pub(crate) fn tell_ends<A: Allocator + Copy, E: Write>(
+    alloc: A,
+    text: &str,
+    threads: &[ThreadShown<A>],
+    stood: &[Stood],
+    detail: Detail<'_>,
+    err: &mut E,
+) {
+    if !detail.lines {
+        return;
+    }
+    let mut last = None;
+    'threads: for number in 0..threads.len() {
+        let Some(one) = stood.get(number) else {
+            return;
+        };
+        if !tell_end(text, number, threads[number].end, *one, err) {
+            continue;
+        }
+        if let Some(at) = one.at {
+            if last != Some(at) {
+                show_line(alloc, text, at, err);
+            }
+            last = Some(at);
+        }
+    }
+}
+
+/// Tells how a thread was found and where, if it has not ended: whether it tells something.
+fn tell_end<E: Write>(text: &str, number: usize, end: End, stood: Stood, err: &mut E) -> bool {
+    let words = match end {
+        End::Ended => return false,
+        End::Trapped(trap) => {
+            tell_trap(text, number, trap, stood, err);
+            return true;
+        }
+        End::Budget => "its steps are used up",
+        End::Spent => "its ticks are used up",
+        End::Running => "running",
+        End::Waits => "waits",
+        End::OutOfMemory => "stop 00",
+        End::SequenceUsedUp => "stop 70",
+    };
+    let _ = write!(err, "txc: thread {number}: {words}");
+    write_place(text, stood.at, err);
+    let _ = err.write_all(b"\n");
+    true
+}
+
+/// Tells where a thread trapped, and what it could not compute.
+fn tell_trap<E: Write>(text: &str, number: usize, trap: Trap, stood: Stood, err: &mut E) {
+    let _ = write!(err, "txc: thread {number}: trap {}", trap.number());
+    write_place(text, stood.at, err);
+    if let Some(cause) = stood.cause {
+        let _ = err.write_all(b": ");
+        write_cause(text, trap, cause, stood.at, err);
+    }
+    let _ = err.write_all(b"\n");
+}
+
+/// Writes a line and a column.
+fn write_place<E: Write>(text: &str, at: Option<Span>, err: &mut E) {
+    if let Some(at) = at {
+        let (line, column) = place(text, at.start.min(text.len()));
+        let _ = write!(err, " at {line}:{column}");
+    }
+}
+
+/// Writes what could not be computed.
+fn write_cause<E: Write>(text: &str, trap: Trap, cause: TrapCause, at: Option<Span>, err: &mut E) {
+    match cause {
+        TrapCause::Call => {
+            let _ = err.write_all(b"64 frames are live, and this call wants one more");
+        }
+        TrapCause::Index(word, length) => {
+            let _ = err.write_all(b"index ");
+            write_word(word, err);
+            let _ = err.write_all(b", and ");
+            write_array(text, at, err);
+            let cells = if length == 1 { "cell" } else { "cells" };
+            let _ = write!(err, " has {length} {cells}");
+        }
+        TrapCause::Negation(ty, word) => {
+            let _ = write!(
+                err,
+                "-({}) is out of the range of {}",
+                number(ty, word),
+                name_of(ty)
+            );
+        }
+        TrapCause::Operator(op, ty, left, right) => {
+            write_operation(trap, op, ty, left, right, err);
+        }
+    }
+}
+
+/// Writes the operands of an operator that could not be computed.
+fn write_operation<E: Write>(
+    trap: Trap,
+    op: BinaryOp,
+    ty: Scalar,
+    left: u64,
+    right: u64,
+    err: &mut E,
+) {
+    if trap == Trap::ShiftCount {
+        let _ = err.write_all(b"a shift by ");
+        write_word(right, err);
+        let bits = if ty == Scalar::LongLong { 64 } else { 32 };
+        let _ = write!(err, ", and {} has {bits} bits", name_of(ty));
+        return;
+    }
+    let (a, b, sign) = (number(ty, left), number(ty, right), sign_of(op));
+    let _ = if trap == Trap::ZeroDivisor {
+        write!(err, "the divisor of {a} {sign} {b} is 0")
+    } else {
+        write!(err, "{a} {sign} {b} is out of the range of {}", name_of(ty))
+    };
+}
+
+/// Writes the number of a word whose type is not known: where it may be negative as `int` and not as `unsigned`, both.
+fn write_word<E: Write>(word: u64, err: &mut E) {
+    let signed = number(Scalar::Int, word);
+    let _ = if word <= u64::from(u32::MAX) && signed < 0 {
+        write!(err, "{signed} as int, {word} as unsigned")
+    } else {
+        write!(err, "{}", number(Scalar::LongLong, word))
+    };
+}
+
+/// The name that begins there, or nothing where none does.
+fn name_at(text: &str, from: usize) -> &[u8] {
+    let behind = text.as_bytes().get(from..text.len()).unwrap_or(b"");
+    'bytes: for (at, byte) in behind.iter().enumerate() {
+        if !byte.is_ascii_alphanumeric() && *byte != b'_' {
+            return behind.get(0..at).unwrap_or(b"");
+        }
+    }
+    behind
+}
+
+/// Writes the name of the array of which an element stands there.
+fn write_array<E: Write>(text: &str, at: Option<Span>, err: &mut E) {
+    let name = match at {
+        Some(at) => name_at(text, at.start),
+        None => b"the array".as_slice(),
+    };
+    let _ = err.write_all(name);
+}
+
+/// A type's name.
+fn name_of(ty: Scalar) -> &'static str {
+    match ty {
+        Scalar::Int => "int",
+        Scalar::Unsigned => "unsigned",
+        Scalar::LongLong => "long long",
+    }
+}
+
+/// An operator's sign.
+fn sign_of(op: BinaryOp) -> &'static str {
+    match op {
+        BinaryOp::Or => "|",
+        BinaryOp::Xor => "^",
+        BinaryOp::And => "&",
+        BinaryOp::Equal => "==",
+        BinaryOp::NotEqual => "!=",
+        BinaryOp::Less => "<",
+        BinaryOp::Greater => ">",
+        BinaryOp::LessEqual => "<=",
+        BinaryOp::GreaterEqual => ">=",
+        BinaryOp::ShiftLeft => "<<",
+        BinaryOp::ShiftRight => ">>",
+        BinaryOp::Add => "+",
+        BinaryOp::Subtract => "-",
+        BinaryOp::Multiply => "*",
+        BinaryOp::Divide => "/",
+        BinaryOp::Remainder => "%",
+    }
+}
