@@ -67,7 +67,7 @@ def commands_of(source):
             elif other in bodies:
                 made = command(other)
                 name, about, example = made.name or name, made.about or about, made.example or example
-                takes, options = made.takes or takes, [*options, *made.options]
+                takes, options = takes or made.takes, [*options, *made.options]
         return Command(name, about, example, takes, options)
 
     return command("commandless"), [command(it) for it in ADDED.findall(bodies["program"])]

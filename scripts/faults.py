@@ -102,16 +102,66 @@ def literal(text):
     return '"' + text.replace("\\", "\\\\").replace('"', '\\"').replace("\n", "\\n") + '"'
 
 
+def ends_of(page):
+    """The rows of the table of threads' ends: the word, the number of a trap or nothing, and what is printed."""
+    rows = []
+    for line in re.split(r"^## ", page, flags=re.M):
+        if line.startswith("How a thread ends"):
+            for word, number, is_, when, example in re.findall(
+                r"^\| ([a-z]+)(?: (\d))? \| ([^|]*?) \| ([^|]*?) \| ([^|]*?) \|$", line, re.M
+            ):
+                name = f"{word} {number}" if number else word
+                rows.append((word, number, f"{name}: {is_}\nWhen: {when}\nExample: {example}\n"))
+    return rows
+
+
+def arms_of(rows):
+    """Arms that give texts, by what they are for."""
+    return "".join(f"        {case} => Some(\n            {literal(text)},\n        ),\n" for case, text in rows)
+
+
 def explanations(page):
     rows = [(int(cells[0]), explanation(cells)) for cells in cells_of(page)]
-    arms = "".join(f"        {number} => Some(\n            {literal(text)},\n        ),\n" for number, text in rows)
+    ends = ends_of(page)
+    traps = [(number, text) for _, number, text in ends if number]
+    others = [("\"trap\"", "".join(text for _, text in traps))]
+    others += [(f'"{word}"', text) for word, number, text in ends if not number]
     return f"""//! What each fault means, as docs/FAULTS.md says it: written by scripts/faults.py.
 
 /// What a fault means, when it comes, with its place and an example: lines that end with LF. `None` where no fault has
 /// the number.
 pub fn explanation(number: u32) -> Option<&'static str> {{
     match number {{
-{arms}        _ => None,
+{arms_of(rows)}        _ => None,
+    }}
+}}
+
+/// What the trap of a number is, in the same form.
+fn trap_explanation(number: u32) -> Option<&'static str> {{
+    match number {{
+{arms_of(traps)}        _ => None,
+    }}
+}}
+
+/// What the end is that a report has by a word.
+fn word_explanation(word: &str) -> Option<&'static str> {{
+    match word {{
+{arms_of(others)}        _ => None,
+    }}
+}}
+
+/// What it means that a thread is found so, by its word in a report, and for a trap by the number behind it; all traps
+/// without one. Lines that end with LF. `None` where no thread is found so.
+pub fn end_explanation(word: &str, number: Option<u32>) -> Option<&'static str> {{
+    match number {{
+        None => word_explanation(word),
+        Some(number) => {{
+            if word == "trap" {{
+                trap_explanation(number)
+            }} else {{
+                None
+            }}
+        }}
     }}
 }}
 """

@@ -60,5 +60,5 @@ complete -c txc -n '__fish_seen_subcommand_from certify' -l order-file -r -F -d 
 complete -c txc -n '__fish_seen_subcommand_from certify' -l report -r -F -d 'A file with the report'
 complete -c txc -n '__fish_seen_subcommand_from certify' -l ticks -x -d 'How many ticks each thread has: 0 to 4294967295, and that if not given'
 complete -c txc -n '__fish_seen_subcommand_from certify' -l help -d 'Prints help'
-complete -c txc -n __fish_use_subcommand -a explain -d 'Says what a fault means, with an example'
+complete -c txc -n __fish_use_subcommand -a explain -d 'Says what a fault means, or a thread'\''s end, with an example'
 complete -c txc -n '__fish_seen_subcommand_from explain' -l help -d 'Prints help'

@@ -6,11 +6,10 @@ use Rattle.std.specs.Str.{bytes_eq}
 use Rattle.std.proofs.lemmas.Slice.Eq.{bytes_eq-Decides}
 use Rattle.clap.specs.Words.{Text}
 use Rattle.clap.specs.Matches.{TriesOne}
-use Rattle.command.specs.Asked.{SaysNumber}
-use Rattle.command.specs.inner.Refusals.{IsNoNumber, IsRead}
+use Rattle.command.specs.Asked.{IsNoNumber, IsNumberRead, SaysNumber}
 
 -- the number that was read is the number that is said
-pub number_read : {E : Type 0} (gives : Text → Result ℕ E → Type 0) → ((t : Text) (n : ℕ) → gives t (Ok n) → SaysNumber t n) → (o : Option Text) (n : Option ℕ) → (o ≡ None → ◌≡◌ {A = Result (Option ℕ) E} (Ok n) (Ok None)) → ((t : Text) → o ≡ Some t → TriesOne gives t (Ok n)) → IsRead o n
+pub number_read : {E : Type 0} (gives : Text → Result ℕ E → Type 0) → ((t : Text) (n : ℕ) → gives t (Ok n) → SaysNumber t n) → (o : Option Text) (n : Option ℕ) → (o ≡ None → ◌≡◌ {A = Result (Option ℕ) E} (Ok n) (Ok None)) → ((t : Text) → o ≡ Some t → TriesOne gives t (Ok n)) → IsNumberRead o n
 number_read gives exact None None none some = tt
 number_read gives exact None (Some n) none some = let e = none refl in cc
 number_read gives exact (Some t) None none some = absurd (some t refl)

@@ -10,7 +10,7 @@ use Rattle.command.specs.declared.request.Claim.{Claim}
 use Rattle.command.specs.declared.request.Format.{Format}
 use Rattle.command.specs.declared.request.Format.TheVariants.{Plain, Short, Json}
 use Rattle.command.specs.declared.request.Request.{Request}
-use Rattle.command.specs.declared.request.Request.TheVariants.{Program, Certify, Explain}
+use Rattle.command.specs.declared.request.Request.TheVariants.{Program, Certify, Explain, ExplainEnd}
 use Rattle.command.specs.declared.request.Task.{Task}
 use Rattle.command.specs.declared.request.Task.TheVariants.{Check, Listing, Run, Replay, Timeline, Picture}
 use Rattle.command.specs.declared.request.Task.TheVariants.{PrintOrder, PrintSchedule, Source, Outcomes}
@@ -27,6 +27,16 @@ IsDecimal text n = IsNumeral 10 text × (digits_value 10 text ≡ n) × (n < 429
 -- a text says a number below 2 ^ 32 in decimal digits, where a plus may stand first
 abbrev pub SaysNumber : Text → ℕ → Type 0
 SaysNumber text n = IsDecimal (without_leading_plus text) n
+
+-- a text that says no number
+abbrev pub IsNoNumber : Text → Type 0
+IsNoNumber text = (n : ℕ) → SaysNumber text n → ⊥
+
+-- the number that was read of what is given, if there is any
+abbrev pub IsNumberRead : Option Text → Option ℕ → Type 0
+IsNumberRead None None = Unit {0}
+IsNumberRead (Some text) (Some n) = SaysNumber text n
+IsNumberRead _ _ = ⊥
 
 -- the number that is given for an argument
 abbrev pub IsGiven : List Row → Text → ℕ → Type 0
@@ -174,7 +184,10 @@ IsRequest name given (Certify file verbose format claim) =
     × (IsTrue verbose ↔ IsFlagged given (codes "verbose")) × IsFormat (first_of (codes "format") given) format
     × (name ≡ codes "certify") × IsClaim given claim
 IsRequest name given (Explain number) =
-    (name ≡ codes "explain") × IsGiven given (codes "NN") number
+    (name ≡ codes "explain") × IsGiven given (codes "NN") number × (one_of (codes "N") given ≡ None)
+IsRequest name given (ExplainEnd word number) = (name ≡ codes "explain")
+    × (first_of (codes "NN") given ≡ Some (string_bytes word)) × IsNoNumber (string_bytes word)
+    × IsNumberRead (one_of (codes "N") given) number
 
 -- the words are those of a command, and make this request
 pub record Requests (words : List Text) (request : Request) : Type 0 where

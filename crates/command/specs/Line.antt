@@ -23,9 +23,13 @@ wanted_rule name = record (text_rule name) { required = true }
 abbrev pub order_rule : Rule
 order_rule = wanted_rule (codes "order")
 
--- the number of a fault
+-- the number of a fault, or the word of a thread's end
 abbrev pub fault_rule : Rule
 fault_rule = record (new_rule (codes "NN")) { required = true; action = Some Set }
+
+-- the number of a trap, where traps are explained
+abbrev pub trap_rule : Rule
+trap_rule = record (new_rule (codes "N")) { action = Some Set }
 
 -- a command over a file
 abbrev pub file_app : Text → App
@@ -73,7 +77,7 @@ certify_app =
     with_rule (with_rule order (wanted_rule (codes "report"))) (text_rule (codes "ticks"))
 
 abbrev pub explain_app : App
-explain_app = with_rule (new_app (codes "explain")) fault_rule
+explain_app = with_rule (with_rule (new_app (codes "explain")) fault_rule) trap_rule
 
 -- the program, which wants a command
 abbrev pub commandless_app : App

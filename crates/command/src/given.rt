@@ -1,10 +1,10 @@
 //! What words give for the arguments of a command.
 
-ghost use Rattle.std.specs.Prelude.{◌≡◌, ◌↔◌, ℕ, IsTrue, IsSomeAnd, Some, None, IfOk, IfErr, OnErr, codes, option_map};
+ghost use Rattle.std.specs.Prelude.{◌≡◌, ◌↔◌, IsTrue, IsSomeAnd, Some, None, IfOk, IfErr, OnErr, codes, option_map};
 ghost use Rattle.std.specs.Prelude.{string_bytes};
 ghost use Rattle.clap.specs.Words.{first_of, found_of, one_of, rows_of};
-ghost use Rattle.command.specs.Asked.{IsGiven};
-ghost use Rattle.command.specs.inner.Refusals.{IsNoNumber, IsOwn, IsRead};
+ghost use Rattle.command.specs.Asked.{IsNoNumber, IsNumberRead};
+ghost use Rattle.command.specs.inner.Refusals.{IsOwn};
 
 use crate::order::order;
 use crate::request::{Steps, Task, UsageFault};
@@ -61,28 +61,16 @@ pub(crate) fn flag_given(given: &ArgMatches<'_>, id: &str) -> bool
 }
 
 /// A text that says no number below 2^32.
-struct NoNumber;
+pub(crate) struct NoNumber;
 
 /// The number that a text given for an argument says, if one is given.
-fn read_number(given: &ArgMatches<'_>, id: &str) -> Result<Option<u32>, NoNumber>
-    ensures ok { IfOk result (IsRead (one_of id.now (rows_of (found_of given.now)))) }
+pub(crate) fn read_number(given: &ArgMatches<'_>, id: &str) -> Result<Option<u32>, NoNumber>
+    ensures ok { IfOk result (IsNumberRead (one_of id.now (rows_of (found_of given.now)))) }
     ensures err { OnErr result (IsSomeAnd (one_of id.now (rows_of (found_of given.now))) IsNoNumber) }
 {
     match given.try_get_one::<u32>(id) {
         Ok(number) => Ok(number),
         Err(_) => Err(NoNumber),
-    }
-}
-
-/// The number of a fault, which the command line wants.
-pub(crate) fn fault_wanted(alloc: Global, given: &ArgMatches<'_>) -> Result<u32, UsageFault>
-    ensures ok { IfOk result (IsGiven (rows_of (found_of given.now)) (codes "NN")) }
-    ensures err { IfErr result (IsOwn ((n : ℕ) → IsGiven (rows_of (found_of given.now)) (codes "NN") n → ⊥)) }
-{
-    match read_number(given, "NN") {
-        Ok(Some(number)) => Ok(number),
-        Ok(None) => Err(wrong(alloc, "an argument is missing")),
-        Err(NoNumber) => Err(wrong(alloc, "no fault has this number")),
     }
 }
 
@@ -105,7 +93,7 @@ pub(crate) fn number_given(
     least: u32,
     most: u32,
 ) -> Result<Option<u32>, UsageFault>
-    ensures ok { IfOk result (IsRead (one_of id.now (rows_of (found_of given.now)))) }
+    ensures ok { IfOk result (IsNumberRead (one_of id.now (rows_of (found_of given.now)))) }
     ensures err { IfErr result (IsOwn (IsSomeAnd (one_of id.now (rows_of (found_of given.now))) IsNoNumber)) }
 {
     match read_number(given, id) {

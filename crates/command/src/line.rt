@@ -360,7 +360,7 @@ fn certify<'a>(alloc: Global) -> Result<Command<'a>, AllocError>
     with(command, ticks)
 }
 
-/// The number of a fault.
+/// The number of a fault, or the word of a thread's end.
 fn fault<'a>(alloc: Global) -> Arg<'a>
     ensures rule { rule_of result ≡ fault_rule }
     ensures global { result.global ≡ false }
@@ -368,20 +368,33 @@ fn fault<'a>(alloc: Global) -> Arg<'a>
     Arg::new(alloc, "NN")
         .required(true)
         .action(ArgAction::Set)
-        .help("The number of a fault, as txc tells it")
+        .help(
+            "The number of a fault, as txc tells it, or trap, budget, spent, waits, running or stop",
+        )
 }
 
-/// The command that tells what a fault means.
+/// The number of a trap.
+fn trap<'a>(alloc: Global) -> Arg<'a>
+    ensures rule { rule_of result ≡ trap_rule }
+    ensures global { result.global ≡ false }
+{
+    Arg::new(alloc, "N")
+        .action(ArgAction::Set)
+        .help("The number of a trap, behind trap")
+}
+
+/// The command that tells what a fault means, or the end of a thread.
 fn explain<'a>(alloc: Global) -> Result<Command<'a>, AllocError>
     ensures { IfOk result (IsMade explain_app) }
 {
     let command = command_of(
         alloc,
         "explain",
-        "Says what a fault means, with an example",
-        "Example:\n  txc explain 20",
+        "Says what a fault means, or a thread's end, with an example",
+        "Examples:\n  txc explain 20\n  txc explain trap 3",
     );
-    with(Ok(command), fault(alloc))
+    let command = with(Ok(command), fault(alloc));
+    with(command, trap(alloc))
 }
 
 /// The program, which wants a command.

@@ -1,14 +1,14 @@
 //! From words to a request.
 
-ghost use Rattle.std.specs.Prelude.{◌≡◌, IfOk, IfErr, codes, map};
-ghost use Rattle.clap.specs.Words.{first_of, found_of, rows_of, subcommand_rows_of};
+ghost use Rattle.std.specs.Prelude.{◌≡◌, IfOk, IfErr, IsSomeAnd, codes, map};
+ghost use Rattle.clap.specs.Words.{first_of, found_of, one_of, rows_of, subcommand_rows_of};
 ghost use Rattle.command.specs.declared.request.Format.{Format};
 ghost use Rattle.command.specs.declared.request.Request.{Request};
-ghost use Rattle.command.specs.Asked.{Requests, IsFormat, IsRequest, Refuses};
+ghost use Rattle.command.specs.Asked.{Requests, IsFormat, IsGiven, IsNoNumber, IsRequest, Refuses};
 ghost use Rattle.command.specs.inner.Refusals.{AreNoRequest, IsOwn, HasGiven, SaysError};
 
 use crate::claim::claim;
-use crate::given::{fault_wanted, flag_given, text_given, text_wanted, wrong};
+use crate::given::{NoNumber, flag_given, read_number, text_given, text_wanted, wrong};
 use crate::line::program;
 use crate::request::{Format, Request, UsageFault};
 use crate::task::task;
@@ -70,15 +70,53 @@ fn format_given(alloc: Global, given: &ArgMatches<'_>) -> Result<Format, UsageFa
     }
 }
 
+/// What is to be explained: the fault of a number, or else the end of a thread by its word and, for a trap, its number.
+fn explained(alloc: Global, given: &ArgMatches<'_>) -> Result<Request, UsageFault>
+    ensures ok { IfOk result (IsRequest (codes "explain") (rows_of (found_of given.now))) }
+    ensures err { IfErr result (IsOwn (AreNoRequest (codes "explain") (rows_of (found_of given.now)))) }
+{
+    match read_number(given, "NN") {
+        Ok(Some(number)) => fault_alone(alloc, given, number),
+        Ok(None) => Err(wrong(alloc, "an argument is missing")),
+        Err(NoNumber) => end_explained(alloc, given),
+    }
+}
+
+/// The fault of this number, behind which no other one stands.
+fn fault_alone(alloc: Global, given: &ArgMatches<'_>, number: u32) -> Result<Request, UsageFault>
+    requires { IsGiven (rows_of (found_of given.now)) (codes "NN") number }
+    ensures ok { IfOk result (IsRequest (codes "explain") (rows_of (found_of given.now))) }
+    ensures err { IfErr result (IsOwn (AreNoRequest (codes "explain") (rows_of (found_of given.now)))) }
+{
+    match read_number(given, "N") {
+        Ok(None) => Ok(Request::Explain { number }),
+        Ok(Some(_)) => Err(wrong(alloc, "a fault has one number")),
+        Err(NoNumber) => Err(wrong(alloc, "a fault has one number")),
+    }
+}
+
+/// The end of a thread by its word, which is no number.
+fn end_explained(alloc: Global, given: &ArgMatches<'_>) -> Result<Request, UsageFault>
+    requires { IsSomeAnd (one_of (codes "NN") (rows_of (found_of given.now))) IsNoNumber }
+    ensures ok { IfOk result (IsRequest (codes "explain") (rows_of (found_of given.now))) }
+    ensures err { IfErr result (IsOwn (AreNoRequest (codes "explain") (rows_of (found_of given.now)))) }
+{
+    match read_number(given, "N") {
+        Ok(number) => Ok(Request::ExplainEnd {
+            word: text_wanted(alloc, given, "NN")?,
+            number,
+        }),
+        Err(NoNumber) => Err(wrong(alloc, "no trap has this number")),
+    }
+}
+
 /// The request of a command, and what is given for its arguments.
 fn request_of(alloc: Global, name: &str, given: &ArgMatches<'_>) -> Result<Request, UsageFault>
     ensures ok { IfOk result (IsRequest name.now (rows_of (found_of given.now))) }
     ensures err { IfErr result (IsOwn (AreNoRequest name.now (rows_of (found_of given.now)))) }
 {
     if name == "explain" {
-        return Ok(Request::Explain {
-            number: fault_wanted(alloc, given)?,
-        });
+        return explained(alloc, given);
     }
     let file = text_wanted(alloc, given, "FILE")?;
     let verbose = flag_given(given, "verbose");

@@ -28,6 +28,12 @@ pub enum Request {
     Explain {
         number: u32,
     },
+    /// Tells what the end of a thread means that a report says with this word, and with a number behind it where that is
+    /// a trap.
+    ExplainEnd {
+        word: String,
+        number: Option<u32>,
+    },
 }
 
 /// That a file has what the source prints, run in the order that another file lists: 1 to 64 threads, each with so many

@@ -85,7 +85,7 @@ fn takes_each_number_of_threads(rt: HostRuntime) {
 }
 
 fn words() -> &'static [Row] {
-    static ROWS: [Row; 4] = [
+    static ROWS: [Row; 7] = [
         (
             "txc|check|a.c|--format=json",
             br#"Ok(Program { file: "a.c", verbose: false, format: Json, task: Check { warns: false, all: false } })"#,
@@ -99,6 +99,18 @@ fn words() -> &'static [Row] {
             br#"Ok(Program { file: "b.c", verbose: true, format: Plain, task: Check { warns: false, all: false } })"#,
         ),
         ("txc|explain|40", b"Ok(Explain { number: 40 })"),
+        (
+            "txc|explain|4294967296",
+            br#"Ok(ExplainEnd { word: "4294967296", number: None })"#,
+        ),
+        (
+            "txc|explain|waits",
+            br#"Ok(ExplainEnd { word: "waits", number: None })"#,
+        ),
+        (
+            "txc|explain|trap|3",
+            br#"Ok(ExplainEnd { word: "trap", number: Some(3) })"#,
+        ),
     ];
     &ROWS
 }
@@ -250,7 +262,7 @@ fn refuses_orders(rt: HostRuntime) {
 
 /// Numbers that are none, too large or out of their range, and other values that are no such.
 fn refused_values() -> &'static [Row] {
-    static ROWS: [Row; 9] = [
+    static ROWS: [Row; 10] = [
         (
             "txc|run|a.c|--threads=4294967296",
             br#"Err(Wrong { text: "txc: usage: --threads is 1 to 64\n" })"#,
@@ -280,8 +292,12 @@ fn refused_values() -> &'static [Row] {
             br#"Err(Wrong { text: "txc: usage: --ticks is 0 to 1000000\n" })"#,
         ),
         (
-            "txc|explain|4294967296",
-            br#"Err(Wrong { text: "txc: usage: no fault has this number\n" })"#,
+            "txc|explain|20|7",
+            br#"Err(Wrong { text: "txc: usage: a fault has one number\n" })"#,
+        ),
+        (
+            "txc|explain|trap|x",
+            br#"Err(Wrong { text: "txc: usage: no trap has this number\n" })"#,
         ),
         (
             "txc|check|a.c|--format=long",

@@ -127,3 +127,65 @@ pub fn explanation(number: u32) -> Option<&'static str> {
         _ => None,
     }
 }
+
+/// What the trap of a number is, in the same form.
+fn trap_explanation(number: u32) -> Option<&'static str> {
+    match number {
+        1 => Some(
+            "trap 1: a signed result out of range\nWhen: `+`, `-`, `*`, `/`, `%`, `<<` or a `-` before a value gives what its type does not hold; `unsigned` wraps instead\nExample: `int m = 2147483647; m = m + 1;`\n",
+        ),
+        2 => Some(
+            "trap 2: a division by 0\nWhen: the right operand of `/` or `%` is 0\nExample: `int z = 0; z = 7 / z;`\n",
+        ),
+        3 => Some(
+            "trap 3: an index outside its array\nWhen: an index is negative, or not below the array's length, in a read or a write\nExample: `int a[5];` and `a[5] = 1;` in a transaction\n",
+        ),
+        4 => Some(
+            "trap 4: a call too many\nWhen: 64 functions are live, `worker` among them, and one more is called\nExample: `void f(void) { f(); }`\n",
+        ),
+        5 => Some(
+            "trap 5: a shift too far\nWhen: the right operand of `<<` or `>>` is negative, or not below 32, or 64 where a `long long` is shifted\nExample: `int s = 32; s = 1 << s;`\n",
+        ),
+        _ => None,
+    }
+}
+
+/// What the end is that a report has by a word.
+fn word_explanation(word: &str) -> Option<&'static str> {
+    match word {
+        "trap" => Some(
+            "trap 1: a signed result out of range\nWhen: `+`, `-`, `*`, `/`, `%`, `<<` or a `-` before a value gives what its type does not hold; `unsigned` wraps instead\nExample: `int m = 2147483647; m = m + 1;`\ntrap 2: a division by 0\nWhen: the right operand of `/` or `%` is 0\nExample: `int z = 0; z = 7 / z;`\ntrap 3: an index outside its array\nWhen: an index is negative, or not below the array's length, in a read or a write\nExample: `int a[5];` and `a[5] = 1;` in a transaction\ntrap 4: a call too many\nWhen: 64 functions are live, `worker` among them, and one more is called\nExample: `void f(void) { f(); }`\ntrap 5: a shift too far\nWhen: the right operand of `<<` or `>>` is negative, or not below 32, or 64 where a `long long` is shifted\nExample: `int s = 32; s = 1 << s;`\n",
+        ),
+        "budget" => Some(
+            "budget: the steps are used up\nWhen: `txc run` was told `--budget B`, and the thread wants more than B steps: it waits in a loop for what no other thread does, or B is too small\nExample: `txc run FILE --budget 50` of `while (1) ;`\n",
+        ),
+        "spent" => Some(
+            "spent: the ticks are used up\nWhen: `txc source` or `txc outcomes` was told `--ticks N`, or gave 100,000, and the thread wants more\nExample: `txc source FILE --order 0 --ticks 9` of `while (1) ;`\n",
+        ),
+        "waits" => Some(
+            "waits: a transaction is to come\nWhen: the order of `txc source` names the thread no more, and it has a transaction to do\nExample: `txc source FILE --order 0` of two transactions\n",
+        ),
+        "running" => Some(
+            "running: the thread would go on\nWhen: the steps of a replay are all made\nExample: `txc replay FILE --seed 1 --steps 1`\n",
+        ),
+        "stop" => Some(
+            "stop: a step could not be made\nWhen: memory was refused (`stop 00`), or the lock has no value left (`stop 70`)\nExample: `txc explain 00`, `txc explain 70`\n",
+        ),
+        _ => None,
+    }
+}
+
+/// What it means that a thread is found so, by its word in a report, and for a trap by the number behind it; all traps
+/// without one. Lines that end with LF. `None` where no thread is found so.
+pub fn end_explanation(word: &str, number: Option<u32>) -> Option<&'static str> {
+    match number {
+        None => word_explanation(word),
+        Some(number) => {
+            if word == "trap" {
+                trap_explanation(number)
+            } else {
+                None
+            }
+        }
+    }
+}

@@ -24,7 +24,7 @@ mod warnings;
 pub use beside::hints;
 pub use carets::{underline, write_shown};
 pub use editors::{Fault, short_line};
-pub use explanations::explanation;
+pub use explanations::{end_explanation, explanation};
 pub use object::{json_line, warning_line};
 pub use table::words;
 pub use warnings::{WarningWords, warning_words};

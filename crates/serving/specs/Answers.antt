@@ -1,7 +1,7 @@
 -- What is answered to a request: what a status says of what was printed, and what is written whatever it is.
 use Rattle.std.specs.Prelude.{ℕ, List, Option, IfSome}
 use Rattle.command.specs.declared.request.Request.{Request}
-use Rattle.command.specs.declared.request.Request.TheVariants.{Program, Certify, Explain}
+use Rattle.command.specs.declared.request.Request.TheVariants.{Program, Certify, Explain, ExplainEnd}
 use Rattle.command.specs.declared.request.Task.{Task}
 use Rattle.command.specs.declared.request.Task.TheVariants.{Check, Listing, Run, Replay, Timeline, Picture}
 use Rattle.command.specs.declared.request.Task.TheVariants.{PrintOrder, PrintSchedule, Source, Outcomes}
@@ -50,6 +50,7 @@ AnswersRequest (Program file verbose format task) schedule report bytes status o
 AnswersRequest (Certify file verbose format claim) schedule report bytes status old new =
     CertifiesReport claim schedule report bytes status old new
 AnswersRequest (Explain number) schedule report bytes status old new = Unit {0}
+AnswersRequest (ExplainEnd word number) schedule report bytes status old new = Unit {0}
 
 -- what is written for a request, where these bytes are those of the file
 abbrev pub WritesFor : Request → (schedule report : Option (List ℕ)) → (bytes : Option (List ℕ)) →
@@ -59,9 +60,11 @@ WritesFor (Program file verbose format task) schedule report bytes old new =
 WritesFor (Certify file verbose format claim) schedule report bytes old new =
     IfSome bytes (λ text. WritesVerdict claim schedule report text old new)
 WritesFor (Explain number) schedule report bytes old new = Unit {0}
+WritesFor (ExplainEnd word number) schedule report bytes old new = Unit {0}
 
 -- the most that the exit status of a request is
 abbrev pub most_status : Request → ℕ
 most_status (Program file verbose format task) = 4
 most_status (Certify file verbose format claim) = 5
 most_status (Explain number) = 4
+most_status (ExplainEnd word number) = 4

@@ -1,7 +1,7 @@
 -- The files that a request names.
 use Rattle.std.specs.Prelude.{ℕ, List, [], Option, Some, None, IfSome, string_bytes}
 use Rattle.command.specs.declared.request.Request.{Request}
-use Rattle.command.specs.declared.request.Request.TheVariants.{Program, Certify, Explain}
+use Rattle.command.specs.declared.request.Request.TheVariants.{Program, Certify, Explain, ExplainEnd}
 use Rattle.command.specs.declared.request.Steps.TheVariants.{Schedule}
 use Rattle.command.specs.declared.request.Task.{Task}
 use Rattle.command.specs.declared.request.Task.TheVariants.{Picture, Replay, Timeline}
@@ -35,6 +35,7 @@ AnswersFiles (Certify file verbose format claim) contents status old new = IfSom
     (λ bytes. CertifiesReport claim (contents (string_bytes claim.order)) (contents (string_bytes claim.report)) bytes
     status old new)
 AnswersFiles (Explain number) contents status old new = Unit {0}
+AnswersFiles (ExplainEnd word number) contents status old new = Unit {0}
 
 -- what is written for a request, where these are the bytes of files
 abbrev pub WritesForFiles : Request → Contents → (old new : Option (List ℕ)) → Type 0
@@ -44,6 +45,7 @@ WritesForFiles (Certify file verbose format claim) contents old new = IfSome (co
     (λ bytes. WritesVerdict claim (contents (string_bytes claim.order)) (contents (string_bytes claim.report)) bytes
     old new)
 WritesForFiles (Explain number) contents old new = Unit {0}
+WritesForFiles (ExplainEnd word number) contents old new = Unit {0}
 
 -- a source is named, and it is refused
 abbrev pub RefusesSource : Request → Contents → Type 0
@@ -52,3 +54,4 @@ RefusesSource (Program file verbose format task) contents =
 RefusesSource (Certify file verbose format claim) contents =
     IfSome (contents (string_bytes file)) (λ bytes. IsRefused bytes)
 RefusesSource (Explain number) contents = ⊥
+RefusesSource (ExplainEnd word number) contents = ⊥

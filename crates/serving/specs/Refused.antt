@@ -1,7 +1,7 @@
 -- What the exit status 1 says of a source, by what is asked.
 use Rattle.std.specs.Prelude.{ℕ, List, Option, IfSome}
 use Rattle.command.specs.declared.request.Request.{Request}
-use Rattle.command.specs.declared.request.Request.TheVariants.{Program, Certify, Explain}
+use Rattle.command.specs.declared.request.Request.TheVariants.{Program, Certify, Explain, ExplainEnd}
 use Rattle.command.specs.declared.request.Task.{Task}
 use Rattle.command.specs.declared.request.Task.TheVariants.{Check, Listing, Run, Replay, Timeline, Picture}
 use Rattle.command.specs.declared.request.Task.TheVariants.{PrintOrder, PrintSchedule, Source, Outcomes}
@@ -26,3 +26,4 @@ abbrev pub IsRequestRefused : Request → (bytes : Option (List ℕ)) → Type 0
 IsRequestRefused (Program file verbose format task) bytes = IfSome bytes (λ text. IsRefusedFor task text)
 IsRequestRefused (Certify file verbose format claim) bytes = IfSome bytes (λ text. IsRefused text)
 IsRequestRefused (Explain number) bytes = ⊥
+IsRequestRefused (ExplainEnd word number) bytes = ⊥

@@ -14,7 +14,7 @@ ghost use Rattle.replay.specs.Turns.{AreLinesOfOrder};
 ghost use Rattle.serving.specs.Replays.{AreLinesOf, IsSchedule, lines_of_seed};
 
 use crate::certify::open_claim;
-use crate::request::{explain, serve_program};
+use crate::request::{explain, explain_end, serve_program};
 use crate::tell::{
     Detail, not_read, not_text, refuse_order, refuse_replay, refuse_schedule, too_long,
 };
@@ -83,6 +83,7 @@ pub fn serve_files<H: Threads + Wait + Sync, F: Files, W: Write, E: Write + IsTe
             open_claim(alloc, file.as_str(), claim, files, detail, out, err)
         }
         Request::Explain { number } => explain(*number, out, err),
+        Request::ExplainEnd { word, number } => explain_end(word.as_str(), *number, out, err),
     }
 }
 

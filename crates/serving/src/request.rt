@@ -16,7 +16,7 @@ use crate::run::run;
 use crate::source::in_order;
 use crate::tell::{Detail, refuse_run, unusable};
 use command::Task;
-use messages::explanation;
+use messages::{end_explanation, explanation};
 use std::alloc::{Allocator, Global};
 use std::io::{Read, Write};
 use std::sync::Wait;
@@ -209,5 +209,20 @@ pub(crate) fn explain<W: Write, E: Write>(number: u32, out: &mut W, err: &mut E)
     match explanation(number) {
         Some(text) => print_text(text.as_bytes(), out, err),
         None => unusable("no fault has this number", err),
+    }
+}
+
+/// Says what the end of a thread means, by its word and the number behind that.
+pub(crate) fn explain_end<W: Write, E: Write>(
+    word: &str,
+    number: Option<u32>,
+    out: &mut W,
+    err: &mut E,
+) -> u8
+    ensures { (result ≡ 0) ⊎ (result ≡ 2) ⊎ (result ≡ 4) }
+{
+    match end_explanation(word, number) {
+        Some(text) => print_text(text.as_bytes(), out, err),
+        None => unusable("no fault has this number, and no thread this end", err),
     }
 }

@@ -5,7 +5,7 @@ ghost use Rattle.serving.specs.Answers.{AnswersRequest, WritesFor, most_status};
 ghost use Rattle.serving.specs.Refused.{IsRequestRefused};
 
 use crate::certify::certify;
-use crate::request::{explain, serve_program};
+use crate::request::{explain, explain_end, serve_program};
 use crate::tell::Detail;
 use command::Request;
 use std::alloc::Global;
@@ -91,5 +91,6 @@ pub fn serve<
             )
         }
         Request::Explain { number } => explain(*number, out, err),
+        Request::ExplainEnd { word, number } => explain_end(word.as_str(), *number, out, err),
     }
 }

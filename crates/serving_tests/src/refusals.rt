@@ -357,6 +357,36 @@ fn explains<H: Threads + Wait + Sync>(rt: &H, alloc: Global, line: &str, begins:
 fn explains_faults(rt: HostRuntime) {
     let begins = b"fault 20: unknown name\nWhen: ";
     assert!(rt; explains(&rt, rt.alloc(), "txc explain 20", begins));
+    let begins = b"trap 3: an index outside its array\nWhen: ";
+    assert!(rt; explains(&rt, rt.alloc(), "txc explain trap 3", begins));
+    let begins = b"trap 1: a signed result out of range\nWhen: ";
+    assert!(rt; explains(&rt, rt.alloc(), "txc explain trap", begins));
+    let begins = b"waits: a transaction is to come\nWhen: ";
+    assert!(rt; explains(&rt, rt.alloc(), "txc explain waits", begins));
+    let told = b"txc: usage: no fault has this number, and no thread this end\n".as_slice();
+    let unknown = (2, b"".as_slice(), told);
+    assert!(rt;
+        answers(
+            &rt,
+            rt.alloc(),
+            "txc explain trap 6",
+            b"",
+            b"",
+            false,
+            unknown
+        )
+    );
+    assert!(rt;
+        answers(
+            &rt,
+            rt.alloc(),
+            "txc explain ends",
+            b"",
+            b"",
+            false,
+            unknown
+        )
+    );
     let told = b"txc: usage: no fault has this number\n".as_slice();
     let unknown = (2, b"".as_slice(), told);
     assert!(rt; answers(&rt, rt.alloc(), "txc explain 07", b"", b"", false, unknown));

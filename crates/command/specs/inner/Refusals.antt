@@ -8,23 +8,13 @@ use Rattle.command.specs.declared.request.Request.{Request}
 use Rattle.command.specs.declared.request.Task.{Task}
 use Rattle.command.specs.declared.request.UsageFault.{UsageFault}
 use Rattle.command.specs.declared.request.UsageFault.TheVariants.{OutOfMemory, Help, Wrong}
-use Rattle.command.specs.Asked.{IsNumberInRange, IsRequest, IsTask, SaysNumber}
+use Rattle.command.specs.Asked.{IsNumberInRange, IsRequest, IsTask}
 
 -- no help: words that the command line has, and that are refused because this is so, or want of memory
 abbrev pub IsOwn : Type 0 → UsageFault → Type 0
 IsOwn IsSo OutOfMemory = Unit {0}
 IsOwn IsSo (Help text) = ⊥
 IsOwn IsSo (Wrong text) = IsSo
-
--- the number that was read of what is given, if there is any
-abbrev pub IsRead : Option Text → Option ℕ → Type 0
-IsRead None None = Unit {0}
-IsRead (Some text) (Some n) = SaysNumber text n
-IsRead _ _ = ⊥
-
--- a text that says no number
-abbrev pub IsNoNumber : Text → Type 0
-IsNoNumber text = (n : ℕ) → SaysNumber text n → ⊥
 
 -- no number is given for an argument in its range, and none is the default one
 abbrev pub IsOutOfRange : List Row → Text → (default least most : ℕ) → Type 0
