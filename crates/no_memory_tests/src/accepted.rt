@@ -6,11 +6,12 @@ use lex::token::Token;
 use lex::{LexFault, lex};
 use parse::{ParseFault, parse};
 use safety::checked::Safe;
-use safety::{SafetyFault, safe};
-use separation::{Accepted, SeparationFault, accept};
+use safety::safe;
+use separation::{Accepted, accept};
 use std::alloc::Allocator;
 use syntax::tree::Unit;
-use types::{TypeFault, Typed, check};
+use syntax::violation::Refused;
+use types::{Typed, check};
 
 fn tokens_of<'a, A: Allocator + Copy>(alloc: A, text: &'a str) -> Option<Vec<Token<'a>, A>> {
     match lex(alloc, text) {
@@ -56,7 +57,7 @@ fn typed_of<A: Allocator + Copy>(alloc: A, unit: Unit<A>, wanted: &Typed<A>) -> 
     }
     match check(alloc, unit) {
         Ok(typed) => Some(typed),
-        Err(TypeFault::OutOfMemory(unit)) => {
+        Err(Refused::OutOfMemory(unit)) => {
             if unit.same(wanted.unit()) {
                 check(alloc, unit).ok()
             } else {
@@ -71,7 +72,7 @@ fn typed_of<A: Allocator + Copy>(alloc: A, unit: Unit<A>, wanted: &Typed<A>) -> 
 fn safe_of<A: Allocator + Copy>(alloc: A, typed: Typed<A>, wanted: &Typed<A>) -> Option<Safe<A>> {
     match safe(alloc, typed) {
         Ok(safe) => Some(safe),
-        Err(SafetyFault::OutOfMemory(typed)) => {
+        Err(Refused::OutOfMemory(typed)) => {
             if typed.unit().same(wanted.unit()) {
                 safe(alloc, typed).ok()
             } else {
@@ -90,7 +91,7 @@ fn separate_of<A: Allocator + Copy>(
 ) -> Option<Accepted<A>> {
     match accept(alloc, safe) {
         Ok(accepted) => Some(accepted),
-        Err(SeparationFault::OutOfMemory(safe)) => {
+        Err(Refused::OutOfMemory(safe)) => {
             if safe.typed().unit().same(wanted.unit()) {
                 accept(alloc, safe).ok()
             } else {

@@ -5,14 +5,14 @@ ghost use Rattle.std.specs.List.{flat_map};
 ghost use Rattle.syntax.specs.Tree.{Program};
 ghost use Rattle.syntax.specs.Views.{function_of, item_of};
 ghost use Rattle.syntax.specs.Typing.{demand, first_unmet};
+ghost use Rattle.syntax.specs.Violations.{unmet_in};
 ghost use Rattle.safety.specs.Views.{site_of, sites_of_own};
 ghost use Rattle.safety.specs.Sets.{set_of};
 ghost use Rattle.safety.specs.Faults.{demands_at, function_demands, item_demands};
-ghost use Rattle.safety.specs.inner.Unmet.{unmet_in, Judges};
+ghost use Rattle.safety.specs.inner.Unmet.{Judges};
 ghost use Rattle.safety.specs.inner.Rest.{rest_of, Claims};
 
 use crate::closure::least;
-use crate::fault::{Violation, unless_met};
 use crate::links::links_by;
 use crate::rules::{OuterFunctions, UnsafeFunctions, safe_links};
 use crate::set::FunctionSet;
@@ -21,6 +21,7 @@ use crate::stmt::body_sites;
 use lex::token::Span;
 use std::alloc::{AllocError, Allocator};
 use syntax::tree::{Function, Item};
+use syntax::violation::{Rule, Violation, unless_met};
 
 /// The rule that a call of a function breaks, inside an atomic transaction or not.
 fn fault_of_call<'a, A: Allocator + Copy>(
@@ -36,11 +37,11 @@ fn fault_of_call<'a, A: Allocator + Copy>(
 {
     let unsafe_call = not_safe.contains(f);
     let opens = outer.contains(f);
-    let found = unless_met(!atomic || !unsafe_call, Violation::UnsafeInAtomic(span));
+    let found = unless_met(!atomic || !unsafe_call, Rule::UnsafeInAtomic, span);
     if found.is_some() {
         return found;
     }
-    unless_met(!atomic || !opens, Violation::OuterInAtomic(span))
+    unless_met(!atomic || !opens, Rule::OuterInAtomic, span)
 }
 
 /// The rule that a site breaks, where these functions are not safe, and these lead to an outer transaction.
@@ -55,11 +56,11 @@ fn fault_at<'a, A: Allocator + Copy>(
         (site_of site.entry).construct) }
 {
     match site.construct {
-        Construct::Prints => unless_met(!site.atomic, Violation::UnsafeInAtomic(site.span)),
-        Construct::Relaxes => unless_met(!site.atomic, Violation::RelaxedInAtomic(site.span)),
-        Construct::OpensOuter => unless_met(!site.atomic, Violation::OuterInAtomic(site.span)),
-        Construct::Cancels => unless_met(site.atomic, Violation::CancelOutsideAtomic(site.span)),
-        Construct::CancelsOuter => unless_met(site.outer, Violation::CancelOutsideOuter(site.span)),
+        Construct::Prints => unless_met(!site.atomic, Rule::UnsafeInAtomic, site.span),
+        Construct::Relaxes => unless_met(!site.atomic, Rule::RelaxedInAtomic, site.span),
+        Construct::OpensOuter => unless_met(!site.atomic, Rule::OuterInAtomic, site.span),
+        Construct::Cancels => unless_met(site.atomic, Rule::CancelOutsideAtomic, site.span),
+        Construct::CancelsOuter => unless_met(site.outer, Rule::CancelOutsideOuter, site.span),
         Construct::Calls(f) => fault_of_call(not_safe, outer, site.atomic, f, site.span),
         Construct::Uses(_) => None,
     }
@@ -104,7 +105,10 @@ fn fault_of_function<'a, A: Allocator + Copy>(
     let not_safe_itself = not_safe.contains(name);
     let is_obeyed = f.body.is_none() || !claimed || !not_safe_itself;
     if !is_obeyed {
-        return Ok(Some(Violation::NotSafe(f.name.span)));
+        return Ok(Some(Violation {
+            rule: Rule::NotSafe,
+            at: f.name.span,
+        }));
     }
     let sites = body_sites(alloc, key, f)?;
     Ok(fault_among(not_safe, outer, sites.as_slice()))

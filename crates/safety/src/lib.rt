@@ -6,7 +6,6 @@ pub mod checked;
 mod closure;
 mod demands;
 mod expr;
-mod fault;
 mod graph;
 pub mod laws;
 mod links;
@@ -18,7 +17,6 @@ mod site;
 mod stmt;
 
 pub use closure::least;
-pub use fault::{SafetyFault, Violation};
 pub use links::{LinkRule, links_by};
 pub use program::safe;
 pub use set::{FunctionSet, Link};

@@ -3,18 +3,19 @@
 ghost use Rattle.std.specs.Prelude.{◌≡◌, codes, map, IfOk};
 ghost use Rattle.syntax.specs.Views.{item_of};
 ghost use Rattle.syntax.specs.Typing.{first_unmet};
+ghost use Rattle.syntax.specs.Violations.{unmet_in};
 ghost use Rattle.safety.specs.Sites.{sites_of};
 ghost use Rattle.safety.specs.Views.{site_of, sites_of_own};
 ghost use Rattle.safety.specs.Sets.{set_of};
 ghost use Rattle.separation.specs.Touching.{demands_at, separation_demands};
-ghost use Rattle.separation.specs.inner.Unmet.{unmet_in, Judges};
+ghost use Rattle.separation.specs.inner.Unmet.{Judges};
 ghost use Rattle.separation.specs.inner.OwnSites.{own_sites};
 
-use crate::fault::{Violation, unless_met};
 use crate::links::TouchingFunctions;
 use safety::{Construct, FunctionSet, Site, body_sites, least, links_by};
 use std::alloc::{AllocError, Allocator};
 use syntax::tree::Item;
+use syntax::violation::{Rule, Violation, unless_met};
 
 /// The rule that a site breaks, where these functions touch.
 fn fault_at<'a, A: Allocator + Copy>(
@@ -25,10 +26,10 @@ fn fault_at<'a, A: Allocator + Copy>(
         ≡ first_unmet (demands_at (set_of touching.now) (site_of site.entry) (site_of site.entry).construct) }
 {
     match site.construct {
-        Construct::Uses(_) => unless_met(site.in_any, Violation::BareAccess(site.span)),
+        Construct::Uses(_) => unless_met(site.in_any, Rule::BareAccess, site.span),
         Construct::Calls(f) => {
             let touches = touching.contains(f);
-            unless_met(site.in_any || !touches, Violation::BareCall(site.span))
+            unless_met(site.in_any || !touches, Rule::BareCall, site.span)
         }
         Construct::Prints
         | Construct::Relaxes

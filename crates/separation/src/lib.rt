@@ -3,11 +3,9 @@
 
 mod checked;
 mod demands;
-mod fault;
 pub mod laws;
 mod links;
 mod program;
 
 pub use checked::Accepted;
-pub use fault::{SeparationFault, Violation};
 pub use program::accept;

@@ -11,7 +11,7 @@ use Rattle.lex.specs.declared.lexer.TheConstants.{MOST_BYTES}
 use Rattle.lower.specs.Faults.{IsLowerFaultOf}
 use Rattle.lower.specs.declared.fault.LowerFault.{LowerFault}
 use Rattle.serving.specs.declared.program.SourceFault.{SourceFault}
-use Rattle.serving.specs.declared.program.SourceFault.TheVariants.{OutOfMemory, Lex, Parse, IllTyped, Unsafe, NotSeparate, NoCode}
+use Rattle.serving.specs.declared.program.SourceFault.TheVariants.{OutOfMemory, Lex, Parse, Broken, NoCode}
 use Rattle.serving.specs.Answers.{Answers}
 use Rattle.serving.specs.Checks.{IsSourceOf}
 use Rattle.serving.specs.Limits.{HasNoCode, IsFaultOfText, PassesLimit}
@@ -23,9 +23,7 @@ faulty : (text : List ℕ) (fault : SourceFault) → IsFaultOfSource text fault 
 faulty text OutOfMemory is = is
 faulty text (Lex fault) is = is
 faulty text (Parse fault) is = is
-faulty text (IllTyped fault) is = is
-faulty text (Unsafe fault) is = is
-faulty text (NotSeparate fault) is = is
+faulty text (Broken v) is = is
 faulty text (NoCode fault) is = absurd is
 
 -- and is so where it is passed on

@@ -1,5 +1,5 @@
 -- An accepted program within the depth is not refused, but for a limit of code.
-use Rattle.std.proofs.Common.{◌≡◌, ◌∙◌, ◌<◌, ◌≤◌, ℕ, List, [], ◌∷◌, ◌++◌, Some, None, true, is_some, codes, append_assoc, subst, sym, arith}
+use Rattle.std.proofs.Common.{◌≡◌, ◌∙◌, ◌<◌, ◌≤◌, ◌⊎◌, inl, inr, ℕ, List, [], ◌∷◌, ◌++◌, Some, None, true, is_some, codes, append_assoc, subst, sym, arith}
 use Rattle.std.proofs.Math.Logic.{∥∥₁_elim}
 use Rattle.std.proofs.lemmas.Bool.{false≢true}
 use Rattle.lex.specs.Faults.{IsFault, IsFirst}
@@ -14,21 +14,19 @@ use Rattle.syntax.specs.Phrases.{Begins}
 use Rattle.syntax.specs.Tree.{Program}
 use Rattle.syntax.specs.Types.{file_scope}
 use Rattle.syntax.specs.Typing.{AreDefined, AreTypedItems, IsTypedProgram, Meets, first_unmet, is_worker}
+use Rattle.syntax.specs.Violations.{number_of, told_of}
 use Rattle.syntax.proofs.Demands.{none_unmet}
 use Rattle.parse.specs.Faults.{IsParseFaultOf}
 use Rattle.parse.specs.Faults as parse
 use Rattle.parse.specs.declared.fault.ParseFault.{ParseFault}
 use Rattle.parse.specs.declared.fault.ParseFault.TheVariants as syntactic
-use Rattle.types.specs.Answers.{number_in, span_in}
 use Rattle.types.proofs.AllMet.{met_anywhere}
-use Rattle.safety.specs.Answers as safety
 use Rattle.safety.specs.Faults.{IsSafetyFault}
 use Rattle.safety.specs.Laws.{SafeHasNoFault}
-use Rattle.separation.specs.Answers as separation
 use Rattle.separation.specs.Laws.{FaultTouches}
 use Rattle.separation.specs.Touching.{IsSeparationFault}
 use Rattle.serving.specs.declared.program.SourceFault.{SourceFault}
-use Rattle.serving.specs.declared.program.SourceFault.TheVariants.{OutOfMemory, Lex, Parse, IllTyped, Unsafe, NotSeparate, NoCode}
+use Rattle.serving.specs.declared.program.SourceFault.TheVariants.{OutOfMemory, Lex, Parse, Broken, NoCode}
 use Rattle.serving.specs.Checks.{Accepts}
 use Rattle.serving.specs.Laws.{AcceptedAreNotRefused, AcceptedPassLimits}
 use Rattle.serving.specs.Limits.{IsFaultOfText, PassesLimit}
@@ -80,15 +78,15 @@ module _ (one_tokens : (text : List ℕ) (ts us : List Tok) → IsLexed text ts 
   source_right text is few (Parse fault) wrong placed =
       spelled is.spelled.tokens is.source fault is.spelled.spelled few
       (subst (λ (ts : List Tok). IsParseFaultOf ts fault) (one_tokens text wrong.tokens is.spelled.tokens wrong.lexed is.spelled.lexed) wrong.fault) placed
-  source_right text is few (IllTyped fault) wrong placed =
+  source_right text is few (Broken v) (inl wrong) placed =
       let same = one_source one_tokens one_tree text wrong.source is.source wrong.spelled is.spelled in
-      ∥∥₁_elim is.accepted (hlevel) (λ a. typed is.source.ends is.source.program (number_in fault, span_in fault) a.typed (subst (λ (s : ParsedSource). Some (number_in fault, span_in fault) ≡ first_unmet (Meets s.ends s.program)) same wrong.first))
-  source_right text is few (Unsafe fault) wrong placed =
+      ∥∥₁_elim is.accepted (hlevel) (λ a. typed is.source.ends is.source.program (told_of v) a.typed (subst (λ (s : ParsedSource). Some (told_of v) ≡ first_unmet (Meets s.ends s.program)) same wrong.first))
+  source_right text is few (Broken v) (inr (inl wrong)) placed =
       let same = one_source one_tokens one_tree text wrong.source is.source wrong.spelled is.spelled in
-      ∥∥₁_elim is.accepted (hlevel) (λ a. is_safe is.source.program a.safe (safety.number_in fault) (safety.span_in fault) (subst (λ (s : ParsedSource). IsSafetyFault (safety.number_in fault) (safety.span_in fault) s.program) same wrong.first))
-  source_right text is few (NotSeparate fault) wrong placed =
+      ∥∥₁_elim is.accepted (hlevel) (λ a. is_safe is.source.program a.safe (number_of v.rule) v.at (subst (λ (s : ParsedSource). IsSafetyFault (number_of v.rule) v.at s.program) same wrong.first))
+  source_right text is few (Broken v) (inr (inr wrong)) placed =
       let same = one_source one_tokens one_tree text wrong.source is.source wrong.spelled is.spelled in
-      ∥∥₁_elim is.accepted (hlevel) (λ a. a.separate (touches is.source.program (separation.number_in fault) (separation.span_in fault) (subst (λ (s : ParsedSource). IsSeparationFault (separation.number_in fault) (separation.span_in fault) s.program) same wrong.first)))
+      ∥∥₁_elim is.accepted (hlevel) (λ a. a.separate (touches is.source.program (number_of v.rule) v.at (subst (λ (s : ParsedSource). IsSeparationFault (number_of v.rule) v.at s.program) same wrong.first)))
   source_right text is few (NoCode fault) wrong placed = wrong
 
   pub not_refused : AcceptedAreNotRefused
@@ -98,9 +96,7 @@ module _ (one_tokens : (text : List ℕ) (ts us : List Tok) → IsLexed text ts 
   passes text is few OutOfMemory wrong placed = absurd (source_right text is few OutOfMemory wrong placed)
   passes text is few (Lex fault) wrong placed = absurd (source_right text is few (Lex fault) wrong placed)
   passes text is few (Parse fault) wrong placed = absurd (source_right text is few (Parse fault) wrong placed)
-  passes text is few (IllTyped fault) wrong placed = absurd (source_right text is few (IllTyped fault) wrong placed)
-  passes text is few (Unsafe fault) wrong placed = absurd (source_right text is few (Unsafe fault) wrong placed)
-  passes text is few (NotSeparate fault) wrong placed = absurd (source_right text is few (NotSeparate fault) wrong placed)
+  passes text is few (IllTyped fault) wrong placed = absurd (source_right text is few (Broken v) (inl wrong) placed)
   passes text is few (NoCode fault) wrong placed = (fault, wrong, placed)
 
   pub pass_limits : AcceptedPassLimits

@@ -1,5 +1,5 @@
 -- Why a source's text is refused.
-use Rattle.std.specs.Prelude.{◌≡◌, ℕ, List, Option, Some, None, is_some, true}
+use Rattle.std.specs.Prelude.{◌≡◌, ◌⊎◌, ℕ, List, Option, Some, None, is_some, true}
 use Rattle.lex.specs.declared.token.Span.{Span}
 use Rattle.lex.specs.Faults as lex
 use Rattle.parse.specs.Faults as parse
@@ -8,19 +8,14 @@ use Rattle.lex.specs.Pieces.{IsLexed}
 use Rattle.lex.specs.Faults.{IsFault}
 use Rattle.syntax.specs.Grammar.{ParsedSource}
 use Rattle.syntax.specs.Typing.{Meets, first_unmet}
-use Rattle.types.specs.declared.fault.Violation.{Violation}
-use Rattle.types.specs.Answers.{number_in, span_in}
-use Rattle.safety.specs.declared.fault.Violation.{Violation as SafetyViolation}
+use Rattle.syntax.specs.Violations.{number_of, told_of}
+use Rattle.syntax.specs.declared.violation.Violation.{Violation}
 use Rattle.safety.specs.Faults.{IsSafetyFault}
-use Rattle.safety.specs.Answers as safety
-use Rattle.separation.specs.declared.fault.Violation.{Violation as SeparationViolation}
 use Rattle.separation.specs.Touching.{IsSeparationFault}
-use Rattle.separation.specs.Answers as separation
 use Rattle.parse.specs.Faults.{IsParseFaultOf as IsParseFault}
 use Rattle.meaning.specs.InOrder.{IsFaultOfOrder, number_in as order_number}
 use Rattle.serving.specs.declared.program.SourceFault.{SourceFault}
-use Rattle.serving.specs.declared.program.SourceFault.TheVariants.{OutOfMemory, Lex, Parse, IllTyped, Unsafe}
-use Rattle.serving.specs.declared.program.SourceFault.TheVariants.{NotSeparate}
+use Rattle.serving.specs.declared.program.SourceFault.TheVariants.{OutOfMemory, Lex, Parse, Broken, NoCode}
 use Rattle.serving.specs.declared.program.SourceFault.TheVariants.{NoCode}
 use Rattle.lower.specs.Answers as lower
 use Rattle.serving.specs.declared.source.OrderFault.{OrderFault}
@@ -33,32 +28,30 @@ pub record IsMisspelled (text : List ℕ) (says : List Tok → Type 0) : Type 0 
   pub lexed : IsLexed text tokens
   pub fault : says tokens
 
--- the first demand that the program of a text does not meet is of this number and at this place
-pub record IsMistyped (text : List ℕ) (fault : Violation) : Type 0 where
+-- the first demand that the program of a text does not meet is of this rule and at this place
+pub record IsMistyped (text : List ℕ) (v : Violation) : Type 0 where
   pub source : ParsedSource
   pub spelled : IsSourceOf text source
-  pub first : Some (number_in fault, span_in fault) ≡ first_unmet (Meets source.ends source.program)
+  pub first : Some (told_of v) ≡ first_unmet (Meets source.ends source.program)
 
 -- the program that a text spells breaks a rule of safety first here
-pub record IsUnsafe (text : List ℕ) (fault : SafetyViolation) : Type 0 where
+pub record IsUnsafe (text : List ℕ) (v : Violation) : Type 0 where
   pub source : ParsedSource
   pub spelled : IsSourceOf text source
-  pub first : IsSafetyFault (safety.number_in fault) (safety.span_in fault) source.program
+  pub first : IsSafetyFault (number_of v.rule) v.at source.program
 
 -- the program that a text spells breaks a rule of separation first here
-pub record IsNotSeparate (text : List ℕ) (fault : SeparationViolation) : Type 0 where
+pub record IsNotSeparate (text : List ℕ) (v : Violation) : Type 0 where
   pub source : ParsedSource
   pub spelled : IsSourceOf text source
-  pub first : IsSeparationFault (separation.number_in fault) (separation.span_in fault) source.program
+  pub first : IsSeparationFault (number_of v.rule) v.at source.program
 
 -- what a fault says of a text, where no code is made: it is never one of code, and want of memory says nothing
 abbrev pub IsFaultOfSource : List ℕ → SourceFault → Type 0
 IsFaultOfSource text OutOfMemory = Unit {0}
 IsFaultOfSource text (Lex fault) = IsFault text fault
 IsFaultOfSource text (Parse fault) = IsMisspelled text (λ tokens. IsParseFault tokens fault)
-IsFaultOfSource text (IllTyped fault) = IsMistyped text fault
-IsFaultOfSource text (Unsafe fault) = IsUnsafe text fault
-IsFaultOfSource text (NotSeparate fault) = IsNotSeparate text fault
+IsFaultOfSource text (Broken v) = IsMistyped text v ⊎ IsUnsafe text v ⊎ IsNotSeparate text v
 IsFaultOfSource text (NoCode fault) = ⊥
 
 -- what a fault says of a text and of an order: the order is looked at last
@@ -70,9 +63,7 @@ abbrev pub number_of_source : SourceFault → ℕ
 number_of_source OutOfMemory = 0
 number_of_source (Lex fault) = lex.number_of fault
 number_of_source (Parse fault) = parse.number_of fault
-number_of_source (IllTyped fault) = number_in fault
-number_of_source (Unsafe fault) = safety.number_in fault
-number_of_source (NotSeparate fault) = separation.number_in fault
+number_of_source (Broken v) = number_of v.rule
 number_of_source (NoCode fault) = lower.number_of fault
 
 abbrev pub number_of_order : OrderFault → ℕ
@@ -83,9 +74,7 @@ abbrev pub span_of_source : SourceFault → Option Span
 span_of_source OutOfMemory = None
 span_of_source (Lex fault) = lex.span_of fault
 span_of_source (Parse fault) = parse.span_of fault
-span_of_source (IllTyped fault) = Some (span_in fault)
-span_of_source (Unsafe fault) = Some (safety.span_in fault)
-span_of_source (NotSeparate fault) = Some (separation.span_in fault)
+span_of_source (Broken v) = Some v.at
 span_of_source (NoCode fault) = lower.span_of fault
 
 -- a text has a fault of this kind that stands somewhere in it

@@ -14,12 +14,13 @@ use lex::{LexFault, lex};
 use lower::{LowerFault, lower};
 use parse::{ParseFault, parse};
 use safety::checked::Safe;
-use safety::{SafetyFault, safe};
-use separation::{Accepted, SeparationFault, accept};
+use safety::safe;
+use separation::{Accepted, accept};
 use std::alloc::{Allocator, Global};
 use syntax::tree::Unit;
+use syntax::violation::{Refused, Violation};
 use thiserror::Error;
-use types::{TypeFault, Typed, Violation, check};
+use types::{Typed, check};
 
 /// Why a source is refused.
 #[derive(Clone, Copy, Debug, Error)]
@@ -31,12 +32,9 @@ pub enum SourceFault {
     Lex(LexFault),
     #[error("{0}")]
     Parse(ParseFault),
+    /// A rule of names and types, of safety or of separation.
     #[error("{0}")]
-    IllTyped(Violation),
-    #[error("{0}")]
-    Unsafe(safety::Violation),
-    #[error("{0}")]
-    NotSeparate(separation::Violation),
+    Broken(Violation),
     #[error("{0}")]
     NoCode(LowerFault),
 }
@@ -50,9 +48,7 @@ impl SourceFault {
             SourceFault::OutOfMemory => 0,
             SourceFault::Lex(fault) => fault.number(),
             SourceFault::Parse(fault) => fault.number(),
-            SourceFault::IllTyped(fault) => fault.number(),
-            SourceFault::Unsafe(fault) => fault.number(),
-            SourceFault::NotSeparate(fault) => fault.number(),
+            SourceFault::Broken(violation) => violation.rule.number(),
             SourceFault::NoCode(fault) => fault.number(),
         }
     }
@@ -65,9 +61,7 @@ impl SourceFault {
             SourceFault::OutOfMemory => None,
             SourceFault::Lex(fault) => fault.span(),
             SourceFault::Parse(fault) => fault.span(),
-            SourceFault::IllTyped(fault) => Some(fault.span()),
-            SourceFault::Unsafe(fault) => Some(fault.span()),
-            SourceFault::NotSeparate(fault) => Some(fault.span()),
+            SourceFault::Broken(violation) => Some(violation.at),
             SourceFault::NoCode(fault) => fault.span(),
         }
     }
@@ -94,8 +88,8 @@ fn read_typed<A: Allocator + Copy>(alloc: A, text: &str) -> Result<Typed<A>, Sou
 {
     match check(alloc, read(alloc, text)?) {
         Ok(typed) => Ok(typed),
-        Err(TypeFault::OutOfMemory(_)) => Err(SourceFault::OutOfMemory),
-        Err(TypeFault::IllTyped(_, violation)) => Err(SourceFault::IllTyped(violation)),
+        Err(Refused::OutOfMemory(_)) => Err(SourceFault::OutOfMemory),
+        Err(Refused::Broken(_, violation)) => Err(SourceFault::Broken(violation)),
     }
 }
 
@@ -106,8 +100,8 @@ fn read_safe<A: Allocator + Copy>(alloc: A, text: &str) -> Result<Safe<A>, Sourc
 {
     match safe(alloc, read_typed(alloc, text)?) {
         Ok(safe) => Ok(safe),
-        Err(SafetyFault::OutOfMemory(_)) => Err(SourceFault::OutOfMemory),
-        Err(SafetyFault::Unsafe(_, violation)) => Err(SourceFault::Unsafe(violation)),
+        Err(Refused::OutOfMemory(_)) => Err(SourceFault::OutOfMemory),
+        Err(Refused::Broken(_, violation)) => Err(SourceFault::Broken(violation)),
     }
 }
 
@@ -121,10 +115,8 @@ pub(crate) fn read_accepted<A: Allocator + Copy>(
 {
     match accept(alloc, read_safe(alloc, text)?) {
         Ok(accepted) => Ok(accepted),
-        Err(SeparationFault::OutOfMemory(_)) => Err(SourceFault::OutOfMemory),
-        Err(SeparationFault::NotSeparate(_, violation)) => {
-            Err(SourceFault::NotSeparate(violation))
-        }
+        Err(Refused::OutOfMemory(_)) => Err(SourceFault::OutOfMemory),
+        Err(Refused::Broken(_, violation)) => Err(SourceFault::Broken(violation)),
     }
 }
 

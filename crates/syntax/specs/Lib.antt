@@ -11,6 +11,8 @@ pub mod Formats
 pub mod FormatDirectives
 -- the rules of types, and the order of faults
 pub mod Typing
+-- what is told of a rule that is broken
+pub mod Violations
 -- what threads do and how they stand in a run, for source and code alike
 pub mod Behaviours
 -- the few words that the meaning is said in, and the meaning of expressions, statements, calls, threads and orders of

@@ -3,11 +3,11 @@ use Rattle.std.proofs.Common.{◌≡◌, ℕ, List, [], ◌∷◌, ◌++◌, Opt
 use Rattle.std.specs.Option.{option_or}
 use Rattle.std.specs.Result.{IsErr, IsErrAnd}
 use Rattle.syntax.specs.Tree.{Span}
-use Rattle.types.specs.declared.fault.Violation.{Violation}
+use Rattle.syntax.specs.declared.violation.Violation.{Violation}
 use Rattle.types.specs.declared.fault.TypeFailure.{TypeFailure}
 use Rattle.types.specs.declared.fault.TypeFailure.TheVariants.{Violation as Breaks}
 use Rattle.types.specs.declared.fault.TypeFailure.TheVariants as F
-use Rattle.types.specs.Answers.{number_in, span_in}
+use Rattle.syntax.specs.Violations.{told_of}
 use Rattle.types.specs.inner.Unmet.{unmet_in, Tells}
 use Rattle.syntax.specs.Typing.{Demand, first_unmet, demand}
 
@@ -31,15 +31,15 @@ first_of_three a b c = first_of_two (a ++ b) c ∙ ap (λ o. option_or o (first_
 pub skip : {X : Type 0} (r : Result X Violation) (x : X) (here rest all : Option (ℕ × Span)) → all ≡ option_or here rest → unmet_in r ≡ here → r ≡ Ok x → all ≡ rest
 skip r x here rest all a h e = a ∙ ap (λ o. option_or o rest) (sym h ∙ ap unmet_in e)
 
-error_in : {Y : Type 0} (s : Result Y Violation) (f : Violation) → IsErr s × IsErrAnd s (λ y. y ≡ f) → unmet_in s ≡ Some (number_in f, span_in f)
+error_in : {Y : Type 0} (s : Result Y Violation) (f : Violation) → IsErr s × IsErrAnd s (λ y. y ≡ f) → unmet_in s ≡ Some (told_of f)
 error_in (Ok y) f h = absurd h.1
-error_in (Err g) f h = ap (λ b. Some (number_in b, span_in b)) h.1
+error_in (Err g) f h = ap (λ b. Some (told_of b)) h.1
 
 -- a `?` that stops
 pub stop : {X Y : Type 0} (r : Result X Violation) (s : Result Y Violation) (f : Violation) (here rest all : Option (ℕ × Span)) → all ≡ option_or here rest → unmet_in r ≡ here → r ≡ Err f → IsErr s × IsErrAnd s (λ y. y ≡ f) → unmet_in s ≡ all
 stop r s f here rest all a h e g = error_in s f g ∙ sym (a ∙ ap (λ o. option_or o rest) (sym h ∙ ap unmet_in e))
 
-told : {Y : Type 0} (s : Result Y TypeFailure) (f : Violation) (all : Option (ℕ × Span)) → IsErr s × IsErrAnd s (λ y. y ≡ Breaks f) → Some (number_in f, span_in f) ≡ all → Tells s all
+told : {Y : Type 0} (s : Result Y TypeFailure) (f : Violation) (all : Option (ℕ × Span)) → IsErr s × IsErrAnd s (λ y. y ≡ Breaks f) → Some (told_of f) ≡ all → Tells s all
 told (Ok y) f all h e = absurd h.1
 told (Err g) f all h e = subst (λ b. Tells {X = Unit {0}} (Err b) all) (sym h.1) e
 

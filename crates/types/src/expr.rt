@@ -9,12 +9,13 @@ ghost use Rattle.types.specs.inner.Unmet.{unmet_in};
 ghost use Rattle.types.specs.inner.Known.{known_in};
 ghost use Rattle.types.specs.inner.Scopes.{known_of};
 
-use crate::fault::{Violation, demand};
+use crate::fault::demand;
 use crate::symbol::ScopeSymbol;
 use crate::table::ScopeTable;
 use lex::token::Span;
 use std::alloc::Allocator;
 use syntax::tree::{Expr, Function, Name};
+use syntax::violation::{Rule, Violation};
 
 /// Where an expression stands.
 pub(crate) fn span_of<A: Allocator>(e: &Expr<A>) -> Span
@@ -53,7 +54,7 @@ pub(crate) fn gives_number<'a, A: Allocator + Copy>(
     ensures { unmet_in result ≡ first_unmet (GivesNumber (known_in names.now) (expr_of e.now)) }
 {
     let void = is_void(names, e);
-    demand(!void, Violation::WrongType(span_of(e)))
+    demand(!void, Rule::WrongType, span_of(e))
 }
 
 /// An element of an array: its name, its index, and then that it is an array.
@@ -69,9 +70,9 @@ fn check_element<'a, A: Allocator + Copy>(
         ≡ first_unmet (IsTyped (known_in names.now) (Tree.Element (name_of x.now) (expr_of index.now) span)) }
 {
     let symbol = names.look(x.text.as_str());
-    demand(!symbol.is_unknown(), Violation::UnknownName(x.span))?;
+    demand(!symbol.is_unknown(), Rule::UnknownName, x.span)?;
     check_number(names, index)?;
-    demand(symbol.may_be_array(), Violation::WrongType(span))
+    demand(symbol.may_be_array(), Rule::WrongType, span)
 }
 
 /// A variable: its name, and then that it is a number.
@@ -82,8 +83,8 @@ fn check_variable<'a, A: Allocator + Copy>(
     ensures { unmet_in result ≡ first_unmet (IsTyped (known_in names.now) (Tree.Variable (name_of x.now))) }
 {
     let symbol = names.look(x.text.as_str());
-    demand(!symbol.is_unknown(), Violation::UnknownName(x.span))?;
-    demand(symbol.may_be_number(), Violation::WrongType(x.span))
+    demand(!symbol.is_unknown(), Rule::UnknownName, x.span)?;
+    demand(symbol.may_be_number(), Rule::WrongType, x.span)
 }
 
 /// The number of expressions.
@@ -101,7 +102,7 @@ pub(crate) fn check_known<'a, A: Allocator + Copy>(
     ensures { unmet_in result ≡ first_unmet (IsKnown (known_in names.now) (name_of x.now)) }
 {
     let symbol = names.look(x.text.as_str());
-    demand(!symbol.is_unknown(), Violation::UnknownName(x.span))
+    demand(!symbol.is_unknown(), Rule::UnknownName, x.span)
 }
 
 /// What is called is a function, and takes so many arguments.
@@ -115,8 +116,8 @@ fn check_symbol<A: Allocator + Copy>(
         ≡ first_unmet (demand 22 span (may_be_function (known_of symbol.now))
         ++ demand 23 f (takes_so_many (known_of symbol.now) count)) }
 {
-    demand(symbol.may_be_function(), Violation::WrongType(span))?;
-    demand(symbol.takes_so_many(count), Violation::WrongCount(f))
+    demand(symbol.may_be_function(), Rule::WrongType, span)?;
+    demand(symbol.takes_so_many(count), Rule::WrongCount, f)
 }
 
 /// What is called is a function, and takes so many arguments.

@@ -13,13 +13,14 @@ ghost use Rattle.types.specs.inner.Specifiers.{is_fitting};
 
 use crate::expr::{check_numbers, count_of, span_of};
 use crate::expr_type::type_of;
-use crate::fault::{Violation, demand};
+use crate::fault::demand;
 use crate::table::ScopeTable;
 use lex::token::{Scalar, Span};
 use std::alloc::Allocator;
 use syntax::format::{FormatDirective, directive_at};
 use syntax::tree::Expr;
 use syntax::types::same_type;
+use syntax::violation::{Rule, Violation};
 
 /// Whether so many bytes say a byte of literal text: two a percent sign, and one any other.
 fn says(bytes: usize, byte: u8) -> bool
@@ -93,7 +94,7 @@ fn check_specifier<'a, A: Allocator + Copy>(
 {
     let given = type_of(names, arg);
     let fits = is_fitting(ty, given);
-    demand(fits, Violation::BadFormat(span_of(arg)))
+    demand(fits, Rule::BadFormat, span_of(arg))
 }
 
 /// Each argument is of the type that is printed in its place.
@@ -145,6 +146,6 @@ pub(crate) fn check_print<'a, A: Allocator + Copy>(
     check_numbers(names, args)?;
     let bytes = format.as_bytes();
     let right = is_right(bytes, count_of(args));
-    demand(right, Violation::BadFormat(span))?;
+    demand(right, Rule::BadFormat, span)?;
     check_specifiers(names, bytes, args)
 }

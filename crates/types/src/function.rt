@@ -14,7 +14,7 @@ ghost use Rattle.types.specs.inner.Known.{known_in, count_in, AreDeclared, Grows
 ghost use Rattle.types.specs.inner.Scopes.{known_of};
 ghost use Rattle.types.specs.inner.Bodies.{AreBodies};
 
-use crate::fault::{TypeFailure, Violation, demand};
+use crate::fault::{TypeFailure, demand};
 use crate::scope::{add_local, check_new};
 use crate::stmt::{StmtContext, check_stmts};
 use crate::symbol::ScopeSymbol;
@@ -25,6 +25,7 @@ use name_tables::Table;
 use std::alloc::{AllocError, Allocator};
 use syntax::tree::{Function, Item, Name, Parameter, Stmt};
 use syntax::types::same_type;
+use syntax::violation::{Rule, Violation};
 
 /// The names of the functions that have a body.
 pub(crate) type Bodies<'a, A> = Table<'a, (), A>;
@@ -125,9 +126,9 @@ fn check_declared<'a, A: Allocator + Copy>(
     let before = names.look(name);
     let defined = has_body(bodies, name);
     let free = is_free(&before, f.body.is_some(), defined);
-    demand(free, Violation::DeclaredTwice(f.name.span))?;
+    demand(free, Rule::DeclaredTwice, f.name.span)?;
     let same = agrees(&before, f);
-    demand(same, Violation::WrongType(f.name.span))
+    demand(same, Rule::WrongType, f.name.span)
 }
 
 /// A parameter, which may go without a name.

@@ -11,12 +11,13 @@ ghost use Rattle.types.specs.inner.Unmet.{AnswersDemands, unmet_in};
 ghost use Rattle.types.specs.inner.Known.{known_in, count_in};
 ghost use Rattle.types.specs.inner.Scopes.{known_of};
 
-use crate::fault::{TypeFailure, Violation, demand};
+use crate::fault::{TypeFailure, demand};
 use crate::symbol::ScopeSymbol;
 use crate::table::ScopeTable;
 use lex::token::Span;
 use std::alloc::{AllocError, Allocator};
 use syntax::tree::{Function, Global, Initialiser, Item};
+use syntax::violation::{Rule, Violation};
 
 /// The most cells of all globals.
 const MOST_CELLS: u64 = 4096;
@@ -37,7 +38,7 @@ fn check_length(length: &Option<(u64, Span)>) -> Result<(), Violation>
     match length {
         Some((count, span)) => {
             let right = 1 <= *count && *count <= MOST_CELLS;
-            demand(right, Violation::BadLength(*span))
+            demand(right, Rule::BadLength, *span)
         }
         None => Ok(()),
     }
@@ -48,7 +49,7 @@ fn check_first(count: u64, first: &[Initialiser]) -> Result<(), Violation>
     ensures { unmet_in result ≡ first_unmet (HaveCells (drop count first.now)) }
 {
     match first.get(count as usize) {
-        Some(first) => demand(false, Violation::BadLength(first.span)),
+        Some(first) => demand(false, Rule::BadLength, first.span),
         None => Ok(()),
     }
 }
@@ -62,7 +63,7 @@ fn check_new<'a, A: Allocator + Copy>(
         ≡ first_unmet (demand 21 g.now.name.span (is_unknown (known_in names.now g.now.name.text))) }
 {
     let new = names.look(g.name.text.as_str()).is_unknown();
-    demand(new, Violation::DeclaredTwice(g.name.span))
+    demand(new, Rule::DeclaredTwice, g.name.span)
 }
 
 /// One global, where so many cells are taken by those before it.
@@ -83,7 +84,7 @@ fn check_global<'a, A: Allocator + Copy>(
     let count = g.cell_count() as u64;
     check_first(count, g.first.as_slice())?;
     let few = taken.saturating_add(count) <= MOST_CELLS;
-    demand(few, Violation::BadLength(g.name.span))
+    demand(few, Rule::BadLength, g.name.span)
 }
 
 /// A global's name, known from its declaration on.

@@ -16,7 +16,6 @@ mod table;
 mod typed;
 mod unit;
 
-pub use fault::{TypeFault, Violation};
 pub use stmt::as_declaration;
 pub use typed::Typed;
 pub use unit::check;

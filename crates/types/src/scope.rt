@@ -9,12 +9,13 @@ ghost use Rattle.types.specs.inner.Unmet.{AnswersDemands, unmet_in};
 ghost use Rattle.types.specs.inner.Known.{known_in, count_in, declared_by, AreDeclared, Grows, Agrees};
 
 use crate::expr::check_number;
-use crate::fault::{TypeFailure, Violation, demand};
+use crate::fault::{TypeFailure, demand};
 use crate::simple::check_simple;
 use crate::table::ScopeTable;
 use lex::token::Scalar;
 use std::alloc::{AllocError, Allocator};
 use syntax::tree::{Declaration, Declarator, Expr, Name, Start};
+use syntax::violation::{Rule, Violation};
 
 /// A first value, where there is one.
 pub(crate) fn check_first<'a, A: Allocator + Copy>(
@@ -40,7 +41,7 @@ pub(crate) fn check_new<'a, A: Allocator + Copy>(
         unmet_in result ≡ first_unmet (demand 21 x.now.span (not (has_name declared x.now.text))) }
 {
     let new = !names.is_declared(start, x.text.as_str());
-    demand(new, Violation::DeclaredTwice(x.span))
+    demand(new, Rule::DeclaredTwice, x.span)
 }
 
 /// A further local.

@@ -7,10 +7,11 @@ ghost use Rattle.types.specs.inner.Unmet.{unmet_in};
 ghost use Rattle.types.specs.inner.Known.{known_in};
 
 use crate::expr::{check_expr, check_known, check_number, span_of};
-use crate::fault::{Violation, demand};
+use crate::fault::demand;
 use crate::table::ScopeTable;
 use std::alloc::Allocator;
 use syntax::tree::{Expr, Simple};
+use syntax::violation::{Rule, Violation};
 
 fn check_target<'a, A: Allocator + Copy>(
     names: &ScopeTable<'a, A>,
@@ -41,7 +42,7 @@ fn check_assignable<'a, A: Allocator + Copy>(
     ensures { unmet_in result ≡ first_unmet (IsAssignable (known_in names.now) (expr_of e.now)) }
 {
     let met = may_be_assigned(names, e);
-    demand(met, Violation::NotAssignable(span_of(e)))
+    demand(met, Rule::NotAssignable, span_of(e))
 }
 
 /// A simple statement.

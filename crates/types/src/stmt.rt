@@ -10,7 +10,7 @@ ghost use Rattle.types.specs.inner.Unmet.{AnswersDemands, unmet_in};
 ghost use Rattle.types.specs.inner.Known.{known_in, count_in, AreDeclared, Grows, Agrees};
 
 use crate::expr::{check_expr, check_number, gives_number};
-use crate::fault::{TypeFailure, Violation, as_failure, demand};
+use crate::fault::{TypeFailure, as_failure, demand};
 use crate::format::check_print;
 use crate::scope::{check_declarators, check_first, check_lone, check_start};
 use crate::simple::check_simple;
@@ -18,6 +18,7 @@ use crate::table::ScopeTable;
 use lex::token::{Scalar, Span};
 use std::alloc::Allocator;
 use syntax::tree::{Declaration, Expr, ForHead, Simple, Stmt};
+use syntax::violation::{Rule, Violation};
 
 /// How a statement stands: its scope begins after so many locals, in a function that gives this, in a loop or not.
 #[derive(Clone, Copy)]
@@ -75,7 +76,7 @@ fn check_return<'a, A: Allocator + Copy>(
 {
     check_value(names, e)?;
     let right = returns_right(gives, e.is_some());
-    demand(right, Violation::WrongType(span))?;
+    demand(right, Rule::WrongType, span)?;
     gives_numbers(names, e)
 }
 
@@ -172,7 +173,7 @@ pub(crate) fn check_stmt<'a, A: Allocator + Copy>(
             Ok(())
         }
         Stmt::Break(span) | Stmt::Continue(span) => {
-            as_failure(demand(context.looping, Violation::OutsideLoop(*span)))
+            as_failure(demand(context.looping, Rule::OutsideLoop, *span))
         }
         Stmt::Return(e, span) => as_failure(check_return(names, context.gives, e, *span)),
         Stmt::Transaction(_, body, _) => check_block(names, body.as_slice(), context),

@@ -11,7 +11,7 @@ ghost use Rattle.types.specs.inner.Known.{known_in};
 ghost use Rattle.types.specs.inner.Bodies.{AreBodies};
 ghost use Rattle.types.specs.inner.Found.{IsFound};
 
-use crate::fault::{TypeFailure, TypeFault, Violation, demand};
+use crate::fault::{TypeFailure, demand};
 use crate::function::{Bodies, check_function, has_body, is_worker};
 use crate::global::check_globals;
 use crate::table::ScopeTable;
@@ -20,6 +20,7 @@ use lex::token::Span;
 use name_tables::Table;
 use std::alloc::Allocator;
 use syntax::tree::{Item, Unit};
+use syntax::violation::{Refused, Rule, Violation};
 
 /// What is found out item by item.
 #[derive(Drop)]
@@ -84,7 +85,7 @@ fn check_defined<'a, A: Allocator + Copy>(
         match item {
             Item::Function(f) => {
                 let defined = has_body(bodies, f.name.text.as_str());
-                demand(defined, Violation::NotDefined(f.name.span))?;
+                demand(defined, Rule::NotDefined, f.name.span)?;
             }
             Item::Globals(_) => {}
         }
@@ -105,7 +106,7 @@ fn check_worker<'a, A: Allocator + Copy>(
 {
     let symbol = names.look("worker");
     let right = is_worker(&symbol);
-    demand(right, Violation::NoWorker(Span { start: end, end }))
+    demand(right, Rule::NoWorker, Span { start: end, end })
 }
 
 /// The whole of a program, the hashes of whose names are by this key.
@@ -126,12 +127,12 @@ fn check_program<A: Allocator + Copy>(
 /// Checks names and types. The fault is the first rule that the program breaks, in the order of the text; then come
 /// functions that are declared and not defined, and last a missing `worker`. The program lies in what is given, or
 /// comes back in the fault. Takes memory for the names.
-pub fn check<A: Allocator + Copy>(alloc: A, unit: Unit<A>) -> Result<Typed<A>, TypeFault<A>>
+pub fn check<A: Allocator + Copy>(alloc: A, unit: Unit<A>) -> Result<Typed<A>, Refused<Unit<A>>>
     ensures { ChecksTypes unit result }
 {
     match check_program(alloc, unit.key, unit.items.as_slice(), unit.end) {
         Ok(()) => Ok(Typed { unit }),
-        Err(TypeFailure::OutOfMemory) => Err(TypeFault::OutOfMemory(unit)),
-        Err(TypeFailure::Violation(violation)) => Err(TypeFault::IllTyped(unit, violation)),
+        Err(TypeFailure::OutOfMemory) => Err(Refused::OutOfMemory(unit)),
+        Err(TypeFailure::Violation(violation)) => Err(Refused::Broken(unit, violation)),
     }
 }

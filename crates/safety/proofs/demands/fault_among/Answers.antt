@@ -3,9 +3,8 @@ use Rattle.syntax.specs.Typing.{Demand}
 use Rattle.safety.specs.Sites.{Site}
 use Rattle.safety.specs.Faults.{demands_at}
 use Rattle.safety.specs.Sets.{set_of}
-use Rattle.safety.specs.Answers.{number_in, span_in}
+use Rattle.syntax.specs.Violations.{told_of, unmet_in}
 use Rattle.safety.specs.Views.{site_of}
-use Rattle.safety.specs.inner.Unmet.{unmet_in}
 use Rattle.safety.specs.inner.Rest.{rest_of}
 use Rattle.safety.proofs.Found.{more_at, found_first, found_later}
 use Rattle.safety.proofs.demands.fault_among.Goals as goal
@@ -13,11 +12,11 @@ use Rattle.safety.proofs.demands.fault_among.Goals as goal
 pub returns-then-is_some : goal.returns-then-is_some
 returns-then-is_some g c =
     let demands : Site → List Demand = λ s. demands_at (rest_of (set_of c.args.not_safe.now)) (set_of c.args.outer.now) s s.construct in
-    found_first unmet_in refl (λ b. ((number_in b, span_in b), refl)) c.fault_at-found.result _ _ _ (sym c.is_some.ensures ∙ c.if-is_some.true)
+    found_first unmet_in refl (λ b. (told_of b, refl)) c.fault_at-found.result _ _ _ (sym c.is_some.ensures ∙ c.if-is_some.true)
     (sym c.each.invariant ∙ more_at site_of demands c.args.sites.now c.each.site-index _ c.each-test.true) c.fault_at-found.ensures
 
 pub each-preserved : goal.each-preserved
 each-preserved g c =
     let demands : Site → List Demand = λ s. demands_at (rest_of (set_of c.args.not_safe.now)) (set_of c.args.outer.now) s s.construct in
-    found_later unmet_in refl (λ b. ((number_in b, span_in b), refl)) c.fault_at-found.result _ _ _ (sym c.is_some.ensures ∙ c.if-is_some.false)
+    found_later unmet_in refl (λ b. (told_of b, refl)) c.fault_at-found.result _ _ _ (sym c.is_some.ensures ∙ c.if-is_some.false)
     (sym c.each.invariant ∙ more_at site_of demands c.args.sites.now c.each.site-index _ c.each-test.true) c.fault_at-found.ensures
