@@ -26,7 +26,7 @@ use Rattle.lower.specs.Faults.{IsLowerFaultOf}
 use Rattle.lower.specs.inner.Parts.{made_behind, IsOfDefinition, IsOfItem, IsOfCode}
 use Rattle.lower.proofs.Better.{body_more}
 use Rattle.lower.proofs.Bodies.{definition_made, front_and_rest, front_more, one_more}
-use Rattle.syntax.proofs.Items.{items_more}
+use Rattle.syntax.proofs.typing.Items.{items_more}
 
 -- a function needs its parameters' registers at least
 pub parameters_fit : (p : Program) (f : Function) (body : Stmts) (from : ℕ) (l : Lists) → length f.parameters ≤ (body_written p f body from l).lists.registers

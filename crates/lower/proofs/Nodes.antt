@@ -14,7 +14,7 @@ use Rattle.syntax.specs.declared.tree.ForHead as H
 use Rattle.syntax.specs.Tree as Tree
 use Rattle.syntax.specs.Tree.{Program}
 use Rattle.syntax.specs.Views.{expr_of, exprs_of, simple_of, declarator_of, start_of, stmt_step, stmt_of, stmts_of}
-use Rattle.syntax.proofs.Seen.{stmt_of_declare, stmt_of_block, stmt_of_print, stmt_of_if, stmt_of_if_else, stmt_of_while, stmt_of_do_while, stmt_of_for, stmt_of_return, stmt_of_transaction}
+use Rattle.syntax.proofs.trees.Seen.{stmt_of_declare, stmt_of_block, stmt_of_print, stmt_of_if, stmt_of_if_else, stmt_of_while, stmt_of_do_while, stmt_of_for, stmt_of_return, stmt_of_transaction}
 use Rattle.bytecode.specs.declared.instr.Instr.{Instr}
 use Rattle.lower_spec.specs.Expressions.{LocalScope}
 use Rattle.lower_spec.specs.Statements.{locals_after}

@@ -16,9 +16,9 @@ use Rattle.syntax.specs.declared.tree.Expr.TheVariants as EV
 use Rattle.syntax.specs.Tree as Tree
 use Rattle.syntax.specs.Tree.{Program}
 use Rattle.syntax.specs.Numbers.{word_of}
-use Rattle.syntax.proofs.Words.{word_below}
+use Rattle.syntax.proofs.words.Words.{word_below}
 use Rattle.syntax.specs.Views.{name_of, expr_step, expr_of, exprs_of}
-use Rattle.syntax.proofs.Seen.{expr_of_variable, expr_of_call, expr_of_element, expr_of_parenthesized, expr_of_cast, expr_of_unary, expr_of_binary, expr_of_logical, expr_of_conditional, expr_of_in_transaction}
+use Rattle.syntax.proofs.trees.Seen.{expr_of_variable, expr_of_call, expr_of_element, expr_of_parenthesized, expr_of_cast, expr_of_unary, expr_of_binary, expr_of_logical, expr_of_conditional, expr_of_in_transaction}
 use Rattle.bytecode.specs.declared.instr.Instr.{Instr}
 use Rattle.lower_spec.specs.Expressions.{LocalScope, constant_in, converting as lowered_converting}
 use Rattle.lower_spec.proofs.Conversions.{IsNone, unconverted}

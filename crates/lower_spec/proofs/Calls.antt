@@ -19,8 +19,8 @@ use Rattle.syntax.specs.Actions.{Outside, Answer, Gives, Action, go_on, â—Œ>>=â—
 use Rattle.syntax.specs.Meaning.{Completion, Next, Breaks, Continues, Returns, Cancels, CancelsOuter, stmts, call_locals, result_of, calls}
 use Rattle.syntax.specs.Threads.{outcome_of, first_state, thread}
 use Rattle.syntax.specs.Typing.{IsTypedProgram}
-use Rattle.syntax.proofs.Words.{word_below}
-use Rattle.syntax.proofs.Memories.{typed_cells}
+use Rattle.syntax.proofs.words.Words.{word_below}
+use Rattle.syntax.proofs.words.Memories.{typed_cells}
 use Rattle.bytecode.specs.Effects.{Effect}
 use Rattle.bytecode.specs.Sequential.{start, meaning, sequential_step, outside}
 use Rattle.bytecode.specs.Code.{Code, FunctionCode, Configuration, Frame, Instr, bounds_of, effect, effect_of, call_effect}

@@ -8,7 +8,7 @@ use Rattle.syntax.specs.declared.tree.BinaryOp.{BinaryOp}
 use Rattle.syntax.specs.declared.tree.BinaryOp.TheVariants.{ShiftLeft, ShiftRight}
 use Rattle.syntax.specs.Tree.{Scalar, Int, Unsigned, LongLong}
 use Rattle.syntax.specs.Numbers.{modulus, residue, number, word_of, value_in_type, truth, common, fit_result, operation_result, operand_type, result_type}
-use Rattle.syntax.proofs.Words.{narrows, widens_unsigned, fitted_below, shift_below, computed_below}
+use Rattle.syntax.proofs.words.Words.{narrows, widens_unsigned, fitted_below, shift_below, computed_below}
 use Rattle.lower_spec.specs.Expressions.{converting, widening}
 
 -- the word that one instruction makes of a register, or the register's own

@@ -30,8 +30,8 @@ use Rattle.lower_spec.proofs.Locals.{TypeIs, type_last, length_like, word_taken,
 use Rattle.lower_spec.proofs.Statements.{Goes, GoesNext, GoesTest, expr_stores, result_follows, test_follows, simple_follows}
 use Rattle.lower_spec.proofs.Prints.{print_rest, print_follows}
 use Rattle.lower_spec.proofs.Turns.{while_turn, do_turn, for_turn, Falls}
-use Rattle.syntax.proofs.Loops.{loop_is_its_turns}
-use Rattle.syntax.proofs.Words.{some_below}
+use Rattle.syntax.proofs.running.Loops.{loop_is_its_turns}
+use Rattle.syntax.proofs.words.Words.{some_below}
 
 -- the registers hold what a scope knows, and further names declared in it
 pub record HasMoreLocals (scope : LocalScope) (ls : List Local) (layout : Layout) (registers : List ℕ) : Type 0 where

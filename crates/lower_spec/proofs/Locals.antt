@@ -8,7 +8,7 @@ use Rattle.lex.specs.declared.token.Scalar.{Scalar}
 use Rattle.syntax.specs.Numbers.{modulus}
 use Rattle.syntax.specs.Names.{Local, newest, newest_from, word_at, with_word}
 use Rattle.syntax.specs.Laws.{shape}
-use Rattle.syntax.proofs.Words.{some_below}
+use Rattle.syntax.proofs.words.Words.{some_below}
 use Rattle.lower_spec.specs.Expressions.{LocalScope, IsLike}
 
 -- each local holds a word of its type

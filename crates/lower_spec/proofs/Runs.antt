@@ -15,7 +15,7 @@ use Rattle.syntax.specs.Numbers.{modulus}
 use Rattle.syntax.specs.Names.{Local, word_at, cells, GlobalCells, global_of}
 use Rattle.syntax.specs.declared.thread_end.Status.TheVariants.{Running, Trapped as HasTrapped}
 use Rattle.syntax.specs.Behaviours.{Memory, IsMemory, Outcome, Stopped}
-use Rattle.syntax.proofs.Words.{some_below}
+use Rattle.syntax.proofs.words.Words.{some_below}
 use Rattle.syntax.specs.Actions.{Context, Outside, Inside, State, Answer, Stops, Action, stop, go_on, tick, trap, lefts_in, print_piece, ◌>>◌}
 use Rattle.syntax.specs.Meaning.{Completion, mode_of, close_inner, enter}
 use Rattle.bytecode.specs.Effects.{Effect}

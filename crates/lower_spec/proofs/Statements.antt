@@ -15,8 +15,8 @@ use Rattle.syntax.specs.Names.{Local, newest, word_at, with_word, global_of, cel
 use Rattle.syntax.specs.Behaviours.{Outcome}
 use Rattle.syntax.specs.Actions.{Inside, State, Answer, Gives, Action, pure, go_on, ◌>>=◌, ◌>>◌, trap, or_trap}
 use Rattle.syntax.specs.Meaning.{Lvalue, InLocal, InCell, fetch, assign, Completion, Next, op_of, int_one, Caller, lvalue_from, expr, lvalue, assign_by_operator, assign_by, simple}
-use Rattle.syntax.proofs.Words.{residue_below, word_below}
-use Rattle.syntax.proofs.Memories.{written_memory}
+use Rattle.syntax.proofs.words.Words.{residue_below, word_below}
+use Rattle.syntax.proofs.words.Memories.{written_memory}
 use Rattle.bytecode.specs.Effects.{Effect}
 use Rattle.bytecode.specs.Code.{Code, Frame, Instr, effect, effect_of, setting, bounds_of, word_for_cell}
 use Rattle.lower_spec.specs.Expressions.{LocalScope, IsLike, InstructionAt, Layout, Due, widening, constant_in, ConvertedBy}

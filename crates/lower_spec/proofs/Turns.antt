@@ -5,7 +5,7 @@ use Rattle.syntax.specs.Tree.{Expr, Simple, Stmt, Program}
 use Rattle.syntax.specs.Numbers.{is_zero}
 use Rattle.syntax.specs.Actions.{State, Action, state_of, pure, ◌>>=◌}
 use Rattle.syntax.specs.Meaning.{Completion, Next, Breaks, Continues, Returns, Cancels, CancelsOuter, in_scope, after_body, Caller, expr, simple, stmt, for_condition, optional_step, calls}
-use Rattle.syntax.proofs.Ticks.{on_falls, ticks_never_grow, simples_never_grow}
+use Rattle.syntax.proofs.running.Ticks.{on_falls, ticks_never_grow, simples_never_grow}
 
 abbrev pub while_turn : Program → Caller → Expr → Stmt → Action (Option Completion)
 while_turn p call c st = expr p call c >>= λ v. if is_zero v then pure (Some Next) else (in_scope (stmt p call st) >>= after_body (pure None))

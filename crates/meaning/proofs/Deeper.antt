@@ -12,7 +12,7 @@ use Rattle.syntax.specs.declared.tree.Stmt.TheFolds.{fold-roll-Stmt}
 use Rattle.syntax.specs.declared.tree.Stmt.TheVariants as SV
 use Rattle.syntax.specs.Views.{expr_of, exprs_of, simple_of, declarator_of, stmt_step, stmt_of, stmts_of}
 use Rattle.syntax.specs.Depth.{expr_depth, deepest, optional_depth, simple_depth, deepest_value, stmt_depth, block_depth}
-use Rattle.syntax.proofs.Seen.{stmt_of_block, stmt_of_transaction}
+use Rattle.syntax.proofs.trees.Seen.{stmt_of_block, stmt_of_transaction}
 use Rattle.meaning.specs.inner.Does.{else_depth}
 use Rattle.meaning.proofs.Parts.{if_is}
 

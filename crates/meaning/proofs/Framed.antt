@@ -9,7 +9,7 @@ use Rattle.syntax.specs.declared.thread_end.Halt.TheVariants.{Trapped, Wants, Sp
 use Rattle.syntax.specs.Behaviours.{Memory}
 use Rattle.syntax.specs.Actions.{Context, Outside, Inside, State, Answer, Gives, Stops, Action, go_on, ◌>>=◌, spend, tick, load_at, store_at, may_print_at, memory_in, write}
 use Rattle.syntax.specs.Meaning.{Completion, after_turn, turns, Left, undoes, left_or, left_by, leave_inner, close_inner, inner, close, enter, mode_of, begin_at}
-use Rattle.syntax.proofs.Preserved.{IsAlwaysPreserved}
+use Rattle.syntax.proofs.running.Preserved.{IsAlwaysPreserved}
 use Rattle.meaning.specs.Frames.{StateExtension, context_framed, extended_state, Alike, IsFramed}
 
 on_alike : {A B : Type 0} (f : StateExtension) (r more : Answer A) (rest : A → Action B) → Alike f r more → ((a : A) (t : State) → Alike f (rest a t) (rest a (extended_state f t))) → Alike f (go_on r rest) (go_on more rest)

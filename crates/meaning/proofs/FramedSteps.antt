@@ -8,7 +8,7 @@ use Rattle.syntax.specs.Tree.{Program, Stmt, Expr, Exprs, Simple, Start, Declara
 use Rattle.syntax.specs.Names.{Local, definition_of}
 use Rattle.syntax.specs.Actions.{Action, pure, locals, put_locals, tick, or_astray, ◌>>=◌, ◌>>◌}
 use Rattle.syntax.specs.Meaning.{Completion, Next, Breaks, Continues, Returns, Cancels, CancelsOuter, InLocal, call_locals, expr, exprs, stmt, after_body, for_condition, optional_step, simple, first_value, declare, start_with, result_of, calls}
-use Rattle.syntax.proofs.Preserved.{each_expr_holds, each_simple_holds, each_stmt_holds}
+use Rattle.syntax.proofs.running.Preserved.{each_expr_holds, each_simple_holds, each_stmt_holds}
 use Rattle.meaning.specs.inner.Going.{Follow, Ends, ticks_left, drop_names, call_left, when_next, scope_begun, loop_begun, test_of, turn_end_of, turns_begun, either_begun, for_begun, frame_begun, call_begun}
 use Rattle.meaning.specs.inner.Calls.{begin_call}
 use Rattle.meaning.specs.Frames.{IsFramed}

@@ -19,7 +19,7 @@ use Rattle.syntax.specs.declared.tree.Stmt.TheFolds.{fold-roll-Stmt}
 use Rattle.syntax.specs.declared.tree.Stmt.TheVariants as SV
 use Rattle.syntax.specs.Tree as Tree
 use Rattle.syntax.specs.Views.{name_of, expr_of, exprs_of, simple_of, declarator_of, start_of, stmt_of, stmt_step, stmts_of}
-use Rattle.syntax.proofs.Seen.{expr_of_call, expr_of_element, expr_of_parenthesized, expr_of_cast, expr_of_unary, expr_of_binary, expr_of_logical, expr_of_conditional, expr_of_in_transaction, stmt_of_declare, stmt_of_block, stmt_of_print, stmt_of_if, stmt_of_if_else, stmt_of_while, stmt_of_do_while, stmt_of_for, stmt_of_return, stmt_of_transaction}
+use Rattle.syntax.proofs.trees.Seen.{expr_of_call, expr_of_element, expr_of_parenthesized, expr_of_cast, expr_of_unary, expr_of_binary, expr_of_logical, expr_of_conditional, expr_of_in_transaction, stmt_of_declare, stmt_of_block, stmt_of_print, stmt_of_if, stmt_of_if_else, stmt_of_while, stmt_of_do_while, stmt_of_for, stmt_of_return, stmt_of_transaction}
 use Rattle.meaning.specs.inner.Does.{if_of}
 
 module _ {A : Type 0} where

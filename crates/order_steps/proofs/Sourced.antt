@@ -17,8 +17,8 @@ use Rattle.syntax.specs.declared.thread_end.Status.TheVariants.{Running, Ended a
 use Rattle.bytecode.specs.Effects.{Effect, FitsCells}
 use Rattle.bytecode.proofs.Tables.{some_same}
 use Rattle.bytecode.specs.Sequential.{Sequential, end_of, meaning, outcome_of, outside, start, steps}
-use Rattle.syntax.proofs.ThreadLaws.{more_ticks}
-use Rattle.syntax.proofs.Words.{begins_with_memory}
+use Rattle.syntax.proofs.running.ThreadLaws.{more_ticks}
+use Rattle.syntax.proofs.words.Words.{begins_with_memory}
 use Rattle.machine.specs.Resting.{IsAtBegin, IsThreadAtRest}
 use Rattle.machine.specs.Drops.{drops}
 use Rattle.machine.specs.Serializable.{world_after}

@@ -10,7 +10,7 @@ use Rattle.syntax.specs.Typing.{names_of, parameter_names}
 use Rattle.syntax.specs.Actions.{Answer, Gives, Stops}
 use Rattle.syntax.specs.Meaning.{Completion, Next, Breaks, Continues, Returns, Cancels as CancelEnd, CancelsOuter as OuterEnd, stmts, calls}
 use Rattle.syntax.specs.Laws.{WhereGiven}
-use Rattle.syntax.proofs.Ends.{Fits, JumpsFit, AllJumpsFit, stmts_end}
+use Rattle.syntax.proofs.locals.Ends.{Fits, JumpsFit, AllJumpsFit, stmts_end}
 use Rattle.safety.specs.Sites.{Cancels, CancelsOuter, Site, Around, with_names, in_transaction, kind_site, expr_sites, simple_sites, sites_if_any, start_sites, names_of_start, stmt_sites, stmts_sites, body_sites, sites_of}
 use Rattle.safety.specs.Safe.{KeepsAtomic, KeepsOuter}
 use Rattle.safety.specs.Laws.{CancelsStay}

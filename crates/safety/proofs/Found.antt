@@ -5,7 +5,7 @@ use Rattle.std.specs.Option.{option_or}
 use Rattle.std.proofs.lemmas.List.{at_drop_more}
 use Rattle.syntax.specs.Tree.{Span}
 use Rattle.syntax.specs.Typing.{Demand, first_unmet}
-use Rattle.syntax.proofs.Demands.{first_of_two}
+use Rattle.syntax.proofs.typing.Demands.{first_of_two}
 
 -- the first of those that are left, and then the rest
 pub more_at : {X Y : Type 0} (see : X → Y) (demands : Y → List Demand) (xs : List X) (i : ℕ) (x : X) → i < length xs → first_unmet (flat_map demands (map see (drop i xs))) ≡ option_or (first_unmet (demands (see (get_or xs i x)))) (first_unmet (flat_map demands (map see (drop (i + 1) xs))))

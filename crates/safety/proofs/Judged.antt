@@ -9,7 +9,7 @@ use Rattle.syntax.specs.Tree.{Item, Defines, Shares, Program, Stmts}
 use Rattle.syntax.specs.Names.{definition_or, definition_of}
 use Rattle.syntax.specs.Types.{file_scope}
 use Rattle.syntax.specs.Typing.{demand, first_unmet, is_unknown, is_worker, IsTypedItem, IsTypedFunction, AreTypedItems, AreDefined, IsTypedProgram}
-use Rattle.syntax.proofs.Demands.{AreMet, all_met, none_unmet, met_before, met_behind, is_met}
+use Rattle.syntax.proofs.typing.Demands.{AreMet, all_met, none_unmet, met_before, met_behind, is_met}
 use Rattle.types.proofs.Items.{AllDefined, all_defined_function, all_defined_shared, first_prototype}
 use Rattle.safety.specs.Sites.{Construct, Prints, Relaxes, OpensOuter, Cancels, CancelsOuter, Calls, Uses, Site, body_sites, sites_of, attributes_of}
 use Rattle.safety.specs.Safe.{FunctionSet, TellsSafe, TellsOuter, IsSafeConstruct, IsSafe, Opens, LeadsToOuter, IsSafeProgram}

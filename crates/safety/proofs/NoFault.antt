@@ -9,7 +9,7 @@ use Rattle.syntax.specs.declared.tree.Attribute.{Attribute}
 use Rattle.syntax.specs.declared.tree.Attribute.TheVariants.{Safe, Unsafe, Callable}
 use Rattle.syntax.specs.Tree.{Function, Item, Defines, Shares, Program}
 use Rattle.syntax.specs.Typing.{demand}
-use Rattle.syntax.proofs.Demands.{AreMet, none_unmet}
+use Rattle.syntax.proofs.typing.Demands.{AreMet, none_unmet}
 use Rattle.safety.specs.Sites.{Construct, Prints, Relaxes, OpensOuter, Cancels, CancelsOuter, Calls, Uses, Site, body_sites, sites_of, attributes_of}
 use Rattle.safety.specs.Safe.{FunctionSet, TellsSafe, TellsOuter, IsSafeConstruct, IsSafe, Opens, LeadsToOuter, KeepsAtomic, KeepsOuter, IsSafeProgram}
 use Rattle.safety.specs.Faults.{demands_at, says_safe, function_demands, item_demands, safety_demands}

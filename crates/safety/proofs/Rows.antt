@@ -8,8 +8,8 @@ use Rattle.syntax.specs.declared.tree.Attribute.TheVariants.{Safe}
 use Rattle.syntax.specs.Tree as Tree
 use Rattle.syntax.specs.Tree.{Evaluate, Call, Stmts, Do, Print, Transaction, Cancel, Item, Defines, Program}
 use Rattle.syntax.specs.Typing.{first_unmet}
-use Rattle.syntax.proofs.Rows.{here, called, sets_one, atomic, just, worker_with}
-use Rattle.syntax.proofs.MoreRows.{then_}
+use Rattle.syntax.proofs.samples.Rows.{here, called, sets_one, atomic, just, worker_with}
+use Rattle.syntax.proofs.samples.MoreRows.{then_}
 use Rattle.safety.specs.Sites.{Construct, Uses, Site, sites_of}
 use Rattle.safety.specs.Safe.{FunctionSet}
 use Rattle.safety.specs.Faults.{safety_demands}

@@ -15,7 +15,7 @@ use Rattle.syntax.specs.declared.tree.Stmt.TheOpen.{Stmt-F}
 use Rattle.syntax.specs.declared.tree.Stmt.TheFolds.{fold-roll-Stmt}
 use Rattle.syntax.specs.declared.tree.Stmt.TheVariants as SV
 use Rattle.syntax.specs.declared.tree.{UnaryOp.UnaryOp, BinaryOp.BinaryOp, LogicalOp.LogicalOp}
-use Rattle.syntax.proofs.Seen.{expr_of_variable, expr_of_element, expr_of_call, expr_of_parenthesized, expr_of_cast, expr_of_unary, expr_of_binary, expr_of_logical, expr_of_conditional, expr_of_in_transaction, stmt_of_declare, stmt_of_block, stmt_of_print, stmt_of_while, stmt_of_do_while, stmt_of_for, stmt_of_return, stmt_of_transaction}
+use Rattle.syntax.proofs.trees.Seen.{expr_of_variable, expr_of_element, expr_of_call, expr_of_parenthesized, expr_of_cast, expr_of_unary, expr_of_binary, expr_of_logical, expr_of_conditional, expr_of_in_transaction, stmt_of_declare, stmt_of_block, stmt_of_print, stmt_of_while, stmt_of_do_while, stmt_of_for, stmt_of_return, stmt_of_transaction}
 use Rattle.syntax.specs.Tree as Tree
 use Rattle.syntax.specs.Tree.{Span}
 use Rattle.syntax.specs.declared.tree.{Mode.Mode, Mode.TheVariants.Atomic, Mode.TheVariants.Relaxed, TransactionKind.TransactionKind, TransactionKind.TheVariants.Plain, TransactionKind.TheVariants.Outer}

@@ -6,7 +6,7 @@ use Rattle.std.proofs.Math.Logic.{∥∥₁_elim}
 use Rattle.std.proofs.lemmas.Slice.Eq.{bytes_eq-Decides}
 use Rattle.syntax.specs.Tree.{Program}
 use Rattle.syntax.specs.Typing.{first_unmet, IsTypedProgram}
-use Rattle.syntax.proofs.Demands.{AreMet, all_met, met_before, met_behind, is_met}
+use Rattle.syntax.proofs.typing.Demands.{AreMet, all_met, met_before, met_behind, is_met}
 use Rattle.safety.specs.Sites.{Construct, Prints, Relaxes, OpensOuter, Cancels, CancelsOuter, Calls, Uses, Site, sites_of}
 use Rattle.safety.specs.Safe.{FunctionSet, IsSafeProgram}
 use Rattle.safety.specs.Links.{KeepsTo, IsLeast}

@@ -19,8 +19,8 @@ use Rattle.syntax.specs.Behaviours.{Memory}
 use Rattle.syntax.specs.Actions.{Context, Outside, Inside, State, Answer, Gives, Stops, Action, pure, go_on, ◌>>=◌, ◌>>◌, spend, tick, trap, or_trap, or_astray, locals, put_locals, load_at, load, store_at, store, may_print_at, may_print, print_piece}
 use Rattle.syntax.specs.Meaning.{Lvalue, InLocal, InCell, fetch, assign, print_pieces, Completion, Next, Breaks, Continues, Returns, Cancels, CancelsOuter, on_next, in_scope, after_turn, turns, loop, after_body, Left, mode_of, left_by, close_inner, close, enter, transaction, begin_at, begin_value, value_at, value_transaction}
 use Rattle.syntax.specs.Laws.{shape}
-use Rattle.syntax.proofs.OlderLocals.{same_shapes}
-use Rattle.syntax.proofs.ExactLocals.{same_taken}
+use Rattle.syntax.proofs.locals.OlderLocals.{same_shapes}
+use Rattle.syntax.proofs.locals.ExactLocals.{same_taken}
 
 -- names and types of locals
 abbrev pub Shapes : Type 0

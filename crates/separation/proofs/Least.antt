@@ -6,7 +6,7 @@ use Rattle.std.proofs.lemmas.List.Elements.{Contains-append_right}
 use Rattle.lex.specs.declared.token.Span.{Span}
 use Rattle.syntax.specs.Tree.{Program}
 use Rattle.syntax.specs.Typing.{first_unmet}
-use Rattle.syntax.proofs.Demands.{first_of_two}
+use Rattle.syntax.proofs.typing.Demands.{first_of_two}
 use Rattle.safety.specs.Sites.{Construct, Prints, Relaxes, OpensOuter, Cancels, CancelsOuter, Calls, Uses, Site, sites_of}
 use Rattle.safety.specs.Safe.{FunctionSet}
 use Rattle.separation.specs.Touching.{IsAccess, Touches, IsTouching, TellsTouching, demands_at, separation_demands}

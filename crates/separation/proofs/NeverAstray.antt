@@ -28,10 +28,10 @@ use Rattle.syntax.specs.Meaning.{Lvalue, InLocal, InCell, Completion, Next, Brea
 use Rattle.syntax.specs.Threads.{outcome_of, first_state, worker_run}
 use Rattle.syntax.specs.Laws.{shape}
 use Rattle.syntax.specs.ScopeLaws.{IsSubscope, declared_by, body_scope}
-use Rattle.syntax.proofs.TypedParts.{TypedExpr, TypedExprs, TypedTarget, TypedSimple, TypedDeclarators, TypedStart, TypedStmt, TypedStmts, stmts_parts}
-use Rattle.syntax.proofs.ValueTypes.{Found, found, shared_type}
-use Rattle.syntax.proofs.Fits.{newest_in, newest_by_shape, newest_behind, scope_in, agrees_by_shape, shape_agrees, one_more_fits, declared_fit, same_type_of, has_type}
-use Rattle.syntax.proofs.Called.{called_are_defined, bodies_are_typed, worker_known, all_enter, shapes_of, entered_shapes}
+use Rattle.syntax.proofs.typing.TypedParts.{TypedExpr, TypedExprs, TypedTarget, TypedSimple, TypedDeclarators, TypedStart, TypedStmt, TypedStmts, stmts_parts}
+use Rattle.syntax.proofs.typing.ValueTypes.{Found, found, shared_type}
+use Rattle.syntax.proofs.typing.Fits.{newest_in, newest_by_shape, newest_behind, scope_in, agrees_by_shape, shape_agrees, one_more_fits, declared_fit, same_type_of, has_type}
+use Rattle.syntax.proofs.typing.Called.{called_are_defined, bodies_are_typed, worker_known, all_enter, shapes_of, entered_shapes}
 use Rattle.safety.specs.Sites.{Prints, Relaxes, OpensOuter, Cancels as CancelConstruct, CancelsOuter as OuterCancelConstruct, Calls, Uses, Around, site, with_names, in_transaction, uses, expr_sites, exprs_sites, sites_if_any, simple_sites, declarator_sites, start_sites, names_of_start, stmt_sites, stmts_sites}
 use Rattle.safety.proofs.CancelsStay.{definition_sites}
 use Rattle.separation.specs.Touching.{IsAccepted}

@@ -7,7 +7,7 @@ use Rattle.syntax.specs.Tree.{Item, Defines, Shares}
 use Rattle.syntax.specs.declared.tree.Item as Own
 use Rattle.syntax.specs.Views.{item_of}
 use Rattle.syntax.specs.Typing.{first_unmet}
-use Rattle.syntax.proofs.Demands.{first_of_two}
+use Rattle.syntax.proofs.typing.Demands.{first_of_two}
 use Rattle.safety.specs.Sites.{sites_of}
 use Rattle.safety.specs.Safe.{FunctionSet}
 use Rattle.separation.specs.inner.OwnSites.{own_sites}

@@ -5,8 +5,8 @@ use Rattle.lex.specs.declared.token.Span.{Span}
 use Rattle.syntax.specs.Tree as Tree
 use Rattle.syntax.specs.Tree.{Variable, Assign, Evaluate, Call, Do, Program}
 use Rattle.syntax.specs.Typing.{first_unmet}
-use Rattle.syntax.proofs.Rows.{num, sets_one, just, worker_with, global}
-use Rattle.syntax.proofs.MoreRows.{then_}
+use Rattle.syntax.proofs.samples.Rows.{num, sets_one, just, worker_with, global}
+use Rattle.syntax.proofs.samples.MoreRows.{then_}
 use Rattle.safety.specs.Sites.{sites_of}
 use Rattle.safety.specs.Safe.{FunctionSet}
 use Rattle.separation.specs.Touching.{separation_demands}

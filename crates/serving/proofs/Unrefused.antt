@@ -15,7 +15,7 @@ use Rattle.syntax.specs.Tree.{Program}
 use Rattle.syntax.specs.Types.{file_scope}
 use Rattle.syntax.specs.Typing.{AreDefined, AreTypedItems, IsTypedProgram, Meets, first_unmet, is_worker}
 use Rattle.syntax.specs.Violations.{number_of, told_of}
-use Rattle.syntax.proofs.Demands.{none_unmet}
+use Rattle.syntax.proofs.typing.Demands.{none_unmet}
 use Rattle.parse.specs.Faults.{IsParseFaultOf}
 use Rattle.parse.specs.Faults as parse
 use Rattle.parse.specs.declared.fault.ParseFault.{ParseFault}

@@ -1,7 +1,7 @@
 -- The memory in which the threads of a code begin, and the words of its cells.
 use Rattle.std.proofs.Common.{◌≡◌, ◌<◌, ℕ, zero, suc, List, [], ◌∷◌, length, slice_index, arith}
 use Rattle.syntax.specs.Behaviours.{IsMemory}
-use Rattle.syntax.proofs.Words.{initial_words}
+use Rattle.syntax.proofs.words.Words.{initial_words}
 use Rattle.bytecode.specs.Code.{Code}
 use Rattle.bytecode.specs.Initial.{initial_of}
 use Rattle.bytecode.specs.Valid.{bounds_of, cells_of}

@@ -5,7 +5,7 @@ use Rattle.syntax.specs.Tree.{Span, Scalar, Function, Global, Item, Defines, Sha
 use Rattle.syntax.specs.Names.{definition_of, definition_or}
 use Rattle.syntax.specs.Types.{Known, Unknown, Number, Array, Callable, Scope, file_scope, known_among, known_global, known_function}
 use Rattle.syntax.specs.Typing.{is_unknown, has_name, defined_names, all_cells}
-use Rattle.syntax.proofs.ValueTypes.{or_known, among_known, scope_append}
+use Rattle.syntax.proofs.typing.ValueTypes.{or_known, among_known, scope_append}
 
 or_unknown : (k : Known) → or_known k Unknown ≡ k
 or_unknown Unknown = refl

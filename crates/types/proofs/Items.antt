@@ -15,7 +15,7 @@ use Rattle.syntax.specs.Typing.{is_unknown, may_be_function}
 use Rattle.syntax.specs.Typing.{Demand, first_unmet, demand, IsLength, HaveCells, AreTypedGlobals, IsTypedFunction, IsTypedItem, AreTypedItems, AreDefined}
 use Rattle.types.proofs.Steps.{first_of_two}
 use Rattle.types.proofs.AllMet.{met_first}
-use Rattle.syntax.proofs.ValueTypes.{scope_append, or_known}
+use Rattle.syntax.proofs.typing.ValueTypes.{scope_append, or_known}
 
 -- one global's demands
 abbrev pub IsTypedGlobal : List Item → List Global → ℕ → Global → List Demand

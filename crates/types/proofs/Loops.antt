@@ -11,7 +11,7 @@ use Rattle.syntax.specs.declared.tree.IncDec.{IncDec}
 use Rattle.syntax.specs.Tree as Tree
 use Rattle.syntax.specs.Tree.{Span}
 use Rattle.syntax.specs.declared.tree.{BinaryOp.BinaryOp, LogicalOp.LogicalOp}
-use Rattle.syntax.proofs.Seen.{expr_of_call, expr_of_binary, expr_of_logical, expr_of_conditional}
+use Rattle.syntax.proofs.trees.Seen.{expr_of_call, expr_of_binary, expr_of_logical, expr_of_conditional}
 use Rattle.syntax.specs.Views.{name_of, expr_of, exprs_of, simple_of}
 use Rattle.syntax.specs.Types.{Scope}
 use Rattle.syntax.specs.Typing.{count, may_be_function, takes_so_many}

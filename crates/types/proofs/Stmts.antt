@@ -17,7 +17,7 @@ use Rattle.syntax.specs.Tree as Tree
 use Rattle.syntax.specs.Views.{expr_of, exprs_of, simple_of, declarator_of, start_of, stmt_step, stmt_of, stmts_of}
 use Rattle.syntax.specs.Types.{Scope, file_scope}
 use Rattle.syntax.specs.Typing.{scope_of_start, scope_after, names_of, has_name, may_be_function, agrees, defined_names, with_parameters, parameter_names}
-use Rattle.syntax.proofs.Seen.{stmt_of_declare, stmt_of_block, stmt_of_print, stmt_of_return, stmt_of_if, stmt_of_if_else, stmt_of_while, stmt_of_do_while, stmt_of_for, stmt_of_transaction}
+use Rattle.syntax.proofs.trees.Seen.{stmt_of_declare, stmt_of_block, stmt_of_print, stmt_of_return, stmt_of_if, stmt_of_if_else, stmt_of_while, stmt_of_do_while, stmt_of_for, stmt_of_transaction}
 use Rattle.syntax.specs.Typing.{first_unmet, demand, demands_of, IsNumber, IsTyped, GivesNumber, AreTypedDeclarators, returns_right, IsTypedSimple, IsTypedStart, IsTypedPrint, IsTypedStmt, AreTypedStmts, AreDistinct, IsTypedBody, IsTypedFunction}
 use Rattle.types.proofs.Steps.{first_of_two, first_of_three, or_or}
 

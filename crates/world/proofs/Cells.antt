@@ -3,7 +3,7 @@ use Rattle.std.proofs.Common.{◌≡◌, ◌≢◌, ◌<◌, ◌==◌, ◌⊎◌
 use Rattle.std.specs.Prelude.{if◌then◌else◌}
 use Rattle.std.proofs.lemmas.Bool.Decides.{eqb_tells}
 use Rattle.syntax.specs.Behaviours.{IsMemory}
-use Rattle.syntax.proofs.Words.{initial_words}
+use Rattle.syntax.proofs.words.Words.{initial_words}
 use Rattle.bytecode.specs.Code.{Code}
 use Rattle.bytecode.specs.Initial.{initial_of}
 use Rattle.bytecode.specs.Valid.{bounds_of}

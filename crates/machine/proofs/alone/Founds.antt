@@ -5,9 +5,9 @@ use Rattle.syntax.specs.Behaviours.{Behaviour, Ended, IsChained, IsMemory, Means
 use Rattle.syntax.specs.declared.thread_end.Halt.TheVariants.{Astray, Spent, Trapped, Wants}
 use Rattle.syntax.specs.Threads.{thread}
 use Rattle.syntax.specs.Tree.{Program}
-use Rattle.syntax.proofs.Counted.{left_as_many_as_found, never_more_left}
-use Rattle.syntax.proofs.MoreFounds.{more_founds}
-use Rattle.syntax.proofs.ThreadLaws.{goes_on}
+use Rattle.syntax.proofs.running.Counted.{left_as_many_as_found, never_more_left}
+use Rattle.syntax.proofs.running.MoreFounds.{more_founds}
+use Rattle.syntax.proofs.running.ThreadLaws.{goes_on}
 use Rattle.machine.proofs.alone.Alone.{Feeds}
 use Rattle.machine.proofs.alone.OneThread.{fed}
 use Rattle.machine.proofs.parts.Part.{each_append}

@@ -14,7 +14,7 @@ use Rattle.syntax.specs.Tree.{Expr, Simple, Start, Stmt, Do, Print, While, DoWhi
 use Rattle.syntax.specs.Views.{exprs_from, stmts_from, expr_of, stmt_of}
 use Rattle.syntax.specs.Grammar.{the_text, mode_keyword}
 use Rattle.syntax.specs.Phrases.{fixed_span}
-use Rattle.syntax.proofs.Seen as seen
+use Rattle.syntax.proofs.trees.Seen as seen
 use Rattle.parse.specs.inner.Reading.{Fault, deep, ◌>>=◌, head, is_next, map_parser, take, expect, expect_span, perhaps, behind, before, unless}
 use Rattle.parse.specs.inner.Expressions.{whole_at, starts_type}
 use Rattle.parse.specs.inner.Statements as read

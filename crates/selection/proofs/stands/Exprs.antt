@@ -17,9 +17,9 @@ use Rattle.syntax.specs.Types.{Callable, Scope, number_type, element_type as ele
 use Rattle.syntax.specs.Typing.{may_be_function, gives_nothing}
 use Rattle.syntax.specs.Typing.{IsTypedProgram}
 use Rattle.syntax.specs.ScopeLaws.{IsSubscope}
-use Rattle.syntax.proofs.TypedParts.{Knows, Gives, TypedExpr, TypedExprs}
-use Rattle.syntax.proofs.Fits.{scope_in, same_type_of, agrees_by_shape, shape_agrees}
-use Rattle.syntax.proofs.ValueTypes.{Found}
+use Rattle.syntax.proofs.typing.TypedParts.{Knows, Gives, TypedExpr, TypedExprs}
+use Rattle.syntax.proofs.typing.Fits.{scope_in, same_type_of, agrees_by_shape, shape_agrees}
+use Rattle.syntax.proofs.typing.ValueTypes.{Found}
 use Rattle.bytecode.specs.declared.instr.Instr.{Instr}
 use Rattle.bytecode.specs.declared.instr.Instr.TheVariants as own
 use Rattle.bytecode.specs.Code.{Code, FunctionCode, Instr as Plain}

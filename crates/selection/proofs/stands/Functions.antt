@@ -12,11 +12,11 @@ use Rattle.syntax.specs.Types.{Scope, Callable, Number, Array, Unknown, Known, f
 use Rattle.syntax.specs.Typing.{demand, may_be_function, has_name, defined_names, parameter_names, agrees, is_worker, AreDefined, AreDistinct, AreTypedItems, IsTypedBody, IsTypedFunction, IsTypedProgram}
 use Rattle.syntax.specs.Laws.{shape}
 use Rattle.syntax.specs.ScopeLaws.{IsSubscope, body_scope}
-use Rattle.syntax.proofs.Demands.{AreMet, met_before, is_met}
-use Rattle.syntax.proofs.TypedParts.{stmts_parts}
-use Rattle.syntax.proofs.Fits.{scope_in, agrees_by_shape, shape_agrees}
-use Rattle.syntax.proofs.ValueTypes.{rest_met}
-use Rattle.syntax.proofs.Called.{called_are_defined, bodies_are_typed, worker_known, shapes_of, entered_shapes, all_enter}
+use Rattle.syntax.proofs.typing.Demands.{AreMet, met_before, is_met}
+use Rattle.syntax.proofs.typing.TypedParts.{stmts_parts}
+use Rattle.syntax.proofs.typing.Fits.{scope_in, agrees_by_shape, shape_agrees}
+use Rattle.syntax.proofs.typing.ValueTypes.{rest_met}
+use Rattle.syntax.proofs.typing.Called.{called_are_defined, bodies_are_typed, worker_known, shapes_of, entered_shapes, all_enter}
 use Rattle.bytecode.specs.declared.instr.Instr.{Instr}
 use Rattle.bytecode.specs.declared.instr.Instr.TheVariants as own
 use Rattle.bytecode.specs.declared.limits.TheConstants.{MOST_REGISTERS}

@@ -7,8 +7,8 @@ use Rattle.syntax.specs.Tree.{Stmts, Function, Program}
 use Rattle.syntax.specs.Names.{Local, GlobalCells, newest_from, newest, global_of, definition_of}
 use Rattle.syntax.specs.Types.{Known, Unknown, Number, Array, Callable, number_type, known_function, file_scope, running_scope}
 use Rattle.syntax.specs.Typing.{is_unknown, may_be_number, may_be_array, may_be_function, IsTypedProgram}
-use Rattle.syntax.proofs.ValueTypes.{shared_type, Found, found}
-use Rattle.syntax.proofs.Called.{called_are_defined}
+use Rattle.syntax.proofs.typing.ValueTypes.{shared_type, Found, found}
+use Rattle.syntax.proofs.typing.Called.{called_are_defined}
 
 abbrev own_or_none : Bool → ℕ → Scalar → Option (ℕ × Scalar)
 own_or_none b i t = if b then Some (i, t) else None

@@ -13,9 +13,9 @@ use Rattle.syntax.specs.Types.{Scope, with_number, running_scope}
 use Rattle.syntax.specs.Typing.{IsTypedProgram, knows, may_be_assigned, scope_of_start}
 use Rattle.syntax.specs.Laws.{shape}
 use Rattle.syntax.specs.ScopeLaws.{IsSubscope}
-use Rattle.syntax.proofs.TypedParts.{TypedExpr, TypedTarget, TypedSimple, TypedDeclarators, TypedStart}
-use Rattle.syntax.proofs.Fits.{scope_in, agrees_by_shape, shape_agrees, one_more_fits}
-use Rattle.syntax.proofs.ValueTypes.{Found}
+use Rattle.syntax.proofs.typing.TypedParts.{TypedExpr, TypedTarget, TypedSimple, TypedDeclarators, TypedStart}
+use Rattle.syntax.proofs.typing.Fits.{scope_in, agrees_by_shape, shape_agrees, one_more_fits}
+use Rattle.syntax.proofs.typing.ValueTypes.{Found}
 use Rattle.bytecode.specs.declared.instr.Instr.{Instr}
 use Rattle.bytecode.specs.declared.instr.Instr.TheVariants as own
 use Rattle.bytecode.specs.Code.{Code}

@@ -16,7 +16,7 @@ use Rattle.syntax.specs.Types.{Scope, running_scope}
 use Rattle.syntax.specs.Typing as Typing
 use Rattle.syntax.specs.Typing.{IsTypedProgram, count, scope_of_start}
 use Rattle.syntax.specs.ScopeLaws.{IsSubscope}
-use Rattle.syntax.proofs.TypedParts.{TypedExprs, TypedExpr, TypedSimple, TypedStmt, TypedStmts}
+use Rattle.syntax.proofs.typing.TypedParts.{TypedExprs, TypedExpr, TypedSimple, TypedStmt, TypedStmts}
 use Rattle.bytecode.specs.declared.instr.Instr.{Instr}
 use Rattle.bytecode.specs.declared.instr.Instr.TheVariants as own
 use Rattle.bytecode.specs.Code.{Code, Instr as Plain}

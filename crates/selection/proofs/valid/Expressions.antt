@@ -12,7 +12,7 @@ use Rattle.syntax.specs.Names.{GlobalCells, cells, newest, global_of, globals, i
 use Rattle.syntax.specs.Types.{Known, Number, Callable, Scope, file_scope, running_scope}
 use Rattle.syntax.specs.Typing.{may_be_function, takes_so_many, count, IsTypedProgram}
 use Rattle.syntax.specs.ScopeLaws.{IsSubscope}
-use Rattle.syntax.proofs.TypedParts.{Knows, TypedExpr, TypedExprs}
+use Rattle.syntax.proofs.typing.TypedParts.{Knows, TypedExpr, TypedExprs}
 use Rattle.bytecode.specs.declared.instr.Instr.{Instr}
 use Rattle.bytecode.specs.declared.instr.Instr.TheVariants as own
 use Rattle.bytecode.specs.Code.{Code, FunctionCode}

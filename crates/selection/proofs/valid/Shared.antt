@@ -16,7 +16,7 @@ use Rattle.syntax.specs.Names.{GlobalCells, cells, globals, global_from, first_w
 use Rattle.syntax.specs.Types.{Number, Array, Scope, known_global, known_among, known_function, file_scope}
 use Rattle.syntax.specs.Typing.{is_unknown, demand, all_cells, IsTypedFunction, IsLength, HaveCells, AreTypedGlobals, AreTypedItems}
 use Rattle.bytecode.specs.Valid.{is_shaped}
-use Rattle.syntax.proofs.Demands.{AreMet, met_before, met_behind, is_met}
+use Rattle.syntax.proofs.typing.Demands.{AreMet, met_before, met_behind, is_met}
 
 -- a global has as many words as cells
 words_are : (g : Global) → length (first_words g) ≡ cells g

@@ -13,7 +13,7 @@ use Rattle.syntax.specs.Names.{GlobalCells, cells, newest, global_of, globals}
 use Rattle.syntax.specs.Types.{Scope, with_number, running_scope}
 use Rattle.syntax.specs.Typing.{IsTypedProgram, may_be_assigned}
 use Rattle.syntax.specs.ScopeLaws.{IsSubscope}
-use Rattle.syntax.proofs.TypedParts.{TypedExpr, TypedTarget, TypedSimple, TypedDeclarators, TypedStart}
+use Rattle.syntax.proofs.typing.TypedParts.{TypedExpr, TypedTarget, TypedSimple, TypedDeclarators, TypedStart}
 use Rattle.bytecode.specs.declared.instr.Instr.{Instr}
 use Rattle.bytecode.specs.declared.instr.Instr.TheVariants as own
 use Rattle.bytecode.specs.Code.{Code, FunctionCode}

@@ -12,7 +12,7 @@ use Rattle.syntax.specs.declared.tree.LogicalOp.{LogicalOp}
 use Rattle.syntax.specs.declared.tree.LogicalOp.TheVariants.{AndThen, OrElse}
 use Rattle.syntax.specs.Tree.{Parameter, Expr, Constant}
 use Rattle.syntax.specs.Numbers.{number, word_of}
-use Rattle.syntax.proofs.Words.{word_below}
+use Rattle.syntax.proofs.words.Words.{word_below}
 use Rattle.bytecode.specs.declared.instr.Instr.{Instr}
 use Rattle.bytecode.specs.declared.instr.Instr.TheVariants as own
 use Rattle.bytecode.specs.Code.{Code, FunctionCode, Instr as Plain}

@@ -12,7 +12,7 @@ use Rattle.syntax.specs.Threads.{thread}
 use Rattle.syntax.specs.Tree.{Program}
 use Rattle.syntax.specs.declared.thread_end.Status.{Status}
 use Rattle.syntax.specs.declared.thread_end.Status.TheVariants.{Running, Ended as HasEnded, Trapped as HasTrapped}
-use Rattle.syntax.proofs.Words.{begins_with_memory}
+use Rattle.syntax.proofs.words.Words.{begins_with_memory}
 use Rattle.bytecode.specs.Beginning.{beginning}
 use Rattle.bytecode.specs.Code.{Code, Configuration, effect}
 use Rattle.bytecode.specs.Effects.{FitsCells}

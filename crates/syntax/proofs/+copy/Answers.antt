@@ -4,7 +4,7 @@ use Rattle.syntax.specs.declared.tree.Expr.{the_lemmas}
 use Rattle.syntax.proofs.tree.Expr.TheLaws.{the_size}
 use Rattle.std.specs.Result.{IfOk}
 use Rattle.syntax.specs.declared.tree.Expr as E
-use Rattle.syntax.proofs.Pushes.{pushed, ap_2, ap_3, made, made_both, both_made}
+use Rattle.syntax.proofs.trees.Pushes.{pushed, ap_2, ap_3, made, made_both, both_made}
 use Rattle.syntax.proofs.+copy.Goals as goal
 
 pub copy::copy_exprs-each-preserved : goal.copy::copy_exprs-each-preserved

@@ -4,7 +4,7 @@ use denote.Param.Weighed.{most, at_most}
 use Rattle.syntax.specs.declared.tree.Stmt.{the_lemmas}
 use Rattle.syntax.specs.declared.tree.Stmt as S
 use Rattle.syntax.proofs.tree.Stmt.TheLaws.{the_size}
-use Rattle.syntax.proofs.Pushes.{pushed, ap_2, ap_3, made}
+use Rattle.syntax.proofs.trees.Pushes.{pushed, ap_2, ap_3, made}
 use Rattle.syntax.proofs.+copy_stmt.Goals as goal
 
 pub copy_stmt::copy_stmts-each-preserved : goal.copy_stmt::copy_stmts-each-preserved

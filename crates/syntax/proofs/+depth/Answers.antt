@@ -4,8 +4,8 @@ use Rattle.syntax.specs.declared.tree.Expr.{the_lemmas}
 use Rattle.syntax.proofs.tree.Expr.TheLaws.{the_size}
 use Rattle.syntax.specs.Depth.{deepest, expr_depth}
 use Rattle.syntax.specs.Views.{expr_of, exprs_of}
-use Rattle.syntax.proofs.Seen.{expr_of_element, expr_of_parenthesized, expr_of_cast, expr_of_unary, expr_of_binary, expr_of_logical, expr_of_conditional, expr_of_in_transaction}
-use Rattle.syntax.proofs.Depths.{cut_max, read_depth, ord_max_is, cut_more, cut_all, cut_one_more, deepest_more, deepest_all, depth_call}
+use Rattle.syntax.proofs.trees.Seen.{expr_of_element, expr_of_parenthesized, expr_of_cast, expr_of_unary, expr_of_binary, expr_of_logical, expr_of_conditional, expr_of_in_transaction}
+use Rattle.syntax.proofs.trees.Depths.{cut_max, read_depth, ord_max_is, cut_more, cut_all, cut_one_more, deepest_more, deepest_all, depth_call}
 use Rattle.syntax.proofs.+depth.Goals as goal
 
 pub depth::deepest_of-depth-requires : goal.depth::deepest_of-depth-requires

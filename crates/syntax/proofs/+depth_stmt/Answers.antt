@@ -4,8 +4,8 @@ use Rattle.syntax.specs.declared.tree.Stmt.{the_lemmas}
 use Rattle.syntax.specs.Depth.{deepest, stmt_depth, block_depth}
 use Rattle.syntax.specs.Views.{exprs_of, stmt_of, stmts_of}
 use Rattle.syntax.proofs.tree.Stmt.TheLaws.{the_size}
-use Rattle.syntax.proofs.Seen.{stmt_of_block, stmt_of_print, stmt_of_transaction}
-use Rattle.syntax.proofs.Depths.{ord_max_is, block_some, cut_none_one, cut_more, cut_all_one, cut_one_more, block_more, block_all}
+use Rattle.syntax.proofs.trees.Seen.{stmt_of_block, stmt_of_print, stmt_of_transaction}
+use Rattle.syntax.proofs.trees.Depths.{ord_max_is, block_some, cut_none_one, cut_more, cut_all_one, cut_one_more, block_more, block_all}
 use Rattle.syntax.proofs.+depth_stmt.Goals as goal
 
 pub depth_stmt::block_depth_of-each-init : goal.depth_stmt::block_depth_of-each-init

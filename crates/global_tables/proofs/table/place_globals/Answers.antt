@@ -5,7 +5,7 @@ use Rattle.syntax.specs.Names.{globals, global_from, shared_by}
 use Rattle.syntax.specs.Views.{item_of, global_of}
 use Rattle.global_tables.specs.Tables.{total_cells, shared_at}
 use Rattle.global_tables.proofs.Placing.{or_none}
-use Rattle.syntax.proofs.Items.{items_more}
+use Rattle.syntax.proofs.typing.Items.{items_more}
 use Rattle.global_tables.proofs.CellsFit.{total_append}
 use Rattle.global_tables.proofs.table.place_globals.Goals as goal
 use Rattle.global_tables.proofs.table.place_globals.Goals.{in-Function, in-Globals+in_ok-cell-in-Globals}

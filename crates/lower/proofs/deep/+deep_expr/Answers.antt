@@ -2,7 +2,7 @@ use Rattle.std.proofs.Common.{◌≡◌, ◌-◌, suc, ap, refl, sym, ◌∙◌,
 use denote.Param.Weighed.{most, at_most}
 use Rattle.syntax.specs.declared.tree.Expr.{the_lemmas}
 use Rattle.syntax.proofs.tree.Expr.TheLaws.{the_size}
-use Rattle.syntax.proofs.Seen.{expr_of_call, expr_of_in_transaction}
+use Rattle.syntax.proofs.trees.Seen.{expr_of_call, expr_of_in_transaction}
 use Rattle.syntax.specs.Views.{expr_of, exprs_of}
 use Rattle.lower.specs.Nested.{expr_too_deep, exprs_too_deep}
 use Rattle.lower.proofs.Deeper.{passed, found, none_found}

@@ -2,7 +2,7 @@ use Rattle.std.proofs.Common.{◌≡◌, ◌-◌, suc, map, ap, refl, sym, ◌�
 use denote.Param.Weighed.{most, at_most}
 use Rattle.syntax.specs.declared.tree.Stmt.{the_lemmas}
 use Rattle.syntax.proofs.tree.Stmt.TheLaws.{the_size}
-use Rattle.syntax.proofs.Seen.{stmt_of_declare, stmt_of_block, stmt_of_print, stmt_of_transaction}
+use Rattle.syntax.proofs.trees.Seen.{stmt_of_declare, stmt_of_block, stmt_of_print, stmt_of_transaction}
 use Rattle.syntax.specs.Views.{exprs_of, declarator_of, stmt_of, stmts_of}
 use Rattle.lower.specs.Nested.{exprs_too_deep, declarators_too_deep, too_deep, any_too_deep}
 use Rattle.lower.proofs.Deeper.{passed, found, none_found}

@@ -5,7 +5,7 @@ use Rattle.syntax.specs.Views.{item_of}
 use Rattle.selection.specs.Names.{callee_from}
 use Rattle.lower_exprs.specs.inner.Tables.{called_at}
 use Rattle.global_tables.proofs.Placing.{or_none}
-use Rattle.syntax.proofs.Items.{items_more}
+use Rattle.syntax.proofs.typing.Items.{items_more}
 use Rattle.lower_exprs.proofs.Files.{defined_here, not_defined_here}
 use Rattle.lower_exprs.proofs.tables.number_callees.Goals as goal
 use Rattle.lower_exprs.proofs.tables.number_callees.Goals.{in-Function+then-is_some+in_ok-add_callee-in-Function, in-Function+else-is_some, in-Globals}

@@ -5,7 +5,7 @@ use Rattle.syntax.specs.Views.{item_of}
 use Rattle.name_tables.specs.Known.{entries_in}
 use Rattle.name_tables.specs.Named.{first}
 use Rattle.meaning.specs.inner.Tables.{number_from}
-use Rattle.syntax.proofs.Items.{items_more}
+use Rattle.syntax.proofs.typing.Items.{items_more}
 use Rattle.global_tables.proofs.Placing.{or_none}
 use Rattle.meaning.proofs.tables.number_definitions.Goals as goal
 

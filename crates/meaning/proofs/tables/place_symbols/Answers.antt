@@ -5,7 +5,7 @@ use Rattle.syntax.specs.Views.{item_of}
 use Rattle.name_tables.specs.Known.{entries_in}
 use Rattle.name_tables.specs.Named.{first}
 use Rattle.meaning.specs.inner.File.{known_or}
-use Rattle.syntax.proofs.Items.{items_more}
+use Rattle.syntax.proofs.typing.Items.{items_more}
 use Rattle.meaning.proofs.tables.place_symbols.Goals as goal
 
 pub items-preserved : goal.items-preserved

@@ -2,7 +2,7 @@ use Rattle.std.proofs.Common.{◌≡◌, Ok, sym, ◌∙◌, ap, [], ◌∷◌, 
 use Rattle.std.proofs.lemmas.Result.{err_from_is_err_and}
 use Rattle.lex.specs.Tokens.{toks, tok}
 use Rattle.syntax.specs.Views.{expr_of, exprs_of, name_of, exprs_from}
-use Rattle.syntax.proofs.Seen.{expr_of_variable}
+use Rattle.syntax.proofs.trees.Seen.{expr_of_variable}
 use Rattle.parse.specs.inner.Expressions.{arguments, expr_at, whole_at, infix_node, operators}
 use Rattle.parse.proofs.code.Climbing.{fails_along, loop_none, loop_deep, loop_full, turn_fails, turn_goes}
 use Rattle.parse.proofs.code.ExprSteps.{opened_none, cast_none, cast_open, cast_fails, cast_is, group_none, group_open, named_none, variable_goes, element_goes, call_goes, unread, unclosed, listed_goes, behind_none, both_none, first_fails, second_fails, both_go, deepest_push, none_left, climb_start, infix_depth, conditional_alone, conditional_deep, conditional_fails, conditional_goes, whole_goes, whole_fails}

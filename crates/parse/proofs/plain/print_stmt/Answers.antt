@@ -1,7 +1,7 @@
 use Rattle.std.proofs.Common.{Ok, map, sym, ap, ◌∙◌}
 use Rattle.lex.specs.Tokens.{toks}
 use Rattle.syntax.specs.Views.{expr_of}
-use Rattle.syntax.proofs.Seen.{stmt_of_print}
+use Rattle.syntax.proofs.trees.Seen.{stmt_of_print}
 use Rattle.parse.proofs.code.Nodes.{print_stmt_is}
 use Rattle.parse.proofs.plain.print_stmt.Goals as goal
 

@@ -4,7 +4,7 @@ use Rattle.lex.specs.declared.token.Fixed.TheVariants.{Punctuator}
 use Rattle.lex.specs.declared.token.Punctuator.TheVariants as punct
 use Rattle.lex.specs.Tokens.{toks}
 use Rattle.syntax.specs.Views.{expr_of, declaration_of, stmt_of}
-use Rattle.syntax.proofs.Seen.{stmt_of_declare, stmt_of_block, stmt_of_transaction}
+use Rattle.syntax.proofs.trees.Seen.{stmt_of_declare, stmt_of_block, stmt_of_transaction}
 use Rattle.parse.specs.declared.lead.Lead.TheVariants as lead
 use Rattle.parse.specs.inner.Reading.{head, expect_span, is_next}
 use Rattle.parse.specs.inner.Statements.{entry, stmt_at}

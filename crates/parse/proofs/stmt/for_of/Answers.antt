@@ -1,4 +1,4 @@
-use Rattle.syntax.proofs.Seen.{stmt_of_for}
+use Rattle.syntax.proofs.trees.Seen.{stmt_of_for}
 use Rattle.parse.proofs.code.Made.{made_is, made_fails}
 use Rattle.parse.proofs.stmt.for_of.Goals as goal
 

@@ -1,4 +1,4 @@
-use Rattle.syntax.proofs.Seen.{stmt_of_while}
+use Rattle.syntax.proofs.trees.Seen.{stmt_of_while}
 use Rattle.parse.proofs.code.Made.{made_is, made_fails}
 use Rattle.parse.proofs.stmt.while_of.Goals as goal
 

@@ -1,7 +1,7 @@
 use Rattle.std.proofs.Common.{◌-◌, ◌^◌, min, max, map, option_map, ap, sym, ◌∙◌}
 use Rattle.syntax.specs.Depth.{deepest_value, optional_depth}
 use Rattle.syntax.specs.Views.{declarator_of, expr_of}
-use Rattle.syntax.proofs.Depths.{ord_max_is, cut_more, cut_all, first_more, first_all}
+use Rattle.syntax.proofs.trees.Depths.{ord_max_is, cut_more, cut_all, first_more, first_all}
 use Rattle.syntax.proofs.depth_stmt.deepest_first.Goals as goal
 
 pub each-preserved : goal.each-preserved

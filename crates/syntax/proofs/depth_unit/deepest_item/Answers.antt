@@ -1,7 +1,7 @@
 use Rattle.std.proofs.Common.{◌-◌, ◌^◌, min, max, map, ap, sym, ◌∙◌}
 use Rattle.syntax.specs.Depth.{program_depth, item_depth}
 use Rattle.syntax.specs.Views.{item_of, item_of}
-use Rattle.syntax.proofs.Depths.{ord_max_is, cut_more, cut_all, items_more, items_all}
+use Rattle.syntax.proofs.trees.Depths.{ord_max_is, cut_more, cut_all, items_more, items_all}
 use Rattle.syntax.proofs.depth_unit.deepest_item.Goals as goal
 
 pub each-preserved : goal.each-preserved

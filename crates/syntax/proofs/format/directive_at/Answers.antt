@@ -1,6 +1,6 @@
 use Rattle.std.proofs.Common.{◌≡◌, ◌==◌, ◌∙◌, true, sym, ap}
 use Rattle.std.specs.Prelude.{slice_index}
-use Rattle.syntax.proofs.FormatDirectives.{specifier_is}
+use Rattle.syntax.proofs.trees.FormatDirectives.{specifier_is}
 use Rattle.syntax.proofs.format.directive_at.Goals as goal
 
 pub returns-in-Some : goal.returns-in-Some

@@ -1,7 +1,7 @@
-use Rattle.syntax.proofs.Counted.{left_as_many_as_found, never_more_left}
-use Rattle.syntax.proofs.OrderRuns.{orders_are_runs}
-use Rattle.syntax.proofs.RunOrders.{runs_are_orders}
-use Rattle.syntax.proofs.ThreadLaws.{goes_on}
+use Rattle.syntax.proofs.running.Counted.{left_as_many_as_found, never_more_left}
+use Rattle.syntax.proofs.ordering.OrderRuns.{orders_are_runs}
+use Rattle.syntax.proofs.ordering.RunOrders.{runs_are_orders}
+use Rattle.syntax.proofs.running.ThreadLaws.{goes_on}
 use Rattle.syntax.proofs.laws.orders_show_runs.Goals as goal
 
 pub returns-clause-runs : goal.returns-clause-runs

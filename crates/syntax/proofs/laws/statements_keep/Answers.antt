@@ -1,8 +1,8 @@
-use Rattle.syntax.proofs.Ticks.{ticks_never_grow}
-use Rattle.syntax.proofs.Contexts.{stays_in_context}
-use Rattle.syntax.proofs.WordsStay.{words_stay}
-use Rattle.syntax.proofs.Expressions.{keeps_locals}
-use Rattle.syntax.proofs.OlderLocals.{keeps_older_locals}
+use Rattle.syntax.proofs.running.Ticks.{ticks_never_grow}
+use Rattle.syntax.proofs.running.Contexts.{stays_in_context}
+use Rattle.syntax.proofs.words.WordsStay.{words_stay}
+use Rattle.syntax.proofs.locals.Expressions.{keeps_locals}
+use Rattle.syntax.proofs.locals.OlderLocals.{keeps_older_locals}
 use Rattle.syntax.proofs.laws.statements_keep.Goals as goal
 
 pub returns-clause-ticks : goal.returns-clause-ticks

@@ -1,6 +1,6 @@
-use Rattle.syntax.proofs.ThreadLaws.{more_ticks, more_memories, goes_on}
-use Rattle.syntax.proofs.MoreFounds.{more_founds}
-use Rattle.syntax.proofs.OneTick.{one_tick_more}
+use Rattle.syntax.proofs.running.ThreadLaws.{more_ticks, more_memories, goes_on}
+use Rattle.syntax.proofs.running.MoreFounds.{more_founds}
+use Rattle.syntax.proofs.running.OneTick.{one_tick_more}
 use Rattle.syntax.proofs.laws.threads_go_on.Goals as goal
 
 pub returns-clause-ticks : goal.returns-clause-ticks

@@ -1,6 +1,6 @@
-use Rattle.syntax.proofs.Counted.{left_as_many_as_found, never_more_left}
-use Rattle.syntax.proofs.Words.{begins_with_memory}
-use Rattle.syntax.proofs.Memories.{leaves_memories}
+use Rattle.syntax.proofs.running.Counted.{left_as_many_as_found, never_more_left}
+use Rattle.syntax.proofs.words.Words.{begins_with_memory}
+use Rattle.syntax.proofs.words.Memories.{leaves_memories}
 use Rattle.syntax.proofs.laws.threads_leave_memories.Goals as goal
 
 pub returns-clause-wanting : goal.returns-clause-wanting

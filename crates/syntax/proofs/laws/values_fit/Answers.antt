@@ -1,5 +1,5 @@
-use Rattle.syntax.proofs.ValueTypes.{gives_its_type}
-use Rattle.syntax.proofs.Words.{gives_words}
+use Rattle.syntax.proofs.typing.ValueTypes.{gives_its_type}
+use Rattle.syntax.proofs.words.Words.{gives_words}
 use Rattle.syntax.proofs.laws.values_fit.Goals as goal
 
 pub returns-clause-types : goal.returns-clause-types

@@ -1,5 +1,5 @@
-use Rattle.syntax.proofs.Fits.{types_agree}
-use Rattle.syntax.proofs.ExactLocals.{scope_fits}
+use Rattle.syntax.proofs.typing.Fits.{types_agree}
+use Rattle.syntax.proofs.locals.ExactLocals.{scope_fits}
 use Rattle.syntax.proofs.scope_laws.scopes_agree.Goals as goal
 
 pub returns : goal.returns
