@@ -6,3 +6,5 @@ pub mod Layout
 pub mod Spelling
 -- what a code keeps
 pub mod Stored
+-- the plain code that a code's words hold
+pub mod Words

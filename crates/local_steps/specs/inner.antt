@@ -4,3 +4,5 @@ pub mod Paused
 pub mod Turns
 -- writes to cells of 32 bits
 pub mod Narrow
+-- what a flow says of an instruction, and which registers an instruction names
+pub mod Flows

@@ -4,7 +4,8 @@ use Rattle.std.proofs.Math.Seq.{take-append_seam}
 use Rattle.lex.specs.declared.token.Scalar.{Scalar}
 use Rattle.syntax.specs.Tree.{Declarator, Start, Nothing, Declares, Does, Stmt, Stmts, Empty, Declare, Do, Block, Print, If, IfElse, While, DoWhile, For, Break, Continue, Return, Transaction, Cancel, CancelOuter}
 use Rattle.lower_spec.specs.Expressions.{LocalScope}
-use Rattle.lower_spec.specs.Statements.{with_local, with_declared, locals_of_start, locals_after, locals_at_end}
+use Rattle.lower_spec.specs.Statements.{with_local, with_declared, locals_of_start, locals_after}
+use Rattle.lower_spec.specs.inner.Locals.{locals_at_end}
 
 Grows : LocalScope → LocalScope → Type 0
 Grows before after = (more : LocalScope) × (after ≡ before ++ more)

@@ -6,7 +6,8 @@ use Rattle.syntax.specs.Tree.{Program}
 use Rattle.syntax.specs.Views.{stmt_of, stmts_of}
 use Rattle.bytecode.specs.declared.instr.Instr.{Instr}
 use Rattle.lower_spec.specs.Expressions.{LocalScope}
-use Rattle.lower_spec.specs.Statements.{locals_after, locals_at_end}
+use Rattle.lower_spec.specs.Statements.{locals_after}
+use Rattle.lower_spec.specs.inner.Locals.{locals_at_end}
 use Rattle.selection.specs.declared.locations.Exits.{Exits}
 use Rattle.selection.specs.Lists.{Lists}
 use Rattle.selection.specs.Simples.{Written, and_then}

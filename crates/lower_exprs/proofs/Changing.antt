@@ -10,7 +10,8 @@ use Rattle.lower_spec.specs.Expressions.{LocalScope}
 use Rattle.selection.specs.declared.locations.ValueRegister.{ValueRegister}
 use Rattle.selection.specs.declared.locations.AssignmentTarget.{AssignmentTarget}
 use Rattle.selection.specs.Lists.{Lists}
-use Rattle.selection.specs.Expressions.{Emitted, above, converting, converted_by, constant_of, emitted_type, both, emit}
+use Rattle.selection.specs.Expressions.{Emitted, above, converting, converted_by, emitted_type, both, emit}
+use Rattle.selection.specs.inner.Parts.{constant_of}
 use Rattle.selection.specs.Simples.{target_value, home_or, type_at, taking, fitting, stored_value, value_or_one, type_or_int, compound_value}
 use Rattle.selection.proofs.Growing.{used_more, converted_more}
 use Rattle.selection.proofs.GrowingStmts.{one_more}

@@ -12,7 +12,8 @@ use Rattle.selection.specs.declared.locations.ValueRegister.{ValueRegister}
 use Rattle.selection.specs.declared.locations.ConditionRegister.{ConditionRegister}
 use Rattle.selection.specs.Lists.{Lists}
 use Rattle.selection.specs.Conditions.{Condition}
-use Rattle.selection.specs.Expressions.{Emitted, value_into, then_one, conditional_value, emitted_type, as_type, condition, conditional}
+use Rattle.selection.specs.Expressions.{Emitted, value_into, then_one, conditional_value, emitted_type, as_type, condition}
+use Rattle.selection.specs.inner.Parts.{conditional}
 use Rattle.selection.proofs.Growing.{due_more, into_more}
 use Rattle.lower_exprs.specs.Fragments.{Adds, of_value, of_test}
 use Rattle.lower_exprs.specs.inner.Stretches.{in_place, standing, test_in_place}

@@ -27,7 +27,8 @@ use Rattle.selection.specs.declared.locations.ValueRegister.{ValueRegister}
 use Rattle.selection.specs.declared.locations.ConditionRegister.{ConditionRegister}
 use Rattle.selection.specs.Lists.{Lists}
 use Rattle.selection.specs.Conditions.{Condition}
-use Rattle.selection.specs.Expressions.{Emitted, constant, converting, converted_by, constant_of, where_same, emitted_type, emit, as_type, own_condition, condition, condition_of}
+use Rattle.selection.specs.Expressions.{Emitted, constant, converting, converted_by, where_same, emitted_type, emit, as_type, own_condition, condition, condition_of}
+use Rattle.selection.specs.inner.Parts.{constant_of}
 use Rattle.selection.proofs.Growing.{converted_more}
 use Rattle.selection.proofs.stands.Kinds.{emitted_is}
 use Rattle.lower_exprs.specs.declared.fault.LowerFailure.{LowerFailure}

@@ -13,7 +13,8 @@ use Rattle.bytecode.specs.declared.instr.Instr.{Instr}
 use Rattle.lower_spec.specs.Expressions.{LocalScope, constant_in}
 use Rattle.selection.specs.declared.locations.ValueRegister.{ValueRegister}
 use Rattle.selection.specs.Lists.{Lists}
-use Rattle.selection.specs.Expressions.{Emitted, above, constant, constant_of, converting, converted_by, both, emitted_type, emit, as_type, operand}
+use Rattle.selection.specs.Expressions.{Emitted, above, constant, converting, converted_by, both, emitted_type, emit, as_type, operand}
+use Rattle.selection.specs.inner.Parts.{constant_of}
 use Rattle.selection.proofs.Growing.{used_more, operand_more}
 use Rattle.selection.proofs.stands.Kinds.{in_type_of, emitted_is}
 use Rattle.lower_exprs.specs.declared.fault.LowerFailure.{LowerFailure}

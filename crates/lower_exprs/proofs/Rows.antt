@@ -10,7 +10,8 @@ use Rattle.bytecode.specs.declared.instr.Instr.{Instr}
 use Rattle.lower_spec.specs.Expressions.{LocalScope, types_left}
 use Rattle.selection.specs.declared.locations.ValueRegister.{ValueRegister}
 use Rattle.selection.specs.Lists.{Lists}
-use Rattle.selection.specs.Expressions.{Emitted, AllEmitted, above, with_argument, argument_value, types_of, emit_all}
+use Rattle.selection.specs.Expressions.{Emitted, AllEmitted, above, with_argument, types_of, emit_all}
+use Rattle.selection.specs.inner.Parts.{argument_value}
 use Rattle.selection.proofs.Growing.{all_more}
 use Rattle.lower_exprs.specs.Fragments.{Adds, of_value}
 

@@ -4,6 +4,7 @@ ghost use Rattle.std.specs.Prelude.{◌≡◌, ◌++◌, ◌+◌, ◌≤◌, len
 ghost use Rattle.syntax.specs.Numbers.{word_of};
 ghost use Rattle.syntax.specs.Views.{expr_of};
 ghost use Rattle.selection.specs.Expressions as expressions;
+ghost use Rattle.selection.specs.inner.Parts as parts;
 ghost use Rattle.selection.specs.Programs as programs;
 ghost use Rattle.lower_exprs.specs.Lists.{lists_of};
 
@@ -52,7 +53,7 @@ pub(crate) fn constant_word(ty: Scalar, value: u64) -> u64
 
 /// The value and the type of a constant.
 pub(crate) fn constant_of<A: Allocator>(e: &Expr<A>) -> Option<(u64, Scalar)>
-    ensures { result ≡ expressions.constant_of (expr_of e.now) }
+    ensures { result ≡ parts.constant_of (expr_of e.now) }
 {
     match e {
         Expr::Constant(value, own, _) => Some((*value, *own)),

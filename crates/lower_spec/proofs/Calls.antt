@@ -26,7 +26,7 @@ use Rattle.bytecode.specs.Sequential.{start, meaning, sequential_step, outside}
 use Rattle.bytecode.specs.Code.{Code, FunctionCode, Configuration, Frame, Instr, bounds_of, effect, effect_of, call_effect}
 use Rattle.bytecode.specs.Beginning.{worker_among, beginning_in, beginning}
 use Rattle.lower_spec.specs.Expressions.{LocalScope, InstructionAt, Layout, named_ones, nameless_ones, argument_order}
-use Rattle.lower_spec.specs.Statements.{locals_at_end}
+use Rattle.lower_spec.specs.inner.Locals.{locals_at_end}
 use Rattle.lower_spec.specs.Programs.{parameter_locals, no_exits, ConstantsCode, FunctionIsLowered, IsLowered}
 use Rattle.lower_spec.specs.Means.{MeansItsProgram}
 use Rattle.lower_spec.proofs.Agreement.{Agrees, NeverAstray, astray, same, fewer, shown, over}

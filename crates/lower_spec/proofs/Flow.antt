@@ -23,7 +23,8 @@ use Rattle.syntax.specs.Actions.{Outside, Inside, Answer, Gives, Stops, Action, 
 use Rattle.syntax.specs.Meaning.{InLocal, Completion, Next, Breaks, Continues, Returns, Cancels, CancelsOuter, mode_of, on_next, in_scope, after_turn, loop, after_body, close_inner, close, leave, transaction, Caller, expr, simple, first_value, declare, for_condition, optional_step, start_with, stmt, stmts}
 use Rattle.bytecode.specs.Code.{Code, Configuration, Frame, Instr, effect}
 use Rattle.lower_spec.specs.Expressions.{LocalScope, IsLike, InstructionAt, LeadsTo, Layout}
-use Rattle.lower_spec.specs.Statements.{LocalAt, Exits, with_level, in_transaction, looping, with_local, with_declared, locals_of_start, locals_after, locals_at_end, Testing, Leaves, FirstValueCode, DeclareCode, IfCode, IfElseCode, WhileCode, DoWhileCode, HoldsCode, SteppedCode, StartCode, ForCode, TransactionCode, StmtCode, StmtsCode}
+use Rattle.lower_spec.specs.Statements.{LocalAt, Exits, with_level, in_transaction, looping, with_local, with_declared, locals_of_start, locals_after, Testing, Leaves, FirstValueCode, DeclareCode, IfCode, IfElseCode, WhileCode, DoWhileCode, HoldsCode, SteppedCode, StartCode, ForCode, TransactionCode, StmtCode, StmtsCode}
+use Rattle.lower_spec.specs.inner.Locals.{locals_at_end}
 use Rattle.lower_spec.proofs.Runs.{Enters, enters, Transactions, Around, Bare, Within, Shared, context_of, sequential_state, state, IsSeen, on_seen, HasCellsOf, AreMemories, IsGood, HasLocals, configuration, effect_at, goes, goes_by, seen_spent, tick_goes, tick_counts, with_inner, outermost_alone, begins_inner, begins_outermost, wants_one, commits_inner, cancels_inner, leaves_outermost, next_commit, next_cancel}
 use Rattle.lower_spec.proofs.Conversions.{truth_converted}
 use Rattle.lower_spec.proofs.Locals.{TypeIs, type_last, length_like, word_taken, words_taken, shape_taken, word_new, word_last, words_new, shape_new}

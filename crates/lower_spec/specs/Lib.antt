@@ -8,3 +8,5 @@ pub mod Programs
 pub mod Means
 -- what is proved of code that stands for a program
 pub mod Laws
+-- what only private functions and proofs speak of
+pub mod inner

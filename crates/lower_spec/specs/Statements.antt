@@ -100,10 +100,6 @@ abbrev pub locals_after : Stmt → LocalScope → LocalScope
 locals_after (Declare d) scope = with_declared d.ty d.declarators scope
 locals_after s scope = scope
 
-abbrev pub locals_at_end : Stmts → LocalScope → LocalScope
-locals_at_end Stmts.[] scope = scope
-locals_at_end (Stmts.◌∷◌ s ss) scope = locals_at_end ss (locals_after s scope)
-
 module _ (code : Code) (layout : Layout) (p : Program) where
   abbrev pub Coding : Option ℕ → LocalScope → Expr → Coded
   Coding home scope e = ExprCode code layout p home scope e

@@ -65,15 +65,6 @@ pub data StepsHearing {C : Type 0} (code : C → Effect C) (th : Thread C) : ℕ
       → StepsHearing code th (suc n) (hs ++ record { access = access code u; answer = a } ∷ [])
       (step_with code u a).thread
 
--- in some world that steps which do not stop lead to, the thread with this number has this part and was answered this
-pub record IsPartOf {C : Type 0} (code : C → Effect C) (init : ℕ → C) (m0 : List ℕ) (threads number : ℕ) (p : Part C)
-    (hs : List Heard) : Type 0 where
-  pub world : World C
-  pub heard : List (List Heard)
-  pub answered : Answered code init m0 threads world heard
-  pub part : slice_get world.parts number ≡ Some p
-  pub answers : slice_get heard number ≡ Some hs
-
 -- the lock value that an answer gives
 abbrev pub lock_value : Access → Answer → Option ℕ
 lock_value LoadLock (Value n) = Some n
@@ -142,8 +133,3 @@ pub record AnswersOk {C : Type 0} (m0 : Memory) (w : World C) (hs : List Heard) 
   pub bounded : LocksTo w.lock hs
   pub fit : AreAnswers hs
   pub words : (es : List Entry) → IsMerge w.parts es → AreVisibleWords m0 w es 0 hs
-
--- one of these answers is this lock value, to a load
-abbrev pub HasLoad : ℕ → List Heard → Type 0
-HasLoad n [] = ⊥
-HasLoad n (h ∷ hs) = ((h.access ≡ LoadLock) × (h.answer ≡ Value n)) ⊎ HasLoad n hs

@@ -4,8 +4,6 @@ use Rattle.syntax.specs.declared.thread_end.Status.{Status}
 use Rattle.syntax.specs.declared.thread_end.Status.TheVariants.{Running}
 use Rattle.bytecode.specs.Effects.{Effect}
 use Rattle.bytecode.specs.Effects.Effect.{Begin}
-use Rattle.frames.specs.declared.doing.Doing.{Doing}
-use Rattle.frames.specs.declared.doing.Doing.TheVariants as doing
 use Rattle.machine.specs.Threads.{Thread}
 
 module _ {C : Type 0} (code : C → Effect C) where
@@ -20,8 +18,3 @@ module _ {C : Type 0} (code : C → Effect C) where
   pub record IsThreadAtRest (th : Thread C) : Type 0 where
     pub attempt : th.attempt ≡ None
     pub begins : th.status ≡ Running → IsAtBegin th.configuration th.status
-
--- what is to be done is a begin
-abbrev pub IsBegin : Doing → Type 0
-IsBegin (doing.Begin to) = Unit {0}
-IsBegin _ = ⊥

@@ -146,13 +146,6 @@ IsValidated op.Commit = Unit {0}
 IsValidated op.Irrevocable = Unit {0}
 IsValidated _ = ⊥
 
--- what is to be done is an operation under which an attempt is validated
-abbrev pub MayValidate : Doing → Type 0
-MayValidate (doing.Read d cell) = Unit {0}
-MayValidate doing.Commit = Unit {0}
-MayValidate doing.Irrevocable = Unit {0}
-MayValidate _ = ⊥
-
 -- the thread runs, stands at an operation under which its attempt is validated, and validation loads the lock next,
 -- until it is even
 pub record WaitsNext (code : Code) (s : ThreadState) : Type 0 where

@@ -7,7 +7,8 @@ ghost use Rattle.bytecode.specs.Valid.{IsValid};
 ghost use Rattle.norec_core.specs.declared.step.Answer.TheVariants.{Value};
 ghost use Rattle.norec_core.specs.Cores.{ComparesWith, IsComparing, IsWaiting};
 ghost use Rattle.machine.specs.Threads.{step_with as told_spec};
-ghost use Rattle.machine.specs.States.{IsValidated, MayValidate, asks};
+ghost use Rattle.machine.specs.States.{IsValidated, asks};
+ghost use Rattle.machine.specs.inner.Doings.{MayValidate};
 ghost use Rattle.machine.specs.inner.Contexts.{context_of, machine_thread, RunsInContext, Makes};
 
 use crate::context::{ThreadContext, go_back};

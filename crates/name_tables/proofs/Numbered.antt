@@ -7,7 +7,7 @@ use Rattle.std.proofs.lemmas.Slice.Eq.{bytes_eq-Decides}
 use Rattle.std.proofs.lemmas.Map.Text.{hash_map_updates_str}
 use Rattle.std.specs.HashMap.{Updates}
 use Rattle.name_tables.specs.Named.{newest}
-use Rattle.name_tables.specs.Maps.{NameMap, value_at}
+use Rattle.name_tables.specs.inner.Maps.{NameMap, value_at}
 use Rattle.name_tables.proofs.Newest.{newest_last}
 use Rattle.name_tables.specs.declared.entries.LocalEntry.{LocalEntry}
 use Rattle.name_tables.specs.Known.{local_of}

@@ -9,7 +9,8 @@ use Rattle.machine.specs.Worlds.{World, run, step}
 use Rattle.world.specs.declared.report.Report.{Report}
 use Rattle.world.specs.declared.stop.StopReason.{StopReason}
 use Rattle.world.specs.Reports.{stop_with, threads_of, threads_shown}
-use Rattle.world.specs.Simulations.{IsExplained, IsHolder, Simulation, accesses_in, accesses_of, cost_at, cost_next, event_at, event_next, further, part_of, world_of}
+use Rattle.world.specs.Simulations.{IsExplained, IsHolder, Simulation, accesses_in, accesses_of, cost_next, event_at, event_next, further, part_of, world_of}
+use Rattle.world.specs.inner.Costs.{cost_at}
 use Rattle.world.specs.Stops.{StopsFor}
 use Rattle.world.proofs.Stepping.{further_more, further_none, next_accesses, next_world, parts_count}
 use Rattle.replay.specs.declared.line.Line.{Line}

@@ -4,7 +4,8 @@ use Rattle.std.proofs.lemmas.List.{take_more}
 use Rattle.bytecode.specs.Code.{Code, Configuration, effect}
 use Rattle.machine.specs.declared.event.StepShown.{StepShown}
 use Rattle.machine.specs.Worlds.{World, run, step}
-use Rattle.world.specs.Simulations.{Simulation, accesses_in, accesses_of, cost_at, cost_next, further, shown_at, shown_next}
+use Rattle.world.specs.Simulations.{Simulation, accesses_in, accesses_of, cost_next, further, shown_at, shown_next}
+use Rattle.world.specs.inner.Costs.{cost_at}
 use Rattle.world.proofs.Stepping.{next_accesses}
 use Rattle.replay.specs.Replays.{first_world, simulation_after, shown_in, step_shown, timeline_of}
 

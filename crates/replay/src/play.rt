@@ -2,7 +2,8 @@
 
 ghost use Rattle.std.specs.Prelude.{◌≡◌, ◌+◌, ◌<◌, ◌≤◌, ◌⊎◌, ◌↔◌, ◌∷◌, ◌++◌, [], true, IfOk, IfErr, OnOk, Some};
 ghost use Rattle.std.specs.Prelude.{if◌then◌else◌, length, slice_get};
-ghost use Rattle.world.specs.Simulations.{IsExplained, cost_at, further, world_of};
+ghost use Rattle.world.specs.Simulations.{IsExplained, further, world_of};
+ghost use Rattle.world.specs.inner.Costs.{cost_at};
 ghost use Rattle.replay.specs.Replays.{IsReplay, events_of, is_cut_off as is_cut_off_spec, is_quiet as is_quiet_spec};
 ghost use Rattle.replay.specs.Replays.{simulation_after};
 ghost use Rattle.replay.specs.inner.Playing.{ComesTo, HaltsAt, HaltsIn, Plays};

@@ -7,7 +7,7 @@ use Rattle.syntax.specs.Tree.{Item, Defines, Shares, Program}
 use Rattle.safety.specs.Sites.{Site, body_sites, sites_of}
 use Rattle.safety.specs.Safe.{FunctionSet}
 use Rattle.safety.specs.Links.{Link, KeepsTo, IsLeast}
-use Rattle.safety.specs.SiteLinks.{site_links}
+use Rattle.safety.specs.inner.SiteLinks.{site_links}
 use Rattle.safety.proofs.Linked.{only, keeps_none, keeps_both, keeps_left, keeps_right}
 use Rattle.safety.proofs.Unsafe.{by_name, own_name}
 

@@ -1,5 +1,5 @@
 -- The links that functions give by what their declarations and the sites of their bodies say.
-use Rattle.std.specs.Prelude.{ℕ, List, [], ◌∷◌, ◌++◌, None, Bool, false, if◌then◌else◌}
+use Rattle.std.specs.Prelude.{ℕ, List, [], ◌∷◌, ◌++◌, None, Bool, if◌then◌else◌}
 use Rattle.std.specs.List.{flat_map}
 use Rattle.syntax.specs.declared.tree.Attribute.{Attribute}
 use Rattle.syntax.specs.Tree.{Item, Defines, Shares}
@@ -10,10 +10,6 @@ use Rattle.safety.specs.Links.{Link}
 abbrev pub link_if : Bool → List ℕ → List Link
 link_if b f = if b then record { caller = f; callee = None } ∷ [] else []
 
--- attributes say nothing
-abbrev pub no_attribute : List Attribute → Bool
-no_attribute attributes = false
-
 -- the links of an item, by which attributes put the function of a declaration into the set, and by what its sites give
 abbrev pub item_links : (List Attribute → Bool) → (List ℕ → Site → List Link) → Item → List Link
 item_links declares own (Defines f) =
@@ -22,7 +18,3 @@ item_links declares own (Shares gs) = []
 
 abbrev pub links_by : (List Attribute → Bool) → (List ℕ → Site → List Link) → List Item → List Link
 links_by declares own items = flat_map (item_links declares own) items
-
--- the links of items, where the sites alone give links
-abbrev pub site_links : (List ℕ → Site → List Link) → List Item → List Link
-site_links = links_by no_attribute

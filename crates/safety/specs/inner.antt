@@ -15,3 +15,5 @@ pub mod Graphs
 pub mod Closing
 -- sets of functions as the demands read them
 pub mod Rest
+-- the links of items, where the sites alone give links
+pub mod SiteLinks

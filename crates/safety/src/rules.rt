@@ -6,7 +6,7 @@ ghost use Rattle.safety.specs.Faults.{says_safe};
 ghost use Rattle.safety.specs.Sets.{links_of};
 ghost use Rattle.safety.specs.inner.UnsafeLinks.{says_unsafe, unsafe_at, safe_links_of, safe_links};
 ghost use Rattle.safety.specs.inner.OuterLinks.{opening_at};
-ghost use Rattle.safety.specs.SiteLinks.{no_attribute};
+ghost use Rattle.safety.specs.inner.SiteLinks.{no_attribute};
 
 use crate::links::{LinkRule, add_if};
 use crate::set::Link;

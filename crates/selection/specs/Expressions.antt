@@ -162,11 +162,6 @@ converted_by None u e into =
     record e { location = record { register = e.location.register; ty = u; to = e.location.to } }
 converted_by (Some i) u e into = then_one e (i into e.location.register) into u
 
--- the value and the type of a constant
-abbrev pub constant_of : Expr → Option (ℕ × Scalar)
-constant_of (Constant n t at) = Some (n, t)
-constant_of e = None
-
 -- a value of type s in type u: of an expression that is a constant, that is set as what it is converted to
 abbrev pub in_type : (s u : Scalar) → Expr → Emitted → (from into : ℕ) → Lists → Emitted
 in_type s u (Constant n t at) e from into l = constant (constant_in u t n) u from into l
@@ -375,26 +370,9 @@ module _ (p : Program) (scope : LocalScope) where
   abbrev pub as_type : Scalar → Expr → (from into free : ℕ) → Lists → Emitted
   as_type u e from into free l = in_type (emitted_type e) u e (emit e from into free l) from into l
 
-  -- one of several values, which are due in these types from it on
-  abbrev pub argument_value : List Scalar → Expr → (from free : ℕ) → Lists → Emitted
-  argument_value ts e from free l = in_first_type (emitted_type e) ts e (emit e from free free l) from free l
-
   -- the right side of an operator
   abbrev pub operand : Scalar → Expr → (from free : ℕ) → Lists → Emitted
   operand u e from free l = preloaded_or (preloaded_constant l.layout u e from) l (as_type u e from free free l)
 
   abbrev pub condition : Expr → (from free : ℕ) → Lists → Condition
   condition e from free l = condition_of (own_condition e from free l) (emit e from free free l)
-
-  -- both conditions of `&&` and `||`
-  abbrev pub both_conditions : LogicalOp → (a b : Expr) → (from free : ℕ) → Lists → Condition
-  both_conditions op a b from free l =
-      joining op (λ to m. condition a to free m) (λ to m. condition b to free m) from l
-
-  -- `c ? a : b`
-  abbrev pub conditional : (c a b : Expr) → (from into free : ℕ) → Lists → Emitted
-  conditional c a b from into free l =
-      let test = condition c from free l in
-      let t = common (emitted_type a) (emitted_type b) in
-      let first = value_into into (as_type t a (test.to + 1) into free test.lists) in
-      conditional_value t test first (value_into into (as_type t b (first.location.to + 1) into free first.lists)) into

@@ -12,3 +12,5 @@ pub mod Loops
 pub mod Programs
 -- what is proved of the code that is picked
 pub mod Laws
+-- what only private functions and proofs speak of
+pub mod inner

@@ -1,6 +1,6 @@
 //! The rule by which functions touch.
 
-ghost use Rattle.safety.specs.SiteLinks.{no_attribute};
+ghost use Rattle.safety.specs.inner.SiteLinks.{no_attribute};
 ghost use Rattle.separation.specs.inner.TouchingLinks.{links_at};
 
 use safety::{Construct, Link, LinkRule, Site};

@@ -1,8 +1,10 @@
 -- Two seats meet: one speaks for both threads while the lock is loaded, once for each.
 use Rattle.std.proofs.Common.{◌≡◌, inl, inr, ℕ, List, [], ◌∷◌, ◌++◌, refl, sym, ap, ◌∙◌, subst, arith}
-use Rattle.shared_words.specs.Views.{Among, ViewPart, all_floored, first_of, with_floor, without_first}
+use Rattle.shared_words.specs.Views.{Among, ViewPart, first_of, with_floor, without_first}
+use Rattle.shared_words.specs.inner.Floors.{all_floored}
 use Rattle.shared_words.proofs.Traces.{begins_on}
-use Rattle.shared_words.specs.Rule.{Floored, SeatView, MayBeFloor}
+use Rattle.shared_words.specs.Rule.{SeatView, MayBeFloor}
+use Rattle.shared_words.specs.inner.Floors.{Floored}
 
 module _ (m o m1 m2 m3 m4 o1 o2 w t : SeatView) (k n : ℕ) (e1 : o1 ≡ ([], o.1)) (e2 : w ≡ (o.0, [])) (e3 : m1 ≡ (m.0 ++ w.0, m.1)) (e4 : Floored m1 k m2) (e5 : Floored m2 n m3) (e6 : m4 ≡ (first_of m3.0, m3.1)) (e7 : t ≡ (without_first m3.0, [])) (e8 : o2 ≡ (o1.0 ++ t.0, o1.1))
     (p q : ViewPart) (mine : m ≡ (p ∷ [], [])) (theirs : o ≡ (q ∷ [], [])) where

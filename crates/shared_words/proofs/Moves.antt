@@ -13,8 +13,10 @@ use Rattle.shared_words.specs.Setup.{Setup, IsPartAfter, world_of}
 use Rattle.shared_words.proofs.Traces.{begins_self, ruled_world, stands_here}
 use Rattle.machine.specs.Worlds.{World}
 use Rattle.bytecode.specs.Code.{Configuration}
-use Rattle.shared_words.specs.Views.{Among, ViewPart, all_floored, first_of, with_floor, parts_of, without_first}
-use Rattle.shared_words.specs.Rule.{Fits, Floored, IsRuled, MayBeFloor}
+use Rattle.shared_words.specs.Views.{Among, ViewPart, first_of, with_floor, parts_of, without_first}
+use Rattle.shared_words.specs.inner.Floors.{all_floored}
+use Rattle.shared_words.specs.Rule.{Fits, IsRuled, MayBeFloor}
+use Rattle.shared_words.specs.inner.Floors.{Floored}
 use Rattle.shared_words.proofs.Parts.{parts_in-set, parts_in-append, parts_of-append, among_append, none_since}
 use Rattle.machine.proofs.answers.Reached.{answers_ok, numbers_below}
 use Rattle.bytecode.specs.Code.{effect}

@@ -18,7 +18,8 @@ use Rattle.machine.proofs.answers.Traces.{answered, heard-append, run-append, ru
 use Rattle.machine.proofs.steps.Worlds.{get-set_same}
 use Rattle.shared_words.specs.Rule.{IsRuled}
 use Rattle.shared_words.specs.Views.{Views}
-use Rattle.shared_words.specs.Setup.{AreMade, IsPrefix, IsPart, IsTraceOf, IsWorldOf, Setup, IsPartAfter, heard_by, world_of}
+use Rattle.shared_words.specs.Setup.{AreMade, IsPrefix, IsTraceOf, IsWorldOf, Setup, IsPartAfter, heard_by, world_of}
+use Rattle.shared_words.specs.inner.Parts.{IsPart}
 
 pub begins_self : (ts : List ℕ) → IsPrefix ts ts
 begins_self ts = ([], sym (append-nil ts))

@@ -6,3 +6,5 @@ pub mod Views
 pub mod Rule
 -- what the rule says, in terms of runs
 pub mod Saying
+-- what only private functions and proofs speak of
+pub mod inner

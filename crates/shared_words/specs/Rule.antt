@@ -17,7 +17,7 @@ use Rattle.machine.specs.Worlds.{Part, World, part_after}
 use Rattle.norec_core.specs.Accesses.{IsAnswerTo}
 use Rattle.machine.specs.States.{IsWordOf}
 use Rattle.shared_words.specs.Setup.{IsPartAfter, IsPrefix, IsTraceOf, Setup, world_of}
-use Rattle.shared_words.specs.Views.{ViewPart, Views, parts_in, Among, all_floored, with_floor}
+use Rattle.shared_words.specs.Views.{ViewPart, Views, parts_in, Among, with_floor}
 
 -- what the rule says of one part
 pub record Fits (key : Setup) (ts : List ℕ) (w : World Configuration) (heard : List (List Heard)) (p : ViewPart)
@@ -146,12 +146,6 @@ pub record MayBeFloor (n : ℕ) (ts : List ℕ) (p : ViewPart) : Type 0 where
   pub lock : (world_of p.setup ts).lock ≡ n
   pub seen : IsPrefix p.seen ts
   pub stands : IsPartAfter p.setup ts p.number p.part p.heard
-
--- a load of the lock, which found n after these steps, is the floor of all threads that the seat speaks for
-abbrev pub Floored : SeatView → ℕ → SeatView → Type 0
-Floored m n w =
-    (ts : List ℕ) × (w.1 ≡ m.1) × (w.0 ≡ all_floored n ts m.0)
-    × ((p : ViewPart) → Among p m.0 → MayBeFloor n ts p)
 
 -- Two seats that speak for one thread each, before and after they met at the lock value n. Both have seen the same
 -- steps then, and so all that each of them had seen.

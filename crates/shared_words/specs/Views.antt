@@ -69,7 +69,3 @@ first_view key = first_parts key 0 key.threads
 -- from now on no lock value below n is answered, and these steps were made
 abbrev pub with_floor : ℕ → List ℕ → ViewPart → ViewPart
 with_floor n ts p = record p { floor = n; floor_at = length p.heard; seen = ts }
-
-abbrev pub all_floored : ℕ → List ℕ → List ViewPart → List ViewPart
-all_floored n ts [] = []
-all_floored n ts (p ∷ ps) = with_floor n ts p ∷ all_floored n ts ps

@@ -130,7 +130,7 @@ impl Join<View> for Joined {
 pub(crate) struct Met;
 
 impl Play<(), View> for Met {
-    ghost use Rattle.shared_words.specs.Rule.{Floored};
+    ghost use Rattle.shared_words.specs.inner.Floors.{Floored};
 
     ghost then = { λ st m n w. Floored m n w };
 }

@@ -2,7 +2,8 @@
 
 ghost use Rattle.std.specs.Prelude.{◌≡◌, ◌++◌, ◌<◌, []};
 ghost use Rattle.shared_words.specs.Views.{first_of, without_first};
-ghost use Rattle.shared_words.specs.Rule.{Floored, MeetsBoth, Settled, SitsAfter};
+ghost use Rattle.shared_words.specs.Rule.{MeetsBoth, Settled, SitsAfter};
+ghost use Rattle.shared_words.specs.inner.Floors.{Floored};
 
 use crate::access::Words;
 use crate::rule::{FirstRule, Joined, Met, Rest, Settling, View, Whole};

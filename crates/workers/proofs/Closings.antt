@@ -32,7 +32,8 @@ use Rattle.workers.specs.declared.close.Finished.{Finished}
 use Rattle.shared_words.specs.Views.{Among, ViewPart, parts_in, parts_of}
 use Rattle.shared_words.specs.Rule.{Fits, LeavesCells, SeatView}
 use Rattle.workers.specs.Workers.{AreWorkersOf, IsWorkerOf}
-use Rattle.workers.specs.Closing.{AreThere, Closes, finished_back, parts_back}
+use Rattle.workers.specs.Closing.{AreThere, Closes, finished_back}
+use Rattle.workers.specs.inner.Closing.{parts_back}
 use Rattle.shared_words.proofs.Keeps.{at_most_one}
 use Rattle.shared_words.proofs.Parts.{one_if, parts_in-at, parts_of-append}
 use Rattle.shared_words.proofs.Saying.{drops_say, runs_say}

@@ -21,7 +21,8 @@ use Rattle.bytecode.specs.Initial.{initial_of}
 use Rattle.bytecode.specs.Valid.{bounds_of, cells_of}
 use Rattle.bytecode.proofs.Fits.{fits_cells}
 use Rattle.shared_words.proofs.Codes.{count_bounds, initial_fits}
-use Rattle.shared_words.specs.Setup.{Setup, IsPart, IsPartAfter}
+use Rattle.shared_words.specs.Setup.{Setup, IsPartAfter}
+use Rattle.shared_words.specs.inner.Parts.{IsPart}
 use Rattle.shared_words.proofs.Traces.{is_part}
 use Rattle.shared_words.specs.Rule.{IsMakeable, IsNext, IsSeatStep, SeatView, Sits, Took, TookAs, more_heard, reply}
 use Rattle.machine.specs.States.{IsWordOf}

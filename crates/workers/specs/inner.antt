@@ -4,3 +4,5 @@ pub mod Seated
 pub mod Stepping
 -- loops of workers on the way
 pub mod Driving
+-- the parts of workers
+pub mod Closing

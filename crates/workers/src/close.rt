@@ -7,7 +7,8 @@ ghost use Rattle.workers.specs.Seen.{finished_accesses, finished_number, finishe
 ghost use Rattle.workers.specs.Seen.{finished_thread, setup_of, table_of};
 ghost use Rattle.workers.specs.Workers.{AreWorkersOf};
 ghost use Rattle.workers.specs.Closing.{reason_number, HasWorkerFor, NoWorker, AllHere, NoneHolds, Holds, Closes};
-ghost use Rattle.workers.specs.Closing.{parts_back, finished_back};
+ghost use Rattle.workers.specs.Closing.{finished_back};
+ghost use Rattle.workers.specs.inner.Closing.{parts_back};
 
 use crate::hall::Hall;
 use crate::tally::Tally;

@@ -40,7 +40,8 @@ use Rattle.machine.proofs.single.Aborts.{abort_reason}
 use Rattle.machine.proofs.single.Locked.{never_aborts}
 use Rattle.machine.proofs.tallies.Spans.{counts_by_meaning}
 use Rattle.world.proofs.Cells.{answer_fits, initial_fits, memory_length, word_fits}
-use Rattle.world.specs.Simulations.{CountsAccesses, IsExplained, IsHolder, Simulation, accesses_in, accesses_of, cost_at, cost_next, earlier, event_at, event_next, further, output_at, shown_at, shown_by, shown_next, part_of, status_at, stops_at, stops_next, world_of}
+use Rattle.world.specs.Simulations.{CountsAccesses, IsExplained, IsHolder, Simulation, accesses_in, accesses_of, cost_next, earlier, event_at, event_next, further, output_at, shown_at, shown_by, shown_next, part_of, status_at, stops_at, stops_next, world_of}
+use Rattle.world.specs.inner.Costs.{cost_at}
 use Rattle.world.specs.inner.Following.{AreOfParts, IsMakeable, IsOfPart, IsWorldOf}
 
 module _ (code : Code) where

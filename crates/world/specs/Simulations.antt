@@ -107,9 +107,6 @@ IsHolder w (Some t) =
 abbrev pub cost_next : Code → Option (Part Configuration) → ℕ
 cost_next code o = tallies.cost_next (effect code) o
 
-abbrev pub cost_at : Simulation → ℕ → ℕ
-cost_at s t = cost_next s.code (part_of s t)
-
 -- how many accesses these steps of all threads make from a world on
 abbrev pub accesses_in : Code → List ℕ → World Configuration → ℕ
 accesses_in code ts w = tallies.accesses_in (effect code) ts w

@@ -17,7 +17,8 @@ use Rattle.norec_core.specs.declared.step.OpOutcome.{OpOutcome}
 use Rattle.norec_core.specs.declared.step.OpOutcome.TheVariants as outcome
 use Rattle.norec_core.specs.declared.step.Phase.{Phase}
 use Rattle.norec_core.specs.declared.step.Phase.TheVariants.{AtOperation, ReadsLock, Stores, ValidatesEntry, ValidatesTime}
-use Rattle.machine.specs.Answered.{HasLoad, Heard, LocksFrom, StepsHearing}
+use Rattle.machine.specs.Answered.{Heard, LocksFrom, StepsHearing}
+use Rattle.machine.specs.inner.Answered.{HasLoad}
 use Rattle.machine.specs.Threads.{Thread, access, access_of, op_of, outside_access, own_step, print_inside, step_with, told_inside, told_of, told_outside, told_running}
 
 abbrev FirstIf : {C : Type 0} → ℕ → Option (Attempt C) → Type 0

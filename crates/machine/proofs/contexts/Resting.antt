@@ -11,7 +11,8 @@ use Rattle.norec_core.specs.Attempts.{Attempt}
 use Rattle.frames.specs.Doings.{IsDoingAt}
 use Rattle.frames.specs.declared.doing.Doing.{Doing}
 use Rattle.frames.specs.declared.doing.Doing.TheVariants as doing
-use Rattle.machine.specs.Resting.{IsBegin, IsThreadAtRest}
+use Rattle.machine.specs.Resting.{IsThreadAtRest}
+use Rattle.machine.specs.inner.Doings.{IsBegin}
 use Rattle.machine.specs.Standing.{IsStanding, IsThreadOf}
 use Rattle.machine.specs.States.{StandsAt, ThreadState}
 use Rattle.machine.specs.Threads.{Thread}

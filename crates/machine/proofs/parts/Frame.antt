@@ -1,7 +1,8 @@
 -- A step of one thread keeps what holds of the part of another.
 use Rattle.std.proofs.Common.{◌≡◌, ◌≢◌, ◌<◌, ◌≤◌, ◌+◌, ◌%◌, ◌⊎◌, inl, inr, ℕ, Bool, true, false, List, [], ◌∷◌, Option, None, Some, sym, ◌∙◌, ap, subst, get_or, arith}
 use Rattle.std.specs.List.{AllByRecursion}
-use Rattle.read_log.specs.Agreement.{Agrees, AgreesBelow}
+use Rattle.read_log.specs.Agreement.{Agrees}
+use Rattle.read_log.specs.inner.Agreement.{AgreesBelow}
 use Rattle.bytecode.specs.Effects.{Effect}
 use Rattle.norec_core.specs.Attempts.{Attempt}
 use Rattle.norec_core.specs.declared.step.Phase.{Phase}

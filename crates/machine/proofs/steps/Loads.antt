@@ -3,7 +3,7 @@ use Rattle.std.proofs.Common.{◌≡◌, ◌≢◌, ◌<◌, ◌≤◌, ◌%◌,
 use Rattle.std.specs.List.{AllByRecursion}
 use Rattle.std.proofs.lemmas.Bool.Decides.{eqb_tells}
 use Rattle.write_log.specs.Overlay.{Lacks, overlay}
-use Rattle.read_log.specs.Agreement.{AgreesBelow}
+use Rattle.read_log.specs.inner.Agreement.{AgreesBelow}
 use Rattle.bytecode.specs.Effects.{Effect}
 use Rattle.bytecode.specs.Effects.Effect.{Read}
 use Rattle.norec_core.specs.Attempts.{Attempt}

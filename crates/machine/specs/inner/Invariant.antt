@@ -3,7 +3,8 @@ use Rattle.std.specs.Prelude.{◌≡◌, ◌≢◌, ◌<◌, ◌≤◌, ◌+◌,
 use Rattle.std.specs.Prelude.{None, Some, length, map, slice_index}
 use Rattle.std.specs.List.{slice_get, AllByRecursion}
 use Rattle.write_log.specs.Overlay.{overlay, Lacks, IsDistinct}
-use Rattle.read_log.specs.Agreement.{Agrees, AgreesBelow}
+use Rattle.read_log.specs.Agreement.{Agrees}
+use Rattle.read_log.specs.inner.Agreement.{AgreesBelow}
 use Rattle.syntax.specs.declared.thread_end.Status.{Status}
 use Rattle.syntax.specs.declared.thread_end.Status.TheVariants.{Running}
 use Rattle.syntax.specs.Behaviours.{Memory, IsMemory}

@@ -3,7 +3,8 @@ use Rattle.std.specs.Prelude.{ℕ, List, [], ◌∷◌, Some, true}
 use Rattle.syntax.specs.Tree.{Item}
 use Rattle.safety.specs.Sites.{Construct, OpensOuter, Calls, Site}
 use Rattle.safety.specs.Links.{Link}
-use Rattle.safety.specs.SiteLinks.{link_if, site_links}
+use Rattle.safety.specs.SiteLinks.{link_if}
+use Rattle.safety.specs.inner.SiteLinks.{site_links}
 
 -- a function with an outer transaction is in the set, and so is one that calls one of the set
 abbrev pub opening_links : List ℕ → Construct → List Link

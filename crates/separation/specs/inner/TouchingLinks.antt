@@ -3,7 +3,8 @@ use Rattle.std.specs.Prelude.{ℕ, List, [], ◌∷◌, Some, Bool, true, false}
 use Rattle.syntax.specs.Tree.{Item}
 use Rattle.safety.specs.Sites.{Construct, Calls, Uses, Site}
 use Rattle.safety.specs.Links.{Link}
-use Rattle.safety.specs.SiteLinks.{link_if, site_links}
+use Rattle.safety.specs.SiteLinks.{link_if}
+use Rattle.safety.specs.inner.SiteLinks.{site_links}
 
 -- a function with a bare access touches, and so does one with a bare call of a touching one
 abbrev pub bare_links : List ℕ → Bool → Construct → List Link

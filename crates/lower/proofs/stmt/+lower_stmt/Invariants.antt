@@ -1,6 +1,6 @@
 use Rattle.std.proofs.Common.{◌≡◌, drop}
 use Rattle.syntax.specs.Views.{stmts_of}
-use Rattle.lower_spec.specs.Statements.{locals_at_end}
+use Rattle.lower_spec.specs.inner.Locals.{locals_at_end}
 use Rattle.selection.specs.Statements.{stmts_code}
 use Rattle.lower_exprs.specs.Lists.{lists_of}
 use Rattle.lower_exprs.specs.Views.{program_in, scope_in}

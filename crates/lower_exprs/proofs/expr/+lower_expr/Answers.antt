@@ -8,7 +8,8 @@ use Rattle.syntax.specs.Numbers.{common, operand_type as due_type}
 use Rattle.syntax.specs.Views.{name_of, parameter_of, expr_of, exprs_of}
 use Rattle.selection.specs.Names.{callee_of}
 use Rattle.selection.specs.Conditions.{zero_tested}
-use Rattle.selection.specs.Expressions.{AllEmitted, in_own_transaction, negation, complement, logical_negation, constant, converting, variable, element, condition_value, call_code, value_into, types_of, taken_types, emitted_type, emit, as_type, argument_value, condition, emit_all}
+use Rattle.selection.specs.Expressions.{AllEmitted, in_own_transaction, negation, complement, logical_negation, constant, converting, variable, element, condition_value, call_code, value_into, types_of, taken_types, emitted_type, emit, as_type, condition, emit_all}
+use Rattle.selection.specs.inner.Parts.{argument_value}
 use Rattle.selection.proofs.Growing.{used_more, compared_more, condition_more}
 use Rattle.lower_exprs.specs.Lists.{lists_of}
 use Rattle.lower_exprs.specs.Views.{program_in, scope_in}

@@ -1,7 +1,8 @@
 use Rattle.std.proofs.Common.{◌≡◌, ◌≤◌, ◌+◌, List, [], ◌++◌, length, vec_len}
 use Rattle.std.specs.Vec.{vec_capacity}
 use Rattle.workers.specs.declared.worker.Worker.{Worker}
-use Rattle.workers.specs.Closing.{finished_back, parts_back}
+use Rattle.workers.specs.Closing.{finished_back}
+use Rattle.workers.specs.inner.Closing.{parts_back}
 use Rattle.workers.proofs.close.join_all.Given as goal
 
 abbrev pub invariant-loop-worker : goal.invariant-loop-worker

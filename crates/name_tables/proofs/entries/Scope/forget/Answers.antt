@@ -1,6 +1,6 @@
 use Rattle.std.proofs.Common.{refl, Some, None, ◌≡◌, bytes_eq}
 use Rattle.std.specs.HashMap.{Updates}
-use Rattle.name_tables.specs.Maps.{value_at}
+use Rattle.name_tables.specs.inner.Maps.{value_at}
 use Rattle.name_tables.specs.inner.Numbers.{AreNumbered}
 use Rattle.name_tables.proofs.Numbered.{numbered_less, hidden_less, hidden_own, not_absent, by_either}
 use Rattle.name_tables.proofs.entries.Scope.forget.Goals as goal
