@@ -10,7 +10,7 @@ type Example = (&'static str, &'static [u8], &'static [u8]);
 
 /// The rows stand in a function, so that no proof but its own looks at them.
 fn examples() -> &'static [Example] {
-    static ROWS: [Example; 34] = [
+    static ROWS: [Example; 36] = [
         (
             "examples/audit.c",
             b"// Thread 0 moves 50 in two transactions. Thread 1 counts the money, and can find that 50 are missing.\nint checking = 120, savings = 40;\n\nvoid worker(int self) {\n    int total;\n    if (self == 0) {\n        __transaction_atomic { checking = checking - 50; }\n        __transaction_atomic { savings = savings + 50; }\n    } else {\n        __transaction_atomic { total = checking + savings; }\n        printf(\"%d\\n\", total);\n    }\n}\n",
@@ -57,6 +57,11 @@ fn examples() -> &'static [Example] {
             b"== thread 0: ended\n4 added\n== memory\nplace = 0 0 0 0 0 3 0 1 0 0 0 0 4 0 2 0\ncount = 4\n",
         ),
         (
+            "examples/locks.c",
+            b"// Two locks, which thread 0 takes in one order and thread 1 in the other: each can have one and wait for the other's.\nint locked[2], done;\n\nvoid take(int which) {\n    int mine = 0;\n    while (!mine) {\n        __transaction_atomic { mine = !locked[which]; if (mine) locked[which] = 1; }\n    }\n}\n\nvoid worker(int self) {\n    take(self);\n    take(1 - self);\n    __transaction_atomic { done = done + 1; locked[0] = 0; locked[1] = 0; }\n}\n",
+            b"== thread 0: ended\n== memory\nlocked = 0 0\ndone = 1\n",
+        ),
+        (
             "examples/overflow.c",
             b"// A sum that leaves the range of `int` is trap 1: the thread ends, and nothing of the transaction is left.\nint total = 2147483647, entries = 5;\n\nvoid worker(int self) {\n    __transaction_atomic {\n        entries = entries + 1;\n        total = total + 1;\n    }\n}\n",
             b"== thread 0: trap 1\n== memory\ntotal = 2147483647\nentries = 5\n",
@@ -95,6 +100,11 @@ fn examples() -> &'static [Example] {
             "examples/sum.c",
             b"int x = 5; void worker(int self) { int v = __transaction_atomic (x + 1) * 2; printf(\"%d\\n\", v); }\n",
             b"== thread 0: ended\n12\n== memory\nx = 5\n",
+        ),
+        (
+            "examples/ticket.c",
+            b"// A ticket lock made of transactions: each thread takes a number, waits in a loop until it is served, and enters twice. What is\n// counted inside is the most threads that were there at one time.\nint next, serving, inside, most, entered;\n\nvoid worker(int self) {\n    int i, mine, mine_now;\n    for (i = 0; i < 2; i++) {\n        __transaction_atomic { mine = next; next = next + 1; }\n        do {\n            __transaction_atomic { mine_now = serving == mine; }\n        } while (!mine_now);\n        __transaction_atomic { inside = inside + 1; if (inside > most) most = inside; }\n        __transaction_atomic { inside = inside - 1; entered = entered + 1; serving = serving + 1; }\n    }\n}\n",
+            b"== thread 0: ended\n== memory\nnext = 2\nserving = 2\ninside = 0\nmost = 1\nentered = 2\n",
         ),
         (
             "examples/transfer.c",
@@ -358,6 +368,20 @@ fn first_transcripts() -> &'static [Transcript] {
             b"fault 20: unknown name\nWhen: a name that is not known where it stands\nPlace: the name\nExample: void worker(int self) { __transaction_atomic { z = 1; } }\nIt is told at: 1:48\n",
         ),
         (
+            "txc explain budget",
+            b"",
+            b"",
+            b"",
+            b"budget: the steps are used up\nWhen: `txc run` was told `--budget B`, and the thread wants more than B steps: it waits in a loop for what no other thread does, or B is too small\nExample: `txc run FILE --budget 50` of `while (1) ;`\n",
+        ),
+        (
+            "txc explain trap 3",
+            b"",
+            b"",
+            b"",
+            b"trap 3: an index outside its array\nWhen: an index is negative, or not below the array's length, in a read or a write\nExample: `int a[5];` and `a[5] = 1;` in a transaction\n",
+        ),
+        (
             "txc listing examples/first.c",
             b"int x = 40, y; void worker(int self) { __transaction_atomic { x = x + 2; y = x - 1; } }\n",
             b"",
@@ -371,20 +395,6 @@ fn first_transcripts() -> &'static [Transcript] {
             b"",
             b"function worker registers 4\n0 const r1 #0\n1 begin >6\n2 rd r2 @0\n3 const r3 #1\n4 add.s r2 r2 r3\n5 commit\n6 const r3 #2\n7 mul.s r1 r2 r3\n8 irrevocable\n9 print.s r1\n10 print.t #0\n11 ret\ntext 0 \"\\n\"\n",
         ),
-        (
-            "txc outcomes examples/audit.c --threads 2",
-            b"// Thread 0 moves 50 in two transactions. Thread 1 counts the money, and can find that 50 are missing.\nint checking = 120, savings = 40;\n\nvoid worker(int self) {\n    int total;\n    if (self == 0) {\n        __transaction_atomic { checking = checking - 50; }\n        __transaction_atomic { savings = savings + 50; }\n    } else {\n        __transaction_atomic { total = checking + savings; }\n        printf(\"%d\\n\", total);\n    }\n}\n",
-            b"",
-            b"",
-            b"== outcome --order 0,0,1\n== thread 0: ended\n== thread 1: ended\n160\n== memory\nchecking = 70\nsavings = 90\n== outcome --order 0,1,0\n== thread 0: ended\n== thread 1: ended\n110\n== memory\nchecking = 70\nsavings = 90\n== outcomes: 2, orders: 3\n",
-        ),
-        (
-            "txc outcomes examples/audit_mended.c --threads 2",
-            b"// Thread 0 moves 50 in one transaction. Thread 1 counts the money, and finds all of it.\nint checking = 120, savings = 40;\n\nvoid worker(int self) {\n    int total;\n    if (self == 0) {\n        __transaction_atomic {\n            checking = checking - 50;\n            savings = savings + 50;\n        }\n    } else {\n        __transaction_atomic { total = checking + savings; }\n        printf(\"%d\\n\", total);\n    }\n}\n",
-            b"",
-            b"",
-            b"== outcome --order 0,1\n== thread 0: ended\n== thread 1: ended\n160\n== memory\nchecking = 70\nsavings = 90\n== outcomes: 1, orders: 2\n",
-        ),
     ];
     &ROWS
 }
@@ -392,39 +402,67 @@ fn first_transcripts() -> &'static [Transcript] {
 fn second_transcripts() -> &'static [Transcript] {
     static ROWS: [Transcript; 18] = [
         (
+            "txc outcomes examples/audit.c --threads 2",
+            b"// Thread 0 moves 50 in two transactions. Thread 1 counts the money, and can find that 50 are missing.\nint checking = 120, savings = 40;\n\nvoid worker(int self) {\n    int total;\n    if (self == 0) {\n        __transaction_atomic { checking = checking - 50; }\n        __transaction_atomic { savings = savings + 50; }\n    } else {\n        __transaction_atomic { total = checking + savings; }\n        printf(\"%d\\n\", total);\n    }\n}\n",
+            b"",
+            b"",
+            b"== outcome --order 0,0,1\n== thread 0: ended\n== thread 1: ended\n160\n== memory\nchecking = 70\nsavings = 90\n== outcome --order 0,1,0\n== thread 0: ended\n== thread 1: ended\n110\n== memory\nchecking = 70\nsavings = 90\n== outcomes: 2, stuck: 0, states: 8\n",
+        ),
+        (
+            "txc outcomes examples/audit_mended.c --threads 2",
+            b"// Thread 0 moves 50 in one transaction. Thread 1 counts the money, and finds all of it.\nint checking = 120, savings = 40;\n\nvoid worker(int self) {\n    int total;\n    if (self == 0) {\n        __transaction_atomic {\n            checking = checking - 50;\n            savings = savings + 50;\n        }\n    } else {\n        __transaction_atomic { total = checking + savings; }\n        printf(\"%d\\n\", total);\n    }\n}\n",
+            b"",
+            b"",
+            b"== outcome --order 0,1\n== thread 0: ended\n== thread 1: ended\n160\n== memory\nchecking = 70\nsavings = 90\n== outcomes: 1, stuck: 0, states: 4\n",
+        ),
+        (
             "txc outcomes examples/counter.c --threads 2",
             b"// Each thread adds one, three times. No addition is lost, whatever the threads do.\nint x;\n\nvoid worker(int self) {\n    int i;\n    for (i = 0; i < 3; i++) {\n        __transaction_atomic { x = x + 1; }\n    }\n}\n",
             b"",
             b"",
-            b"== outcome --order 0,0,0,1,1,1\n== thread 0: ended\n== thread 1: ended\n== memory\nx = 6\n== outcomes: 1, orders: 20\n",
+            b"== outcome --order 0,0,0,1,1,1\n== thread 0: ended\n== thread 1: ended\n== memory\nx = 6\n== outcomes: 1, stuck: 0, states: 16\n",
+        ),
+        (
+            "txc outcomes examples/locks.c --threads 2",
+            b"// Two locks, which thread 0 takes in one order and thread 1 in the other: each can have one and wait for the other's.\nint locked[2], done;\n\nvoid take(int which) {\n    int mine = 0;\n    while (!mine) {\n        __transaction_atomic { mine = !locked[which]; if (mine) locked[which] = 1; }\n    }\n}\n\nvoid worker(int self) {\n    take(self);\n    take(1 - self);\n    __transaction_atomic { done = done + 1; locked[0] = 0; locked[1] = 0; }\n}\n",
+            b"",
+            b"",
+            b"== outcome --order 0,0,0,1,1,1\n== thread 0: ended\n== thread 1: ended\n== memory\nlocked = 0 0\ndone = 2\n== stuck --order 0,1\n== thread 0: waits\n== thread 1: waits\n== memory\nlocked = 1 1\ndone = 0\n== outcomes: 1, stuck: 1, states: 20\n",
         ),
         (
             "txc outcomes examples/receipt.c --threads 2",
             b"// Printing can't be undone, so it stands in a relaxed transaction: from its first piece on no other thread can change what is\n// shared, and the numbers on the receipt are those of one moment.\nint sold, left = 10;\n\nvoid worker(int self) {\n    __transaction_relaxed {\n        sold = sold + 1;\n        left = left - 1;\n        printf(\"ticket %d, %d left\\n\", sold, left);\n    }\n}\n",
             b"",
             b"",
-            b"== outcome --order 0,1\n== thread 0: ended\nticket 1, 9 left\n== thread 1: ended\nticket 2, 8 left\n== memory\nsold = 2\nleft = 8\n== outcome --order 1,0\n== thread 0: ended\nticket 2, 8 left\n== thread 1: ended\nticket 1, 9 left\n== memory\nsold = 2\nleft = 8\n== outcomes: 2, orders: 2\n",
+            b"== outcome --order 0,1\n== thread 0: ended\nticket 1, 9 left\n== thread 1: ended\nticket 2, 8 left\n== memory\nsold = 2\nleft = 8\n== outcome --order 1,0\n== thread 0: ended\nticket 2, 8 left\n== thread 1: ended\nticket 1, 9 left\n== memory\nsold = 2\nleft = 8\n== outcomes: 2, stuck: 0, states: 5\n",
         ),
         (
             "txc outcomes examples/seats.c --threads 2",
             b"// One seat and two buyers. Each looks first and buys then, in two transactions: the seat can be sold twice.\nint seats = 1, sold;\n\nvoid worker(int self) {\n    int free;\n    __transaction_atomic { free = seats > 0; }\n    if (free) {\n        __transaction_atomic {\n            seats = seats - 1;\n            sold = sold + 1;\n        }\n    }\n}\n",
             b"",
             b"",
-            b"== outcome --order 0,0,1\n== thread 0: ended\n== thread 1: ended\n== memory\nseats = 0\nsold = 1\n== outcome --order 0,1,0,1\n== thread 0: ended\n== thread 1: ended\n== memory\nseats = -1\nsold = 2\n== outcomes: 2, orders: 4\n",
+            b"== outcome --order 0,0,1\n== thread 0: ended\n== thread 1: ended\n== memory\nseats = 0\nsold = 1\n== outcome --order 0,1,0,1\n== thread 0: ended\n== thread 1: ended\n== memory\nseats = -1\nsold = 2\n== outcomes: 2, stuck: 0, states: 10\n",
         ),
         (
             "txc outcomes examples/seats_checked.c --threads 2",
             b"// As seats.c, with what has to hold: where the seat is sold twice, a division by 0 ends the thread.\nint seats = 1, sold;\n\nvoid worker(int self) {\n    int free;\n    __transaction_atomic { free = seats > 0; }\n    if (free) {\n        __transaction_atomic {\n            seats = seats - 1;\n            sold = sold + 1;\n            free = 1 / (sold <= 1);\n        }\n    }\n}\n",
             b"",
             b"",
-            b"== outcome --order 0,0,1\n== thread 0: ended\n== thread 1: ended\n== memory\nseats = 0\nsold = 1\n== outcome --order 0,1,0,1\n== thread 0: ended\n== thread 1: trap 2\n== memory\nseats = 0\nsold = 1\n== outcome --order 0,1,1,0\n== thread 0: trap 2\n== thread 1: ended\n== memory\nseats = 0\nsold = 1\n== outcomes: 3, orders: 4\n",
+            b"== outcome --order 0,0,1\n== thread 0: ended\n== thread 1: ended\n== memory\nseats = 0\nsold = 1\n== outcome --order 0,1,0,1\n== thread 0: ended\n== thread 1: trap 2\n== memory\nseats = 0\nsold = 1\n== outcome --order 0,1,1,0\n== thread 0: trap 2\n== thread 1: ended\n== memory\nseats = 0\nsold = 1\n== outcomes: 3, stuck: 0, states: 11\n",
         ),
         (
             "txc outcomes examples/seats_mended.c --threads 2",
             b"// One seat and two buyers, each of whom looks and buys in one transaction: the seat is sold once.\nint seats = 1, sold;\n\nvoid worker(int self) {\n    __transaction_atomic {\n        if (seats > 0) {\n            seats = seats - 1;\n            sold = sold + 1;\n        }\n    }\n}\n",
             b"",
             b"",
-            b"== outcome --order 0,1\n== thread 0: ended\n== thread 1: ended\n== memory\nseats = 0\nsold = 1\n== outcomes: 1, orders: 2\n",
+            b"== outcome --order 0,1\n== thread 0: ended\n== thread 1: ended\n== memory\nseats = 0\nsold = 1\n== outcomes: 1, stuck: 0, states: 4\n",
+        ),
+        (
+            "txc outcomes examples/ticket.c --threads 3",
+            b"// A ticket lock made of transactions: each thread takes a number, waits in a loop until it is served, and enters twice. What is\n// counted inside is the most threads that were there at one time.\nint next, serving, inside, most, entered;\n\nvoid worker(int self) {\n    int i, mine, mine_now;\n    for (i = 0; i < 2; i++) {\n        __transaction_atomic { mine = next; next = next + 1; }\n        do {\n            __transaction_atomic { mine_now = serving == mine; }\n        } while (!mine_now);\n        __transaction_atomic { inside = inside + 1; if (inside > most) most = inside; }\n        __transaction_atomic { inside = inside - 1; entered = entered + 1; serving = serving + 1; }\n    }\n}\n",
+            b"",
+            b"",
+            b"== outcome --order 0,0,0,0,0,0,0,0,1,1,1,1,1,1,1,1,2,2,2,2,2,2,2,2\n== thread 0: ended\n== thread 1: ended\n== thread 2: ended\n== memory\nnext = 6\nserving = 6\ninside = 0\nmost = 1\nentered = 6\n== outcomes: 1, stuck: 0, states: 3566\n",
         ),
         (
             "txc replay examples/booking.c --schedule examples/schedules/booking.txt",
@@ -452,14 +490,14 @@ fn second_transcripts() -> &'static [Transcript] {
             b"// Each thread adds one, three times. No addition is lost, whatever the threads do.\nint x;\n\nvoid worker(int self) {\n    int i;\n    for (i = 0; i < 3; i++) {\n        __transaction_atomic { x = x + 1; }\n    }\n}\n",
             b"1 a3\n0 a6\n1 a3\n",
             b"",
-            b"== timeline\n0 1 0 const r4 #3\n0 1 1 const r5 #1\n0 1 2 const r1 #0\n0 1 3 const r1 #0\n0 1 4 jump >13\n0 1 13 lt.s r2 r1 r4\n0 1 14 jnz r2 >7\n1 1 7 begin >12; load lock = 0\n2 1 8 rd r2 @0; load @0 = 0\n3 1 8 rd r2 @0; load lock = 0\n3 0 0 const r4 #3\n3 0 1 const r5 #1\n3 0 2 const r1 #0\n3 0 3 const r1 #0\n3 0 4 jump >13\n3 0 13 lt.s r2 r1 r4\n3 0 14 jnz r2 >7\n4 0 7 begin >12; load lock = 0\n5 0 8 rd r2 @0; load @0 = 0\n6 0 8 rd r2 @0; load lock = 0\n6 0 9 add.s r2 r2 r5\n6 0 10 wr @0 r2\n7 0 11 commit; swap lock 0: won\n8 0 11 commit; store @0 = 1\n9 0 11 commit; store lock = 2; commit\n9 1 9 add.s r2 r2 r5\n9 1 10 wr @0 r2\n10 1 11 commit; swap lock 0: lost, 2\n11 1 11 commit; load lock = 2\n12 1 11 commit; load @0 = 1; abort\n== events\n9 0 commit\n12 1 abort\n== thread 0: running\n== thread 1: running\n== memory\nx = 1\n",
+            b"== timeline\n0 1 0 const r4 #3\n0 1 1 const r5 #1\n0 1 2 const r1 #0\n0 1 3 const r1 #0\n0 1 4 jump >13\n0 1 13 lt.s r2 r1 r4\n0 1 14 jnz r2 >7\n1 1 7 begin >12; load lock = 0\n2 1 8 rd r2 @0; load @0 = 0\n3 1 8 rd r2 @0; load lock = 0\n3 0 0 const r4 #3\n3 0 1 const r5 #1\n3 0 2 const r1 #0\n3 0 3 const r1 #0\n3 0 4 jump >13\n3 0 13 lt.s r2 r1 r4\n3 0 14 jnz r2 >7\n4 0 7 begin >12; load lock = 0\n5 0 8 rd r2 @0; load @0 = 0\n6 0 8 rd r2 @0; load lock = 0\n6 0 9 add.s r2 r2 r5\n6 0 10 wr @0 r2\n7 0 11 commit; swap lock 0: won\n8 0 11 commit; store @0 = 1\n9 0 11 commit; store lock = 2; commit\n9 1 9 add.s r2 r2 r5\n9 1 10 wr @0 r2\n10 1 11 commit; swap lock 0: lost, 2\n11 1 11 commit; load lock = 2\n12 1 11 commit; load @0 = 1; abort\n== events\n9 0 commit\n12 1 abort\n== thread 0: running\n== thread 1: running\n== memory\nx = 1\ntxc: thread 0: running at 6:24\n    for (i = 0; i < 3; i++) {\n                       ^\ntxc: thread 1: running at 7:9\n        __transaction_atomic { x = x + 1; }\n        ^^^^^^^^^^^^^^^^^^^^\n",
         ),
         (
             "txc replay examples/counter.c --threads 2 --seed 10 --steps 30",
             b"// Each thread adds one, three times. No addition is lost, whatever the threads do.\nint x;\n\nvoid worker(int self) {\n    int i;\n    for (i = 0; i < 3; i++) {\n        __transaction_atomic { x = x + 1; }\n    }\n}\n",
             b"",
             b"",
-            b"== events\n9 1 commit\n12 0 abort\n== thread 0: running\n== thread 1: running\n== memory\nx = 1\n",
+            b"== events\n9 1 commit\n12 0 abort\n== thread 0: running\n== thread 1: running\n== memory\nx = 1\ntxc: thread 0: running at 7:9\n        __transaction_atomic { x = x + 1; }\n        ^^^^^^^^^^^^^^^^^^^^\ntxc: thread 1: running at 6:24\n    for (i = 0; i < 3; i++) {\n                       ^\n",
         ),
         (
             "txc replay examples/counter.c --threads 2 --seed 10 --steps 6 --print-schedule",
@@ -487,8 +525,14 @@ fn second_transcripts() -> &'static [Transcript] {
             b"// A sum that leaves the range of `int` is trap 1: the thread ends, and nothing of the transaction is left.\nint total = 2147483647, entries = 5;\n\nvoid worker(int self) {\n    __transaction_atomic {\n        entries = entries + 1;\n        total = total + 1;\n    }\n}\n",
             b"",
             b"",
-            b"== timeline\n1 0 0 begin >10; load lock = 0\n2 0 1 rd r1 @1; load @1 = 5\n3 0 1 rd r1 @1; load lock = 0\n3 0 2 const r2 #1\n3 0 3 add.s r1 r1 r2\n3 0 4 wr @1 r1\n4 0 5 rd r1 @0; load @0 = 2147483647\n5 0 5 rd r1 @0; load lock = 0\n5 0 6 const r2 #1\n5 0 7 add.s r1 r1 r2; trap 1\n5 0 trap 1\n5 0 trap 1\n== events\n5 0 trap 1\n== thread 0: trap 1\n== memory\ntotal = 2147483647\nentries = 5\n",
+            b"== timeline\n1 0 0 begin >10; load lock = 0\n2 0 1 rd r1 @1; load @1 = 5\n3 0 1 rd r1 @1; load lock = 0\n3 0 2 const r2 #1\n3 0 3 add.s r1 r1 r2\n3 0 4 wr @1 r1\n4 0 5 rd r1 @0; load @0 = 2147483647\n5 0 5 rd r1 @0; load lock = 0\n5 0 6 const r2 #1\n5 0 7 add.s r1 r1 r2; trap 1\n5 0 trap 1\n5 0 trap 1\n== events\n5 0 trap 1\n== thread 0: trap 1\n== memory\ntotal = 2147483647\nentries = 5\ntxc: thread 0: trap 1 at 7:17: 2147483647 + 1 is out of the range of int\n        total = total + 1;\n                ^^^^^^^^^\n",
         ),
+    ];
+    &ROWS
+}
+
+fn third_transcripts() -> &'static [Transcript] {
+    static ROWS: [Transcript; 18] = [
         (
             "txc replay examples/receipt.c --threads 2 --schedule examples/schedules/receipt.txt",
             b"// Printing can't be undone, so it stands in a relaxed transaction: from its first piece on no other thread can change what is\n// shared, and the numbers on the receipt are those of one moment.\nint sold, left = 10;\n\nvoid worker(int self) {\n    __transaction_relaxed {\n        sold = sold + 1;\n        left = left - 1;\n        printf(\"ticket %d, %d left\\n\", sold, left);\n    }\n}\n",
@@ -517,18 +561,12 @@ fn second_transcripts() -> &'static [Transcript] {
             b"",
             b"0 1\n1 1\n0 7\n1 7\n0 16\n1 16\n",
         ),
-    ];
-    &ROWS
-}
-
-fn third_transcripts() -> &'static [Transcript] {
-    static ROWS: [Transcript; 18] = [
         (
             "txc replay examples/transfer.c --threads 2 --schedule examples/schedules/transfer.txt",
             b"// Both accounts change in one step, or neither does.\nint checking = 120, savings = 40;\n\nvoid worker(int self) {\n    __transaction_atomic {\n        checking = checking - 50;\n        savings = savings + 50;\n    }\n    __transaction_atomic {\n        savings = savings + 1;\n    }\n}\n",
             b"0 a7\n1 a5\n",
             b"",
-            b"== events\n== thread 0: running\n== thread 1: running\n== memory: lock held by thread 0\n",
+            b"== events\n== thread 0: running\n== thread 1: running\n== memory: lock held by thread 0\ntxc: thread 0: running at 5:5\n    __transaction_atomic {\n    ^^^^^^^^^^^^^^^^^^^^\ntxc: thread 1: running at 5:5\n",
         ),
         (
             "txc replay examples/withdraw.c --threads 2 --schedule examples/schedules/withdraw.txt",
@@ -557,6 +595,13 @@ fn third_transcripts() -> &'static [Transcript] {
             b"",
             b"",
             b"== thread 0: ended\n== memory\nx = 3\n== counts\nthread 0: steps 41, accesses 18, transactions 3, drops 0, retries 0\n",
+        ),
+        (
+            "txc run examples/overflow.c --verbose",
+            b"// A sum that leaves the range of `int` is trap 1: the thread ends, and nothing of the transaction is left.\nint total = 2147483647, entries = 5;\n\nvoid worker(int self) {\n    __transaction_atomic {\n        entries = entries + 1;\n        total = total + 1;\n    }\n}\n",
+            b"",
+            b"",
+            b"== thread 0: trap 1\n== memory\ntotal = 2147483647\nentries = 5\ntxc: thread 0: trap 1 at 7:17: 2147483647 + 1 is out of the range of int\n        total = total + 1;\n                ^^^^^^^^^\n",
         ),
         (
             "txc source examples/booking.c --threads 2 --order 1,0,0,1",
@@ -591,7 +636,7 @@ fn third_transcripts() -> &'static [Transcript] {
             b"// Each thread adds one, three times. No addition is lost, whatever the threads do.\nint x;\n\nvoid worker(int self) {\n    int i;\n    for (i = 0; i < 3; i++) {\n        __transaction_atomic { x = x + 1; }\n    }\n}\n",
             b"",
             b"",
-            b"== thread 0: waits\n== thread 1: waits\n== memory\nx = 3\n",
+            b"== thread 0: waits\n== thread 1: waits\n== memory\nx = 3\ntxc: thread 0: waits at 7:9\n        __transaction_atomic { x = x + 1; }\n        ^^^^^^^^^^^^^^^^^^^^\ntxc: thread 1: waits at 7:9\n",
         ),
         (
             "txc source examples/fund.c --threads 2 --order 0,1,1,0,1,0",
@@ -614,6 +659,12 @@ fn third_transcripts() -> &'static [Transcript] {
             b"",
             b"== thread 0: ended\n4 waiting, 4 refused\n9 16 25 36 \n== thread 1: ended\n4 waiting, 4 refused\n1 4 1 4 \n== memory\nslots = 9 16 25 36\nhead = 0\ncount = 0\nrefused = 4\n",
         ),
+    ];
+    &ROWS
+}
+
+fn fourth_transcripts() -> &'static [Transcript] {
+    static ROWS: [Transcript; 5] = [
         (
             "txc source examples/receipt.c --threads 3 --order 2,0,1",
             b"// Printing can't be undone, so it stands in a relaxed transaction: from its first piece on no other thread can change what is\n// shared, and the numbers on the receipt are those of one moment.\nint sold, left = 10;\n\nvoid worker(int self) {\n    __transaction_relaxed {\n        sold = sold + 1;\n        left = left - 1;\n        printf(\"ticket %d, %d left\\n\", sold, left);\n    }\n}\n",
@@ -712,6 +763,14 @@ fn second_transcripts_show_what_they_should(rt: HostRuntime) {
 fn third_transcripts_show_what_they_should(rt: HostRuntime) {
     assert_eq!(rt;
         wrong_transcript(&rt, rt.alloc(), third_transcripts()),
+        None
+    );
+}
+
+#[test]
+fn fourth_transcripts_show_what_they_should(rt: HostRuntime) {
+    assert_eq!(rt;
+        wrong_transcript(&rt, rt.alloc(), fourth_transcripts()),
         None
     );
 }
