@@ -6,17 +6,29 @@ use crate::units::unit_without;
 use lex::lex;
 use parse::parse;
 use safety::checked::Safe;
-use safety::{SafetyFault, safe};
-use separation::{SeparationFault, accept};
+use safety::safe;
+use separation::accept;
 use std::alloc::{AllocError, Allocator};
 use syntax::tree::Unit;
-use types::{TypeFault, Typed, check};
+use syntax::violation::Refused;
+use types::{Typed, check};
 
 /// The most faults that are told of a source.
 pub const MOST_FAULTS: usize = 20;
 
 /// The most bytes of a source of which more than its first fault is told.
 const MOST_BYTES: usize = 65536;
+
+/// What is told of a program that a check refuses.
+fn fault_of<T: Drop>(refused: Refused<T>) -> Result<Option<Fault>, AllocError> {
+    match refused {
+        Refused::OutOfMemory(_) => Err(AllocError),
+        Refused::Broken(_, violation) => Ok(Some(Fault {
+            number: violation.rule.number(),
+            span: violation.at,
+        })),
+    }
+}
 
 /// The fault of a safe program, if it has one.
 fn fault_of_safe<A: Allocator + Copy>(
@@ -25,11 +37,7 @@ fn fault_of_safe<A: Allocator + Copy>(
 ) -> Result<Option<Fault>, AllocError> {
     match accept(alloc, safe) {
         Ok(_) => Ok(None),
-        Err(SeparationFault::OutOfMemory(_)) => Err(AllocError),
-        Err(SeparationFault::NotSeparate(_, violation)) => Ok(Some(Fault {
-            number: violation.number(),
-            span: violation.span(),
-        })),
+        Err(refused) => fault_of(refused),
     }
 }
 
@@ -40,11 +48,7 @@ fn fault_of_typed<A: Allocator + Copy>(
 ) -> Result<Option<Fault>, AllocError> {
     match safe(alloc, typed) {
         Ok(safe) => fault_of_safe(alloc, safe),
-        Err(SafetyFault::OutOfMemory(_)) => Err(AllocError),
-        Err(SafetyFault::Unsafe(_, violation)) => Ok(Some(Fault {
-            number: violation.number(),
-            span: violation.span(),
-        })),
+        Err(refused) => fault_of(refused),
     }
 }
 
@@ -55,11 +59,7 @@ fn fault_of_unit<A: Allocator + Copy>(
 ) -> Result<Option<Fault>, AllocError> {
     match check(alloc, unit) {
         Ok(typed) => fault_of_typed(alloc, typed),
-        Err(TypeFault::OutOfMemory(_)) => Err(AllocError),
-        Err(TypeFault::IllTyped(_, violation)) => Ok(Some(Fault {
-            number: violation.number(),
-            span: violation.span(),
-        })),
+        Err(refused) => fault_of(refused),
     }
 }
 
