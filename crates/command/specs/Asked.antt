@@ -186,7 +186,7 @@ IsRequest name given (Certify file verbose format claim) =
 IsRequest name given (Explain number) =
     (name ≡ codes "explain") × IsGiven given (codes "NN") number × (one_of (codes "N") given ≡ None)
 IsRequest name given (ExplainEnd word number) = (name ≡ codes "explain")
-    × (first_of (codes "NN") given ≡ Some (string_bytes word)) × IsNoNumber (string_bytes word)
+    × (first_of (codes "NN") given ≡ Some (string_bytes word)) × IsSomeAnd (one_of (codes "NN") given) IsNoNumber
     × IsNumberRead (one_of (codes "N") given) number
 
 -- the words are those of a command, and make this request

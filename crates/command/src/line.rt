@@ -5,7 +5,7 @@ ghost use Rattle.clap.specs.Words.{App, Rule, app_of, new_app, rule_of, with_rul
 ghost use Rattle.command.specs.inner.Made.{IsMade};
 ghost use Rattle.command.specs.Line.{file_rule, flag_rule, fault_rule, text_rule, wanted_rule, order_rule, file_app};
 ghost use Rattle.command.specs.Line.{check_app, listing_app, run_app, replay_steps_app, replay_app, source_app};
-ghost use Rattle.command.specs.Line.{outcomes_app, certify_app, explain_app, commandless_app, program_app};
+ghost use Rattle.command.specs.Line.{outcomes_app, certify_app, trap_rule, explain_app, commandless_app, program_app};
 
 use clap::{Arg, ArgAction, Command};
 use std::alloc::{AllocError, Global};

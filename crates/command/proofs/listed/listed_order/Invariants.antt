@@ -1,4 +1,4 @@
-use Rattle.std.proofs.Common.{ℕ, length}
+use Rattle.std.proofs.Common.{length}
 use Rattle.command.proofs.OrderWords.{Reads}
 use Rattle.command.proofs.listed.listed_order.Given as goal
 
