@@ -2,13 +2,15 @@
 use Rattle.std.proofs.Common.{◌≡◌, ℕ, zero, suc, List, Option, refl, sym, ap, ◌∙◌}
 use Rattle.lex.specs.declared.token.Scalar.{Scalar}
 use Rattle.syntax.specs.Tree.{Program, Exprs}
+use Rattle.syntax.specs.Tree as tree
+use Rattle.lex.specs.declared.token.Span.{Span}
 use Rattle.syntax.specs.declared.value.Value.{Value}
 use Rattle.syntax.specs.declared.thread_end.Halt.{Halt}
 use Rattle.syntax.specs.declared.thread_end.Halt.TheVariants.{Trapped}
 use Rattle.syntax.specs.declared.thread_end.Trap.TheVariants.{Frames}
 use Rattle.syntax.specs.Names.{Local}
 use Rattle.syntax.specs.Actions.{State, Answer, Gives, Stops, Action, pure, stop, go_on, tick, put_locals, ◌>>=◌, ◌>>◌}
-use Rattle.syntax.specs.Meaning.{Completion, Next, calls, exprs, result_of, stmts}
+use Rattle.syntax.specs.Meaning.{Caller, Completion, Next, calls, expr, exprs, result_of, stmts}
 use Rattle.meaning.specs.inner.Calls.{Begins, begin_call}
 use Rattle.meaning.specs.inner.Going.{Follow, Nests, call_alone, call_begun, call_left, call_of, follows, frame_at, frame_begun}
 use Rattle.meaning.proofs.Going.{on_both}
@@ -64,5 +66,13 @@ module _ (p : Program) (k : ℕ) (x : List ℕ) (es : Exprs) (s0 s1 : State) whe
       call_valued : call_begun p k x es s0 ≡ go_on (tick s2) (λ _. frame_begun p k x vs)
       call_valued = call_ticked ∙ after (exprs p (calls p k) es s1) (λ us. tick >> frame_begun p k x us) vs s2 valued
 
+      pub call_unentered : (why : Halt) → tick s2 ≡ Stops why s3 → call_begun p k x es s0 ≡ Stops why s3
+      call_unentered why d = call_valued ∙ halts (tick s2) (λ _. frame_begun p k x vs) why s3 d
+
       pub call_enters : (r : Answer Follow) → tick s2 ≡ Gives tt s3 → frame_begun p k x vs s3 ≡ r → call_begun p k x es s0 ≡ r
       call_enters r d entered = call_valued ∙ after (tick s2) (λ _. frame_begun p k x vs) tt s3 d ∙ entered
+
+-- a call in an expression, up to its function
+pub called : (p : Program) (call : Caller) (f : tree.Name) (es : Exprs) (at : Span) (s0 s2 s3 : State) (vs : List Value) (r : Answer Value) → exprs p call es s0 ≡ Gives vs s2 → tick s2 ≡ Gives tt s3 → call f.text vs s3 ≡ r → expr p call (tree.Call f es at) s0 ≡ r
+called p call f es at s0 s2 s3 vs r valued ticked entered =
+    after (exprs p call es s0) (λ us. tick >> call f.text us) vs s2 valued ∙ after (tick s2) (λ _. call f.text vs) tt s3 ticked ∙ entered

@@ -3,7 +3,7 @@ use Rattle.std.specs.Prelude.{if◌then◌else◌, true, false}
 use Rattle.syntax.specs.Numbers as numbers
 use Rattle.syntax.specs.Numbers.{value_in_type, is_zero}
 use Rattle.syntax.specs.Tree as tree
-use Rattle.syntax.specs.Views.{declarator_of, expr_of, exprs_of, simple_of, start_of, stmt_of, stmts_of}
+use Rattle.syntax.specs.Views.{declarator_of, expr_of, exprs_of, name_of, simple_of, start_of, stmt_of, stmts_of}
 use Rattle.syntax.specs.Depth.{block_depth, deepest_value, expr_depth, optional_depth, optional_simple_depth, simple_depth, start_depth, stmt_depth}
 use Rattle.syntax.specs.Actions as act
 use Rattle.syntax.specs.Actions.{Gives, go_on}
@@ -14,6 +14,7 @@ use Rattle.meaning.specs.Outcomes.{memories_in}
 use Rattle.meaning.specs.inner.SourceThread.{context_in, completion_of, items_in, local_in, program_in, lvalue_of, state_in}
 use Rattle.meaning.specs.inner.Does.{caller_in, does_expr, does_stmt, does_stmts, does_turn, do_turn, else_depth, does_body, depth_within, for_all, is_forbidden, joined_to, loop_depth, while_turn}
 use Rattle.meaning.specs.inner.Word.{value_of}
+use Rattle.meaning.proofs.Calling.{called}
 use Rattle.meaning.proofs.Stops.{err_of, stops_as}
 use Rattle.meaning.proofs.Bodies.{weight_less}
 use Rattle.meaning.proofs.Deeper.{block_deep, do_deep, if_deep, transaction_deep, argument_deep, statement_deep, declarator_deep}
@@ -68,6 +69,13 @@ simple::declare-returns-in_err-declare_one g t c =
     let is : c.from_residual.result ≡ Err c.in_err-declare_one.field-0.0 = err_of c.from_residual.result c.in_err-declare_one.field-0.0 c.from_residual.ensures.1 in
     stops_as completion_of c.from_residual.result c.in_err-declare_one.field-0.0 _ c.declare_one.new.m is (λ d. declare_halt (program_in c.args.source.now) (caller_in c.args.source.now c.args.frames) c.args.ty c.args.ds.now c.declarators.d-index c.d-item.result (state_in c.declarators.m) (state_in c.declare_one.new.m) _ (declare (program_in c.args.source.now) (caller_in c.args.source.now c.args.frames) c.args.ty (map declarator_of c.args.ds.now) (state_in c.args.m.now)) c.declarators-test.true c.d-item.is c.declarators.invariant (c.in_err-declare_one.ensures d))
 
+pub calls::call-returns : goal.calls::call-returns
+calls::call-returns g t c at done =
+    let does = caller_in c.args.source.now c.args.frames in
+    let s3 = state_in c.tick.new.m in
+    called (program_in c.args.source.now) does (name_of c.args.f.now) (exprs_of c.args.args.now) at (state_in c.args.m.now) (state_in c.values.new.m) s3 c.in_ok-values.values.items _ (c.in_ok-values.ensures tt) (c.in_ok-tick.ensures tt)
+    (ap (λ vs. does c.args.f.now.text vs s3) (sym c.as_slice.ensures.value) ∙ ap (λ x. does x c.as_slice.result.now s3) (sym c.as_str.ensures) ∙ c.enter_function.ensures done)
+
 pub calls::enter_function-returns : goal.calls::enter_function-returns
 calls::enter_function-returns g t c done =
     let more : c.args.frames ≡ suc (c.args.frames - 1) = omega (arith, c.if-frames-eq0.false) in
@@ -86,7 +94,7 @@ calls::enter_function-stmts-requires g t c κs within =
 
 pub expr::eval-returns-in-Call : goal.expr::eval-returns-in-Call
 expr::eval-returns-in-Call g t c done =
-    ap (λ x. expr (program_in c.args.source.now) (caller_in c.args.source.now c.args.frames) x (state_in c.args.m.now)) (call_is c.args.e.now c.in-Call.f c.in-Call.args c.as_slice.result.now c.in-Call.field-2 c.in-Call.is c.as_slice.ensures) ∙ c.call.ensures c.in-Call.field-2 done
+    ap (λ x. expr (program_in c.args.source.now) (caller_in c.args.source.now c.args.frames) x (state_in c.args.m.now)) (call_is c.args.e.now c.in-Call.f c.in-Call.args c.as_slice.result.now c.in-Call.at c.in-Call.is c.as_slice.ensures) ∙ c.call.ensures c.in-Call.at done
 
 pub expr::eval-returns-in-Conditional : goal.expr::eval-returns-in-Conditional
 expr::eval-returns-in-Conditional g t c done =
@@ -94,7 +102,7 @@ expr::eval-returns-in-Conditional g t c done =
 
 pub expr::eval-returns-in-InTransaction : goal.expr::eval-returns-in-InTransaction
 expr::eval-returns-in-InTransaction g t c done =
-    ap (λ x. expr (program_in c.args.source.now) (caller_in c.args.source.now c.args.frames) x (state_in c.args.m.now)) (in_transaction_is c.args.e.now c.in-InTransaction.mode c.in-InTransaction.field-1 c.in-InTransaction.e c.get-in-InTransaction.result.now c.in-InTransaction.field-3 c.in-InTransaction.is c.get-in-InTransaction.ensures)
+    ap (λ x. expr (program_in c.args.source.now) (caller_in c.args.source.now c.args.frames) x (state_in c.args.m.now)) (in_transaction_is c.args.e.now c.in-InTransaction.mode c.in-InTransaction.keyword c.in-InTransaction.e c.get-in-InTransaction.result.now c.in-InTransaction.field-3 c.in-InTransaction.is c.get-in-InTransaction.ensures)
     ∙ c.value_transaction.ensures done
 
 pub expr::eval-returns-in-Logical : goal.expr::eval-returns-in-Logical
@@ -108,7 +116,7 @@ expr::eval-returns-in-Parenthesized g t c done =
 
 pub expr::eval-returns-in_ok-at-in-Element : goal.expr::eval-returns-in_ok-at-in-Element
 expr::eval-returns-in_ok-at-in-Element g t c done =
-    ap (λ x. expr (program_in c.args.source.now) (caller_in c.args.source.now c.args.frames) x (state_in c.args.m.now)) (element_is c.args.e.now c.in-Element.x c.in-Element.i c.get.result.now c.in-Element.field-2 c.in-Element.is c.get.ensures)
+    ap (λ x. expr (program_in c.args.source.now) (caller_in c.args.source.now c.args.frames) x (state_in c.args.m.now)) (element_is c.args.e.now c.in-Element.x c.in-Element.i c.get.result.now c.in-Element.span c.in-Element.is c.get.ensures)
     ∙ twice (expr (program_in c.args.source.now) (caller_in c.args.source.now c.args.frames) (expr_of c.get.result.now) (state_in c.args.m.now)) (meaning.element (program_in c.args.source.now) (caller_in c.args.source.now c.args.frames) c.in-Element.x.text) meaning.fetch
     ∙ after _ meaning.fetch _ (state_in c.element.new.m) (c.in_ok-at-in-Element.ensures tt) ∙ c.fetch.ensures done
 
@@ -116,7 +124,7 @@ pub expr::eval-returns-in_err-at-in-Element : goal.expr::eval-returns-in_err-at-
 expr::eval-returns-in_err-at-in-Element g t c =
     let is : c.from_residual.result ≡ Err c.in_err-at-in-Element.field-0.0 = err_of c.from_residual.result c.in_err-at-in-Element.field-0.0 c.from_residual.ensures.1 in
     stops_as value_of c.from_residual.result c.in_err-at-in-Element.field-0.0 _ c.element.new.m is
-    (λ d. ap (λ x. expr (program_in c.args.source.now) (caller_in c.args.source.now c.args.frames) x (state_in c.args.m.now)) (element_is c.args.e.now c.in-Element.x c.in-Element.i c.get.result.now c.in-Element.field-2 c.in-Element.is c.get.ensures)
+    (λ d. ap (λ x. expr (program_in c.args.source.now) (caller_in c.args.source.now c.args.frames) x (state_in c.args.m.now)) (element_is c.args.e.now c.in-Element.x c.in-Element.i c.get.result.now c.in-Element.span c.in-Element.is c.get.ensures)
     ∙ twice (expr (program_in c.args.source.now) (caller_in c.args.source.now c.args.frames) (expr_of c.get.result.now) (state_in c.args.m.now)) (meaning.element (program_in c.args.source.now) (caller_in c.args.source.now c.args.frames) c.in-Element.x.text) meaning.fetch
     ∙ halts _ meaning.fetch _ (state_in c.element.new.m) (c.in_err-at-in-Element.ensures d))
 
@@ -134,19 +142,19 @@ expr::eval-returns-in_err-v-in-Cast g t c =
 
 pub expr::eval-returns-in_ok-v-in-Unary : goal.expr::eval-returns-in_ok-v-in-Unary
 expr::eval-returns-in_ok-v-in-Unary g t c done =
-    ap (λ x. expr (program_in c.args.source.now) (caller_in c.args.source.now c.args.frames) x (state_in c.args.m.now)) (unary_is c.args.e.now c.in-Unary.op c.in-Unary.e c.get-in-Unary.result.now c.in-Unary.field-2 c.in-Unary.is c.get-in-Unary.ensures)
+    ap (λ x. expr (program_in c.args.source.now) (caller_in c.args.source.now c.args.frames) x (state_in c.args.m.now)) (unary_is c.args.e.now c.in-Unary.op c.in-Unary.e c.get-in-Unary.result.now c.in-Unary.at c.in-Unary.is c.get-in-Unary.ensures)
     ∙ after (expr (program_in c.args.source.now) (caller_in c.args.source.now c.args.frames) (expr_of c.get-in-Unary.result.now) (state_in c.args.m.now)) (λ v. act.or_trap (numbers.unary c.in-Unary.op v)) _ (state_in c.eval-in-Unary.new.m) (c.in_ok-v-in-Unary.ensures tt) ∙ c.operate_unary.ensures done
 
 pub expr::eval-returns-in_err-v-in-Unary : goal.expr::eval-returns-in_err-v-in-Unary
 expr::eval-returns-in_err-v-in-Unary g t c =
     let is : c.from_residual-in_err-v-in-Unary.result ≡ Err c.in_err-v-in-Unary.field-0.0 = err_of c.from_residual-in_err-v-in-Unary.result c.in_err-v-in-Unary.field-0.0 c.from_residual-in_err-v-in-Unary.ensures.1 in
     stops_as value_of c.from_residual-in_err-v-in-Unary.result c.in_err-v-in-Unary.field-0.0 _ c.eval-in-Unary.new.m is
-    (λ d. ap (λ x. expr (program_in c.args.source.now) (caller_in c.args.source.now c.args.frames) x (state_in c.args.m.now)) (unary_is c.args.e.now c.in-Unary.op c.in-Unary.e c.get-in-Unary.result.now c.in-Unary.field-2 c.in-Unary.is c.get-in-Unary.ensures)
+    (λ d. ap (λ x. expr (program_in c.args.source.now) (caller_in c.args.source.now c.args.frames) x (state_in c.args.m.now)) (unary_is c.args.e.now c.in-Unary.op c.in-Unary.e c.get-in-Unary.result.now c.in-Unary.at c.in-Unary.is c.get-in-Unary.ensures)
     ∙ halts (expr (program_in c.args.source.now) (caller_in c.args.source.now c.args.frames) (expr_of c.get-in-Unary.result.now) (state_in c.args.m.now)) (λ v. act.or_trap (numbers.unary c.in-Unary.op v)) _ (state_in c.eval-in-Unary.new.m) (c.in_err-v-in-Unary.ensures d))
 
 pub expr::eval-returns-in_ok-w-in-Binary : goal.expr::eval-returns-in_ok-w-in-Binary
 expr::eval-returns-in_ok-w-in-Binary g t c done =
-    ap (λ x. expr (program_in c.args.source.now) (caller_in c.args.source.now c.args.frames) x (state_in c.args.m.now)) (binary_is c.args.e.now c.in-Binary.op c.in-Binary.a c.in-Binary.b c.get-in-Binary.result.now c.get-in-Binary-2.result.now c.in-Binary.field-3 c.in-Binary.is c.get-in-Binary.ensures c.get-in-Binary-2.ensures)
+    ap (λ x. expr (program_in c.args.source.now) (caller_in c.args.source.now c.args.frames) x (state_in c.args.m.now)) (binary_is c.args.e.now c.in-Binary.op c.in-Binary.a c.in-Binary.b c.get-in-Binary.result.now c.get-in-Binary-2.result.now c.in-Binary.at c.in-Binary.is c.get-in-Binary.ensures c.get-in-Binary-2.ensures)
     ∙ after (expr (program_in c.args.source.now) (caller_in c.args.source.now c.args.frames) (expr_of c.get-in-Binary.result.now) (state_in c.args.m.now)) (λ v s. go_on (expr (program_in c.args.source.now) (caller_in c.args.source.now c.args.frames) (expr_of c.get-in-Binary-2.result.now) s) (λ w. act.or_trap (numbers.binary c.in-Binary.op v w))) _ (state_in c.eval-in-Binary.new.m) (c.in_ok-v-in-Binary.ensures tt)
     ∙ after (expr (program_in c.args.source.now) (caller_in c.args.source.now c.args.frames) (expr_of c.get-in-Binary-2.result.now) (state_in c.eval-in-Binary.new.m)) (λ w. act.or_trap (numbers.binary c.in-Binary.op (value_of c.in_ok-v-in-Binary.v) w)) _ (state_in c.eval-in-Binary-2.new.m) (c.in_ok-w-in-Binary.ensures tt) ∙ c.operate.ensures done
 
@@ -154,14 +162,14 @@ pub expr::eval-returns-in_err-v-in-Binary : goal.expr::eval-returns-in_err-v-in-
 expr::eval-returns-in_err-v-in-Binary g t c =
     let is : c.from_residual-in_err-v-in-Binary.result ≡ Err c.in_err-v-in-Binary.field-0.0 = err_of c.from_residual-in_err-v-in-Binary.result c.in_err-v-in-Binary.field-0.0 c.from_residual-in_err-v-in-Binary.ensures.1 in
     stops_as value_of c.from_residual-in_err-v-in-Binary.result c.in_err-v-in-Binary.field-0.0 _ c.eval-in-Binary.new.m is
-    (λ d. ap (λ x. expr (program_in c.args.source.now) (caller_in c.args.source.now c.args.frames) x (state_in c.args.m.now)) (binary_is c.args.e.now c.in-Binary.op c.in-Binary.a c.in-Binary.b c.get-in-Binary.result.now c.in-Binary.b c.in-Binary.field-3 c.in-Binary.is c.get-in-Binary.ensures refl)
+    (λ d. ap (λ x. expr (program_in c.args.source.now) (caller_in c.args.source.now c.args.frames) x (state_in c.args.m.now)) (binary_is c.args.e.now c.in-Binary.op c.in-Binary.a c.in-Binary.b c.get-in-Binary.result.now c.in-Binary.b c.in-Binary.at c.in-Binary.is c.get-in-Binary.ensures refl)
     ∙ halts (expr (program_in c.args.source.now) (caller_in c.args.source.now c.args.frames) (expr_of c.get-in-Binary.result.now) (state_in c.args.m.now)) (λ v s. go_on (expr (program_in c.args.source.now) (caller_in c.args.source.now c.args.frames) (expr_of c.in-Binary.b) s) (λ w. act.or_trap (numbers.binary c.in-Binary.op v w))) _ (state_in c.eval-in-Binary.new.m) (c.in_err-v-in-Binary.ensures d))
 
 pub expr::eval-returns-in_err-w-in-Binary : goal.expr::eval-returns-in_err-w-in-Binary
 expr::eval-returns-in_err-w-in-Binary g t c =
     let is : c.from_residual-in_err-w-in-Binary.result ≡ Err c.in_err-w-in-Binary.field-0.0 = err_of c.from_residual-in_err-w-in-Binary.result c.in_err-w-in-Binary.field-0.0 c.from_residual-in_err-w-in-Binary.ensures.1 in
     stops_as value_of c.from_residual-in_err-w-in-Binary.result c.in_err-w-in-Binary.field-0.0 _ c.eval-in-Binary-2.new.m is
-    (λ d. ap (λ x. expr (program_in c.args.source.now) (caller_in c.args.source.now c.args.frames) x (state_in c.args.m.now)) (binary_is c.args.e.now c.in-Binary.op c.in-Binary.a c.in-Binary.b c.get-in-Binary.result.now c.get-in-Binary-2.result.now c.in-Binary.field-3 c.in-Binary.is c.get-in-Binary.ensures c.get-in-Binary-2.ensures)
+    (λ d. ap (λ x. expr (program_in c.args.source.now) (caller_in c.args.source.now c.args.frames) x (state_in c.args.m.now)) (binary_is c.args.e.now c.in-Binary.op c.in-Binary.a c.in-Binary.b c.get-in-Binary.result.now c.get-in-Binary-2.result.now c.in-Binary.at c.in-Binary.is c.get-in-Binary.ensures c.get-in-Binary-2.ensures)
     ∙ after (expr (program_in c.args.source.now) (caller_in c.args.source.now c.args.frames) (expr_of c.get-in-Binary.result.now) (state_in c.args.m.now)) (λ v s. go_on (expr (program_in c.args.source.now) (caller_in c.args.source.now c.args.frames) (expr_of c.get-in-Binary-2.result.now) s) (λ w. act.or_trap (numbers.binary c.in-Binary.op v w))) _ (state_in c.eval-in-Binary.new.m) (c.in_ok-v-in-Binary.ensures tt)
     ∙ halts (expr (program_in c.args.source.now) (caller_in c.args.source.now c.args.frames) (expr_of c.get-in-Binary-2.result.now) (state_in c.eval-in-Binary.new.m)) (λ w. act.or_trap (numbers.binary c.in-Binary.op (value_of c.in_ok-v-in-Binary.v) w)) _ (state_in c.eval-in-Binary-2.new.m) (c.in_err-w-in-Binary.ensures d))
 
@@ -390,11 +398,11 @@ calls::values-returns-in_err-v g t c =
 
 pub expr::eval-element-requires : goal.expr::eval-element-requires
 expr::eval-element-requires g t c κs within =
-    (omega (arith, ap expr_depth (element_is c.args.e.now c.in-Element.x c.in-Element.i c.get.result.now c.in-Element.field-2 c.in-Element.is c.get.ensures), c.decreases), within)
+    (omega (arith, ap expr_depth (element_is c.args.e.now c.in-Element.x c.in-Element.i c.get.result.now c.in-Element.span c.in-Element.is c.get.ensures), c.decreases), within)
 
 pub expr::eval-call-requires : goal.expr::eval-call-requires
 expr::eval-call-requires g t c κs within =
-    (omega (arith, ap expr_depth (call_is c.args.e.now c.in-Call.f c.in-Call.args c.as_slice.result.now c.in-Call.field-2 c.in-Call.is c.as_slice.ensures), c.decreases), within)
+    (omega (arith, ap expr_depth (call_is c.args.e.now c.in-Call.f c.in-Call.args c.as_slice.result.now c.in-Call.at c.in-Call.is c.as_slice.ensures), c.decreases), within)
 
 pub expr::eval-eval-requires : goal.expr::eval-eval-requires
 expr::eval-eval-requires g t c κs within =
@@ -406,15 +414,15 @@ expr::eval-eval-requires-in-Cast g t c κs within =
 
 pub expr::eval-eval-requires-in-Unary : goal.expr::eval-eval-requires-in-Unary
 expr::eval-eval-requires-in-Unary g t c κs within =
-    (omega (arith, ap expr_depth (unary_is c.args.e.now c.in-Unary.op c.in-Unary.e c.get-in-Unary.result.now c.in-Unary.field-2 c.in-Unary.is c.get-in-Unary.ensures), c.decreases), within)
+    (omega (arith, ap expr_depth (unary_is c.args.e.now c.in-Unary.op c.in-Unary.e c.get-in-Unary.result.now c.in-Unary.at c.in-Unary.is c.get-in-Unary.ensures), c.decreases), within)
 
 pub expr::eval-eval-requires-in-Binary : goal.expr::eval-eval-requires-in-Binary
 expr::eval-eval-requires-in-Binary g t c κs within =
-    (omega (arith, ap expr_depth (binary_is c.args.e.now c.in-Binary.op c.in-Binary.a c.in-Binary.b c.get-in-Binary.result.now c.in-Binary.b c.in-Binary.field-3 c.in-Binary.is c.get-in-Binary.ensures refl), c.decreases), within)
+    (omega (arith, ap expr_depth (binary_is c.args.e.now c.in-Binary.op c.in-Binary.a c.in-Binary.b c.get-in-Binary.result.now c.in-Binary.b c.in-Binary.at c.in-Binary.is c.get-in-Binary.ensures refl), c.decreases), within)
 
 pub expr::eval-eval-requires-in-Binary-2 : goal.expr::eval-eval-requires-in-Binary-2
 expr::eval-eval-requires-in-Binary-2 g t c κs within =
-    (omega (arith, ap expr_depth (binary_is c.args.e.now c.in-Binary.op c.in-Binary.a c.in-Binary.b c.get-in-Binary.result.now c.get-in-Binary-2.result.now c.in-Binary.field-3 c.in-Binary.is c.get-in-Binary.ensures c.get-in-Binary-2.ensures), c.decreases), within)
+    (omega (arith, ap expr_depth (binary_is c.args.e.now c.in-Binary.op c.in-Binary.a c.in-Binary.b c.get-in-Binary.result.now c.get-in-Binary-2.result.now c.in-Binary.at c.in-Binary.is c.get-in-Binary.ensures c.get-in-Binary-2.ensures), c.decreases), within)
 
 pub expr::eval-logical-requires : goal.expr::eval-logical-requires
 expr::eval-logical-requires g t c κs within =
@@ -422,7 +430,7 @@ expr::eval-logical-requires g t c κs within =
 
 pub expr::eval-value_transaction-requires : goal.expr::eval-value_transaction-requires
 expr::eval-value_transaction-requires g t c κs within =
-    (omega (arith, ap expr_depth (in_transaction_is c.args.e.now c.in-InTransaction.mode c.in-InTransaction.field-1 c.in-InTransaction.e c.get-in-InTransaction.result.now c.in-InTransaction.field-3 c.in-InTransaction.is c.get-in-InTransaction.ensures), c.decreases), within)
+    (omega (arith, ap expr_depth (in_transaction_is c.args.e.now c.in-InTransaction.mode c.in-InTransaction.keyword c.in-InTransaction.e c.get-in-InTransaction.result.now c.in-InTransaction.field-3 c.in-InTransaction.is c.get-in-InTransaction.ensures), c.decreases), within)
 
 pub expr::eval-conditional-requires : goal.expr::eval-conditional-requires
 expr::eval-conditional-requires g t c κs within =
@@ -462,7 +470,7 @@ calls::call-enter_function-requires g t c κs within =
 
 pub simple::target-element-requires : goal.simple::target-element-requires
 simple::target-element-requires g t c κs within =
-    (omega (arith, ap expr_depth (element_is c.args.e.now c.in-Element.x c.in-Element.i c.get.result.now c.in-Element.field-2 c.in-Element.is c.get.ensures), c.decreases), within)
+    (omega (arith, ap expr_depth (element_is c.args.e.now c.in-Element.x c.in-Element.i c.get.result.now c.in-Element.at c.in-Element.is c.get.ensures), c.decreases), within)
 
 pub simple::simple_assignment-target-requires : goal.simple::simple_assignment-target-requires
 simple::simple_assignment-target-requires g t c κs within =

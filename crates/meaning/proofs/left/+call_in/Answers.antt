@@ -5,7 +5,7 @@ use Rattle.meaning.proofs.Parts.{call_is, parenthesized_is}
 use Rattle.meaning.proofs.left.+call_in.Goals as goal
 
 pub returns-in-Call : goal.returns-in-Call
-returns-in-Call g t c = λ p call. ap (expr p call) (call_is c.args.e.now c.in-Call.f c.in-Call.args c.as_slice.result.now c.in-Call.field-2 c.in-Call.is c.as_slice.ensures)
+returns-in-Call g t c = λ p call. ap (expr p call) (call_is c.args.e.now c.in-Call.f c.in-Call.args c.as_slice.result.now c.in-Call.at c.in-Call.is c.as_slice.ensures)
 
 pub returns-in-Parenthesized : goal.returns-in-Parenthesized
 returns-in-Parenthesized g t c =

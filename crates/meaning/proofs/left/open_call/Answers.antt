@@ -3,7 +3,7 @@ use Rattle.syntax.specs.Views.{exprs_of}
 use Rattle.meaning.specs.inner.Going.{frame_begun}
 use Rattle.meaning.specs.inner.Left.{follow_of}
 use Rattle.meaning.specs.inner.SourceThread.{program_in, state_in}
-use Rattle.meaning.proofs.Calling.{call_enters, call_unticked, call_unvalued}
+use Rattle.meaning.proofs.Calling.{call_enters, call_unentered, call_unticked, call_unvalued}
 use Rattle.meaning.proofs.Stops.{err_of, stops_as}
 use Rattle.meaning.proofs.left.open_call.Goals as goal
 
@@ -23,3 +23,8 @@ pub returns-in_err-values : goal.returns-in_err-values
 returns-in_err-values g c =
     let is : c.from_residual-in_err-values.result ≡ Err c.in_err-values.field-0.0 = err_of c.from_residual-in_err-values.result c.in_err-values.field-0.0 c.from_residual-in_err-values.ensures.1 in
     stops_as (follow_of c.args.source.now) c.from_residual-in_err-values.result c.in_err-values.field-0.0 _ c.values.new.m is (λ d. call_unvalued (program_in c.args.source.now) c.args.frames c.args.f.now.text (exprs_of c.args.args.now) (state_in c.args.m.now) (state_in c.tick.new.m) (state_in c.values.new.m) (c.in_ok-tick.ensures tt) _ (c.in_err-values.ensures d))
+
+pub returns-in_err-tick-2 : goal.returns-in_err-tick-2
+returns-in_err-tick-2 g c =
+    let is : c.from_residual-in_err-tick-2.result ≡ Err c.in_err-tick-2.field-0.0 = err_of c.from_residual-in_err-tick-2.result c.in_err-tick-2.field-0.0 c.from_residual-in_err-tick-2.ensures.1 in
+    stops_as (follow_of c.args.source.now) c.from_residual-in_err-tick-2.result c.in_err-tick-2.field-0.0 _ c.tick-2.new.m is (λ d. call_unentered (program_in c.args.source.now) c.args.frames c.args.f.now.text (exprs_of c.args.args.now) (state_in c.args.m.now) (state_in c.tick.new.m) (state_in c.values.new.m) (c.in_ok-tick.ensures tt) (state_in c.tick-2.new.m) c.in_ok-values.values.items (c.in_ok-values.ensures tt) _ (c.in_err-tick-2.ensures d))
