@@ -650,7 +650,7 @@ fn help_lines() -> &'static [&'static str] {
 #[test]
 fn helps(rt: HostRuntime) {
     assert_none(&rt, have_not(rt.alloc(), help_lines(), HELP, "Usage: txc"));
-    let examples = have_not(rt.alloc(), help_lines(), HELP, r"Example:\n  txc ");
+    let examples = have_not(rt.alloc(), help_lines(), HELP, r":\n  txc ");
     assert_none(&rt, examples);
     assert_that(&rt, has(rt.alloc(), "txc|--help", HELP, ""));
 }
