@@ -137,7 +137,7 @@ fn run_code<H: Threads + Wait + Sync>(
 {
     let ran = run_all(rt, alloc, &compiled.code, threads, budget, &OpenGate)?;
     match shown_concurrently(alloc, unit_of(&compiled.accepted), threads, &ran) {
-        Ok(printed) => Ok((printed, beside(alloc, &compiled.code, threads, ran))),
+        Ok(printed) => Ok((printed, beside_of(alloc, &compiled.code, threads, ran))),
         Err(_) => Err(RunFault::OutOfMemory),
     }
 }
@@ -154,7 +154,7 @@ fn finished_of(ran: RunReport) -> Vec<Finished> {
 }
 
 /// What is told beside the report of a run of so many threads.
-fn beside(alloc: Global, code: &Code, threads: u32, ran: RunReport) -> Beside {
+fn beside_of(alloc: Global, code: &Code, threads: u32, ran: RunReport) -> Beside {
     let finished = finished_of(ran);
     let stood = all_stood(alloc, code, threads, finished.as_slice());
     Beside { finished, stood }

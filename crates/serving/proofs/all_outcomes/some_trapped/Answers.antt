@@ -1,5 +1,5 @@
 use Rattle.std.proofs.Common.{◌∙◌, sym}
-use Rattle.serving.proofs.Ends.{any_outcome}
+use Rattle.serving.proofs.EndTests.{any_outcome}
 use Rattle.serving.proofs.all_outcomes.some_trapped.Goals as goal
 
 pub returns : goal.returns

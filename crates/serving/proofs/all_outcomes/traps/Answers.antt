@@ -2,7 +2,7 @@ use Rattle.std.proofs.Common.{◌∙◌, sym, ap}
 use Rattle.std.specs.List.{list_any}
 use Rattle.report.specs.declared.printed.ThreadShown.{ThreadShown}
 use Rattle.serving.specs.Reports.{is_trapped}
-use Rattle.serving.proofs.Ends.{any_shown}
+use Rattle.serving.proofs.EndTests.{any_shown}
 use Rattle.serving.proofs.all_outcomes.traps.Goals as goal
 
 pub returns : goal.returns

@@ -3,7 +3,7 @@ use Rattle.std.specs.List.{list_any}
 use Rattle.report.specs.declared.printed.ThreadShown.{ThreadShown}
 use Rattle.report.specs.Views.{printed_of}
 use Rattle.serving.specs.Reports.{is_stopped, is_trapped}
-use Rattle.serving.proofs.Ends.{any_shown, some_stopped, some_trapped, all_ended}
+use Rattle.serving.proofs.EndTests.{any_shown, some_stopped, some_trapped, all_ended}
 use Rattle.serving.proofs.print.status_of.Goals as goal
 
 pub returns-then-has_stopped : goal.returns-then-has_stopped

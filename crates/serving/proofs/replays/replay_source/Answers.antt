@@ -1,6 +1,6 @@
 use Rattle.report.specs.Views.{printed_of}
 use Rattle.serving.proofs.Codes.{accepts}
-use Rattle.serving.proofs.Ends.{none_stopped}
+use Rattle.serving.proofs.EndTests.{none_stopped}
 use Rattle.serving.proofs.ReplayRuns.{replays}
 use Rattle.serving.proofs.Parts.{part_so}
 use Rattle.std.proofs.Common.{◌≡◌, ℕ, List}

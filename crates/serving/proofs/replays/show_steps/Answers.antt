@@ -3,7 +3,7 @@ use Rattle.replay.specs.Replays.{simulation_after, timeline_of}
 use Rattle.report.specs.Timeline.{timeline_text}
 use Rattle.report.specs.Views.{printed_of}
 use Rattle.serving.proofs.Codes.{accepts}
-use Rattle.serving.proofs.Ends.{none_stopped}
+use Rattle.serving.proofs.EndTests.{none_stopped}
 use Rattle.serving.proofs.ReplayRuns.{replays, replays_shown}
 use Rattle.serving.proofs.Parts.{part_so}
 use Rattle.report.specs.Report.{report_text}
