@@ -96,7 +96,7 @@ module _ (one_tokens : (text : List ℕ) (ts us : List Tok) → IsLexed text ts 
   passes text is few OutOfMemory wrong placed = absurd (source_right text is few OutOfMemory wrong placed)
   passes text is few (Lex fault) wrong placed = absurd (source_right text is few (Lex fault) wrong placed)
   passes text is few (Parse fault) wrong placed = absurd (source_right text is few (Parse fault) wrong placed)
-  passes text is few (IllTyped fault) wrong placed = absurd (source_right text is few (Broken v) (inl wrong) placed)
+  passes text is few (Broken v) wrong placed = absurd (source_right text is few (Broken v) wrong placed)
   passes text is few (NoCode fault) wrong placed = (fault, wrong, placed)
 
   pub pass_limits : AcceptedPassLimits
