@@ -10,9 +10,11 @@ of scripts/quick_build.py will do. Of each picture it is shown that
 
   - it is XML;
   - its glyphs are titled by the lines of the timeline that have one: accesses, what happens, begins, ends and prints,
-    up to access 400;
-  - it has an arrow for each abort, titled by the accesses of the last store to the word that had changed and of the
-    load that found it;
+    up to access 400, or with `--from` among 400 accesses from that one on;
+  - it has an arrow for each abort, titled by the accesses of the last store to the word that had changed, if that is
+    drawn, and of the load that found it;
+  - each box is titled by a line of the source, and by the text of a transaction that begins on it;
+  - it has a box for each attempt that begins in what is drawn;
   - where all threads are over and nothing is cut off, the order at its foot, given to `txc source --order`, leaves what
     the replay left.
 """
@@ -31,10 +33,13 @@ LINE = re.compile(r"(\d+) (\d+) (.*)")
 MARKED = re.compile(r"; |^\d+ (begin|commit|print)")
 STORED = re.compile(r"; store (@\d+) = ")
 LOADED = re.compile(r"; load (@\d+) = ")
-IN_ORDER = re.compile(r"T(\d+) \((\d+)\)")
+BEGUN = re.compile(r"\d+ begin >\d+; load lock = \d*[02468]$")
+TITLE = re.compile(r"line (\d+):\n(__transaction_\w+.*)", re.DOTALL)
+ORDER = re.compile(r"(--order )?([\d,]+)")
 # Each picture of the documents, and what draws it: README and GUIDE say so too.
 SHOWN = {
     "seats.svg": "examples/seats.c --threads 2 --order 0,1,0,1",
+    "audit.svg": "examples/audit.c --threads 2 --order 0,1,0",
     "counter.svg": "examples/counter.c --threads 2 --schedule examples/schedules/counter.txt",
     "booking.svg": "examples/booking.c --threads 2 --seed 3",
 }
@@ -48,31 +53,51 @@ def out_of(txc, *words):
     return done.stdout
 
 
-def marked(timeline):
-    """The lines of a timeline that have a glyph, up to the last access that is drawn."""
+def drawn_lines(timeline, first):
+    """The lines of a timeline among the accesses that are drawn from this one on, or from the beginning."""
     for line in timeline.splitlines()[1:]:
         accesses, _, said = LINE.fullmatch(line).groups()
-        if int(accesses) <= MOST and MARKED.search(said):
-            yield line
+        if first <= int(accesses) < max(first, 1) + MOST:
+            yield line, accesses, said
 
 
-def arrows_of(timeline):
-    """The titles of the arrows: for each abort, up to the last access that is drawn, the last store to its word
-    and its load."""
+def arrows_of(timeline, first):
+    """The titles of the arrows: for each abort that is drawn the last store to its word, if that is, and its load."""
     stored = {}
-    for line in timeline.splitlines()[1:]:
-        accesses, _, said = LINE.fullmatch(line).groups()
+    for _, accesses, said in drawn_lines(timeline, first):
         if store := STORED.search(said):
             stored[store[1]] = accesses
-        if said.endswith("; abort") and int(accesses) <= MOST:
-            yield f"access {stored[LOADED.search(said)[1]]}, then access {accesses}"
+        if said.endswith("; abort") and (store := stored.get(LOADED.search(said)[1])):
+            yield f"access {store}, then access {accesses}"
 
 
 def order_at_foot(root):
-    """The threads of the order at the foot of a picture."""
+    """The order at the foot of a picture, as `--order` takes it; none where nothing took effect."""
     texts = ["".join(it.itertext()) for it in root.iter(f"{SVG}text")]
-    listed = texts[texts.index("In order:") + 1:]
-    return [found[1] for found in map(IN_ORDER.search, listed) if found]
+    begun = [at for at, text in enumerate(texts) if text.startswith("--order ")]
+    order = ""
+    for text in texts[begun[0]:] if begun else []:
+        if not (found := ORDER.fullmatch(text)):
+            break
+        order += found[2]
+    return order
+
+
+def shown(source):
+    """What is shown of a source: no carriage returns, and `?` for what is not printable ASCII."""
+    text = source.replace("\r", "")
+    return "".join(it if it in "\n\t" or " " <= it <= "~" else "?" for it in text)
+
+
+def box_differs(title, lines):
+    """Whether the title of a box is not that of a transaction on a line of the source."""
+    found = TITLE.fullmatch(title)
+    if not found:
+        return True
+    behind = "\n".join(lines[int(found[1]) - 1:])
+    text = found[2].removesuffix(" ..") if len(found[2]) > 1000 else found[2]
+    at = behind.find(text)
+    return at < 0 or "\n" in behind[:at]
 
 
 def left_by(report):
@@ -80,28 +105,33 @@ def left_by(report):
     return report[report.index("== thread 0"):]
 
 
-def differs(txc, file, words):
-    """Why the picture of a replay is not what it should be, if it is not."""
+def differs(txc, file, words, first):
+    """Why the picture of a replay from an access on is not what it should be, if it is not."""
     replay = ["replay", file, *words]
-    drawn = out_of(txc, *replay, "--picture")
-    shown = out_of(txc, *replay, "--timeline")
-    timeline, _, report = shown.partition("== events\n")
+    drawn = out_of(txc, *replay, "--picture", *(["--from", str(first)] if first else []))
+    timeline, _, report = out_of(txc, *replay, "--timeline").partition("== events\n")
     try:
         root = xml.fromstring(drawn)
     except xml.ParseError as why:
         return f"is not XML: {why}"
     titled = [it for it in root.iter(f"{SVG}g") if it.find(f"{SVG}title") is not None]
     arrows = [it.find(f"{SVG}title").text for it in titled if it.find(f"{SVG}polyline[@class='why']") is not None]
-    titles = [it.find(f"{SVG}title").text for it in titled if it.find(f"{SVG}polyline[@class='why']") is None]
-    lines = list(marked(timeline))
-    if titles != lines:
+    boxes = [it.find(f"{SVG}title").text for it in titled if it.find(f"{SVG}rect") is not None]
+    titles = [it.find(f"{SVG}title").text for it in titled if it.find(f"{SVG}title").text not in {*arrows, *boxes}]
+    lines = list(drawn_lines(timeline, first))
+    if titles != [line for line, _, said in lines if MARKED.search(said)]:
         return "has other glyphs than the timeline"
-    if arrows != list(arrows_of(timeline)):
+    if arrows != list(arrows_of(timeline, first)):
         return "has not an arrow for each abort, from the last store to its word"
-    cut = int(timeline.splitlines()[-1].split()[0]) > MOST
+    source = shown(open(f"{TOP}/{file}", encoding="utf-8", newline="").read()).split("\n")
+    if any(box_differs(title, source) for title in boxes):
+        return "has a box that is titled by no transaction on its line"
+    if len(boxes) < sum(BEGUN.fullmatch(said) is not None for _, _, said in lines):
+        return "has no box for an attempt"
+    cut = int(timeline.splitlines()[-1].split()[0]) >= max(first, 1) + MOST
     if not cut and ": running" not in report and ": stop" not in report:
         threads = words[words.index("--threads") + 1]
-        order = ",".join(order_at_foot(root))
+        order = order_at_foot(root)
         if out_of(txc, "source", file, "--threads", threads, "--order", order) != left_by(report):
             return "has an order that leaves something else"
     return None
@@ -133,12 +163,14 @@ def main():
     for path in sorted(glob.glob(f"{TOP}/examples/*.c")):
         file, count = os.path.relpath(path, TOP), 0
         for seed in range(1, seeds + 1):
-            why = differs(txc, file, ["--threads", str(2 + seed % 3), "--seed", str(seed), "--steps", str(60 * seed)])
-            if why:
-                wrong += 1
-                print(f"{file}, seed {seed}: the picture {why}")
-            else:
-                count += 1
+            words = ["--threads", str(2 + seed % 3), "--seed", str(seed), "--steps", str(60 * seed)]
+            for first in (0, 1 + 7 * seed):
+                why = differs(txc, file, words, first)
+                if why:
+                    wrong += 1
+                    print(f"{file}, seed {seed}, from {first}: the picture {why}")
+                else:
+                    count += 1
         print(f"{file}: {count} pictures")
     sys.exit(wrong > 0)
 

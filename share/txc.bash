@@ -4,7 +4,7 @@ _txc() {
     case ${COMP_WORDS[COMP_CWORD - 1]} in
         --format) words='short' ;;
         --order-file | --report | --schedule) ;;
-        --budget | --limit | --order | --seed | --steps | --threads | --ticks) return ;;
+        --budget | --from | --limit | --order | --seed | --steps | --threads | --ticks) return ;;
         *)
             if ((COMP_CWORD == 1)); then
                 words='check listing run replay source outcomes certify explain --help --version'
@@ -13,7 +13,7 @@ _txc() {
                     check) words='--verbose --format --warn --all --help' ;;
                     listing) words='--verbose --format --help' ;;
                     run) words='--verbose --format --threads --budget --counts --help' ;;
-                    replay) words='--verbose --format --threads --schedule --seed --steps --order --timeline --picture --print-schedule --help' ;;
+                    replay) words='--verbose --format --threads --schedule --seed --steps --order --timeline --picture --from --print-schedule --help' ;;
                     source) words='--verbose --format --threads --order --ticks --help' ;;
                     outcomes) words='--verbose --format --threads --steps --limit --help' ;;
                     certify) words='--verbose --format --threads --order-file --report --ticks --help' ;;

@@ -33,6 +33,7 @@ complete -c txc -n '__fish_seen_subcommand_from replay' -l steps -x -d 'How many
 complete -c txc -n '__fish_seen_subcommand_from replay' -l order -x -d 'Whose turn it is, turn by turn: thread numbers joined by commas, or an empty word'
 complete -c txc -n '__fish_seen_subcommand_from replay' -l timeline -d 'Shows each step, a line each, before the report'
 complete -c txc -n '__fish_seen_subcommand_from replay' -l picture -d 'Draws the steps as one SVG, in place of the report'
+complete -c txc -n '__fish_seen_subcommand_from replay' -l from -x -d 'Which access is the first to be drawn, where a picture does not hold all: 0 to 1048576'
 complete -c txc -n '__fish_seen_subcommand_from replay' -l print-schedule -d 'Prints the steps of the seed or of the order as a schedule, in place of the report'
 complete -c txc -n '__fish_seen_subcommand_from replay' -l help -d 'Prints help'
 complete -c txc -n __fish_use_subcommand -a source -d 'Runs the source itself, transaction by transaction, in the order of threads that is given'

@@ -5,7 +5,7 @@ use Rattle.clap.specs.Words.{Row, Text, first_of}
 use Rattle.command.specs.declared.request.Task.TheVariants.{Check, Listing, Run, Replay, Timeline, Picture, PrintOrder, PrintSchedule, Source, Outcomes}
 use Rattle.command.specs.declared.request.Steps.{Steps}
 use Rattle.command.specs.declared.request.Steps.TheVariants.{Order, Schedule, Seed}
-use Rattle.command.specs.Asked.{AreCounted, AreSteps, IsOrder, IsOrderGiven}
+use Rattle.command.specs.Asked.{AreCounted, AreSteps, IsFirstDrawn, IsFlagged, IsOrder, IsOrderGiven}
 use Rattle.command.specs.inner.Refusals.{AreNoTask}
 
 -- no steps, no replay
@@ -15,11 +15,24 @@ no_replay given none Listing is = let e : 114 ≡ 108 = ap (λ l. slice_index l 
 no_replay given none (Run threads budget counts) is = let e : 6 ≡ 3 = ap length is.0 in absurd (omega (arith, e))
 no_replay given none (Replay threads steps) is = none steps is.2
 no_replay given none (Timeline threads steps) is = none steps is.2
-no_replay given none (Picture threads steps) is = none steps is.2
+no_replay given none (Picture threads from steps) is = none steps is.2
 no_replay given none (PrintSchedule threads seed count) is = none (Seed seed count) is.2
 no_replay given none (PrintOrder threads order) is = none (Order order) is.2
 no_replay given none (Source threads order ticks) is = let e : 114 ≡ 115 = ap (λ l. slice_index l 0) is.0 in absurd (omega (arith, e))
 no_replay given none (Outcomes threads steps limit) is = let e : 114 ≡ 111 = ap (λ l. slice_index l 0) is.0 in absurd (omega (arith, e))
+
+-- no first access to be drawn, no picture
+pub no_drawn : (given : List Row) → ((n : ℕ) → IsFirstDrawn given n → ⊥) → IsFlagged given (codes "picture") → AreNoTask (codes "replay") given
+no_drawn given none drawn (Check warns all) is = let e : 114 ≡ 99 = ap (λ l. slice_index l 0) is.0 in absurd (omega (arith, e))
+no_drawn given none drawn Listing is = let e : 114 ≡ 108 = ap (λ l. slice_index l 0) is in absurd (omega (arith, e))
+no_drawn given none drawn (Run threads budget counts) is = let e : 6 ≡ 3 = ap length is.0 in absurd (omega (arith, e))
+no_drawn given none drawn (Replay threads steps) is = is.3.picture_is.1 drawn
+no_drawn given none drawn (Timeline threads steps) is = is.3.picture_is.1 drawn
+no_drawn given none drawn (Picture threads from steps) is = none from is.4
+no_drawn given none drawn (PrintSchedule threads seed count) is = is.3.picture_is.1 drawn
+no_drawn given none drawn (PrintOrder threads order) is = is.3.picture_is.1 drawn
+no_drawn given none drawn (Source threads order ticks) is = let e : 114 ≡ 115 = ap (λ l. slice_index l 0) is.0 in absurd (omega (arith, e))
+no_drawn given none drawn (Outcomes threads steps limit) is = let e : 114 ≡ 111 = ap (λ l. slice_index l 0) is.0 in absurd (omega (arith, e))
 
 -- an order that is given makes other steps none
 pub no_ordered : (given : List Row) (text : Text) → first_of (codes "order") given ≡ Some text → ((ns : List ℕ) → IsOrderGiven given ns → (n : ℕ) → AreCounted given n → ⊥) → (steps : Steps) → AreSteps given steps → ⊥
@@ -34,7 +47,7 @@ no_source given none Listing is = let e : 115 ≡ 108 = ap (λ l. slice_index l 
 no_source given none (Run threads budget counts) is = let e : 115 ≡ 114 = ap (λ l. slice_index l 0) is.0 in absurd (omega (arith, e))
 no_source given none (Replay threads steps) is = let e : 115 ≡ 114 = ap (λ l. slice_index l 0) is.0 in absurd (omega (arith, e))
 no_source given none (Timeline threads steps) is = let e : 115 ≡ 114 = ap (λ l. slice_index l 0) is.0 in absurd (omega (arith, e))
-no_source given none (Picture threads steps) is = let e : 115 ≡ 114 = ap (λ l. slice_index l 0) is.0 in absurd (omega (arith, e))
+no_source given none (Picture threads from steps) is = let e : 115 ≡ 114 = ap (λ l. slice_index l 0) is.0 in absurd (omega (arith, e))
 no_source given none (PrintSchedule threads seed count) is = let e : 115 ≡ 114 = ap (λ l. slice_index l 0) is.0 in absurd (omega (arith, e))
 no_source given none (PrintOrder threads order) is = let e : 115 ≡ 114 = ap (λ l. slice_index l 0) is.0 in absurd (omega (arith, e))
 no_source given none (Source threads order ticks) is = none order.items is.2

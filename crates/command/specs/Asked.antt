@@ -128,6 +128,14 @@ pub record AreFlagged (given : List Row) (timeline picture print_schedule : Bool
   pub picture_is : IsTrue picture ↔ IsFlagged given (codes "picture")
   pub print_schedule_is : IsTrue print_schedule ↔ IsFlagged given (codes "print-schedule")
 
+-- the first access that is drawn; where none is said, all is drawn from the beginning
+abbrev pub IsFirstDrawn : List Row → ℕ → Type 0
+IsFirstDrawn given n = IsNumberInRange given (codes "from") 0 0 1048576 n
+
+-- no such access is said
+abbrev pub NoFirstDrawn : List Row → Type 0
+NoFirstDrawn given = first_of (codes "from") given ≡ None
+
 -- what is done with a program
 
 abbrev pub IsTask : Text → List Row → Task → Type 0
@@ -138,15 +146,16 @@ IsTask name given (Run threads budget counts) = (name ≡ codes "run") × AreThr
     × IsNumberInRange given (codes "budget") 4294967295 0 4294967295 budget
     × (IsTrue counts ↔ IsFlagged given (codes "counts"))
 IsTask name given (Replay threads steps) = (name ≡ codes "replay")
-    × AreThreadsGiven given threads × AreSteps given steps × AreFlagged given false false false
+    × AreThreadsGiven given threads × AreSteps given steps × AreFlagged given false false false × NoFirstDrawn given
 IsTask name given (Timeline threads steps) = (name ≡ codes "replay")
-    × AreThreadsGiven given threads × AreSteps given steps × AreFlagged given true false false
-IsTask name given (Picture threads steps) = (name ≡ codes "replay")
+    × AreThreadsGiven given threads × AreSteps given steps × AreFlagged given true false false × NoFirstDrawn given
+IsTask name given (Picture threads from steps) = (name ≡ codes "replay")
     × AreThreadsGiven given threads × AreSteps given steps × AreFlagged given false true false
+    × IsFirstDrawn given from
 IsTask name given (PrintSchedule threads seed count) = (name ≡ codes "replay") × AreThreadsGiven given threads
-    × AreSteps given (Seed seed count) × AreFlagged given false false true
+    × AreSteps given (Seed seed count) × AreFlagged given false false true × NoFirstDrawn given
 IsTask name given (PrintOrder threads order) = (name ≡ codes "replay") × AreThreadsGiven given threads
-    × AreSteps given (Order order) × AreFlagged given false false true
+    × AreSteps given (Order order) × AreFlagged given false false true × NoFirstDrawn given
 IsTask name given (Source threads order ticks) = (name ≡ codes "source") × AreThreadsGiven given threads
     × IsOrderGiven given order.items
     × IsNumberInRange given (codes "ticks") 100000 0 1000000 ticks

@@ -58,7 +58,8 @@ replay_steps_app =
 abbrev pub replay_app : App
 replay_app =
     let timeline = with_rule replay_steps_app (flag_rule (codes "timeline")) in
-    with_rule (with_rule timeline (flag_rule (codes "picture"))) (flag_rule (codes "print-schedule"))
+    let picture = with_rule (with_rule timeline (flag_rule (codes "picture"))) (text_rule (codes "from")) in
+    with_rule picture (flag_rule (codes "print-schedule"))
 
 abbrev pub source_app : App
 source_app =

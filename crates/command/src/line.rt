@@ -268,6 +268,13 @@ fn replay<'a>(alloc: Global) -> Result<Command<'a>, AllocError>
         "Draws the steps as one SVG, in place of the report",
     );
     let command = with(command, picture);
+    let from = text(
+        alloc,
+        "from",
+        "N",
+        "Which access is the first to be drawn, where a picture does not hold all: 0 to 1048576",
+    );
+    let command = with(command, from);
     let print_schedule = flag(
         alloc,
         "print-schedule",

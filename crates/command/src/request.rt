@@ -88,9 +88,11 @@ pub enum Task {
         threads: u32,
         steps: Steps,
     },
-    /// Makes steps of 1 to 64 threads, and draws them.
+    /// Makes steps of 1 to 64 threads, and draws them, from this access on: the first one has number 1, and with 0 all
+    /// is drawn from the beginning.
     Picture {
         threads: u32,
+        from: u32,
         steps: Steps,
     },
     /// Prints the steps of a seed for 1 to 64 threads as a schedule.

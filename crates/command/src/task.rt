@@ -3,7 +3,7 @@
 ghost use Rattle.std.specs.Prelude.{◌≡◌, ◌≤◌, ◌↔◌, ℕ, List, IfOk, IfErr, IsTrue, Some, None, codes, string_bytes};
 ghost use Rattle.clap.specs.Words.{first_of, found_of, rows_of};
 ghost use Rattle.command.specs.Asked.{AreCounted, AreScheduled, AreSteps, AreThreadsGiven, IsNotBoth, IsNumberInRange};
-ghost use Rattle.command.specs.Asked.{IsOrderGiven, IsTask};
+ghost use Rattle.command.specs.Asked.{IsFirstDrawn, IsOrderGiven, IsTask};
 ghost use Rattle.command.specs.declared.request.Steps.{Steps};
 ghost use Rattle.command.specs.inner.Refusals.{AreNoTask, IsOutOfRange, IsOwn};
 
@@ -145,6 +145,14 @@ fn steps(alloc: Global, given: &ArgMatches<'_>) -> Result<Steps, UsageFault>
     }
 }
 
+/// The first access that is drawn.
+fn first_drawn(alloc: Global, given: &ArgMatches<'_>) -> Result<u32, UsageFault>
+    ensures ok { IfOk result (IsFirstDrawn (rows_of (found_of given.now))) }
+    ensures err { IfErr result (IsOwn ((n : ℕ) → IsFirstDrawn (rows_of (found_of given.now)) n → ⊥)) }
+{
+    number(alloc, given, "from", 0, 0, MOST_STEPS)
+}
+
 /// A replay, by which of its flags is given: it is shown step by step, drawn, or what it would make is printed.
 fn replay(alloc: Global, given: &ArgMatches<'_>) -> Result<Task, UsageFault>
     ensures ok { IfOk result (IsTask (codes "replay") (rows_of (found_of given.now))) }
@@ -155,11 +163,16 @@ fn replay(alloc: Global, given: &ArgMatches<'_>) -> Result<Task, UsageFault>
     let timeline = flag_given(given, "timeline");
     let picture = flag_given(given, "picture");
     let print_schedule = flag_given(given, "print-schedule");
-    match (timeline, picture, print_schedule) {
-        (false, false, false) => Ok(Task::Replay { threads, steps }),
-        (true, false, false) => Ok(Task::Timeline { threads, steps }),
-        (false, true, false) => Ok(Task::Picture { threads, steps }),
-        (false, false, true) => match steps {
+    let from = text_given(given, "from");
+    match (timeline, picture, print_schedule, from) {
+        (false, false, false, None) => Ok(Task::Replay { threads, steps }),
+        (true, false, false, None) => Ok(Task::Timeline { threads, steps }),
+        (false, true, false, _) => Ok(Task::Picture {
+            threads,
+            from: first_drawn(alloc, given)?,
+            steps,
+        }),
+        (false, false, true, None) => match steps {
             Steps::Seed { seed, count } => Ok(Task::PrintSchedule {
                 threads,
                 seed,
@@ -168,6 +181,7 @@ fn replay(alloc: Global, given: &ArgMatches<'_>) -> Result<Task, UsageFault>
             Steps::Order { order } => Ok(Task::PrintOrder { threads, order }),
             Steps::Schedule { .. } => Err(wrong(alloc, "--print-schedule wants --seed")),
         },
+        (_, false, _, Some(_)) => Err(wrong(alloc, "--from wants --picture")),
         _ => Err(wrong(alloc, "one of --picture, --print-schedule and --timeline")),
     }
 }

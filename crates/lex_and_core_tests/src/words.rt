@@ -317,7 +317,7 @@ fn replays() -> &'static [Row] {
     static ROWS: [Row; 6] = [
         (
             "txc|replay|--picture|--schedule=s|a.c",
-            br#"Ok(Program { file: "a.c", verbose: false, format: Plain, task: Picture { threads: 1, steps: Schedule { file: "s" } } })"#,
+            br#"Ok(Program { file: "a.c", verbose: false, format: Plain, task: Picture { threads: 1, from: 0, steps: Schedule { file: "s" } } })"#,
         ),
         (
             "txc|replay|a.c|--schedule|s.txt",
@@ -348,6 +348,55 @@ fn replays() -> &'static [Row] {
 #[test]
 fn reads_replays(rt: HostRuntime) {
     assert_none(&rt, ask_otherwise(rt.alloc(), replays()));
+}
+
+/// Pictures from an access on.
+fn pictures() -> &'static [Row] {
+    static ROWS: [Row; 9] = [
+        (
+            "txc|replay|--picture|--from=0|--schedule=s|a.c",
+            br#"Ok(Program { file: "a.c", verbose: false, format: Plain, task: Picture { threads: 1, from: 0, steps: Schedule { file: "s" } } })"#,
+        ),
+        (
+            "txc|replay|--from|401|--picture|--seed=1|a.c",
+            br#"Ok(Program { file: "a.c", verbose: false, format: Plain, task: Picture { threads: 1, from: 401, steps: Seed { seed: 1, count: 100000 } } })"#,
+        ),
+        (
+            "txc|replay|--picture|--from=1048576|--order=0|a.c",
+            br#"Ok(Program { file: "a.c", verbose: false, format: Plain, task: Picture { threads: 1, from: 1048576, steps: Order { order: [0] } } })"#,
+        ),
+        (
+            "txc|replay|--picture|--from=1048577|--order=0|a.c",
+            br#"Err(Wrong { text: "txc: usage: --from is 0 to 1048576\n" })"#,
+        ),
+        (
+            "txc|replay|--picture|--from=first|--order=0|a.c",
+            br#"Err(Wrong { text: "txc: usage: --from is 0 to 1048576\n" })"#,
+        ),
+        // nothing is drawn
+        (
+            "txc|replay|--from=401|--order=0|a.c",
+            br#"Err(Wrong { text: "txc: usage: --from wants --picture\n" })"#,
+        ),
+        (
+            "txc|replay|--from=0|--timeline|--order=0|a.c",
+            br#"Err(Wrong { text: "txc: usage: --from wants --picture\n" })"#,
+        ),
+        (
+            "txc|replay|--from=1|--print-schedule|--order=0|a.c",
+            br#"Err(Wrong { text: "txc: usage: --from wants --picture\n" })"#,
+        ),
+        (
+            "txc|replay|--from=1|--picture|--timeline|--order=0|a.c",
+            br#"Err(Wrong { text: "txc: usage: one of --picture, --print-schedule and --timeline\n" })"#,
+        ),
+    ];
+    &ROWS
+}
+
+#[test]
+fn reads_pictures(rt: HostRuntime) {
+    assert_none(&rt, ask_otherwise(rt.alloc(), pictures()));
 }
 
 /// Replays by a seed.
@@ -472,7 +521,7 @@ fn replayed_orders() -> &'static [Row] {
         ),
         (
             "txc|replay|--picture|--threads=64|--order=63|a.c",
-            br#"Ok(Program { file: "a.c", verbose: false, format: Plain, task: Picture { threads: 64, steps: Order { order: [63] } } })"#,
+            br#"Ok(Program { file: "a.c", verbose: false, format: Plain, task: Picture { threads: 64, from: 0, steps: Order { order: [63] } } })"#,
         ),
         (
             "txc|replay|-|--order=1,0|--print-schedule|--threads=2",

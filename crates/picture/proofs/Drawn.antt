@@ -10,7 +10,9 @@ use Rattle.picture.specs.Arrows.{arrow_text, arrow_to, arrows_among, arrows_behi
 use Rattle.picture.specs.Figures.{figures_text}
 use Rattle.picture.specs.Glyphs.{Glyph, glyph_text}
 use Rattle.picture.specs.Pictures.{IsPicture, head_text}
-use Rattle.picture.specs.inner.Views.{figure_of, glyph_of}
+use Rattle.picture.specs.Boxes.{box_text}
+use Rattle.picture.specs.declared.boxes.TransactionBox.{TransactionBox}
+use Rattle.picture.specs.inner.Views.{box_of, figure_of, glyph_of}
 
 then_put : {X : Type 0} (a p q b c : List X) → b ≡ a ++ p → c ≡ b ++ q → c ≡ a ++ (p ++ q)
 then_put a p q b c was more = more ∙ ap (λ l. l ++ q) was ∙ append_assoc a p q
@@ -58,17 +60,18 @@ steps_of [] = refl
 steps_of (g ∷ glyphs) = ap (λ steps. (glyph_of g).step ∷ steps) (steps_of glyphs)
 
 -- a picture's text by what is added to it in turn
-pub is_picture : {A : Type 0} (width height : ℕ) (title description : List ℕ) (below between : List (Figure A)) (arrows : List Arrow) (glyphs : List (Own A)) (empty headed drawn pointed mixed whole svg : List ℕ) → map (λ (a : Arrow). (a.store, a.load)) arrows ≡ arrows_among (map glyph_of glyphs) → empty ≡ [] → headed ≡ empty ++ head_text width height title description → drawn ≡ headed ++ figures_text (map figure_of below) → pointed ≡ drawn ++ flat_map arrow_text arrows → mixed ≡ pointed ++ figures_text (map figure_of between) → whole ≡ mixed ++ flat_map glyph_text (map glyph_of glyphs) → svg ≡ whole ++ codes "</svg>\n" → IsPicture (map (λ g. (glyph_of g).step) glyphs) svg
-is_picture width height title description below between arrows glyphs empty headed drawn pointed mixed whole svg of_drops is_empty to_headed to_drawn to_pointed to_mixed to_whole to_svg = record {
+pub is_picture : {A : Type 0} (source : List ℕ) (width height : ℕ) (title description : List ℕ) (below between : List (Figure A)) (boxes : List (TransactionBox A)) (arrows : List Arrow) (glyphs : List (Own A)) (empty headed drawn boxed pointed mixed whole svg : List ℕ) → map (λ (a : Arrow). (a.store, a.load)) arrows ≡ arrows_among (map glyph_of glyphs) → empty ≡ [] → headed ≡ empty ++ head_text width height title description → drawn ≡ headed ++ figures_text (map figure_of below) → boxed ≡ drawn ++ flat_map (box_text source) (map box_of boxes) → pointed ≡ boxed ++ flat_map arrow_text arrows → mixed ≡ pointed ++ figures_text (map figure_of between) → whole ≡ mixed ++ flat_map glyph_text (map glyph_of glyphs) → svg ≡ whole ++ codes "</svg>\n" → IsPicture source (map (λ g. (glyph_of g).step) glyphs) svg
+is_picture source width height title description below between boxes arrows glyphs empty headed drawn boxed pointed mixed whole svg of_drops is_empty to_headed to_drawn to_boxed to_pointed to_mixed to_whole to_svg = record {
   width = width;
   height = height;
   title = title;
   description = description;
   below = map figure_of below;
+  boxes = map box_of boxes;
   arrows = arrows;
   between = map figure_of between;
   glyphs = map glyph_of glyphs;
   of_steps = steps_of glyphs;
   of_drops = of_drops;
-  text = to_svg ∙ ap (λ t. t ++ codes "</svg>\n") (to_whole ∙ ap (λ t. t ++ flat_map glyph_text (map glyph_of glyphs)) (to_mixed ∙ ap (λ t. t ++ figures_text (map figure_of between)) (to_pointed ∙ ap (λ t. t ++ flat_map arrow_text arrows) (to_drawn ∙ ap (λ t. t ++ figures_text (map figure_of below)) (to_headed ∙ ap (λ t. t ++ head_text width height title description) is_empty)))));
+  text = to_svg ∙ ap (λ t. t ++ codes "</svg>\n") (to_whole ∙ ap (λ t. t ++ flat_map glyph_text (map glyph_of glyphs)) (to_mixed ∙ ap (λ t. t ++ figures_text (map figure_of between)) (to_pointed ∙ ap (λ t. t ++ flat_map arrow_text arrows) (to_boxed ∙ ap (λ t. t ++ flat_map (box_text source) (map box_of boxes)) (to_drawn ∙ ap (λ t. t ++ figures_text (map figure_of below)) (to_headed ∙ ap (λ t. t ++ head_text width height title description) is_empty))))));
 }

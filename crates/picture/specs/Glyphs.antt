@@ -1,5 +1,6 @@
 -- The glyphs of a picture: which steps have one, and how it is spelled.
-use Rattle.std.specs.Prelude.{ℕ, List, ◌∷◌, ◌++◌, Bool, true, false, ◌||◌, ◌&&◌, nat_le, codes}
+use Rattle.std.specs.Prelude.{ℕ, ◌+◌, ◌==◌, List, ◌∷◌, ◌++◌, Bool, true, false, ◌||◌, ◌&&◌, nat_le, nat_lt, codes}
+use Rattle.std.specs.Prelude.{if◌then◌else◌}
 use Rattle.norec_core.specs.declared.step.Access.{Access}
 use Rattle.norec_core.specs.declared.step.Access.TheVariants.{Local, LoadLock, LoadWord, Swap, StoreWord, StoreLock}
 use Rattle.picture.specs.declared.step.LocalAction.{LocalAction}
@@ -33,9 +34,17 @@ has_glyph_alone Other = false
 abbrev pub is_noted : Access → Event → LocalAction → Bool
 is_noted access happening action = is_access access || is_eventful happening || has_glyph_alone action
 
--- a step is drawn where it has a glyph and is made up to the 400th access
-abbrev pub is_drawn : ℕ → Access → Event → LocalAction → Bool
-is_drawn accesses access happening action = nat_le accesses 400 && is_noted access happening action
+-- the first access that is drawn: where it is 0, all is drawn from the beginning, before the first access too
+abbrev pub first_drawn : (from : ℕ) → ℕ
+first_drawn from = if from == 0 then 1 else from
+
+-- a step after so many accesses is drawn where these are from the first one on, and it is one of 400 or behind one
+abbrev pub is_among : (from accesses : ℕ) → Bool
+is_among from accesses = nat_le from accesses && nat_lt accesses (first_drawn from + 400)
+
+-- a step is drawn where it has a glyph and is made among these
+abbrev pub is_drawn : (from accesses : ℕ) → Access → Event → LocalAction → Bool
+is_drawn from accesses access happening action = is_among from accesses && is_noted access happening action
 
 -- a step that is drawn: how many accesses all threads had made with it, its thread, its access, what happened in it, and
 -- the title of its glyph

@@ -2,6 +2,8 @@
 pub mod Figures
 -- its glyphs
 pub mod Glyphs
+-- its boxes, and what their titles show of the source
+pub mod Boxes
 -- its arrows
 pub mod Arrows
 -- all that stands in it

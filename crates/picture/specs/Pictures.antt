@@ -3,6 +3,7 @@ use Rattle.std.specs.Prelude.{ℕ, ◌≡◌, List, ◌++◌, codes, decimal, fl
 use Rattle.picture.specs.declared.arrow.Arrow.{Arrow}
 use Rattle.picture.specs.declared.legend.TheConstants.{STYLE}
 use Rattle.picture.specs.Arrows.{arrow_text, arrows_among}
+use Rattle.picture.specs.Boxes.{TransactionBox, box_text}
 use Rattle.picture.specs.Figures.{Figure, figures_text, measure, xml}
 use Rattle.picture.specs.Glyphs.{DrawnStep, Glyph, glyph_text}
 
@@ -24,19 +25,21 @@ head_text width height title description =
     codes "<svg xmlns=\"http://www.w3.org/2000/svg\"" ++ size_text width height
     ++ codes " role=\"img\" aria-labelledby=\"t d\">\n" ++ told_text title description ++ STYLE.now
 
--- A picture of steps: a head, and then figures, arrows, figures again, and glyphs, of which later ones stand above
--- earlier ones. Each step has a glyph, in their order; and each that drops an attempt an arrow, from the glyph of the
--- last store to the word that had changed to its own.
-pub record IsPicture (steps : List DrawnStep) (svg : List ℕ) : Type 0 where
+-- A picture of steps of a source: a head, and then figures, boxes, arrows, figures again, and glyphs, of which later
+-- ones stand above earlier ones. Each step has a glyph, in their order; and each that drops an attempt an arrow, from
+-- the glyph of the last store to the word that had changed to its own. A box is titled by the source's text.
+pub record IsPicture (source : List ℕ) (steps : List DrawnStep) (svg : List ℕ) : Type 0 where
   pub width : ℕ
   pub height : ℕ
   pub title : List ℕ
   pub description : List ℕ
   pub below : List Figure
+  pub boxes : List TransactionBox
   pub arrows : List Arrow
   pub between : List Figure
   pub glyphs : List Glyph
   pub of_steps : map (λ g. g.step) glyphs ≡ steps
   pub of_drops : map (λ a. (a.store, a.load)) arrows ≡ arrows_among glyphs
-  pub text : svg ≡ head_text width height title description ++ figures_text below ++ flat_map arrow_text arrows
-      ++ figures_text between ++ flat_map glyph_text glyphs ++ codes "</svg>\n"
+  pub text : svg ≡ head_text width height title description ++ figures_text below
+      ++ flat_map (box_text source) boxes ++ flat_map arrow_text arrows ++ figures_text between
+      ++ flat_map glyph_text glyphs ++ codes "</svg>\n"

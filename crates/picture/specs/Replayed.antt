@@ -36,10 +36,11 @@ drawn_step code s = record {
 }
 
 -- a step, if it is drawn
-abbrev pub if_drawn : Code → ℕ × ℕ × StepShown → List DrawnStep
-if_drawn code s =
-    if is_drawn s.0 s.2.access s.2.event (action_at code s.2.status s.2.place) then drawn_step code s ∷ [] else []
+abbrev pub if_drawn : (from : ℕ) → Code → ℕ × ℕ × StepShown → List DrawnStep
+if_drawn from code s =
+    if is_drawn from s.0 s.2.access s.2.event (action_at code s.2.status s.2.place) then drawn_step code s ∷ []
+    else []
 
--- a text is a picture of these steps: of those that are drawn
-abbrev pub IsDrawn : Code → List (ℕ × ℕ × StepShown) → List ℕ → Type 0
-IsDrawn code steps svg = IsPicture (flat_map (if_drawn code) steps) svg
+-- a text is a picture of these steps of a source, from an access on: of those that are drawn
+abbrev pub IsDrawn : (source : List ℕ) → (from : ℕ) → Code → List (ℕ × ℕ × StepShown) → List ℕ → Type 0
+IsDrawn source from code steps svg = IsPicture source (flat_map (if_drawn from code) steps) svg

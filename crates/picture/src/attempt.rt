@@ -23,18 +23,29 @@ pub(crate) enum NextLoad {
     Compare(u64),
 }
 
+/// An inner transaction.
+#[derive(Clone, Copy)]
+pub(crate) struct Inner {
+    /// The row of its begin.
+    pub row: u64,
+    /// The offset of its keyword in the source, where that is known.
+    pub keyword: Option<usize>,
+}
+
 /// An attempt at an outermost transaction.
 #[derive(Drop)]
 pub(crate) struct KnownAttempt<A: Allocator = Global> {
-    /// The row of the attempt's begin.
+    /// The row of the attempt's begin, or the one before it, which names the transaction.
     pub row: u64,
+    /// The offset of the transaction's keyword in the source, where that is known.
+    pub keyword: Option<usize>,
     /// The even lock of whose moment the attempt's reads are.
     pub snapshot: u64,
     /// What the attempt has read, of each cell the first load.
     pub reads: Vec<Load, A>,
     pub phase: NextLoad,
-    /// The rows of the begins of inner transactions that are open.
-    pub inner: Vec<u64, A>,
+    /// The inner transactions that are open.
+    pub inner: Vec<Inner, A>,
     /// Whether the attempt has the lock.
     pub is_kept: bool,
 }

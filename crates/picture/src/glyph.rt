@@ -96,6 +96,11 @@ impl<'p, A: Allocator + Copy> Sheet<'p, A> {
         Ok(())
     }
 
+    /// Begins a row in which no glyph stands.
+    pub(crate) fn leave_row(&mut self) -> Result<(), AllocError> {
+        self.begin_row(&Look::new(b"", b"", b"", None))
+    }
+
     /// Says that a thread has one more glyph in the last row. Gives how much of it stood there before.
     fn stand(&mut self, thread: u32, look: &Look<'_>) -> Option<usize> {
         let row = self.last();
@@ -121,13 +126,17 @@ impl<'p, A: Allocator + Copy> Sheet<'p, A> {
         Ok(())
     }
 
-    /// Draws a glyph of a thread: in a new row, or behind what stands in the last row, where that may go on so.
+    /// Draws a glyph of a thread: in a new row, or behind what stands in the last row, where that may go on so. Before
+    /// the drawing begins there is none.
     pub(crate) fn draw_glyph(
         &mut self,
         to: &mut Vec<Figure<A>, A>,
         thread: u32,
         look: Look<'_>,
     ) -> Result<(), AllocError> {
+        if !self.is_drawing {
+            return Ok(());
+        }
         let goes_on = look.fold != Fold::Never && look.fold == self.fold;
         if !goes_on {
             self.begin_row(&look)?;

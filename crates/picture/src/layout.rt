@@ -17,6 +17,8 @@ pub(crate) const TOP: u64 = 106;
 pub(crate) const HEADED: u64 = 40;
 /// Characters of a row's text.
 pub(crate) const CHARACTERS: usize = 19;
+/// Characters of the row that names a transaction.
+pub(crate) const HEADING: usize = 24;
 
 /// The left side of a thread's lane.
 pub(crate) fn left_of(thread: u32) -> u64

@@ -37,7 +37,10 @@ impl<'p, A: Allocator + Copy> Sheet<'p, A> {
 
     /// Draws the lock while a thread had it, down to a row.
     pub(crate) fn draw_held(&mut self, held: Holding, end: u64) -> Result<(), AllocError> {
-        let lower = top(end).wrapping_add(ROW);
+        if !self.is_drawing {
+            return Ok(());
+        }
+        let lower = top(end.max(held.row)).wrapping_add(ROW);
         let size = (50, lower.wrapping_sub(top(held.row)));
         self.lock
             .push(Figure::rectangle((42, top(held.row)), size, b"held"))?;
@@ -73,7 +76,7 @@ impl<'p, A: Allocator + Copy> Sheet<'p, A> {
             self.draw_held(held, row)?;
         }
         self.held = None;
-        self.free = (row.saturating_add(1), value);
+        self.free = (self.rows, value);
         Ok(())
     }
 }

@@ -71,13 +71,18 @@ impl<'p, A: Allocator + Copy> Sheet<'p, A> {
         if tries > 1 {
             push_pieces(&mut said, &[Piece::Plain(b", try "), Piece::Number(tries)])?;
         }
+        let row = self.rows;
+        if self.is_drawing && self.transaction(step.keyword).is_some() {
+            self.leave_row()?;
+        }
         self.draw_glyph(
             to,
             step.thread,
             Look::new(b"lock", said.as_slice(), b"b", Some(step.accesses)),
         )?;
         let attempt = KnownAttempt {
-            row: self.last(),
+            row,
+            keyword: step.keyword,
             snapshot: value,
             reads: Vec::new(self.alloc),
             phase: NextLoad::Open,
@@ -232,6 +237,9 @@ impl<'p, A: Allocator + Copy> Sheet<'p, A> {
 
     /// The bracket of a drop, from the read to the load that differs, in the last row.
     fn draw_bracket(&mut self, thread: u32, read: Load) -> Result<(), AllocError> {
+        if !self.is_drawing {
+            return Ok(());
+        }
         let (inner, outer) = (
             left_of(thread).wrapping_add(BOX - 9),
             left_of(thread).wrapping_add(BOX - 4),
@@ -298,8 +306,10 @@ impl<'p, A: Allocator + Copy> Sheet<'p, A> {
             said.extend_from_slice(b": was ")?;
             put_value(&mut said, self.cells, cell, read.word)?;
             self.draw_bracket(step.thread, read)?;
-            if let Some(store) = last_store(self.stores.as_slice(), cell) {
-                self.tell_drop(step, cell, word, read, store)?;
+            if self.is_drawing {
+                if let Some(store) = last_store(self.stores.as_slice(), cell) {
+                    self.tell_drop(step, cell, word, read, store)?;
+                }
             }
         }
         self.leave(to, step.thread, b"dropped", b"cross", said.as_slice())
@@ -398,6 +408,7 @@ impl<'p, A: Allocator + Copy> Sheet<'p, A> {
             took_lock: true,
             thread: step.thread,
             access: step.accesses,
+            is_drawn: self.is_drawing,
         })?;
         let number = [Piece::Plain(b", #"), Piece::Number(value / 2)];
         match step.event {

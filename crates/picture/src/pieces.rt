@@ -16,7 +16,7 @@ pub(crate) enum Piece<'a> {
 }
 
 /// Adds a byte of words.
-fn put_byte<A: Allocator>(to: &mut Vec<u8, A>, byte: u8) -> Result<(), AllocError>
+pub(crate) fn put_byte<A: Allocator>(to: &mut Vec<u8, A>, byte: u8) -> Result<(), AllocError>
     ensures { OnOk result (to.new.items ≡ to.old.items ++ xml_escape byte) }
 {
     match byte {

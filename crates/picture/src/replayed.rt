@@ -1,15 +1,20 @@
 //! The steps of a replay, as they are drawn.
 
-ghost use Rattle.std.specs.Prelude.{◌≡◌, ◌++◌, IfOk, IfSome, OnSome, flat_map, slice_get};
+ghost use Rattle.std.specs.Prelude.{◌≡◌, ◌++◌, IfOk, IsTrue, IfSome, OnSome, flat_map, slice_get};
 ghost use Rattle.replay.specs.Replays.{simulation_after, timeline_of};
+ghost use Rattle.report.specs.Timeline.{step_words};
+ghost use Rattle.picture.specs.Glyphs.{is_among};
 ghost use Rattle.picture.specs.Pictures.{IsPicture};
 ghost use Rattle.picture.specs.Replayed.{IsDrawn, action_at, action_of, if_drawn};
 ghost use Rattle.picture.specs.inner.Views.{drawn_of};
 
 use crate::cells::cells_of;
+use crate::source::transactions_of;
 use crate::step::{LocalAction, Step};
-use crate::svg::picture;
+use crate::svg::{is_among, picture};
 use bytecode::{Code, InstrView};
+use lex::lex;
+use lex::token::Token;
 use machine::StepShown;
 use replay::timeline;
 use report::step_text;
@@ -48,7 +53,37 @@ fn levels_at<A: Allocator>(code: &Code<A>, place: u32) -> u32 {
     }
 }
 
-/// A step as it is drawn.
+/// Where the keyword of the transaction stands that the instruction at a place begins.
+fn keyword_at<A: Allocator>(code: &Code<A>, action: LocalAction, place: u32) -> Option<usize> {
+    if action != LocalAction::Begin {
+        return None;
+    }
+    match code.span_at(place as usize) {
+        Some(span) => Some(span.start),
+        None => None,
+    }
+}
+
+/// The line of a step in the timeline, where the step is made among the accesses that are drawn.
+fn line_of<A: Allocator + Copy>(
+    alloc: A,
+    code: &Code<A>,
+    accesses: u64,
+    thread: u32,
+    shown: &StepShown,
+    from: u32,
+) -> Result<Vec<u8, A>, AllocError>
+    ensures { IfOk result
+        (λ v. IsTrue (is_among from accesses) → v.items ≡ step_words code.now (accesses, thread, shown.now)) }
+{
+    if is_among(from, accesses) {
+        step_text(alloc, code, accesses, thread, shown)
+    } else {
+        Ok(Vec::new(alloc))
+    }
+}
+
+/// A step as it is drawn, where it is.
 fn drawn_step<A: Allocator + Copy>(
     alloc: A,
     code: &Code<A>,
@@ -56,15 +91,18 @@ fn drawn_step<A: Allocator + Copy>(
     thread: u32,
     shown: &StepShown,
     printed: Vec<u8, A>,
+    from: u32,
 ) -> Result<Step<A>, AllocError>
-    ensures { IfOk result (λ s. drawn_of s ≡ if_drawn code.now (accesses, thread, shown.now)) }
+    ensures { IfOk result (λ s. drawn_of from s ≡ if_drawn from code.now (accesses, thread, shown.now)) }
 {
+    let action = action_at(code, shown.status, shown.place);
     Ok(Step {
         accesses,
         thread,
-        line: step_text(alloc, code, accesses, thread, shown)?,
-        action: action_at(code, shown.status, shown.place),
+        line: line_of(alloc, code, accesses, thread, shown, from)?,
+        action,
         levels: levels_at(code, shown.place),
+        keyword: keyword_at(code, action, shown.place),
         access: shown.access,
         answer: shown.answer,
         event: shown.event,
@@ -102,12 +140,13 @@ fn add_step<A: Allocator + Copy>(
     accesses: u64,
     thread: u32,
     shown: &StepShown,
+    from: u32,
 ) -> Option<()>
-    ensures { OnSome result (flat_map drawn_of steps.new.items
-        ≡ flat_map drawn_of steps.old.items ++ if_drawn code.now (accesses, thread, shown.now)) }
+    ensures { OnSome result (flat_map (drawn_of from) steps.new.items
+        ≡ flat_map (drawn_of from) steps.old.items ++ if_drawn from code.now (accesses, thread, shown.now)) }
 {
     let printed = printed_by(alloc, world, thread)?;
-    let Ok(step) = drawn_step(alloc, code, accesses, thread, shown, printed) else {
+    let Ok(step) = drawn_step(alloc, code, accesses, thread, shown, printed, from) else {
         return None;
     };
     match steps.push(step) {
@@ -122,12 +161,15 @@ fn drawn_steps<A: Allocator + Copy>(
     code: &Code<A>,
     world: &mut World<A>,
     shown: &[(u64, u32, StepShown)],
+    from: u32,
 ) -> Option<Vec<Step<A>, A>>
-    ensures { IfSome result (λ v. flat_map drawn_of v.items ≡ flat_map (if_drawn code.now) shown.now) }
+    ensures { IfSome result (λ v. flat_map (drawn_of from) v.items ≡ flat_map (if_drawn from code.now) shown.now) }
 {
     let mut steps = Vec::new(alloc);
     'shown: for (accesses, thread, step) in shown {
-        add_step(alloc, &mut steps, code, world, *accesses, *thread, step)?;
+        add_step(
+            alloc, &mut steps, code, world, *accesses, *thread, step, from,
+        )?;
     }
     Some(steps)
 }
@@ -145,35 +187,65 @@ fn ends_of<A: Allocator + Copy>(alloc: A, world: &World<A>) -> Result<Vec<Status
 fn draw_steps<A: Allocator + Copy>(
     alloc: A,
     unit: &Unit<A>,
+    text: &str,
+    tokens: &[Token<'_>],
     steps: &[Step<A>],
+    from: u32,
     world: &World<A>,
     file: &[u8],
 ) -> Result<Vec<u8, A>, AllocError>
-    ensures { IfOk result (λ v. IsPicture (flat_map drawn_of steps.now) v.items) }
+    ensures { IfOk result (λ v. IsPicture text.now (flat_map (drawn_of from) steps.now) v.items) }
 {
     let cells = cells_of(alloc, unit)?;
+    let transactions = transactions_of(alloc, text, tokens)?;
     let ends = ends_of(alloc, world)?;
-    picture(alloc, cells.as_slice(), steps, ends.as_slice(), file)
+    picture(
+        alloc,
+        cells.as_slice(),
+        text,
+        transactions.as_slice(),
+        steps,
+        from,
+        ends.as_slice(),
+        file,
+    )
 }
 
-/// The picture of these steps of 1 to 64 threads of a program's code. `file` is the program's name. At most 400
-/// accesses are drawn. There is no answer where memory was refused, and where one of the steps cannot be made.
+/// The picture of these steps of 1 to 64 threads of a program's code. `file` is the program's name, `text` its source.
+/// At most 400 accesses are drawn: from the one of the number `from` on, where the first access has number 1, or from
+/// the beginning where that is 0. There is no answer where memory was refused, where one of the steps cannot be made, and
+/// where the text has no tokens.
 pub fn replay_picture<A: Allocator + Copy>(
     alloc: A,
     unit: &Unit<A>,
     code: &Code<A>,
     threads: u32,
     made: &[u32],
+    from: u32,
     file: &str,
+    text: &str,
 ) -> Option<Vec<u8, A>>
-    ensures { IfSome result (λ v. IsDrawn code.now (timeline_of (simulation_after code.now threads made.now)) v.items) }
+    ensures { IfSome result
+        (λ v. IsDrawn text.now from code.now (timeline_of (simulation_after code.now threads made.now)) v.items) }
 {
+    let Ok(tokens) = lex(alloc, text) else {
+        return None;
+    };
     let shown = timeline(alloc, code, threads, made)?;
     let Ok(mut world) = World::new(alloc, code, threads) else {
         return None;
     };
-    let steps = drawn_steps(alloc, code, &mut world, shown.as_slice())?;
-    match draw_steps(alloc, unit, steps.as_slice(), &world, file.as_bytes()) {
+    let steps = drawn_steps(alloc, code, &mut world, shown.as_slice(), from)?;
+    match draw_steps(
+        alloc,
+        unit,
+        text,
+        tokens.as_slice(),
+        steps.as_slice(),
+        from,
+        &world,
+        file.as_bytes(),
+    ) {
         Ok(svg) => Some(svg),
         Err(_) => None,
     }

@@ -1,9 +1,14 @@
 //! What is drawn so far.
 
 use crate::attempt::Lane;
+use crate::boxes::TransactionBox;
 use crate::figure::Figure;
+use crate::source::Transaction;
 use lex::token::Scalar;
 use std::alloc::{AllocError, Allocator, Global};
+
+/// How often an inner transaction is looked for in the source.
+const MOST_LOOKED: u64 = 1000;
 
 /// A cell of shared memory, as it is named.
 #[derive(Drop)]
@@ -47,6 +52,8 @@ pub(crate) struct Effect {
     pub thread: u32,
     /// How many accesses all threads had made by the transaction's end.
     pub access: u64,
+    /// Whether that is drawn.
+    pub is_drawn: bool,
 }
 
 /// Who has the lock: from which row on, who, and its odd value.
@@ -62,6 +69,12 @@ pub(crate) struct Holding {
 pub(crate) struct Sheet<'p, A: Allocator = Global> {
     pub alloc: A,
     pub cells: &'p [Cell<A>],
+    /// The transactions of the source, in its order.
+    pub transactions: &'p [Transaction<A>],
+    /// Whether the first access that is drawn has come. Before, threads go on, and nothing is drawn.
+    pub is_drawing: bool,
+    /// How often an inner transaction was looked for in the source.
+    pub looked: u64,
     pub lanes: Vec<Lane<A>, A>,
     /// How many rows there are.
     pub rows: u64,
@@ -72,8 +85,8 @@ pub(crate) struct Sheet<'p, A: Allocator = Global> {
     pub stores: Vec<Store, A>,
     pub effects: Vec<Effect, A>,
     pub dropped: u64,
-    /// Boxes, in the order in which they close; the sides of one come before its rectangle.
-    pub boxes: Vec<Figure<A>, A>,
+    /// Boxes, in the order in which they close.
+    pub boxes: Vec<TransactionBox<A>, A>,
     pub lock: Vec<Figure<A>, A>,
     /// Numbers of accesses, and brackets.
     pub lines: Vec<Figure<A>, A>,
@@ -86,6 +99,7 @@ impl<'p, A: Allocator + Copy> Sheet<'p, A> {
     pub(crate) fn new(
         alloc: A,
         cells: &'p [Cell<A>],
+        transactions: &'p [Transaction<A>],
         threads: u32,
     ) -> Result<Sheet<'p, A>, AllocError> {
         let mut lanes = Vec::new(alloc);
@@ -95,6 +109,9 @@ impl<'p, A: Allocator + Copy> Sheet<'p, A> {
         Ok(Sheet {
             alloc,
             cells,
+            transactions,
+            is_drawing: false,
+            looked: 0,
             lanes,
             rows: 0,
             fold: Fold::Never,
@@ -108,6 +125,50 @@ impl<'p, A: Allocator + Copy> Sheet<'p, A> {
             lines: Vec::new(alloc),
             drop_sentences: Vec::new(alloc),
         })
+    }
+
+    /// Begins to draw: what is open stands in a first row of its own.
+    pub(crate) fn wake(&mut self) {
+        if self.is_drawing {
+            return;
+        }
+        self.is_drawing = true;
+        self.dropped = 0;
+        let mut is_open = false;
+        'lanes: for lane in self.lanes.iter_mut() {
+            if let Some(attempt) = &mut lane.open {
+                is_open = true;
+                'inner: for inner in attempt.inner.iter_mut() {
+                    inner.row = 1;
+                }
+            }
+        }
+        if is_open {
+            self.rows = 1;
+        }
+    }
+
+    /// The transaction of the source whose keyword begins at an offset, if one does.
+    pub(crate) fn transaction(&self, keyword: Option<usize>) -> Option<&'p Transaction<A>> {
+        let start = keyword?;
+        'transactions: for transaction in self.transactions {
+            if transaction.passage.start == start {
+                return Some(transaction);
+            }
+        }
+        None
+    }
+
+    /// The same for an inner transaction, of which a picture may have any number: only the first ones are looked for.
+    pub(crate) fn inner_transaction(
+        &mut self,
+        keyword: Option<usize>,
+    ) -> Option<&'p Transaction<A>> {
+        if self.looked >= MOST_LOOKED {
+            return None;
+        }
+        self.looked = self.looked.saturating_add(1);
+        self.transaction(keyword)
     }
 
     /// The last row.

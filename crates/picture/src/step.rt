@@ -3,6 +3,7 @@
 ghost use Rattle.std.specs.Prelude.{◌≡◌};
 ghost use Rattle.picture.specs.Glyphs.{is_noted};
 
+use crate::attempt::Inner;
 use crate::boxes::Fate;
 use crate::figure::Figure;
 use crate::glyph::Look;
@@ -15,7 +16,7 @@ use norec_core::{Access, Answer};
 use std::alloc::{AllocError, Allocator, Global};
 use syntax::thread_end::Trap;
 
-/// The accesses that are drawn.
+/// How many accesses are drawn.
 pub(crate) const MOST_ACCESSES: u64 = 400;
 
 /// What the instruction of a local step does, where that has a glyph.
@@ -41,6 +42,8 @@ pub struct Step<A: Allocator = Global> {
     pub action: LocalAction,
     /// How many transactions a cancel in the step takes away.
     pub levels: u32,
+    /// The offset of the keyword of the transaction that the step's instruction begins, where it is known.
+    pub keyword: Option<usize>,
     pub access: Access,
     pub answer: Answer,
     pub event: Event,
@@ -77,6 +80,7 @@ impl<'p, A: Allocator + Copy> Sheet<'p, A> {
             took_lock: false,
             thread,
             access,
+            is_drawn: self.is_drawing,
         })?;
         Ok(())
     }
@@ -101,16 +105,40 @@ impl<'p, A: Allocator + Copy> Sheet<'p, A> {
     }
 
     /// The inner begin of a thread.
-    fn begin_inner(&mut self, to: &mut Vec<Figure<A>, A>, thread: u32) -> Result<(), AllocError> {
-        self.draw_glyph(to, thread, Look::new(b"in", b"begin inner", b"", None))?;
+    fn begin_inner(
+        &mut self,
+        to: &mut Vec<Figure<A>, A>,
+        step: &Step<A>,
+    ) -> Result<(), AllocError> {
+        let (thread, keyword) = (step.thread, step.keyword);
+        let said = self.words_of_inner(thread, keyword)?;
+        self.draw_glyph(to, thread, Look::new(b"in", said.as_slice(), b"", None))?;
         let row = self.last();
         let Some(lane) = self.lane(thread) else {
             return Ok(());
         };
         match &mut lane.open {
-            Some(attempt) => Ok(attempt.inner.push(row)?),
+            Some(attempt) => Ok(attempt.inner.push(Inner { row, keyword })?),
             None => Ok(()),
         }
+    }
+
+    /// What is said of an inner transaction of a thread where it begins.
+    fn words_of_inner(
+        &mut self,
+        thread: u32,
+        keyword: Option<usize>,
+    ) -> Result<Vec<u8, A>, AllocError> {
+        let mut said = Vec::new(self.alloc);
+        if !self.is_drawing {
+            return Ok(said);
+        }
+        let room = CHARACTERS.saturating_sub(self.depth(thread).min(3));
+        match self.inner_transaction(keyword) {
+            Some(transaction) => transaction.put_heading(&mut said, room)?,
+            None => said.extend_from_slice(b"begin inner")?,
+        }
+        Ok(said)
     }
 
     /// The end of a thread's attempt without the lock: what it is called, then of which moment it is.
@@ -208,7 +236,7 @@ impl<'p, A: Allocator + Copy> Sheet<'p, A> {
         match (step.event, step.action) {
             (Event::Trap(trap), _) => self.trap(to, step, u64::from(trap.number())),
             (Event::Cancel, _) => self.cancel(to, step),
-            (_, LocalAction::Begin) => self.begin_inner(to, step.thread),
+            (_, LocalAction::Begin) => self.begin_inner(to, step),
             (_, LocalAction::Commit) => self.commit(to, step),
             (_, LocalAction::Print) => self.print(to, step),
             _ => Ok(()),

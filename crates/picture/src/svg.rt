@@ -2,28 +2,58 @@
 
 ghost use Rattle.std.specs.Prelude.{◌≡◌, ◌++◌, OnOk, IfOk, flat_map, map};
 ghost use Rattle.picture.specs.Arrows.{arrow_text, arrows_among};
-ghost use Rattle.picture.specs.Glyphs.{glyph_text, is_drawn};
+ghost use Rattle.picture.specs.Glyphs.{first_drawn, glyph_text, is_among, is_drawn};
 ghost use Rattle.picture.specs.Pictures.{IsPicture, head_text, size_text, told_text, view_box};
 ghost use Rattle.picture.specs.inner.Views.{drawn_of, glyph_of, step_of};
 
 use crate::arrow::{Arrow, add_arrow, put_arrow};
-use crate::boxes::Fate;
+use crate::boxes::{Fate, TransactionBox, put_boxes};
 use crate::figure::{Figure, put_figures, put_measure};
+use crate::foot::put_foot;
 use crate::glyph::Glyph;
 use crate::layout::{FIRST, HEADED, PITCH, ROW, TOP, foot, heads, left_of};
 use crate::legend::{STYLE, put_legend};
 use crate::pieces::{Piece, push_pieces, put_number, put_words};
 use crate::sheet::{Cell, Sheet};
+use crate::source::Transaction;
 use crate::step::{MOST_ACCESSES, Step};
 use crate::words::words;
 use std::alloc::{AllocError, Allocator, Global};
 use syntax::thread_end::Status;
 
-/// Whether a step is drawn: it has a glyph, and is made up to the last access that is drawn.
-fn is_drawn<A: Allocator>(step: &Step<A>) -> bool
-    ensures { result ≡ is_drawn step.now.accesses step.now.access step.now.event step.now.action }
+/// The first access that is drawn. Where it is 0, all is drawn from the beginning.
+fn first_drawn(from: u32) -> u32
+    ensures { result ≡ first_drawn from }
 {
-    step.accesses <= MOST_ACCESSES && step.is_noted()
+    if from == 0 { 1 } else { from }
+}
+
+/// Whether a step after so many accesses is among those that are drawn.
+pub(crate) fn is_among(from: u32, accesses: u64) -> bool
+    ensures { result ≡ is_among from accesses }
+{
+    let end = u64::from(first_drawn(from)) + MOST_ACCESSES;
+    u64::from(from) <= accesses && accesses < end
+}
+
+/// Whether a step is drawn: it has a glyph, and is made among the accesses that are drawn.
+fn is_drawn<A: Allocator>(step: &Step<A>, from: u32) -> bool
+    ensures { result ≡ is_drawn from step.now.accesses step.now.access step.now.event step.now.action }
+{
+    is_among(from, step.accesses) && step.is_noted()
+}
+
+/// Makes a step that comes before the first access that is drawn. Nothing is drawn of it.
+fn pass<A: Allocator + Copy>(
+    sheet: &mut Sheet<'_, A>,
+    step: &Step<A>,
+    from: u32,
+) -> Result<(), AllocError> {
+    if step.accesses < u64::from(from) && step.is_noted() {
+        let mut nothing = Vec::new(sheet.alloc);
+        sheet.draw(&mut nothing, step)?;
+    }
+    Ok(())
 }
 
 /// Draws the glyph of a step.
@@ -53,14 +83,16 @@ fn add_glyph<A: Allocator + Copy>(
     glyphs: &mut Vec<Glyph<A>, A>,
     arrows: &mut Vec<Arrow, A>,
     step: &Step<A>,
+    from: u32,
 ) -> Result<(), AllocError>
     requires { map (λ a. (a.store, a.load)) arrows.old.items ≡ arrows_among (map glyph_of glyphs.old.items) }
     ensures glyphs { OnOk result (map (λ g. (glyph_of g).step) glyphs.new.items
-        ≡ map (λ g. (glyph_of g).step) glyphs.old.items ++ drawn_of step.now) }
+        ≡ map (λ g. (glyph_of g).step) glyphs.old.items ++ drawn_of from step.now) }
     ensures arrows { OnOk result
         (map (λ a. (a.store, a.load)) arrows.new.items ≡ arrows_among (map glyph_of glyphs.new.items)) }
 {
-    if is_drawn(step) {
+    if is_drawn(step, from) {
+        sheet.wake();
         let glyph = draw_step(sheet, step)?;
         add_arrow(arrows, sheet, glyphs.as_slice(), &glyph)?;
         glyphs.push(glyph)?;
@@ -72,22 +104,25 @@ fn add_glyph<A: Allocator + Copy>(
 fn glyphs<A: Allocator + Copy>(
     sheet: &mut Sheet<'_, A>,
     steps: &[Step<A>],
+    from: u32,
 ) -> Result<(Vec<Glyph<A>, A>, Vec<Arrow, A>), AllocError>
     ensures glyphs { IfOk result
-        (λ r. map (λ g. (glyph_of g).step) r.0.items ≡ flat_map drawn_of steps.now) }
+        (λ r. map (λ g. (glyph_of g).step) r.0.items ≡ flat_map (drawn_of from) steps.now) }
     ensures arrows { IfOk result
         (λ r. map (λ a. (a.store, a.load)) r.1.items ≡ arrows_among (map glyph_of r.0.items)) }
 {
     let mut glyphs = Vec::new(sheet.alloc);
     let mut arrows = Vec::new(sheet.alloc);
     'steps: for step in steps {
-        add_glyph(sheet, &mut glyphs, &mut arrows, step)?;
+        pass(sheet, step, from)?;
+        add_glyph(sheet, &mut glyphs, &mut arrows, step, from)?;
     }
     Ok((glyphs, arrows))
 }
 
 /// Draws what is open at the end.
 fn close<A: Allocator + Copy>(sheet: &mut Sheet<'_, A>, threads: u32) -> Result<(), AllocError> {
+    sheet.wake();
     let last = sheet.last();
     'threads: for thread in 0..threads {
         sheet.close_all_inner(thread, last, Fate::Open)?;
@@ -108,54 +143,6 @@ fn close<A: Allocator + Copy>(sheet: &mut Sheet<'_, A>, threads: u32) -> Result<
 /// How many transactions stand in a line at the foot.
 fn in_a_line(threads: u32) -> u64 {
     u64::from(threads).wrapping_mul(PITCH).wrapping_add(12) / 98
-}
-
-/// What took effect, in an order that explains it: by its moment, and of equal ones first what was without the lock.
-fn put_order<A: Allocator + Copy>(
-    to: &mut Vec<Figure<A>, A>,
-    sheet: &mut Sheet<'_, A>,
-    lower: u64,
-    count: u64,
-) -> Result<(), AllocError> {
-    let alloc = sheet.alloc;
-    sheet.effects.sort_by_key(|it| (it.snapshot, it.took_lock))?;
-    let at = (12, lower.wrapping_add(44));
-    to.push(Figure::words(alloc, at, b"b", b"In order:")?)?;
-    let (mut column, mut line) = (0u64, 0u64);
-    'effects: for effect in sheet.effects.iter() {
-        let mut said = Vec::new(alloc);
-        if effect.took_lock {
-            let number = (effect.snapshot / 2).wrapping_add(1);
-            push_pieces(
-                &mut said,
-                &[
-                    Piece::Plain(b"#"),
-                    Piece::Number(number),
-                    Piece::Plain(b" "),
-                ],
-            )?;
-        }
-        push_pieces(
-            &mut said,
-            &[
-                Piece::Plain(b"T"),
-                Piece::Number(u64::from(effect.thread)),
-                Piece::Plain(b" ("),
-                Piece::Number(effect.access),
-                Piece::Plain(b")"),
-            ],
-        )?;
-        let class: &'static [u8] = if effect.took_lock { b"b" } else { b"" };
-        let x = column.wrapping_mul(98).wrapping_add(90);
-        let y = line.wrapping_mul(ROW).wrapping_add(44).wrapping_add(lower);
-        to.push(Figure::words(alloc, (x, y), class, said.as_slice())?)?;
-        column = column.wrapping_add(1);
-        if column >= count {
-            column = 0;
-            line = line.wrapping_add(1);
-        }
-    }
-    Ok(())
 }
 
 /// The line of each thread, and at its end how the thread ended.
@@ -222,13 +209,20 @@ fn put_heads<A: Allocator + Copy>(
     Ok(())
 }
 
-/// The title of a picture: the file, the threads and the accesses that are drawn.
+/// The last access that is drawn where there are enough of them.
+fn last_of(from: u32) -> u64 {
+    u64::from(first_drawn(from)).wrapping_add(MOST_ACCESSES - 1)
+}
+
+/// The title of a picture: the file, the threads and the accesses that are drawn. So many were made.
 fn put_title<A: Allocator>(
     to: &mut Vec<u8, A>,
     file: &[u8],
     threads: u32,
-    drawn: u64,
+    from: u32,
+    accesses: u64,
 ) -> Result<(), AllocError> {
+    let last = accesses.min(last_of(from));
     push_pieces(
         to,
         &[
@@ -236,8 +230,30 @@ fn put_title<A: Allocator>(
             Piece::Plain(b": "),
             Piece::Number(u64::from(threads)),
             Piece::Plain(b" threads, "),
-            Piece::Number(drawn),
-            Piece::Plain(b" accesses"),
+        ],
+    )?;
+    if from <= 1 {
+        return push_pieces(to, &[Piece::Number(last), Piece::Plain(b" accesses")]);
+    }
+    if u64::from(from) > accesses {
+        return push_pieces(
+            to,
+            &[
+                Piece::Plain(b"none of "),
+                Piece::Number(accesses),
+                Piece::Plain(b" accesses"),
+            ],
+        );
+    }
+    push_pieces(
+        to,
+        &[
+            Piece::Plain(b"accesses "),
+            Piece::Number(u64::from(from)),
+            Piece::Plain(b" to "),
+            Piece::Number(last),
+            Piece::Plain(b" of "),
+            Piece::Number(accesses),
         ],
     )
 }
@@ -257,43 +273,30 @@ fn put_end<A: Allocator>(to: &mut Vec<u8, A>, status: Status) -> Result<(), Allo
     }
 }
 
-/// Says how many accesses are not drawn, if some are not.
-fn put_cut<A: Allocator + Copy>(
-    alloc: A,
-    to: &mut Vec<Figure<A>, A>,
-    left: u64,
-    lower: u64,
-) -> Result<(), AllocError> {
-    if left == 0 {
-        return Ok(());
-    }
-    let what = [
-        Piece::Number(left),
-        Piece::Plain(b" further accesses are not drawn"),
-    ];
-    let said = words(alloc, &what)?;
-    let at = (FIRST + 30, lower.wrapping_add(13));
-    to.push(Figure::words(alloc, at, b"b", said.as_slice())?)?;
-    Ok(())
-}
-
-/// What a picture is made of, but for its arrows and glyphs.
+/// What a picture is made of, but for its arrows and glyphs, and for the text in the titles of boxes.
 #[derive(Drop)]
 pub(crate) struct Page<A: Allocator = Global> {
     pub width: u64,
     pub height: u64,
     pub title: Vec<u8, A>,
     pub description: Vec<u8, A>,
-    /// What is drawn beneath the arrows: those that come later are above.
+    /// What is drawn beneath the boxes: those that come later are above.
     pub below: Vec<Figure<A>, A>,
+    /// The boxes, which are drawn beneath the arrows.
+    pub boxes: Vec<TransactionBox<A>, A>,
     /// What is drawn above the arrows and beneath the glyphs.
     pub between: Vec<Figure<A>, A>,
 }
 
 /// What a picture says of itself: what took effect, and of each drop why.
 fn description_of<A: Allocator + Copy>(sheet: &Sheet<'_, A>) -> Result<Vec<u8, A>, AllocError> {
+    let drawn = sheet
+        .effects
+        .iter()
+        .filter(|effect| effect.is_drawn)
+        .count();
     let what = [
-        Piece::Number(sheet.effects.len() as u64),
+        Piece::Number(drawn as u64),
         Piece::Plain(b" transactions took effect, "),
         Piece::Number(sheet.dropped),
         Piece::Plain(b" attempts were dropped."),
@@ -302,7 +305,7 @@ fn description_of<A: Allocator + Copy>(sheet: &Sheet<'_, A>) -> Result<Vec<u8, A
     words(sheet.alloc, &what)
 }
 
-/// Adds all that is drawn beneath the arrows, with the lanes of threads. Boxes that close first are above.
+/// Adds all that is drawn beneath the boxes, with the lanes of threads.
 fn put_below<A: Allocator + Copy>(
     to: &mut Vec<Figure<A>, A>,
     sheet: &mut Sheet<'_, A>,
@@ -314,36 +317,42 @@ fn put_below<A: Allocator + Copy>(
     to.push(Figure::words(sheet.alloc, (12, 20), b"h", title)?)?;
     put_legend(sheet.alloc, to)?;
     to.append(lanes)?;
-    to.append(&mut sheet.lock)?;
+    to.append(&mut sheet.lock)
+}
+
+/// The boxes of a picture. Those that close first are above.
+fn boxes_of<A: Allocator + Copy>(
+    sheet: &mut Sheet<'_, A>,
+) -> Result<Vec<TransactionBox<A>, A>, AllocError> {
+    let mut boxes = Vec::new(sheet.alloc);
     sheet.boxes.reverse();
-    to.append(&mut sheet.boxes)?;
-    to.append(&mut sheet.lines)
+    boxes.append(&mut sheet.boxes)?;
+    Ok(boxes)
 }
 
 /// All of a picture but its arrows and glyphs. So many accesses were made.
 fn page_of<A: Allocator + Copy>(
     sheet: &mut Sheet<'_, A>,
     ends: &[Status],
+    from: u32,
     accesses: u64,
     file: &[u8],
 ) -> Result<Page<A>, AllocError> {
     let alloc = sheet.alloc;
     let threads = ends.len().min(64) as u32;
-    let left = accesses.saturating_sub(MOST_ACCESSES);
+    let left = accesses.saturating_sub(last_of(from));
     let lower = foot(sheet.last());
     let count = in_a_line(threads).max(4);
     let wide = left_of(threads);
-    let lines = (sheet.effects.len() as u64) / count;
-    let height = lines.wrapping_mul(ROW).wrapping_add(54).wrapping_add(lower);
     let width = wide.max(660);
-    let mut lanes = Vec::new(alloc);
-    let mut between = Vec::new(alloc);
+    let (mut lanes, mut between) = (Vec::new(alloc), Vec::new(alloc));
+    between.append(&mut sheet.lines)?;
     put_lanes(&mut lanes, &mut between, sheet, ends, left > 0, lower)?;
     put_heads(alloc, &mut between, threads, sheet.rows.max(1), wide)?;
-    put_cut(alloc, &mut between, left, lower)?;
-    put_order(&mut between, sheet, lower, count)?;
+    let last = last_of(from);
+    let height = put_foot(&mut between, sheet, lower, width, count, left, last)?;
     let mut title = Vec::new(alloc);
-    put_title(&mut title, file, threads, accesses.min(MOST_ACCESSES))?;
+    put_title(&mut title, file, threads, from, accesses)?;
     let description = description_of(sheet)?;
     let mut below = Vec::new(alloc);
     put_below(
@@ -359,6 +368,7 @@ fn page_of<A: Allocator + Copy>(
         title,
         description,
         below,
+        boxes: boxes_of(sheet)?,
         between,
     })
 }
@@ -448,19 +458,21 @@ fn put_arrows<A: Allocator>(to: &mut Vec<u8, A>, arrows: &[Arrow]) -> Result<(),
     Ok(())
 }
 
-/// The text of a picture.
+/// The text of a picture of a source.
 fn picture_text<A: Allocator>(
     alloc: A,
+    text: &str,
     page: &Page<A>,
     arrows: &[Arrow],
     glyphs: &[Glyph<A>],
 ) -> Result<Vec<u8, A>, AllocError>
     requires { map (λ a. (a.store, a.load)) arrows.now ≡ arrows_among (map glyph_of glyphs.now) }
-    ensures { IfOk result (λ v. IsPicture (map (λ g. (glyph_of g).step) glyphs.now) v.items) }
+    ensures { IfOk result (λ v. IsPicture text.now (map (λ g. (glyph_of g).step) glyphs.now) v.items) }
 {
     let mut svg = Vec::new(alloc);
     put_head(&mut svg, page)?;
     put_figures(&mut svg, page.below.as_slice())?;
+    put_boxes(&mut svg, text, page.boxes.as_slice())?;
     put_arrows(&mut svg, arrows)?;
     put_figures(&mut svg, page.between.as_slice())?;
     put_glyphs(&mut svg, glyphs)?;
@@ -477,20 +489,24 @@ fn accesses_of<A: Allocator>(steps: &[Step<A>]) -> u64 {
 }
 
 /// The picture of a replay: its steps, and how each of its 1 to 64 threads is found behind them. `cells` names the
-/// cells of memory, `file` the source. At most 400 accesses are drawn.
-pub fn picture<A: Allocator + Copy>(
+/// cells of memory, `transactions` has those of the source, `file` is its name. At most 400 accesses are drawn, from
+/// this one on.
+pub(crate) fn picture<A: Allocator + Copy>(
     alloc: A,
     cells: &[Cell<A>],
+    text: &str,
+    transactions: &[Transaction<A>],
     steps: &[Step<A>],
+    from: u32,
     ends: &[Status],
     file: &[u8],
 ) -> Result<Vec<u8, A>, AllocError>
-    ensures { IfOk result (λ v. IsPicture (flat_map drawn_of steps.now) v.items) }
+    ensures { IfOk result (λ v. IsPicture text.now (flat_map (drawn_of from) steps.now) v.items) }
 {
     let threads = ends.len().min(64) as u32;
-    let mut sheet = Sheet::new(alloc, cells, threads)?;
-    let (glyphs, arrows) = glyphs(&mut sheet, steps)?;
+    let mut sheet = Sheet::new(alloc, cells, transactions, threads)?;
+    let (glyphs, arrows) = glyphs(&mut sheet, steps, from)?;
     close(&mut sheet, threads)?;
-    let page = page_of(&mut sheet, ends, accesses_of(steps), file)?;
-    picture_text(alloc, &page, arrows.as_slice(), glyphs.as_slice())
+    let page = page_of(&mut sheet, ends, from, accesses_of(steps), file)?;
+    picture_text(alloc, text, &page, arrows.as_slice(), glyphs.as_slice())
 }

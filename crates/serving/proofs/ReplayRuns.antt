@@ -102,8 +102,8 @@ lines_of seed threads count rows found slice is same few asked =
     (subst (λ (ls : List Line). AreRows rows ls) (same ∙ is) asked, omega (arith, counted, few))
 
 -- with its picture
-pub replays_drawn : (threads : ℕ) (steps : Steps) (schedule : Option (List ℕ)) (text : List ℕ) (code : Code) (made : List ℕ) (stop : Option WorldStop) (shown : Printed) (svg : List ℕ) → stop ≡ None → IsReplayOfText threads steps schedule text code made stop shown → IsDrawn code (timeline_of (simulation_after code threads made)) svg → ReplaysDrawn threads steps schedule text svg shown
-replays_drawn threads steps schedule text code made stop shown svg whole replay drawn = record {
+pub replays_drawn : (threads from : ℕ) (steps : Steps) (schedule : Option (List ℕ)) (text : List ℕ) (code : Code) (made : List ℕ) (stop : Option WorldStop) (shown : Printed) (svg : List ℕ) → stop ≡ None → IsReplayOfText threads steps schedule text code made stop shown → IsDrawn text from code (timeline_of (simulation_after code threads made)) svg → ReplaysDrawn threads from steps schedule text svg shown
+replays_drawn threads from steps schedule text code made stop shown svg whole replay drawn = record {
   code = code;
   made = made;
   replay = subst (λ (s : Option WorldStop). IsReplayOfText threads steps schedule text code made s shown) whole replay;

@@ -32,8 +32,8 @@ Answers (Replay threads steps) schedule text status old new =
 Answers (Timeline threads steps) schedule text status old new =
     PrintsTimeline (λ lines shown. RunsInSomeOrder threads text (behind_events shown) × Accepts text
     × ReplaysShown threads steps schedule text lines shown) status old new
-Answers (Picture threads steps) schedule text status old new =
-    PrintsPicture (λ svg shown. ReplaysDrawn threads steps schedule text svg shown) status old new
+Answers (Picture threads from steps) schedule text status old new =
+    PrintsPicture (λ svg shown. ReplaysDrawn threads from steps schedule text svg shown) status old new
 Answers (PrintSchedule threads seed count) schedule text status old new =
     PrintsSchedule (lines_of_seed seed threads count) text status old new
 Answers (PrintOrder threads order) schedule text status old new =

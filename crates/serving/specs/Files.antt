@@ -19,7 +19,7 @@ Contents = List ℕ → Option (List ℕ)
 abbrev pub schedule_of : Task → Option (List ℕ)
 schedule_of (Replay threads (Schedule file)) = Some (string_bytes file)
 schedule_of (Timeline threads (Schedule file)) = Some (string_bytes file)
-schedule_of (Picture threads (Schedule file)) = Some (string_bytes file)
+schedule_of (Picture threads from (Schedule file)) = Some (string_bytes file)
 schedule_of _ = None
 
 -- the bytes of the file of this name; where there is no name, there is no byte

@@ -46,10 +46,11 @@ abbrev pub IsReplayTimeline : ℕ → Steps → Option (List ℕ) → (text : Li
 IsReplayTimeline threads steps schedule text written = (r : ReplayedTo threads steps schedule text)
     × (written ≡ timeline_text r.code (timeline_of (simulation_after r.code threads r.made)) ++ report_text r.shown)
 
--- the picture of a replay
-abbrev pub IsReplayPicture : ℕ → Steps → Option (List ℕ) → (text : List ℕ) → (written : List ℕ) → Type 0
-IsReplayPicture threads steps schedule text written = (r : ReplayedTo threads steps schedule text)
-    × IsDrawn r.code (timeline_of (simulation_after r.code threads r.made)) written
+-- the picture of a replay, from an access on
+abbrev pub IsReplayPicture : (threads from : ℕ) → Steps → Option (List ℕ) → (text : List ℕ) → (written : List ℕ) →
+    Type 0
+IsReplayPicture threads from steps schedule text written = (r : ReplayedTo threads steps schedule text)
+    × IsDrawn text from r.code (timeline_of (simulation_after r.code threads r.made)) written
 
 -- a schedule of the steps of a seed, for a text that has code
 abbrev pub IsSeedSchedule : (seed threads count : ℕ) → (text : List ℕ) → (written : List ℕ) → Type 0
@@ -69,7 +70,8 @@ IsAskedFor Listing schedule text written = ShowsListing text written
 IsAskedFor (Run threads budget counts) schedule text written = IsReportOf (RunsConcurrently threads budget text) written
 IsAskedFor (Replay threads steps) schedule text written = IsReplayReport threads steps schedule text written
 IsAskedFor (Timeline threads steps) schedule text written = IsReplayTimeline threads steps schedule text written
-IsAskedFor (Picture threads steps) schedule text written = IsReplayPicture threads steps schedule text written
+IsAskedFor (Picture threads from steps) schedule text written =
+    IsReplayPicture threads from steps schedule text written
 IsAskedFor (PrintSchedule threads seed count) schedule text written = IsSeedSchedule seed threads count text written
 IsAskedFor (PrintOrder threads order) schedule text written = IsOrderSchedule threads order.items text written
 IsAskedFor (Source threads order ticks) schedule text written =

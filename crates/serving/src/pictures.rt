@@ -17,12 +17,13 @@ use std::alloc::Allocator;
 use std::io::{Read, Write};
 use world::StopReason;
 
-/// Replays steps of a source's threads, and draws them.
+/// Replays steps of a source's threads, and draws them from an access on.
 pub(crate) fn draw<A: Allocator + Copy, S: Read + Drop, W: Write, E: Write>(
     alloc: A,
     file: &str,
     text: &str,
     threads: u32,
+    from: u32,
     steps: &Steps,
     schedule: S,
     detail: Detail<'_>,
@@ -31,16 +32,18 @@ pub(crate) fn draw<A: Allocator + Copy, S: Read + Drop, W: Write, E: Write>(
 ) -> u8
     ensures status { result ≤ 4 }
     ensures picture { PrintsPicture
-        (λ svg shown. ReplaysDrawn threads steps.now (S.remaining schedule) text.now svg shown) result
+        (λ svg shown. ReplaysDrawn threads from steps.now (S.remaining schedule) text.now svg shown) result
         (W.contents out.old) (W.contents out.new) }
     ensures refused { result ≡ 1 → HasNoCode text.now }
-    ensures written { WritesPart (IsReplayPicture threads steps.now (S.remaining schedule) text.now)
+    ensures written { WritesPart (IsReplayPicture threads from steps.now (S.remaining schedule) text.now)
         (W.contents out.old) (W.contents out.new) }
     ensures untouched { result ≡ 1 → W.contents out.new ≡ W.contents out.old }
 {
     match replay_text(alloc, text, threads, steps, schedule, detail, err) {
         Ok((compiled, replayed)) => {
-            print_picture(alloc, file, &compiled, threads, &replayed, detail, out, err)
+            print_picture(
+                alloc, file, text, &compiled, threads, from, &replayed, detail, out, err,
+            )
         }
         Err(status) => status,
     }
@@ -50,12 +53,14 @@ pub(crate) fn draw<A: Allocator + Copy, S: Read + Drop, W: Write, E: Write>(
 fn picture_of<A: Allocator + Copy>(
     alloc: A,
     file: &str,
+    text: &str,
     compiled: &Compiled<A>,
     threads: u32,
+    from: u32,
     replayed: &Replayed<A>,
 ) -> Option<Vec<u8, A>>
     ensures { IfSome result
-        (λ v. IsDrawn compiled.now.code
+        (λ v. IsDrawn text.now from compiled.now.code
         (timeline_of (simulation_after compiled.now.code threads replayed.now.made.items))
         v.items) }
 {
@@ -67,7 +72,9 @@ fn picture_of<A: Allocator + Copy>(
             &compiled.code,
             threads,
             replayed.made.as_slice(),
+            from,
             file,
+            text,
         ),
     }
 }
@@ -76,8 +83,10 @@ fn picture_of<A: Allocator + Copy>(
 fn print_picture<A: Allocator + Copy, W: Write, E: Write>(
     alloc: A,
     file: &str,
+    text: &str,
     compiled: &Compiled<A>,
     threads: u32,
+    from: u32,
     replayed: &Replayed<A>,
     detail: Detail<'_>,
     out: &mut W,
@@ -86,16 +95,16 @@ fn print_picture<A: Allocator + Copy, W: Write, E: Write>(
     ensures status { result ≤ 4 }
     ensures whole { (result ≡ 0) ⊎ (result ≡ 3) → replayed.now.stop ≡ None }
     ensures picture { PrintsPicture
-        (λ svg shown. IsDrawn compiled.now.code
+        (λ svg shown. IsDrawn text.now from compiled.now.code
         (timeline_of (simulation_after compiled.now.code threads replayed.now.made.items))
         svg × (shown ≡ printed_of replayed.now.printed)) result (W.contents out.old) (W.contents out.new) }
     ensures written { WritesPart
-        (λ written. IsDrawn compiled.now.code
+        (λ written. IsDrawn text.now from compiled.now.code
         (timeline_of (simulation_after compiled.now.code threads replayed.now.made.items))
         written) (W.contents out.old) (W.contents out.new) }
     ensures not_refused { result ≢ 1 }
 {
-    match picture_of(alloc, file, compiled, threads, replayed) {
+    match picture_of(alloc, file, text, compiled, threads, from, replayed) {
         Some(svg) => print_for_replay(svg.as_slice(), replayed, detail, out, err),
         None => out_of_memory(err),
     }

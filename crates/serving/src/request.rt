@@ -160,8 +160,12 @@ fn work_alone<A: Allocator + Copy, S: Read + Drop, W: Write, E: Write>(
         Task::Timeline { threads, steps } => show_steps(
             alloc, text, *threads, steps, schedule, detail, out, err,
         ),
-        Task::Picture { threads, steps } => draw(
-            alloc, file, text, *threads, steps, schedule, detail, out, err,
+        Task::Picture {
+            threads,
+            from,
+            steps,
+        } => draw(
+            alloc, file, text, *threads, *from, steps, schedule, detail, out, err,
         ),
         Task::PrintSchedule {
             threads,

@@ -11,4 +11,6 @@ mod orders;
 #[cfg(test)]
 mod outer_cancels;
 #[cfg(test)]
+mod pictures;
+#[cfg(test)]
 mod replays;

@@ -24,7 +24,7 @@ const CALLS: &[u8] =
 type Asked = (&'static str, &'static [u8], &'static [u8]);
 
 fn hostile_lines() -> &'static [Asked] {
-    static ASKED: [Asked; 19] = [
+    static ASKED: [Asked; 20] = [
         ("txc check a.c", CANCELS, b""),
         ("txc listing a.c", CANCELS, b""),
         ("txc source a.c --threads 2 --order 0,1", CANCELS, b""),
@@ -41,6 +41,11 @@ fn hostile_lines() -> &'static [Asked] {
         ),
         (
             "txc replay a.c --threads 2 --schedule s.txt --picture",
+            CANCELS,
+            b"1 a5\n0 a6\n1 a13\n",
+        ),
+        (
+            "txc replay a.c --threads 2 --schedule s.txt --picture --from 9",
             CANCELS,
             b"1 a5\n0 a6\n1 a13\n",
         ),

@@ -1,9 +1,11 @@
 -- The Rust types as plain ones.
-use Rattle.std.specs.Prelude.{List, [], ◌∷◌, map, if◌then◌else◌}
+use Rattle.std.specs.Prelude.{ℕ, List, [], ◌∷◌, map, if◌then◌else◌}
+use Rattle.picture.specs.Boxes as boxes
 use Rattle.picture.specs.Figures as plain
 use Rattle.picture.specs.Figures.{xml}
 use Rattle.picture.specs.Glyphs as glyphs
 use Rattle.picture.specs.Glyphs.{DrawnStep, is_drawn}
+use Rattle.picture.specs.declared.boxes.TransactionBox.{TransactionBox}
 use Rattle.picture.specs.declared.figure.Figure.{Figure}
 use Rattle.picture.specs.declared.figure.Figure.TheVariants.{Words, Rectangle, Line, Symbol}
 use Rattle.picture.specs.declared.glyph.Glyph.{Glyph}
@@ -15,6 +17,9 @@ module _ {A : Type 0} where
   figure_of (Rectangle x y width height class) = plain.Rectangle x y width height class.now
   figure_of (Line points class) = plain.Line points.items class.now
   figure_of (Symbol name x y) = plain.Symbol name.now x y
+
+  abbrev pub box_of : TransactionBox A → boxes.TransactionBox
+  box_of b = record { passage = b.passage; figures = map figure_of b.figures.items }
 
   abbrev pub glyph_of : Glyph A → glyphs.Glyph
   glyph_of g = record {
@@ -38,5 +43,5 @@ module _ {A : Type 0} where
     title = xml s.line.items;
   }
 
-  abbrev pub drawn_of : Step A → List DrawnStep
-  drawn_of s = if is_drawn s.accesses s.access s.event s.action then step_of s ∷ [] else []
+  abbrev pub drawn_of : (from : ℕ) → Step A → List DrawnStep
+  drawn_of from s = if is_drawn from s.accesses s.access s.event s.action then step_of s ∷ [] else []

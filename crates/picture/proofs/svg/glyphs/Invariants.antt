@@ -8,6 +8,6 @@ use Rattle.picture.proofs.svg.glyphs.Given as goal
 -- glyphs is made
 abbrev pub invariant-steps : goal.invariant-steps
 invariant-steps g l =
-    (map (λ g. (glyph_of g).step) l.glyphs.items ++ flat_map drawn_of (drop l.step-index l.steps)
-    ≡ flat_map drawn_of l.steps)
+    (map (λ g. (glyph_of g).step) l.glyphs.items ++ flat_map (drawn_of l.from) (drop l.step-index l.steps)
+    ≡ flat_map (drawn_of l.from) l.steps)
     × (map (λ a. (a.store, a.load)) l.arrows.items ≡ arrows_among (map glyph_of l.glyphs.items))

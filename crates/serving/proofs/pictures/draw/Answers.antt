@@ -17,11 +17,11 @@ returns-in-Ok-clause-written g c =
       shown = printed_of c.in-Ok.replayed.printed;
       replay = c.in-Ok.ensures.ok;
     } in
-    part_so (λ (t : List ℕ). IsDrawn c.in-Ok.compiled.code (timeline_of (simulation_after c.in-Ok.compiled.code c.args.threads c.in-Ok.replayed.made.items)) t) (IsReplayPicture c.args.threads c.args.steps.now (g.S.Read.remaining c.args.schedule) c.args.text.now) (g.W.Write.contents c.args.out.now) (g.W.Write.contents c.print_picture.new.out) (λ t e. (r, e)) c.print_picture.ensures.written
+    part_so (λ (t : List ℕ). IsDrawn c.args.text.now c.args.from c.in-Ok.compiled.code (timeline_of (simulation_after c.in-Ok.compiled.code c.args.threads c.in-Ok.replayed.made.items)) t) (IsReplayPicture c.args.threads c.args.from c.args.steps.now (g.S.Read.remaining c.args.schedule) c.args.text.now) (g.W.Write.contents c.args.out.now) (g.W.Write.contents c.print_picture.new.out) (λ t e. (r, e)) c.print_picture.ensures.written
 
 pub returns-in-Ok-clause-picture : goal.returns-in-Ok-clause-picture
 returns-in-Ok-clause-picture g c = λ status.
     let shown = printed_of c.in-Ok.replayed.printed in
     let printed = c.print_picture.ensures.picture status in
-    let drawn = replays_drawn c.args.threads c.args.steps.now _ c.args.text.now c.in-Ok.compiled.code c.in-Ok.replayed.made.items c.in-Ok.replayed.stop shown printed.0 (c.print_picture.ensures.whole status) c.in-Ok.ensures.ok printed.2.0 in
+    let drawn = replays_drawn c.args.threads c.args.from c.args.steps.now _ c.args.text.now c.in-Ok.compiled.code c.in-Ok.replayed.made.items c.in-Ok.replayed.stop shown printed.0 (c.print_picture.ensures.whole status) c.in-Ok.ensures.ok printed.2.0 in
     (printed.0, shown, drawn, subst (λ s. c.print_picture.result ≡ exit_status s) printed.2.1 printed.3, printed.4)
