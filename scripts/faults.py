@@ -87,7 +87,12 @@ def shown(cell):
     return (source[1] if source else cell).replace("W{", WORKER)
 
 
-def explanation(cells):
+def writes(page):
+    """What is written in place of each fault, by its number."""
+    return dict(re.findall(r"^\| fault (\d\d) \| (.*) \|$", page, re.M))
+
+
+def explanation(cells, instead):
     """What `txc explain` prints of a fault."""
     number, words, when, *rest = cells
     if len(rest) == 3:
@@ -95,6 +100,7 @@ def explanation(cells):
         more = f"Place: {place}\nExample: {shown(example)}\nIt is told at: {at}\n"
     else:
         more = f"Seen as: {shown(rest[0])}\n" if rest else ""
+    more += f"Write: {instead[number]}\n" if number in instead else ""
     return f"fault {number}: {words}\nWhen: {when}\n{more}"
 
 
@@ -121,7 +127,8 @@ def arms_of(rows):
 
 
 def explanations(page):
-    rows = [(int(cells[0]), explanation(cells)) for cells in cells_of(page)]
+    instead = writes(page)
+    rows = [(int(cells[0]), explanation(cells, instead)) for cells in cells_of(page)]
     ends = ends_of(page)
     traps = [(number, text) for _, number, text in ends if number]
     others = [("\"trap\"", "".join(text for _, text in traps))]
@@ -230,7 +237,10 @@ def main():
         for told in re.findall(r"^```\n(txc: thread .*?)```$", page, re.M | re.S)
         if literal(told) not in ends
     ]
-    explained = explanation(next(cells for cells in cells_of(page) if cells[0] == "20"))
+    instead = writes(page)
+    lacking = [cells[0] for cells in cells_of(page) if len(cells) == 6 and cells[0] not in instead]
+    wrong += [f"the page does not say what is written in place of {number}" for number in lacking]
+    explained = explanation(next(cells for cells in cells_of(page) if cells[0] == "20"), instead)
     if f"```\n$ txc explain 20\n{explained}```" not in read("docs/COMMANDS.md"):
         wrong.append("docs/COMMANDS.md does not show what `txc explain 20` prints")
     if read(EXPLANATIONS) != explanations(page):

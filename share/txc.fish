@@ -21,6 +21,7 @@ complete -c txc -n '__fish_seen_subcommand_from run' -l format -x -a 'short' -d 
 complete -c txc -n '__fish_seen_subcommand_from run' -l threads -x -d 'How many threads there are: 1 to 64, and 1 if not given'
 complete -c txc -n '__fish_seen_subcommand_from run' -l budget -x -d 'How many steps each thread makes at most: 0 to 4294967295, and that if not given'
 complete -c txc -n '__fish_seen_subcommand_from run' -l counts -d 'Tells the steps, accesses, transactions, drops and retries of each thread behind the report, on standard error'
+complete -c txc -n '__fish_seen_subcommand_from run' -l memory -x -d 'How much memory output and logs of all threads take at most: 0 to 4294967295 MB, and that if not given'
 complete -c txc -n '__fish_seen_subcommand_from run' -l help -d 'Prints help'
 complete -c txc -n __fish_use_subcommand -a replay -d 'Makes the steps of the machine that a schedule, a seed or an order names, and prints what happened in them and what they leave'
 complete -c txc -n '__fish_seen_subcommand_from replay' -F
@@ -51,6 +52,7 @@ complete -c txc -n '__fish_seen_subcommand_from outcomes' -l format -x -a 'short
 complete -c txc -n '__fish_seen_subcommand_from outcomes' -l threads -x -d 'How many threads there are: 1 to 64, and 1 if not given'
 complete -c txc -n '__fish_seen_subcommand_from outcomes' -l steps -x -d 'How many steps of its code a thread makes in one turn: 0 to 4294967295, and 1000000 if not given'
 complete -c txc -n '__fish_seen_subcommand_from outcomes' -l limit -x -d 'How many states are looked at before it stops: 0 to 4294967295, and 1000000 if not given'
+complete -c txc -n '__fish_seen_subcommand_from outcomes' -l memory -x -d 'How much memory states and list take before it stops: 0 to 4294967295 MB, and 1024 if not given'
 complete -c txc -n '__fish_seen_subcommand_from outcomes' -l help -d 'Prints help'
 complete -c txc -n __fish_use_subcommand -a certify -d 'Says whether a report is what the source prints in an order of threads, byte for byte, and else where it differs'
 complete -c txc -n '__fish_seen_subcommand_from certify' -F

@@ -12,14 +12,14 @@ use Rattle.command.specs.inner.Refusals.{AreNoTask}
 pub no_replay : (given : List Row) → ((steps : Steps) → AreSteps given steps → ⊥) → AreNoTask (codes "replay") given
 no_replay given none (Check warns all) is = let e : 114 ≡ 99 = ap (λ l. slice_index l 0) is.0 in absurd (omega (arith, e))
 no_replay given none Listing is = let e : 114 ≡ 108 = ap (λ l. slice_index l 0) is in absurd (omega (arith, e))
-no_replay given none (Run threads budget counts) is = let e : 6 ≡ 3 = ap length is.0 in absurd (omega (arith, e))
+no_replay given none (Run threads budget counts memory) is = let e : 6 ≡ 3 = ap length is.0 in absurd (omega (arith, e))
 no_replay given none (Replay threads steps) is = none steps is.2
 no_replay given none (Timeline threads steps) is = none steps is.2
 no_replay given none (Picture threads from steps) is = none steps is.2
 no_replay given none (PrintSchedule threads seed count) is = none (Seed seed count) is.2
 no_replay given none (PrintOrder threads order) is = none (Order order) is.2
 no_replay given none (Source threads order ticks) is = let e : 114 ≡ 115 = ap (λ l. slice_index l 0) is.0 in absurd (omega (arith, e))
-no_replay given none (Outcomes threads steps limit) is = let e : 114 ≡ 111 = ap (λ l. slice_index l 0) is.0 in absurd (omega (arith, e))
+no_replay given none (Outcomes threads steps limit memory) is = let e : 114 ≡ 111 = ap (λ l. slice_index l 0) is.0 in absurd (omega (arith, e))
 
 -- no first access to be drawn, no picture
 pub no_drawn : (given : List Row) → ((n : ℕ) → IsFirstDrawn given n → ⊥) → IsFlagged given (codes "picture") → AreNoTask (codes "replay") given
@@ -44,14 +44,14 @@ no_ordered given text said none (Order order) are = none order.items are.order_i
 pub no_source : (given : List Row) → ((order : List ℕ) → IsOrderGiven given order → ⊥) → AreNoTask (codes "source") given
 no_source given none (Check warns all) is = let e : 115 ≡ 99 = ap (λ l. slice_index l 0) is.0 in absurd (omega (arith, e))
 no_source given none Listing is = let e : 115 ≡ 108 = ap (λ l. slice_index l 0) is in absurd (omega (arith, e))
-no_source given none (Run threads budget counts) is = let e : 115 ≡ 114 = ap (λ l. slice_index l 0) is.0 in absurd (omega (arith, e))
+no_source given none (Run threads budget counts memory) is = let e : 115 ≡ 114 = ap (λ l. slice_index l 0) is.0 in absurd (omega (arith, e))
 no_source given none (Replay threads steps) is = let e : 115 ≡ 114 = ap (λ l. slice_index l 0) is.0 in absurd (omega (arith, e))
 no_source given none (Timeline threads steps) is = let e : 115 ≡ 114 = ap (λ l. slice_index l 0) is.0 in absurd (omega (arith, e))
 no_source given none (Picture threads from steps) is = let e : 115 ≡ 114 = ap (λ l. slice_index l 0) is.0 in absurd (omega (arith, e))
 no_source given none (PrintSchedule threads seed count) is = let e : 115 ≡ 114 = ap (λ l. slice_index l 0) is.0 in absurd (omega (arith, e))
 no_source given none (PrintOrder threads order) is = let e : 115 ≡ 114 = ap (λ l. slice_index l 0) is.0 in absurd (omega (arith, e))
 no_source given none (Source threads order ticks) is = none order.items is.2
-no_source given none (Outcomes threads steps limit) is = let e : 115 ≡ 111 = ap (λ l. slice_index l 0) is.0 in absurd (omega (arith, e))
+no_source given none (Outcomes threads steps limit memory) is = let e : 115 ≡ 111 = ap (λ l. slice_index l 0) is.0 in absurd (omega (arith, e))
 
 -- a text that lists no threads is no order
 pub no_order : (given : List Row) (taken text : Text) → ((order : List ℕ) → IsOrder taken order → ⊥) → taken ≡ text → first_of (codes "order") given ≡ Some text → (order : List ℕ) → IsOrderGiven given order → ⊥

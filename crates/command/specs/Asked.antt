@@ -142,9 +142,10 @@ abbrev pub IsTask : Text → List Row → Task → Type 0
 IsTask name given (Check warns all) = (name ≡ codes "check") × (IsTrue warns ↔ IsFlagged given (codes "warn"))
     × (IsTrue all ↔ IsFlagged given (codes "all"))
 IsTask name given Listing = name ≡ codes "listing"
-IsTask name given (Run threads budget counts) = (name ≡ codes "run") × AreThreadsGiven given threads
+IsTask name given (Run threads budget counts memory) = (name ≡ codes "run") × AreThreadsGiven given threads
     × IsNumberInRange given (codes "budget") 4294967295 0 4294967295 budget
     × (IsTrue counts ↔ IsFlagged given (codes "counts"))
+    × IsNumberInRange given (codes "memory") 4294967295 0 4294967295 memory
 IsTask name given (Replay threads steps) = (name ≡ codes "replay")
     × AreThreadsGiven given threads × AreSteps given steps × AreFlagged given false false false × NoFirstDrawn given
 IsTask name given (Timeline threads steps) = (name ≡ codes "replay")
@@ -159,9 +160,10 @@ IsTask name given (PrintOrder threads order) = (name ≡ codes "replay") × AreT
 IsTask name given (Source threads order ticks) = (name ≡ codes "source") × AreThreadsGiven given threads
     × IsOrderGiven given order.items
     × IsNumberInRange given (codes "ticks") 100000 0 1000000 ticks
-IsTask name given (Outcomes threads steps limit) = (name ≡ codes "outcomes") × AreThreadsGiven given threads
+IsTask name given (Outcomes threads steps limit memory) = (name ≡ codes "outcomes") × AreThreadsGiven given threads
     × IsNumberInRange given (codes "steps") 1000000 0 4294967295 steps
     × IsNumberInRange given (codes "limit") 1000000 0 4294967295 limit
+    × IsNumberInRange given (codes "memory") 1024 0 4294967295 memory
 
 -- a file of an order, and one of a report; at most one of these and the source is standard input
 pub record AreClaimFiles (given : List Row) (order report : Text) : Type 0 where

@@ -46,7 +46,8 @@ listing_app = file_app (codes "listing")
 abbrev pub run_app : App
 run_app =
     let threads = with_rule (file_app (codes "run")) (text_rule (codes "threads")) in
-    with_rule (with_rule threads (text_rule (codes "budget"))) (flag_rule (codes "counts"))
+    let counts = with_rule (with_rule threads (text_rule (codes "budget"))) (flag_rule (codes "counts")) in
+    with_rule counts (text_rule (codes "memory"))
 
 abbrev pub replay_steps_app : App
 replay_steps_app =
@@ -69,7 +70,8 @@ source_app =
 abbrev pub outcomes_app : App
 outcomes_app =
     let threads = with_rule (file_app (codes "outcomes")) (text_rule (codes "threads")) in
-    with_rule (with_rule threads (text_rule (codes "steps"))) (text_rule (codes "limit"))
+    let limit = with_rule (with_rule threads (text_rule (codes "steps"))) (text_rule (codes "limit")) in
+    with_rule limit (text_rule (codes "memory"))
 
 abbrev pub certify_app : App
 certify_app =

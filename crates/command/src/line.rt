@@ -213,7 +213,14 @@ fn run<'a>(alloc: Global) -> Result<Command<'a>, AllocError>
         "counts",
         "Tells the steps, accesses, transactions, drops and retries of each thread behind the report, on standard error",
     );
-    with(command, counts)
+    let command = with(command, counts);
+    let memory = text(
+        alloc,
+        "memory",
+        "MB",
+        "How much memory output and logs of all threads take at most: 0 to 4294967295 MB, and that if not given",
+    );
+    with(command, memory)
 }
 
 /// The command that replays steps of the machine, with where these come from.
@@ -335,7 +342,14 @@ fn outcomes<'a>(alloc: Global) -> Result<Command<'a>, AllocError>
         "L",
         "How many states are looked at before it stops: 0 to 4294967295, and 1000000 if not given",
     );
-    with(command, limit)
+    let command = with(command, limit);
+    let memory = text(
+        alloc,
+        "memory",
+        "MB",
+        "How much memory states and list take before it stops: 0 to 4294967295 MB, and 1024 if not given",
+    );
+    with(command, memory)
 }
 
 /// The command that certifies a report.

@@ -71,12 +71,13 @@ pub enum Task {
     },
     /// Lists the program's code.
     Listing,
-    /// Runs the program: 1 to 64 threads, each with so many steps at most.
+    /// Runs the program: 1 to 64 threads, each with so many steps at most, over so many MB of memory.
     Run {
         threads: u32,
         budget: u32,
         /// Whether it is told what was counted of each thread.
         counts: bool,
+        memory: u32,
     },
     /// Replays steps of 1 to 64 threads.
     Replay {
@@ -113,11 +114,12 @@ pub enum Task {
         ticks: u32,
     },
     /// Lists the outcomes of 1 to 64 threads in all orders, over at most so many states. In a turn a thread makes at
-    /// most so many steps of its code.
+    /// most so many steps of its code, and states and list take about so many MB of memory.
     Outcomes {
         threads: u32,
         steps: u32,
         limit: u32,
+        memory: u32,
     },
 }
 

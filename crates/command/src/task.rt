@@ -209,6 +209,7 @@ fn outcomes(alloc: Global, given: &ArgMatches<'_>) -> Result<Task, UsageFault>
         threads: threads(alloc, given)?,
         steps: number(alloc, given, "steps", 1000000, 0, u32::MAX)?,
         limit: number(alloc, given, "limit", 1000000, 0, u32::MAX)?,
+        memory: number(alloc, given, "memory", 1024, 0, u32::MAX)?,
     })
 }
 
@@ -227,6 +228,7 @@ pub(crate) fn task(alloc: Global, name: &str, given: &ArgMatches<'_>) -> Result<
             threads: threads(alloc, given)?,
             budget: number(alloc, given, "budget", u32::MAX, 0, u32::MAX)?,
             counts: flag_given(given, "counts"),
+            memory: number(alloc, given, "memory", u32::MAX, 0, u32::MAX)?,
         }),
         "replay" => replay(alloc, given),
         "source" => source(alloc, given),

@@ -42,15 +42,15 @@ fn runs() -> &'static [Row] {
     static ROWS: [Row; 3] = [
         (
             "txc|run|a.c",
-            br#"Ok(Program { file: "a.c", verbose: false, format: Plain, task: Run { threads: 1, budget: 4294967295, counts: false } })"#,
+            br#"Ok(Program { file: "a.c", verbose: false, format: Plain, task: Run { threads: 1, budget: 4294967295, counts: false, memory: 4294967295 } })"#,
         ),
         (
             "txc|run|--threads|64|--budget=0|a.c",
-            br#"Ok(Program { file: "a.c", verbose: false, format: Plain, task: Run { threads: 64, budget: 0, counts: false } })"#,
+            br#"Ok(Program { file: "a.c", verbose: false, format: Plain, task: Run { threads: 64, budget: 0, counts: false, memory: 4294967295 } })"#,
         ),
         (
             "txc|run|a.c|--counts|--format|short",
-            br#"Ok(Program { file: "a.c", verbose: false, format: Short, task: Run { threads: 1, budget: 4294967295, counts: true } })"#,
+            br#"Ok(Program { file: "a.c", verbose: false, format: Short, task: Run { threads: 1, budget: 4294967295, counts: true, memory: 4294967295 } })"#,
         ),
     ];
     &ROWS
@@ -157,18 +157,18 @@ fn reads_orders(rt: HostRuntime) {
 }
 
 fn outcomes() -> &'static [Row] {
-    static ROWS: [Row; 8] = [
+    static ROWS: [Row; 10] = [
         (
             "txc|outcomes|a.c",
-            br#"Ok(Program { file: "a.c", verbose: false, format: Plain, task: Outcomes { threads: 1, steps: 1000000, limit: 1000000 } })"#,
+            br#"Ok(Program { file: "a.c", verbose: false, format: Plain, task: Outcomes { threads: 1, steps: 1000000, limit: 1000000, memory: 1024 } })"#,
         ),
         (
             "txc|outcomes|--threads=64|--steps=4294967295|--limit=4294967295|a.c|--verbose",
-            br#"Ok(Program { file: "a.c", verbose: true, format: Plain, task: Outcomes { threads: 64, steps: 4294967295, limit: 4294967295 } })"#,
+            br#"Ok(Program { file: "a.c", verbose: true, format: Plain, task: Outcomes { threads: 64, steps: 4294967295, limit: 4294967295, memory: 1024 } })"#,
         ),
         (
             "txc|outcomes|a.c|--limit|0|--steps|0|--threads|2",
-            br#"Ok(Program { file: "a.c", verbose: false, format: Plain, task: Outcomes { threads: 2, steps: 0, limit: 0 } })"#,
+            br#"Ok(Program { file: "a.c", verbose: false, format: Plain, task: Outcomes { threads: 2, steps: 0, limit: 0, memory: 1024 } })"#,
         ),
         (
             "txc|outcomes|--threads=0|a.c",
@@ -188,8 +188,16 @@ fn outcomes() -> &'static [Row] {
             br#"Err(Wrong { text: "txc: usage: --threads is 1 to 64\n" })"#,
         ),
         (
+            "txc|outcomes|--memory=4294967296|a.c",
+            br#"Err(Wrong { text: "txc: usage: --memory is 0 to 4294967295\n" })"#,
+        ),
+        (
+            "txc|outcomes|--memory|0|a.c",
+            br#"Ok(Program { file: "a.c", verbose: false, format: Plain, task: Outcomes { threads: 1, steps: 1000000, limit: 1000000, memory: 0 } })"#,
+        ),
+        (
             "txc|outcomes|--limit=4294967295|--steps=7|a.c",
-            br#"Ok(Program { file: "a.c", verbose: false, format: Plain, task: Outcomes { threads: 1, steps: 7, limit: 4294967295 } })"#,
+            br#"Ok(Program { file: "a.c", verbose: false, format: Plain, task: Outcomes { threads: 1, steps: 7, limit: 4294967295, memory: 1024 } })"#,
         ),
     ];
     &ROWS

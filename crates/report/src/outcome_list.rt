@@ -30,6 +30,8 @@ pub enum WalkEnd {
     AtLimit,
     /// A thread makes more steps in one turn than it may.
     AtSteps,
+    /// The states and the list take more memory than they may.
+    AtMemory,
 }
 
 /// Adds thread numbers, with a comma before each.
@@ -94,6 +96,7 @@ fn push_stop<A: Allocator>(list: &mut Vec<u8, A>, end: WalkEnd) -> Result<(), Al
         WalkEnd::Whole => push_bytes(list, b"\n"),
         WalkEnd::AtLimit => push_bytes(list, b", stopped at the limit\n"),
         WalkEnd::AtSteps => push_bytes(list, b", stopped at the steps\n"),
+        WalkEnd::AtMemory => push_bytes(list, b", stopped at the memory\n"),
     }
 }
 

@@ -47,14 +47,14 @@ refused_text text is = (is.0, faulty text is.0 is.1, is.2)
 refused_task : (task : Task) (text : List ℕ) → IsRefused text → IsRefusedFor task text
 refused_task (Check warns all) text is = is
 refused_task Listing text is = refused_text text is
-refused_task (Run threads budget counts) text is = refused_text text is
+refused_task (Run threads budget counts memory) text is = refused_text text is
 refused_task (Replay threads steps) text is = refused_text text is
 refused_task (Timeline threads steps) text is = refused_text text is
 refused_task (Picture threads from steps) text is = refused_text text is
 refused_task (PrintSchedule threads seed count) text is = refused_text text is
 refused_task (PrintOrder threads order) text is = refused_text text is
 refused_task (Source threads order ticks) text is = is
-refused_task (Outcomes threads steps limit) text is = refused_text text is
+refused_task (Outcomes threads steps limit memory) text is = refused_text text is
 
 -- a file that is too long is refused
 pub long_refused : (known : Option (List ℕ)) → IfSome known (λ bytes. MOST_BYTES < length bytes) → IfSome known (λ bytes. IsRefused bytes)
@@ -69,14 +69,14 @@ neither status zero three (inr e) = three e
 nothing_printed : (task : Task) (schedule : Option (List ℕ)) (text : List ℕ) (status : ℕ) (old new : Option (List ℕ)) → status ≢ 0 → status ≢ 3 → Answers task schedule text status old new
 nothing_printed (Check warns all) schedule text status old new zero three = λ e. absurd (zero e)
 nothing_printed Listing schedule text status old new zero three = λ e. absurd (zero e)
-nothing_printed (Run threads budget counts) schedule text status old new zero three = λ e. absurd (neither status zero three e)
+nothing_printed (Run threads budget counts memory) schedule text status old new zero three = λ e. absurd (neither status zero three e)
 nothing_printed (Replay threads steps) schedule text status old new zero three = λ e. absurd (neither status zero three e)
 nothing_printed (Timeline threads steps) schedule text status old new zero three = λ e. absurd (neither status zero three e)
 nothing_printed (Picture threads from steps) schedule text status old new zero three = λ e. absurd (neither status zero three e)
 nothing_printed (PrintSchedule threads seed count) schedule text status old new zero three = λ e. absurd (zero e)
 nothing_printed (PrintOrder threads order) schedule text status old new zero three = λ e. absurd (zero e)
 nothing_printed (Source threads order ticks) schedule text status old new zero three = λ e. absurd (neither status zero three e)
-nothing_printed (Outcomes threads ticks limit) schedule text status old new zero three = λ e. absurd (neither status zero three e)
+nothing_printed (Outcomes threads steps limit memory) schedule text status old new zero three = λ e. absurd (neither status zero three e)
 
 -- that of a file that was not read
 pub not_read_answers : (known : Option (List ℕ)) (task : Task) (schedule : Option (List ℕ)) (status : ℕ) (old new : Option (List ℕ)) → (status ≡ 2) ⊎ (status ≡ 4) → IfSome known (λ bytes. Answers task schedule bytes status old new)

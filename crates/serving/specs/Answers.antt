@@ -23,7 +23,7 @@ abbrev pub Answers : Task → (schedule : Option (List ℕ)) → (text : List �
     (old new : Option (List ℕ)) → Type 0
 Answers (Check warns all) schedule text status old new = SaysAccepted text status old new
 Answers Listing schedule text status old new = PrintsListing text status old new
-Answers (Run threads budget counts) schedule text status old new =
+Answers (Run threads budget counts memory) schedule text status old new =
     PrintsReport (λ shown. RunsInSomeOrder threads text shown × Accepts text
     × RunsConcurrently threads budget text shown) status old new
 Answers (Replay threads steps) schedule text status old new =
@@ -40,7 +40,7 @@ Answers (PrintOrder threads order) schedule text status old new =
     PrintsOrder threads order.items text status old new
 Answers (Source threads order ticks) schedule text status old new =
     PrintsReport (λ shown. RunsInOrder threads ticks order.items text shown × Accepts text) status old new
-Answers (Outcomes threads steps limit) schedule text status old new = PrintsOutcomes threads text status old new
+Answers (Outcomes threads steps limit memory) schedule text status old new = PrintsOutcomes threads text status old new
 
 -- a request, where these bytes are those of the file
 abbrev pub AnswersRequest : Request → (schedule report : Option (List ℕ)) → (bytes : List ℕ) → (status : ℕ) →

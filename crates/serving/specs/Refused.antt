@@ -12,14 +12,14 @@ use Rattle.serving.specs.Refusals.{IsRefused}
 abbrev pub IsRefusedFor : Task → (text : List ℕ) → Type 0
 IsRefusedFor (Check warns all) text = IsRefused text
 IsRefusedFor Listing text = HasNoCode text
-IsRefusedFor (Run threads budget counts) text = HasNoCode text
+IsRefusedFor (Run threads budget counts memory) text = HasNoCode text
 IsRefusedFor (Replay threads steps) text = HasNoCode text
 IsRefusedFor (Timeline threads steps) text = HasNoCode text
 IsRefusedFor (Picture threads from steps) text = HasNoCode text
 IsRefusedFor (PrintSchedule threads seed count) text = HasNoCode text
 IsRefusedFor (PrintOrder threads order) text = HasNoCode text
 IsRefusedFor (Source threads order ticks) text = IsRefused text
-IsRefusedFor (Outcomes threads steps limit) text = HasNoCode text
+IsRefusedFor (Outcomes threads steps limit memory) text = HasNoCode text
 
 -- why a request is refused, where these bytes are those of the file
 abbrev pub IsRequestRefused : Request → (bytes : Option (List ℕ)) → Type 0

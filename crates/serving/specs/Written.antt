@@ -67,7 +67,7 @@ IsOrderSchedule threads order text written =
 abbrev pub IsAskedFor : Task → (schedule : Option (List ℕ)) → (text : List ℕ) → (written : List ℕ) → Type 0
 IsAskedFor (Check warns all) schedule text written = Accepts text × (written ≡ codes "accepted\n")
 IsAskedFor Listing schedule text written = ShowsListing text written
-IsAskedFor (Run threads budget counts) schedule text written = IsReportOf (RunsConcurrently threads budget text) written
+IsAskedFor (Run threads budget counts memory) schedule text written = IsReportOf (RunsConcurrently threads budget text) written
 IsAskedFor (Replay threads steps) schedule text written = IsReplayReport threads steps schedule text written
 IsAskedFor (Timeline threads steps) schedule text written = IsReplayTimeline threads steps schedule text written
 IsAskedFor (Picture threads from steps) schedule text written =
@@ -76,7 +76,7 @@ IsAskedFor (PrintSchedule threads seed count) schedule text written = IsSeedSche
 IsAskedFor (PrintOrder threads order) schedule text written = IsOrderSchedule threads order.items text written
 IsAskedFor (Source threads order ticks) schedule text written =
     IsReportOf (λ shown. RunsInOrder threads ticks order.items text shown × Accepts text) written
-IsAskedFor (Outcomes threads steps limit) schedule text written = IsListOfOutcomes threads text written
+IsAskedFor (Outcomes threads steps limit memory) schedule text written = IsListOfOutcomes threads text written
 
 -- a text is written, or a beginning of it
 abbrev pub AppendsBeginning : Option (List ℕ) → Option (List ℕ) → List ℕ → Type 0

@@ -27,6 +27,7 @@ pub(crate) fn all_outcomes<A: Allocator + Copy, W: Write, E: Write>(
     threads: u32,
     steps: u64,
     limit: u32,
+    memory: u64,
     detail: Detail<'_>,
     out: &mut W,
     err: &mut E,
@@ -37,7 +38,16 @@ pub(crate) fn all_outcomes<A: Allocator + Copy, W: Write, E: Write>(
     ensures written { WritesPart (IsListOfOutcomes threads text.now) (W.contents out.old) (W.contents out.new) }
     ensures untouched { result ≡ 1 → W.contents out.new ≡ W.contents out.old }
 {
-    match list_outcomes(alloc, text, threads, steps, limit, detail.progress, err) {
+    match list_outcomes(
+        alloc,
+        text,
+        threads,
+        steps,
+        limit,
+        memory,
+        detail.progress,
+        err,
+    ) {
         Ok(found) => print_outcomes(alloc, &found, out, err),
         Err(OrderFault::Source(fault)) => refuse(alloc, text, fault, detail, err),
         Err(OrderFault::Order(fault)) => refuse_order(fault, detail, err),
@@ -80,8 +90,8 @@ fn print_outcomes<A: Allocator + Copy, W: Write, E: Write>(
 
 /// The outcomes of threads of a source's text, each with an order that leads to it and what the report of that order
 /// shows, and orders that are stuck, each with its report. At most `limit` states of threads are looked at, and in one
-/// turn a thread makes at most so many steps of its code; `end` says whether more of either was wanted, and then these
-/// may not be all. Where that is asked, `err` is shown how many there are so far, in one line. The threads are looked at
+/// turn a thread makes at most so many steps of its code, and states and list take about so many bytes of memory; `end`
+/// says whether more of one of these was wanted, and then these may not be all. Where that is asked, `err` is shown how many there are so far, in one line. The threads are looked at
 /// last.
 pub fn list_outcomes<A: Allocator + Copy, E: Write>(
     alloc: A,
@@ -89,6 +99,7 @@ pub fn list_outcomes<A: Allocator + Copy, E: Write>(
     threads: u32,
     steps: u64,
     limit: u32,
+    memory: u64,
     is_shown: bool,
     err: &mut E,
 ) -> Result<OutcomesFound<A>, OrderFault>
@@ -98,7 +109,9 @@ pub fn list_outcomes<A: Allocator + Copy, E: Write>(
     ensures err { IfErr result (λ f. IsFaultInOrders text.now threads f) }
 {
     match compile(alloc, text) {
-        Ok(compiled) => match outcomes_in(alloc, &compiled, threads, steps, limit, is_shown, err) {
+        Ok(compiled) => match outcomes_in(
+            alloc, &compiled, threads, steps, limit, memory, is_shown, err,
+        ) {
             Ok(found) => Ok(found),
             Err(fault) => Err(OrderFault::Order(fault)),
         },

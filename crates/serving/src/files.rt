@@ -49,7 +49,7 @@ pub trait Files {
 /// The source is opened first, and then a schedule, or an order and a report, where they are named. What cannot be
 /// opened is told of as what cannot be read. The line of a fault follows it where `err` is a terminal, or the words ask
 /// for it.
-pub fn serve_files<H: Threads + Wait + Sync, F: Files, W: Write, E: Write + IsTerminal>(
+pub fn serve_files<H: Threads + Wait + Sync, F: Files, W: Write, E: Write + IsTerminal + Send>(
     rt: &H,
     alloc: Global,
     request: &Request,
@@ -88,7 +88,7 @@ pub fn serve_files<H: Threads + Wait + Sync, F: Files, W: Write, E: Write + IsTe
 }
 
 /// Opens the source, and then does what is asked.
-fn open_source<H: Threads + Wait + Sync, F: Files, W: Write, E: Write>(
+fn open_source<H: Threads + Wait + Sync, F: Files, W: Write, E: Write + Send>(
     rt: &H,
     alloc: Global,
     file: &str,
@@ -115,7 +115,7 @@ fn open_source<H: Threads + Wait + Sync, F: Files, W: Write, E: Write>(
 }
 
 /// Opens the schedule that a task names, if it names one, and then does what is asked.
-fn open_schedule<H: Threads + Wait + Sync, F: Files, R: Read + Drop, W: Write, E: Write>(
+fn open_schedule<H: Threads + Wait + Sync, F: Files, R: Read + Drop, W: Write, E: Write + Send>(
     rt: &H,
     alloc: Global,
     file: &str,

@@ -23,13 +23,18 @@ use std::sync::Wait;
 use std::thread::Threads;
 use workers::RunFault;
 
+/// The bytes of so many MB.
+fn bytes_of_memory(memory: u32) -> u64 {
+    u64::from(memory) * 1048576
+}
+
 /// Does what is asked with the program in a file.
 pub(crate) fn serve_program<
     H: Threads + Wait + Sync,
     R: Read + Drop,
     S: Read + Drop,
     W: Write,
-    E: Write,
+    E: Write + Send,
 >(
     rt: &H,
     alloc: Global,
@@ -94,7 +99,7 @@ pub fn serve_alone<A: Allocator + Copy, R: Read + Drop, S: Read + Drop, W: Write
 }
 
 /// Does what is asked with the text of the program in a file.
-fn work<H: Threads + Wait + Sync, S: Read + Drop, W: Write, E: Write>(
+fn work<H: Threads + Wait + Sync, S: Read + Drop, W: Write, E: Write + Send>(
     rt: &H,
     alloc: Global,
     file: &str,
@@ -117,6 +122,7 @@ fn work<H: Threads + Wait + Sync, S: Read + Drop, W: Write, E: Write>(
             threads,
             budget,
             counts,
+            memory,
         } => run(
             rt,
             alloc,
@@ -124,6 +130,7 @@ fn work<H: Threads + Wait + Sync, S: Read + Drop, W: Write, E: Write>(
             *threads,
             u64::from(*budget),
             *counts,
+            bytes_of_memory(*memory),
             detail,
             out,
             err,
@@ -193,12 +200,14 @@ fn work_alone<A: Allocator + Copy, S: Read + Drop, W: Write, E: Write>(
             threads,
             steps,
             limit,
+            memory,
         } => all_outcomes(
             alloc,
             text,
             *threads,
             u64::from(*steps),
             *limit,
+            bytes_of_memory(*memory),
             detail,
             out,
             err,

@@ -22,6 +22,7 @@ use crate::globals::globals_shown;
 use crate::laws::reports_are_orders;
 use crate::print::print_report;
 use crate::program::{Compiled, SourceFault, compile, unit_of};
+use crate::run_line::RunWatch;
 use crate::tell::{Detail, refuse, refuse_run, tell_counts};
 use bytecode::Code;
 use containers::Items;
@@ -35,15 +36,17 @@ use syntax::thread_end::Status;
 use syntax::tree::Unit;
 use workers::{Ending, Finished, Gate, RunFault, RunMemory, RunReport, run_all};
 
-/// Runs all threads of a source at once, prints their report, and tells where threads stand that did not end and what
-/// was counted, where that is wanted.
-pub(crate) fn run<H: Threads + Wait + Sync, W: Write, E: Write>(
+/// Runs all threads of a source at once, over so many bytes of memory, prints their report, and tells where threads stand
+/// that did not end and what was counted, where that is wanted. While they run it is shown how far they are, where that
+/// is.
+pub(crate) fn run<H: Threads + Wait + Sync, W: Write, E: Write + Send>(
     rt: &H,
     alloc: Global,
     text: &str,
     threads: u32,
     budget: u64,
     counts: bool,
+    memory: u64,
     detail: Detail<'_>,
     out: &mut W,
     err: &mut E,
@@ -57,7 +60,10 @@ pub(crate) fn run<H: Threads + Wait + Sync, W: Write, E: Write>(
     ensures untouched { result ≡ 1 → W.contents out.new ≡ W.contents out.old }
 {
     reports_are_orders();
-    match run_threads(rt, alloc, text, threads, budget) {
+    let watch = RunWatch::new(err, detail.progress, budget, memory, threads);
+    let ran = run_threads(rt, alloc, text, threads, budget, &watch);
+    watch.clear();
+    match ran {
         Ok((printed, beside)) => {
             let status = print_report(alloc, &printed, out, err);
             let found = printed.threads.as_slice();
@@ -68,19 +74,6 @@ pub(crate) fn run<H: Threads + Wait + Sync, W: Write, E: Write>(
         Err(ThreadsFault::Source(fault)) => refuse(alloc, text, fault, detail, err),
         Err(ThreadsFault::Run(fault)) => refuse_run(fault, detail, err),
     }
-}
-
-/// Holds no thread back.
-struct OpenGate;
-
-impl Gate for OpenGate {
-    const HOLDS: bool = false;
-
-    fn hold(&self, _thread: u32, _accesses: u64) -> bool {
-        false
-    }
-
-    fn ended(&self, _thread: u32) {}
 }
 
 /// Why the threads of a source do not run.
@@ -102,18 +95,19 @@ struct Beside {
 
 /// Runs all threads of a source's text at once, each with so many steps at most: what their report shows, and the
 /// threads.
-fn run_threads<H: Threads + Wait + Sync>(
+fn run_threads<H: Threads + Wait + Sync, G: Gate + Sync>(
     rt: &H,
     alloc: Global,
     text: &str,
     threads: u32,
     budget: u64,
+    gate: &G,
 ) -> Result<(Printed, Beside), ThreadsFault>
     ensures ok { IfOk result (λ r. RunsConcurrently threads budget text.now (printed_of r.0)) }
     ensures err { IfErr result (λ f. IsThreadsFault text.now threads f) }
 {
     match compile(alloc, text) {
-        Ok(compiled) => match run_code(rt, alloc, &compiled, threads, budget) {
+        Ok(compiled) => match run_code(rt, alloc, &compiled, threads, budget, gate) {
             Ok(ran) => Ok(ran),
             Err(fault) => Err(ThreadsFault::Run(fault)),
         },
@@ -123,19 +117,20 @@ fn run_threads<H: Threads + Wait + Sync>(
 
 /// Runs all threads of a program's code at once. What it promises is of code that means the program and has its
 /// globals.
-fn run_code<H: Threads + Wait + Sync>(
+fn run_code<H: Threads + Wait + Sync, G: Gate + Sync>(
     rt: &H,
     alloc: Global,
     compiled: &Compiled,
     threads: u32,
     budget: u64,
+    gate: &G,
 ) -> Result<(Printed, Beside), RunFault>
     ensures ok { IfOk result (λ r. IsCodeOf (program_of compiled.now.accepted.safe.typed.unit) compiled.now.code
         → IsConcurrentRun (program_of compiled.now.accepted.safe.typed.unit) compiled.now.code threads budget
         (printed_of r.0)) }
     ensures err { IfErr result (λ f. IsRunRefused f threads) }
 {
-    let ran = run_all(rt, alloc, &compiled.code, threads, budget, &OpenGate)?;
+    let ran = run_all(rt, alloc, &compiled.code, threads, budget, gate)?;
     match shown_concurrently(alloc, unit_of(&compiled.accepted), threads, &ran) {
         Ok(printed) => Ok((printed, beside_of(alloc, &compiled.code, threads, ran))),
         Err(_) => Err(RunFault::OutOfMemory),

@@ -30,7 +30,7 @@ pub fn serve<
     S: Read + Drop,
     Q: Read + Drop,
     W: Write,
-    E: Write,
+    E: Write + Send,
 >(
     rt: &H,
     alloc: Global,

@@ -14,7 +14,7 @@ use std::thread::Threads;
 /// Reads the words of a command line, the program's own name first, does what they ask over files and two writers, and
 /// gives the exit status, as `serve_files` does. Help and the version go to `out`; what is wrong with words goes to
 /// `err`, with the status 2.
-pub fn serve_words<H: Threads + Wait + Sync, F: Files, W: Write, E: Write + IsTerminal>(
+pub fn serve_words<H: Threads + Wait + Sync, F: Files, W: Write, E: Write + IsTerminal + Send>(
     rt: &H,
     alloc: Global,
     words: &[&str],

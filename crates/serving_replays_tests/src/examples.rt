@@ -365,7 +365,7 @@ fn first_transcripts() -> &'static [Transcript] {
             b"",
             b"",
             b"",
-            b"fault 20: unknown name\nWhen: a name that is not known where it stands\nPlace: the name\nExample: void worker(int self) { __transaction_atomic { z = 1; } }\nIt is told at: 1:48\n",
+            b"fault 20: unknown name\nWhen: a name that is not known where it stands\nPlace: the name\nExample: void worker(int self) { __transaction_atomic { z = 1; } }\nIt is told at: 1:48\nWrite: a declaration before it: `int z;`\n",
         ),
         (
             "txc explain budget",

@@ -329,7 +329,17 @@ fn report_in(alloc: Global, source: &str, threads: u32, order: &[u32]) -> Option
 /// The outcomes of a source.
 fn found_of(alloc: Global, source: &str, threads: u32) -> Option<OutcomesFound> {
     let mut err = Vec::new(alloc);
-    list_outcomes(alloc, source, threads, 100000, 10000, false, &mut err).ok()
+    list_outcomes(
+        alloc,
+        source,
+        threads,
+        100000,
+        10000,
+        u64::MAX,
+        false,
+        &mut err,
+    )
+    .ok()
 }
 
 /// Whether there are so many outcomes, and each is what the report of its order shows.

@@ -16,6 +16,8 @@ mod hostile;
 #[cfg(test)]
 mod large;
 #[cfg(test)]
+mod limits;
+#[cfg(test)]
 mod opened;
 #[cfg(test)]
 mod places;

@@ -2,7 +2,7 @@
 
 use crate::asserted::assert_that;
 use crate::programs::{ADDS, LATE, LOCKS, LOOPS};
-use crate::walked::{code_of, walk_of};
+use crate::walked::{code_of, walk_of, walk_within};
 use std::alloc::{Allocator, Global};
 use test_memory::{Refusing, growths};
 use test_programs::accepted_of;
@@ -33,6 +33,26 @@ fn are_cut<A: Allocator + Copy>(alloc: A) -> Option<bool> {
 #[test]
 fn a_limit_is_met(rt: HostRuntime) {
     assert_that(&rt, are_cut(rt.alloc()) == Some(true));
+}
+
+/// Whether the walk of two threads for which so many bytes are there has as many states as wanted, and is whole where
+/// these are all.
+fn is_cut_within<A: Allocator + Copy>(alloc: A, bytes: u64, states: usize) -> Option<bool> {
+    let accepted = accepted_of(alloc, ADDS)?;
+    let code = code_of(alloc, &accepted)?;
+    match walk_within(alloc, &code, 2, 100, bytes) {
+        Ok(Some(walk)) => Some(
+            walk.states() == states && walk.is_whole() == (states == 12) && !walk.is_long(),
+        ),
+        _ => None,
+    }
+}
+
+/// A walk goes on from its first state before it is asked, to two others.
+#[test]
+fn a_walk_ends_where_it_takes_too_much_memory(rt: HostRuntime) {
+    assert_that(&rt, is_cut_within(rt.alloc(), 0, 3) == Some(true));
+    assert_that(&rt, is_cut_within(rt.alloc(), 1000000, 12) == Some(true));
 }
 
 /// Of a walk whether it is long, and whether it is whole: none where there is no walk.

@@ -10,15 +10,17 @@ use separation::Accepted;
 use std::alloc::{AllocError, Allocator};
 use walks::{Progress, Walk, walk_states};
 
-/// How many states were told last.
+/// How many states were told last, and how many bytes a walk may take.
 #[derive(Drop)]
 struct Told {
     states: usize,
+    most: u64,
 }
 
 impl Progress for Told {
-    fn tell(&mut self, states: usize) {
+    fn tell(&mut self, states: usize, bytes: u64) -> bool {
         self.states = states;
+        bytes <= self.most
     }
 }
 
@@ -44,11 +46,27 @@ pub fn walk_of<A: Allocator + Copy>(
 ) -> Result<Option<Walk<A>>, AllocError>
     ensures { IfOk result (λ r. IfSome r (IsWalk code.now)) }
 {
+    walk_within(alloc, code, threads, limit, u64::MAX)
+}
+
+/// The same walk, for which so many bytes are there.
+pub fn walk_within<A: Allocator + Copy>(
+    alloc: A,
+    code: &Code<A>,
+    threads: u32,
+    limit: u32,
+    bytes: u64,
+) -> Result<Option<Walk<A>>, AllocError>
+    ensures { IfOk result (λ r. IfSome r (IsWalk code.now)) }
+{
     let memory = memory_of(alloc, code)?;
     if threads == 0 || !is_memory(code, memory.as_slice()) {
         return Ok(None);
     }
-    let mut told = Told { states: 0 };
+    let mut told = Told {
+        states: 0,
+        most: bytes,
+    };
     walk_states(
         alloc,
         code,

@@ -28,3 +28,5 @@ pub mod Waiting
 pub mod Behind
 -- why a step was not made
 pub mod Stopping
+-- which steps may want memory
+pub mod Wanting

@@ -14,7 +14,7 @@ ghost use Rattle.workers.specs.inner.Driving.{TellsMemory, driven_number, handle
 use crate::close::{Finished, HallReport, gather, holder};
 use crate::hall::Hall;
 use crate::open::HallFault;
-use crate::worker::Worker;
+use crate::worker::{RunEnd, Worker};
 use bytecode::Code;
 use norec_core::Stop;
 use std::alloc::{AllocError, Allocator, Global};
@@ -24,7 +24,7 @@ use std::thread::{Promise, PromisedHandle, Scope, Threads};
 use syntax::thread_end::Status;
 use thiserror::Error;
 
-/// Holds threads of a run back, so that a test can choose an order of their steps.
+/// Holds threads of a run back, so that a test can choose an order of their steps; or else is told how far they are.
 pub trait Gate {
     /// Whether the gate ever holds a thread. Where it does not, `hold` is never asked, and a step costs nothing more.
     const HOLDS: bool = true;
@@ -35,7 +35,20 @@ pub trait Gate {
 
     /// Told when a thread's loop is over.
     fn ended(&self, thread: u32);
+
+    /// Told of a thread that is not held, after each 1,048,576 of its steps: how many it has made, and about how many bytes
+    /// it has printed and logged. The answer is whether there is memory for more; where there is none, the thread stops
+    /// before its next step that may want some.
+    fn has_room(&self, _thread: u32, _steps: u64, _bytes: u64) -> bool {
+        true
+    }
 }
+
+/// After how many steps of a thread that is not held a gate is told: some milliseconds of work.
+const SLICE: u64 = 1_048_576;
+
+/// The bytes of an entry of a read log.
+const ENTRY: u64 = 16;
 
 /// How often in a row a gate is asked.
 const MOST_TURNS: u64 = 1_000_000;
@@ -93,8 +106,104 @@ fn drive_held<G: Gate>(hall: &Hall, mut worker: Worker, budget: u64, gate: &G) -
     driven_of(worker, overheld, None)
 }
 
-/// A worker's loop, where no gate holds it.
-fn drive_free(hall: &Hall, mut worker: Worker, budget: u64) -> Driven
+/// About how many reads a worker's attempt has logged that goes on since before its last steps, beginning with those that
+/// it had logged before these.
+#[derive(Clone, Copy)]
+struct Logged {
+    begun: u64,
+    accesses: u64,
+    compared: u64,
+    reads: u64,
+}
+
+/// A worker that has made no step.
+fn none_logged() -> Logged {
+    Logged {
+        begun: 0,
+        accesses: 0,
+        compared: 0,
+        reads: 0,
+    }
+}
+
+/// The same after more steps. A read makes two accesses where nothing disturbs it. Where an attempt has begun in these
+/// steps, it has logged no more than they read, which is little.
+fn logged_since(worker: &Worker, before: Logged) -> Logged {
+    let begun = worker.tally.begun;
+    let accesses = worker.thread.accesses();
+    let compared = worker.tally.compared;
+    let others = compared.wrapping_sub(before.compared);
+    let read = accesses
+        .wrapping_sub(before.accesses)
+        .saturating_sub(others);
+    Logged {
+        begun,
+        accesses,
+        compared,
+        reads: if begun == before.begun {
+            before.reads.saturating_add(read / 2)
+        } else {
+            0
+        },
+    }
+}
+
+/// About how many bytes a worker has printed and logged.
+fn bytes_of(worker: &Worker, logged: Logged) -> u64 {
+    let text = worker.thread.output().len() as u64;
+    text.saturating_add(logged.reads.saturating_mul(ENTRY))
+}
+
+/// A worker's loop, where there is no memory for more: up to a step that wants some.
+fn drive_full(hall: &Hall, mut worker: Worker, budget: u64) -> Driven
+    requires worker { IsWorkerOf hall.now.table.shared.table_id hall.now.setup worker }
+    requires room { worker.steps + budget < 2 ^ 64 }
+    ensures goes_on { StepsOn hall.now.table.shared.table_id hall.now.setup worker result.worker }
+    ensures ends { IsEndOfLoop hall.now.setup (worker.steps + budget) result.stopped result.worker }
+    ensures number { result.worker.number ≡ worker.number }
+{
+    'steps: for turn in 0..budget {
+        if worker.thread.status() != Status::Running {
+            return driven_of(worker, false, None);
+        }
+        if worker.wants_memory(hall.setup.code()) {
+            return driven_of(worker, false, Some(Stop::OutOfMemory));
+        }
+        if let Err(stop) = worker.step(&hall.table.shared, hall.setup.code()) {
+            return driven_of(worker, false, Some(stop));
+        }
+    }
+    driven_of(worker, false, None)
+}
+
+/// A worker's loop, where no gate holds it: slice after slice, while there is memory for more.
+fn drive_free<G: Gate>(hall: &Hall, mut worker: Worker, budget: u64, gate: &G) -> Driven
+    requires worker { IsWorkerOf hall.now.table.shared.table_id hall.now.setup worker }
+    requires room { worker.steps + budget < 2 ^ 64 }
+    ensures goes_on { StepsOn hall.now.table.shared.table_id hall.now.setup worker result.worker }
+    ensures ends { IsEndOfLoop hall.now.setup (worker.steps + budget) result.stopped result.worker }
+    ensures number { result.worker.number ≡ worker.number }
+{
+    let mut logged = none_logged();
+    let mut left = budget;
+    'slices: while left > SLICE {
+        match worker.run(hall, SLICE) {
+            Ok(RunEnd::Budget) => {}
+            Ok(RunEnd::Ended) => return driven_of(worker, false, None),
+            Ok(RunEnd::Trapped(_)) => return driven_of(worker, false, None),
+            Err(stop) => return driven_of(worker, false, Some(stop)),
+        }
+        left -= SLICE;
+        logged = logged_since(&worker, logged);
+        if !gate.has_room(worker.number, worker.steps, bytes_of(&worker, logged)) {
+            return drive_full(hall, worker, left);
+        }
+    }
+    drive_last(hall, worker, left)
+}
+
+/// The last steps of a worker's loop, where no gate holds it.
+fn drive_last(hall: &Hall, mut worker: Worker, budget: u64) -> Driven
     requires worker { IsWorkerOf hall.now.table.shared.table_id hall.now.setup worker }
     requires room { worker.steps + budget < 2 ^ 64 }
     ensures goes_on { StepsOn hall.now.table.shared.table_id hall.now.setup worker result.worker }
@@ -118,7 +227,7 @@ fn drive_on<G: Gate>(hall: &Hall, worker: Worker, budget: u64, gate: &G) -> Driv
     if G::HOLDS {
         drive_held(hall, worker, budget, gate)
     } else {
-        drive_free(hall, worker, budget)
+        drive_free(hall, worker, budget, gate)
     }
 }
 

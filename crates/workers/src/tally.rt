@@ -13,6 +13,8 @@ pub struct Tally {
     pub dropped: u64,
     /// Loads of the lock, by a begin or by validation, that found it taken, each to be made again.
     pub retried: u64,
+    /// Accesses of validation that compared an entry, or confirmed the lock behind the last one.
+    pub compared: u64,
 }
 
 /// A count of one more. No worker makes 2 ^ 64 steps, so it never wraps.
@@ -27,6 +29,7 @@ impl Tally {
             begun: 0,
             dropped: 0,
             retried: 0,
+            compared: 0,
         }
     }
 
@@ -46,6 +49,12 @@ impl Tally {
         if lock % 2 == 1 {
             self.retried = one_more(self.retried);
         }
+    }
+
+    /// Validation has made so many accesses.
+    #[inline(always)]
+    pub(crate) fn count_compared(&mut self, accesses: u64) {
+        self.compared = self.compared.wrapping_add(accesses);
     }
 
     #[inline(always)]

@@ -12,7 +12,9 @@ ghost use Rattle.shared_words.specs.Setup.{Setup};
 ghost use Rattle.workers.specs.Seen.{accesses_of, setup_of, state_of, steps_of, table_of, tally_of, thread_of};
 ghost use Rattle.workers.specs.Seen.{worker_number};
 ghost use Rattle.workers.specs.Workers.{IsStatusOf};
-ghost use Rattle.workers.specs.Works.{StopsAt};
+ghost use Rattle.workers.specs.Works.{Because, StopsAt};
+ghost use Rattle.norec_core.specs.Cores.{MayLog};
+ghost use Rattle.syntax.specs.declared.thread_end.Status.TheVariants.{Running};
 
 use crate::hall::Hall;
 use crate::loads::SeatLoads;
@@ -146,6 +148,43 @@ impl<A: Allocator + Copy> Worker<A> {
                 Ok(())
             }
             Err(stop) => Err(stop),
+        }
+    }
+
+    /// Whether the next step of the thread may want memory that grows with how long it runs: a begin, a print, or a read
+    /// that is not under validation.
+    pub(crate) fn wants_memory(&self, code: &Code<A>) -> bool
+        requires { IsThreadOf code.now self.now.thread.thread }
+        ensures { result ≡ true → self.now.thread.thread.status ≡ Running
+            → Because Stop.OutOfMemory code.now self.now.thread.thread }
+    {
+        let doing = self.thread.doing(code);
+        match doing {
+            Doing::Begin(_) => true,
+            Doing::PrintText(_) => true,
+            Doing::PrintNumber(_) => true,
+            Doing::Read(_, _) => self.may_log(code, doing),
+            _ => false,
+        }
+    }
+
+    /// Whether the thread's attempt is neither under validation nor stores, where what is to be done is a read.
+    fn may_log(&self, code: &Code<A>, doing: Doing) -> bool
+        requires of { IsThreadOf code.now self.now.thread.thread }
+        requires stands { StandsAt code.now self.now.thread doing }
+        ensures { result ≡ true → (m cell : ℕ) → doing ≡ Doing.Read m cell → self.now.thread.thread.status ≡ Running
+            → IfSome self.now.thread.thread.attempt (λ a. MayLog a.phase) }
+    {
+        let validates = self.thread.is_waiting(code, doing);
+        if validates {
+            return false;
+        }
+        match self.thread.comparing(code, doing) {
+            Some(_) => false,
+            None => match self.thread.storing() {
+                Some(_) => false,
+                None => true,
+            },
         }
     }
 
@@ -414,6 +453,7 @@ impl<A: Allocator + Copy> Worker<A> {
             };
             let (compared, goes_on) = self.compare(words, code, time, index, left);
             left -= compared;
+            self.tally.count_compared(compared);
             if !goes_on {
                 self.tally.count_drop();
                 back_off();

@@ -1,0 +1,32 @@
+//! How much memory the orders of a list take, with the text that is made of them. No promise: it is reckoned.
+
+use report::ReportedOrder;
+use std::alloc::Allocator;
+
+/// Bytes of what holds one order, one thread or one global, beside what it lists.
+const HEAD: usize = 128;
+
+/// The bytes of an entry of an order: a number, and its digits.
+const ENTRY: usize = 7;
+
+/// The bytes of a word: itself, and its digits.
+const WORD: usize = 24;
+
+/// The bytes of a listed order, as it is kept and as it is written.
+pub(crate) fn bytes_of<A: Allocator>(one: &ReportedOrder<A>) -> u64 {
+    let mut bytes = one
+        .order
+        .as_slice()
+        .len()
+        .saturating_mul(ENTRY)
+        .saturating_add(HEAD);
+    'threads: for thread in one.shown.threads.as_slice() {
+        let text = thread.text.as_slice().len().saturating_mul(2);
+        bytes = bytes.saturating_add(text).saturating_add(HEAD);
+    }
+    'globals: for global in one.shown.globals.as_slice() {
+        let words = global.words.as_slice().len().saturating_mul(WORD);
+        bytes = bytes.saturating_add(words).saturating_add(HEAD);
+    }
+    bytes as u64
+}

@@ -1,0 +1,97 @@
+//! Memory and steps that have a limit, and what is shown on the way there.
+
+use std::process::Abort;
+use test_serving::{Row, answers, wrong_row};
+
+/// Two threads that each add one in two transactions.
+const TWICE: &[u8] =
+    b"int x; void worker(int self) { int t; __transaction_atomic { t = x; } __transaction_atomic { x = t + 1; } }";
+
+/// Prints before a loop that takes more than 2^20 steps, and behind it.
+const PRINTS: &[u8] =
+    b"void worker(int self) { int i; printf(\"a\"); for (i = 0; i < 600000; i++) ; printf(\"b\"); }";
+
+/// Waits in a transaction for what no other thread can change.
+const WAITS: &[u8] = b"int x; void worker(int self) { __transaction_atomic { while (x == 0) ; } }";
+
+/// Comes to ten states.
+const TEN: &[u8] =
+    b"int a[4000]; void worker(int self) { int i; for (i = 0; i < 9; i++) { __transaction_atomic { a[i] = 1; } } }";
+
+fn rows() -> &'static [Row] {
+    static ROWS: [Row; 7] = [
+        // a walk goes on from its first state before it is asked whether there is memory
+        (
+            "txc outcomes a.c --threads 2 --memory 0",
+            TWICE,
+            b"",
+            (
+                4,
+                b"== outcomes: 0, stuck: 0, states: 3, stopped at the memory\n",
+                b"",
+            ),
+        ),
+        (
+            "txc outcomes a.c --threads 2 --memory 1",
+            TWICE,
+            b"",
+            (
+                0,
+                b"== outcome --order 0,0,1,1\n== thread 0: ended\n== thread 1: ended\n== memory\nx = 2\n== outcome --order 0,1,0,1\n== thread 0: ended\n== thread 1: ended\n== memory\nx = 1\n== outcomes: 2, stuck: 0, states: 12\n",
+                b"",
+            ),
+        ),
+        // states of 32,000 bytes each
+        (
+            "txc outcomes a.c --memory 1",
+            TEN,
+            b"",
+            (
+                4,
+                b"== outcomes: 0, stuck: 0, states: 8, stopped at the memory\n",
+                b"",
+            ),
+        ),
+        (
+            "txc run a.c --memory 0",
+            PRINTS,
+            b"",
+            (4, b"== thread 0: stop 00\na\n== memory\n", b""),
+        ),
+        (
+            "txc run a.c --memory 1",
+            PRINTS,
+            b"",
+            (0, b"== thread 0: ended\nab\n== memory\n", b""),
+        ),
+        (
+            "txc run a.c --memory 0 --budget 1500000",
+            b"void worker(int self) { printf(\"a\"); while (1) ; }",
+            b"",
+            (4, b"== thread 0: budget\na\n== memory\n", b""),
+        ),
+        (
+            "txc run a.c --memory 1",
+            WAITS,
+            b"",
+            (4, b"== thread 0: stop 00\n== memory\nx = 0\n", b""),
+        ),
+    ];
+    &ROWS
+}
+
+#[test]
+fn memory_has_a_limit(rt: HostRuntime) {
+    assert_eq!(rt; wrong_row(&rt, rt.alloc(), rows()), None);
+}
+
+/// A run of 20,000,000 steps shows where it is once, and takes the line away.
+#[test]
+fn a_run_shows_how_far_it_is(rt: HostRuntime) {
+    let line = "txc run a.c --budget 20000000";
+    let told =
+        b"\rtxc: a thread has made 16777216 of 20000000 steps, where it stops (--budget)\r                                                                               \rtxc: thread 0: its steps are used up at 1:32\nvoid worker(int self) { while (1) ; }\n                               ^\ntxc explain budget says more\n".as_slice();
+    let report = (4, b"== thread 0: budget\n== memory\n".as_slice(), told);
+    let source = b"void worker(int self) { while (1) ; }";
+    assert!(rt; answers(&rt, rt.alloc(), line, source, b"", true, report));
+}
