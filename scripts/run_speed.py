@@ -187,8 +187,8 @@ def turns(rounds):
 ALL = [
     ('`examples/counter.c`', 'counter.c', 3, 'outcomes: 1, stuck: 0, states: 64'),
     ('`examples/counter.c`', 'counter.c', 8, 'outcomes: 1, stuck: 0, states: 65536'),
-    ('`examples/locks.c`', 'locks.c', 2, 'outcomes: 1, stuck: 1, states: 20'),
-    ('`examples/ticket.c`', 'ticket.c', 4, 'outcomes: 1, stuck: 0, states: 141260'),
+    ('`examples/locks.c`', 'locks.c', 2, 'outcomes: 1, stuck: 1, states: 13'),
+    ('`examples/ticket.c`', 'ticket.c', 4, 'outcomes: 1, stuck: 0, states: 22372'),
     ('`examples/queue.c`', 'queue.c', 2, 'outcomes: 128, stuck: 0, states: 1208'),
     ('`examples/queue.c`', 'queue.c', 3, 'outcomes: 104919, stuck: 0, states: 642454'),
     (

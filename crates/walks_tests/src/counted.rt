@@ -15,7 +15,7 @@ use walks::{Ends, Walk, ends_of, first_stuck};
 type Row = (&'static str, u32, usize, usize, usize, usize);
 
 fn rows() -> &'static [Row] {
-    static ROWS: [Row; 17] = [
+    static ROWS: [Row; 20] = [
         (ADDS, 1, 3, 1, 0, 0),
         (ADDS, 2, 12, 2, 0, 0),
         (ADDS, 3, 59, 3, 0, 0),
@@ -24,11 +24,15 @@ fn rows() -> &'static [Row] {
         (WAITS, 1, 3, 1, 0, 0),
         (WAITS, 2, 5, 1, 0, 0),
         (APART, 4, 256, 1, 0, 0),
-        (TICKETS, 2, 138, 1, 0, 0),
-        (TICKETS, 3, 3566, 1, 0, 0),
-        // two threads that each hold one lock, of which each has looked for the other's or has not
-        (LOCKS, 2, 20, 1, 4, 1),
-        (DINES, 5, 5365, 1, 32, 21),
+        // whether a thread that waits has looked for its turn is in registers alone that are never read
+        (TICKETS, 2, 80, 1, 0, 0),
+        (TICKETS, 3, 848, 1, 0, 0),
+        (TICKETS, 4, 10752, 1, 0, 0),
+        // two threads that each hold one lock, whether or not they have looked for the other's
+        (LOCKS, 2, 13, 1, 1, 1),
+        (LOCKS, 4, 25, 0, 25, 1),
+        (DINES, 4, 497, 1, 0, 0),
+        (DINES, 5, 2164, 1, 1, 1),
         // what threads have printed keeps states apart, where memory and registers are the same
         (PRINTS, 2, 5, 2, 0, 0),
         (TRAPS, 2, 5, 2, 0, 0),
