@@ -7,7 +7,7 @@ with what `txc explain` prints, and the table of warnings in docs/COMMANDS.md li
                               from the page
 
 Each example of the page's first table has to stand in crates/serving_tests/src/refusals.rt, with the same number, place
-and words, in TOLD or LONG, and what the page shows of where a thread stands in src/places.rt beside it; each number of
+and words, in TOLD or LONG, and what the page shows of where a thread stands in src/places/ beside it; each number of
 the page has the words of crates/messages/src/table.rt, and so has each variant of a type of faults (`#[error("..")]`)
 for its number; one of a type without numbers has the words of some number.
 Each warning of crates/warnings/src/warning.rt has a row in docs/COMMANDS.md, with its words in crates/messages/src/warnings.rt,
@@ -231,7 +231,7 @@ def main():
     underlined = re.search(rf"const UNDERLINED: .*?= \(\s*{TEXT},\s*{TEXT},\s*\);", code, re.S)
     if not underlined or f"```\n{plain(underlined[2])}```" not in page:
         wrong.append("the page does not show what the test has of a source's line and its carets")
-    ends = read("crates/serving_tests/src/places.rt")
+    ends = "".join(read(it) for it in glob.glob("crates/serving_tests/src/places/*.rt", root_dir=TOP))
     wrong += [
         f"no test has what the page shows of a thread: {told.splitlines()[0]}"
         for told in re.findall(r"^```\n(txc: thread .*?)```$", page, re.M | re.S)

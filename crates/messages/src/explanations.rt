@@ -160,10 +160,10 @@ fn word_explanation(word: &str) -> Option<&'static str> {
             "budget: the steps are used up\nWhen: `txc run` was told `--budget B`, and the thread wants more than B steps: it waits in a loop for what no other thread does, or B is too small\nExample: `txc run FILE --budget 50` of `while (1) ;`\n",
         ),
         "spent" => Some(
-            "spent: the ticks are used up\nWhen: `txc source` or `txc outcomes` was told `--ticks N`, or gave 100,000, and the thread wants more\nExample: `txc source FILE --order 0 --ticks 9` of `while (1) ;`\n",
+            "spent: the ticks are used up\nWhen: `txc source` was told `--ticks N`, or gave 100,000, and the thread wants more\nExample: `txc source FILE --order 0 --ticks 9` of `while (1) ;`\n",
         ),
         "waits" => Some(
-            "waits: a transaction is to come\nWhen: the order of `txc source` names the thread no more, and it has a transaction to do\nExample: `txc source FILE --order 0` of two transactions\n",
+            "waits: a transaction is to come\nWhen: the order, of `txc source` or that `txc outcomes` calls stuck, names the thread no more, and it has a transaction to do\nExample: `txc source FILE --order 0` of two transactions\n",
         ),
         "running" => Some(
             "running: the thread would go on\nWhen: the steps of a replay are all made\nExample: `txc replay FILE --seed 1 --steps 1`\n",

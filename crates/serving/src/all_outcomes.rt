@@ -11,6 +11,7 @@ ghost use Rattle.serving.specs.Outcomes.{AreOutcomesOfText, IsListOfOutcomes, Pr
 ghost use Rattle.serving.specs.Reports.{has_trapped};
 ghost use Rattle.serving.specs.Written.{WritesPart};
 
+use crate::listed_ends::tell_listed_ends;
 use crate::print::{ENDED, STOPPED, TRAPPED, has_trapped, print};
 use crate::program::compile;
 use crate::source::OrderFault;
@@ -48,7 +49,11 @@ pub(crate) fn all_outcomes<A: Allocator + Copy, W: Write, E: Write>(
         detail.progress,
         err,
     ) {
-        Ok(found) => print_outcomes(alloc, &found, out, err),
+        Ok(found) => {
+            let status = print_outcomes(alloc, &found, out, err);
+            tell_listed_ends(alloc, text, threads, &found, detail, err);
+            status
+        }
         Err(OrderFault::Source(fault)) => refuse(alloc, text, fault, detail, err),
         Err(OrderFault::Order(fault)) => refuse_order(fault, detail, err),
     }

@@ -94,7 +94,7 @@ pub(crate) fn all_stood_in_code<A: Allocator + Copy>(
 }
 
 /// Tells where each thread stands that trapped or goes no further, where lines are wanted, with the line of the source:
-/// once, where several stand at one place one after another.
+/// once, where several stand at one place.
 pub(crate) fn tell_ends<A: Allocator + Copy, E: Write>(
     alloc: A,
     text: &str,
@@ -103,23 +103,81 @@ pub(crate) fn tell_ends<A: Allocator + Copy, E: Write>(
     detail: Detail<'_>,
     err: &mut E,
 ) {
-    if !detail.lines {
-        return;
+    if detail.lines {
+        let mut shown = Vec::new(alloc);
+        tell_threads(alloc, text, threads, stood, &mut shown, err);
     }
-    let mut last = None;
+}
+
+/// Tells where each thread stands that trapped or goes no further, with the line of the source where that was not shown
+/// yet.
+pub(crate) fn tell_threads<A: Allocator + Copy, E: Write>(
+    alloc: A,
+    text: &str,
+    threads: &[ThreadShown<A>],
+    stood: &[Stood],
+    shown: &mut Vec<Span, A>,
+    err: &mut E,
+) {
     'threads: for number in 0..threads.len() {
         let Some(one) = stood.get(number) else {
             return;
         };
-        if !tell_end(text, number, threads[number].end, *one, err) {
-            continue;
+        if tell_end(text, number, threads[number].end, *one, err) {
+            show_new(alloc, text, one.at, shown, err);
         }
-        if let Some(at) = one.at {
-            if last != Some(at) {
-                show_line(alloc, text, at, err);
-            }
-            last = Some(at);
+    }
+}
+
+/// Shows the line of a place that was not shown yet.
+fn show_new<A: Allocator + Copy, E: Write>(
+    alloc: A,
+    text: &str,
+    at: Option<Span>,
+    shown: &mut Vec<Span, A>,
+    err: &mut E,
+) {
+    let Some(at) = at else {
+        return;
+    };
+    if !is_among(at, shown.as_slice()) {
+        show_line(alloc, text, at, err);
+        let _ = shown.push(at); // where memory is refused it is shown again
+    }
+}
+
+/// Whether a place is one of these.
+fn is_among(at: Span, shown: &[Span]) -> bool {
+    'places: for place in shown {
+        if *place == at {
+            return true;
         }
+    }
+    false
+}
+
+/// Whether some thread that trapped or goes no further stands at a place that was not shown yet.
+pub(crate) fn is_some_new<A: Allocator>(
+    threads: &[ThreadShown<A>],
+    stood: &[Stood],
+    shown: &[Span],
+) -> bool {
+    'threads: for number in 0..threads.len() {
+        let Some(one) = stood.get(number) else {
+            return false;
+        };
+        if threads[number].end != End::Ended && is_new(one.at, shown) {
+            return true;
+        }
+    }
+    false
+}
+
+/// Whether a place is known, and was not shown yet.
+fn is_new(at: Option<Span>, shown: &[Span]) -> bool {
+    match at {
+        Some(at) => !is_among(at, shown),
+        None => false,
     }
 }
 

@@ -11,6 +11,7 @@ mod further;
 mod globals;
 pub mod laws;
 mod listed_bytes;
+mod listed_ends;
 mod listing;
 mod pictures;
 mod print;

@@ -451,6 +451,13 @@ fn second_transcripts() -> &'static [Transcript] {
             b"== outcome --order 0,0,1\n== thread 0: ended\n== thread 1: ended\n== memory\nseats = 0\nsold = 1\n== outcome --order 0,1,0,1\n== thread 0: ended\n== thread 1: trap 2\n== memory\nseats = 0\nsold = 1\n== outcome --order 0,1,1,0\n== thread 0: trap 2\n== thread 1: ended\n== memory\nseats = 0\nsold = 1\n== outcomes: 3, stuck: 0, states: 11\n",
         ),
         (
+            "txc outcomes examples/seats_checked.c --threads 2 --verbose",
+            b"// As seats.c, with what has to hold: where the seat is sold twice, a division by 0 ends the thread.\nint seats = 1, sold;\n\nvoid worker(int self) {\n    int free;\n    __transaction_atomic { free = seats > 0; }\n    if (free) {\n        __transaction_atomic {\n            seats = seats - 1;\n            sold = sold + 1;\n            free = 1 / (sold <= 1);\n        }\n    }\n}\n",
+            b"",
+            b"",
+            b"== outcome --order 0,0,1\n== thread 0: ended\n== thread 1: ended\n== memory\nseats = 0\nsold = 1\n== outcome --order 0,1,0,1\n== thread 0: ended\n== thread 1: trap 2\n== memory\nseats = 0\nsold = 1\n== outcome --order 0,1,1,0\n== thread 0: trap 2\n== thread 1: ended\n== memory\nseats = 0\nsold = 1\n== outcomes: 3, stuck: 0, states: 11\ntxc: with --order 0,1,0,1\ntxc: thread 1: trap 2 at 11:20: the divisor of 1 / 0 is 0\n            free = 1 / (sold <= 1);\n                   ^^^^^^^^^^^^^^^\n",
+        ),
+        (
             "txc outcomes examples/seats_mended.c --threads 2",
             b"// One seat and two buyers, each of whom looks and buys in one transaction: the seat is sold once.\nint seats = 1, sold;\n\nvoid worker(int self) {\n    __transaction_atomic {\n        if (seats > 0) {\n            seats = seats - 1;\n            sold = sold + 1;\n        }\n    }\n}\n",
             b"",
@@ -478,6 +485,12 @@ fn second_transcripts() -> &'static [Transcript] {
             b"",
             b"== events\n12 0 commit\n24 0 commit\n29 0 cancel\n== thread 0: ended\n== memory\nframes = 1\nwheels = 1\nbuilt = 2\n",
         ),
+    ];
+    &ROWS
+}
+
+fn third_transcripts() -> &'static [Transcript] {
+    static ROWS: [Transcript; 18] = [
         (
             "txc replay examples/counter.c --threads 2 --schedule examples/schedules/counter.txt",
             b"// Each thread adds one, three times. No addition is lost, whatever the threads do.\nint x;\n\nvoid worker(int self) {\n    int i;\n    for (i = 0; i < 3; i++) {\n        __transaction_atomic { x = x + 1; }\n    }\n}\n",
@@ -610,6 +623,12 @@ fn third_transcripts() -> &'static [Transcript] {
             b"",
             b"== thread 0: ended\n== thread 1: ended\n== memory\ntrain = 0\nbus = 6\nasked = 4\nby_train = 1\nby_bus = 3\n",
         ),
+    ];
+    &ROWS
+}
+
+fn fourth_transcripts() -> &'static [Transcript] {
+    static ROWS: [Transcript; 12] = [
         (
             "txc source examples/against/clear_torn.c --threads 2 --order 0,1",
             b"// Thread 0 clears an array in one transaction, thread 1 reads both ends of it in another. So it prints 1 1, or 0 0.\nunsigned a[8] = {1, 1, 1, 1, 1, 1, 1, 1};\n\nvoid worker(int self) {\n    unsigned first = 0, last = 0;\n    if (self == 0) {\n        __transaction_atomic {\n            for (int i = 0; i < 8; i++) a[i] = 0;\n        }\n    } else {\n        __transaction_atomic {\n            first = a[0]; /*pause*/\n            last = a[7];\n        }\n        printf(\"%u %u\\n\", first, last);\n    }\n}\n",

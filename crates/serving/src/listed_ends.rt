@@ -1,0 +1,94 @@
+//! Where threads stand that trapped in listed outcomes, or wait in orders that are stuck, told behind the list.
+
+use crate::ends::{is_some_new, tell_threads};
+use crate::program::read_accepted;
+use crate::source::order_accepted;
+use crate::tell::Detail;
+use crate::walked::OutcomesFound;
+use lex::token::Span;
+use report::{End, ReportedOrder, ThreadShown};
+use separation::Accepted;
+use std::alloc::Allocator;
+use std::io::Write;
+
+/// Tells where threads trapped in outcomes, and where they stand in orders that are stuck, where lines are wanted: of
+/// each order that shows a place of which none before has told. The orders are run once more for it.
+pub(crate) fn tell_listed_ends<A: Allocator + Copy, E: Write>(
+    alloc: A,
+    text: &str,
+    threads: u32,
+    found: &OutcomesFound<A>,
+    detail: Detail<'_>,
+    err: &mut E,
+) {
+    if !detail.lines {
+        return;
+    }
+    if let Ok(accepted) = read_accepted(alloc, text) {
+        let mut shown = Vec::new(alloc);
+        let (outcomes, stuck) = (found.outcomes.as_slice(), found.stuck.as_slice());
+        tell_orders(alloc, text, &accepted, threads, outcomes, &mut shown, err);
+        tell_orders(alloc, text, &accepted, threads, stuck, &mut shown, err);
+    }
+}
+
+/// Tells of each of these orders where threads stand.
+fn tell_orders<A: Allocator + Copy, E: Write>(
+    alloc: A,
+    text: &str,
+    accepted: &Accepted<A>,
+    threads: u32,
+    orders: &[ReportedOrder<A>],
+    shown: &mut Vec<Span, A>,
+    err: &mut E,
+) {
+    'orders: for one in orders {
+        if !have_all_ended(one.shown.threads.as_slice()) {
+            tell_order(alloc, text, accepted, threads, one, shown, err);
+        }
+    }
+}
+
+/// Whether all threads have ended.
+fn have_all_ended<A: Allocator>(threads: &[ThreadShown<A>]) -> bool {
+    'threads: for thread in threads {
+        if thread.end != End::Ended {
+            return false;
+        }
+    }
+    true
+}
+
+/// Tells of an order where threads stand, if one stands at a place that was not shown yet.
+fn tell_order<A: Allocator + Copy, E: Write>(
+    alloc: A,
+    text: &str,
+    accepted: &Accepted<A>,
+    threads: u32,
+    one: &ReportedOrder<A>,
+    shown: &mut Vec<Span, A>,
+    err: &mut E,
+) {
+    let order = one.order.as_slice();
+    if let Ok((printed, stood)) = order_accepted(alloc, accepted, threads, order, u64::MAX) {
+        let found = printed.threads.as_slice();
+        if is_some_new(found, stood.as_slice(), shown.as_slice()) {
+            write_order(order, err);
+            tell_threads(alloc, text, found, stood.as_slice(), shown, err);
+        }
+    }
+}
+
+/// Tells of which order what follows is, as a word of a command line.
+fn write_order<E: Write>(order: &[u32], err: &mut E) {
+    let _ = err.write_all(b"txc: with --order ");
+    if let [first, others @ ..] = order {
+        let _ = write!(err, "{first}");
+        'others: for thread in others {
+            let _ = write!(err, ",{thread}");
+        }
+    } else {
+        let _ = err.write_all(b"''");
+    }
+    let _ = err.write_all(b"\n");
+}
