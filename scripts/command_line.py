@@ -14,7 +14,7 @@ import sys
 
 TOP = os.path.dirname(os.path.dirname(os.path.abspath(__file__)))
 LINE, READ = f"{TOP}/crates/command/src/line.rt", f"{TOP}/crates/command/src/read.rt"
-COMMANDS = f"{TOP}/docs/COMMANDS.md"
+COMMANDS, EXPLANATIONS = f"{TOP}/docs/COMMANDS.md", f"{TOP}/crates/messages/src/explanations.rt"
 FUNCTION = re.compile(r"^(?:pub )?fn (\w+).*?^\{\n(.*?)^\}", re.M | re.S)
 TEXT = r'"((?:[^"\\]|\\.)*)"'
 CALL = re.compile(
@@ -23,13 +23,15 @@ CALL = re.compile(
 )
 ADDED = re.compile(r"with_command\(.*\b(\w+)\(alloc\)\);?$", re.M)
 STATUS = re.compile(r"^\| (\d) \| (.*) \|$", re.M)
+# The words of threads' ends, which stand behind `explain` beside the numbers of faults.
+WORD = re.compile(r'^        "(\w+)" => Some\($', re.M)
 
 Option = collections.namedtuple("Option", "name value help")
 # `takes` is the name of its first word, or None.
 Command = collections.namedtuple("Command", "name about example takes options")
 
 # What stands behind an option in place of a word of one's own: a file, or one of some words.
-FILES, CHOICES = ["order-file", "report", "schedule"], {"format": ["short"]}
+FILES, CHOICES = ["order-file", "report", "schedule"], {"format": ["short", "json"]}
 HELP = Option("help", None, "Prints help")
 VERSION = Option("version", None, "Prints which txc it is")
 
@@ -73,6 +75,11 @@ def commands_of(source):
     return command("commandless"), [command(it) for it in ADDED.findall(bodies["program"])]
 
 
+def ends():
+    """The words that `explain` takes."""
+    return WORD.findall(read(EXPLANATIONS))
+
+
 def words_of(command):
     """The options of a command, as they are written."""
     return " ".join(f"--{it.name}" for it in [*command.options, HELP])
@@ -97,6 +104,8 @@ _txc() {{
             elif [[ $word == -* ]]; then
                 case ${{COMP_WORDS[1]}} in
 {cases}                esac
+            elif [[ ${{COMP_WORDS[1]}} == explain ]] && ((COMP_CWORD == 2)); then
+                words='{' '.join(ends())}'
             fi ;;
     esac
     if [[ $words ]]; then
@@ -128,7 +137,7 @@ def zsh_text(_, commands):
     cases = []
     for it in commands:
         words = [zsh_option(option) for option in [*it.options, HELP]]
-        words.append(quoted("1:FILE:_files") if it.takes == "FILE" else quoted(f"1:{it.takes}:"))
+        words.append(quoted("1:FILE:_files") if it.takes == "FILE" else quoted(f"1:{it.takes}:({' '.join(ends())})"))
         cases.append(f"                {it.name}) _arguments " + " \\\n                    ".join(words) + " ;;\n")
     return f"""\
 #compdef txc
@@ -157,7 +166,7 @@ def fish_text(_, commands):
     for it in commands:
         lines.append(f"complete -c txc -n __fish_use_subcommand -a {it.name} -d {quoted(it.about)}")
         seen = f"complete -c txc -n '__fish_seen_subcommand_from {it.name}'"
-        lines += [f"{seen} -F"] * (it.takes == "FILE")
+        lines.append(f"{seen} -F" if it.takes == "FILE" else f"{seen} -a {quoted(' '.join(ends()))}")
         for option in [*it.options, HELP]:
             takes = " -r -F" if option.name in FILES else " -x" if option.value else ""
             takes += f" -a {quoted(' '.join(CHOICES[option.name]))}" if option.name in CHOICES else ""

@@ -2,7 +2,7 @@
 _txc() {
     local word=${COMP_WORDS[COMP_CWORD]} words=
     case ${COMP_WORDS[COMP_CWORD - 1]} in
-        --format) words='short' ;;
+        --format) words='short json' ;;
         --order-file | --report | --schedule) ;;
         --budget | --from | --limit | --order | --seed | --steps | --threads | --ticks) return ;;
         *)
@@ -19,6 +19,8 @@ _txc() {
                     certify) words='--verbose --format --threads --order-file --report --ticks --help' ;;
                     explain) words='--help' ;;
                 esac
+            elif [[ ${COMP_WORDS[1]} == explain ]] && ((COMP_CWORD == 2)); then
+                words='trap budget spent waits running stop'
             fi ;;
     esac
     if [[ $words ]]; then
