@@ -1,5 +1,5 @@
 -- What is given for arguments makes no task.
-use Rattle.std.proofs.Common.{◌≡◌, ◌∙◌, ℕ, List, None, Some, length, sym, ap, subst, arith}
+use Rattle.std.proofs.Common.{◌≡◌, ◌∙◌, ℕ, List, None, Some, false, length, sym, ap, subst, true, arith}
 use Rattle.std.specs.Prelude.{codes, slice_index}
 use Rattle.clap.specs.Words.{Row, Text, first_of}
 use Rattle.command.specs.declared.request.Task.TheVariants.{Check, Listing, Run, Replay, Timeline, Picture, PrintOrder, PrintSchedule, Source, Outcomes}
@@ -25,14 +25,14 @@ no_replay given none (Outcomes threads steps limit memory) is = let e : 114 ≡ 
 pub no_drawn : (given : List Row) → ((n : ℕ) → IsFirstDrawn given n → ⊥) → IsFlagged given (codes "picture") → AreNoTask (codes "replay") given
 no_drawn given none drawn (Check warns all) is = let e : 114 ≡ 99 = ap (λ l. slice_index l 0) is.0 in absurd (omega (arith, e))
 no_drawn given none drawn Listing is = let e : 114 ≡ 108 = ap (λ l. slice_index l 0) is in absurd (omega (arith, e))
-no_drawn given none drawn (Run threads budget counts) is = let e : 6 ≡ 3 = ap length is.0 in absurd (omega (arith, e))
-no_drawn given none drawn (Replay threads steps) is = is.3.picture_is.1 drawn
-no_drawn given none drawn (Timeline threads steps) is = is.3.picture_is.1 drawn
+no_drawn given none drawn (Run threads budget counts memory) is = let e : 6 ≡ 3 = ap length is.0 in absurd (omega (arith, e))
+no_drawn given none drawn (Replay threads steps) is = let e : false ≡ true = is.3.picture_is.1 drawn in cc
+no_drawn given none drawn (Timeline threads steps) is = let e : false ≡ true = is.3.picture_is.1 drawn in cc
 no_drawn given none drawn (Picture threads from steps) is = none from is.4
-no_drawn given none drawn (PrintSchedule threads seed count) is = is.3.picture_is.1 drawn
-no_drawn given none drawn (PrintOrder threads order) is = is.3.picture_is.1 drawn
+no_drawn given none drawn (PrintSchedule threads seed count) is = let e : false ≡ true = is.3.picture_is.1 drawn in cc
+no_drawn given none drawn (PrintOrder threads order) is = let e : false ≡ true = is.3.picture_is.1 drawn in cc
 no_drawn given none drawn (Source threads order ticks) is = let e : 114 ≡ 115 = ap (λ l. slice_index l 0) is.0 in absurd (omega (arith, e))
-no_drawn given none drawn (Outcomes threads steps limit) is = let e : 114 ≡ 111 = ap (λ l. slice_index l 0) is.0 in absurd (omega (arith, e))
+no_drawn given none drawn (Outcomes threads steps limit memory) is = let e : 114 ≡ 111 = ap (λ l. slice_index l 0) is.0 in absurd (omega (arith, e))
 
 -- an order that is given makes other steps none
 pub no_ordered : (given : List Row) (text : Text) → first_of (codes "order") given ≡ Some text → ((ns : List ℕ) → IsOrderGiven given ns → (n : ℕ) → AreCounted given n → ⊥) → (steps : Steps) → AreSteps given steps → ⊥
