@@ -4,7 +4,7 @@ _txc() {
     case ${COMP_WORDS[COMP_CWORD - 1]} in
         --format) words='short json' ;;
         --order-file | --report | --schedule) ;;
-        --budget | --from | --limit | --order | --seed | --steps | --threads | --ticks) return ;;
+        --budget | --from | --limit | --memory | --order | --seed | --steps | --threads | --ticks) return ;;
         *)
             if ((COMP_CWORD == 1)); then
                 words='check listing run replay source outcomes certify explain --help --version'
@@ -12,10 +12,10 @@ _txc() {
                 case ${COMP_WORDS[1]} in
                     check) words='--verbose --format --warn --all --help' ;;
                     listing) words='--verbose --format --help' ;;
-                    run) words='--verbose --format --threads --budget --counts --help' ;;
+                    run) words='--verbose --format --threads --budget --counts --memory --help' ;;
                     replay) words='--verbose --format --threads --schedule --seed --steps --order --timeline --picture --from --print-schedule --help' ;;
                     source) words='--verbose --format --threads --order --ticks --help' ;;
-                    outcomes) words='--verbose --format --threads --steps --limit --help' ;;
+                    outcomes) words='--verbose --format --threads --steps --limit --memory --help' ;;
                     certify) words='--verbose --format --threads --order-file --report --ticks --help' ;;
                     explain) words='--help' ;;
                 esac

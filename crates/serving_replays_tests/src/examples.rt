@@ -427,7 +427,7 @@ fn second_transcripts() -> &'static [Transcript] {
             b"// Two locks, which thread 0 takes in one order and thread 1 in the other: each can have one and wait for the other's.\nint locked[2], done;\n\nvoid take(int which) {\n    int mine = 0;\n    while (!mine) {\n        __transaction_atomic { mine = !locked[which]; if (mine) locked[which] = 1; }\n    }\n}\n\nvoid worker(int self) {\n    take(self);\n    take(1 - self);\n    __transaction_atomic { done = done + 1; locked[0] = 0; locked[1] = 0; }\n}\n",
             b"",
             b"",
-            b"== outcome --order 0,0,0,1,1,1\n== thread 0: ended\n== thread 1: ended\n== memory\nlocked = 0 0\ndone = 2\n== stuck --order 0,1\n== thread 0: waits\n== thread 1: waits\n== memory\nlocked = 1 1\ndone = 0\n== outcomes: 1, stuck: 1, states: 13\n",
+            b"== outcome --order 0,0,0,1,1,1\n== thread 0: ended\n== thread 1: ended\n== memory\nlocked = 0 0\ndone = 2\n== stuck --order 0,1\n== thread 0: waits\n== thread 1: waits\n== memory\nlocked = 1 1\ndone = 0\n== outcomes: 1, stuck: 1, states: 13\ntxc: with --order 0,1\ntxc: thread 0: waits at 7:9\n        __transaction_atomic { mine = !locked[which]; if (mine) locked[which] = 1; }\n        ^^^^^^^^^^^^^^^^^^^^\ntxc: thread 1: waits at 7:9\n",
         ),
         (
             "txc outcomes examples/receipt.c --threads 2",
@@ -448,7 +448,7 @@ fn second_transcripts() -> &'static [Transcript] {
             b"// As seats.c, with what has to hold: where the seat is sold twice, a division by 0 ends the thread.\nint seats = 1, sold;\n\nvoid worker(int self) {\n    int free;\n    __transaction_atomic { free = seats > 0; }\n    if (free) {\n        __transaction_atomic {\n            seats = seats - 1;\n            sold = sold + 1;\n            free = 1 / (sold <= 1);\n        }\n    }\n}\n",
             b"",
             b"",
-            b"== outcome --order 0,0,1\n== thread 0: ended\n== thread 1: ended\n== memory\nseats = 0\nsold = 1\n== outcome --order 0,1,0,1\n== thread 0: ended\n== thread 1: trap 2\n== memory\nseats = 0\nsold = 1\n== outcome --order 0,1,1,0\n== thread 0: trap 2\n== thread 1: ended\n== memory\nseats = 0\nsold = 1\n== outcomes: 3, stuck: 0, states: 11\n",
+            b"== outcome --order 0,0,1\n== thread 0: ended\n== thread 1: ended\n== memory\nseats = 0\nsold = 1\n== outcome --order 0,1,0,1\n== thread 0: ended\n== thread 1: trap 2\n== memory\nseats = 0\nsold = 1\n== outcome --order 0,1,1,0\n== thread 0: trap 2\n== thread 1: ended\n== memory\nseats = 0\nsold = 1\n== outcomes: 3, stuck: 0, states: 11\ntxc: with --order 0,1,0,1\ntxc: thread 1: trap 2 at 11:20: the divisor of 1 / 0 is 0\n            free = 1 / (sold <= 1);\n                   ^^^^^^^^^^^^^^^\n",
         ),
         (
             "txc outcomes examples/seats_checked.c --threads 2 --verbose",
@@ -485,12 +485,6 @@ fn second_transcripts() -> &'static [Transcript] {
             b"",
             b"== events\n12 0 commit\n24 0 commit\n29 0 cancel\n== thread 0: ended\n== memory\nframes = 1\nwheels = 1\nbuilt = 2\n",
         ),
-    ];
-    &ROWS
-}
-
-fn third_transcripts() -> &'static [Transcript] {
-    static ROWS: [Transcript; 18] = [
         (
             "txc replay examples/counter.c --threads 2 --schedule examples/schedules/counter.txt",
             b"// Each thread adds one, three times. No addition is lost, whatever the threads do.\nint x;\n\nvoid worker(int self) {\n    int i;\n    for (i = 0; i < 3; i++) {\n        __transaction_atomic { x = x + 1; }\n    }\n}\n",
@@ -533,6 +527,12 @@ fn third_transcripts() -> &'static [Transcript] {
             b"",
             b"== timeline\n1 0 0 begin >10; load lock = 0\n2 0 1 rd r1 @0; load @0 = 40\n3 0 1 rd r1 @0; load lock = 0\n3 0 2 const r2 #2\n3 0 3 add.s r1 r1 r2\n3 0 4 wr @0 r1\n3 0 5 rd r1 @0\n3 0 6 const r2 #1\n3 0 7 sub.s r1 r1 r2\n3 0 8 wr @1 r1\n4 0 9 commit; swap lock 0: won\n5 0 9 commit; store @0 = 42\n6 0 9 commit; store @1 = 41\n7 0 9 commit; store lock = 2; commit\n7 0 10 ret\n7 0 ended\n7 0 ended\n== events\n7 0 commit\n== thread 0: ended\n== memory\nx = 42\ny = 41\n",
         ),
+    ];
+    &ROWS
+}
+
+fn third_transcripts() -> &'static [Transcript] {
+    static ROWS: [Transcript; 18] = [
         (
             "txc replay examples/overflow.c --seed 1 --steps 12 --timeline",
             b"// A sum that leaves the range of `int` is trap 1: the thread ends, and nothing of the transaction is left.\nint total = 2147483647, entries = 5;\n\nvoid worker(int self) {\n    __transaction_atomic {\n        entries = entries + 1;\n        total = total + 1;\n    }\n}\n",
@@ -540,12 +540,6 @@ fn third_transcripts() -> &'static [Transcript] {
             b"",
             b"== timeline\n1 0 0 begin >10; load lock = 0\n2 0 1 rd r1 @1; load @1 = 5\n3 0 1 rd r1 @1; load lock = 0\n3 0 2 const r2 #1\n3 0 3 add.s r1 r1 r2\n3 0 4 wr @1 r1\n4 0 5 rd r1 @0; load @0 = 2147483647\n5 0 5 rd r1 @0; load lock = 0\n5 0 6 const r2 #1\n5 0 7 add.s r1 r1 r2; trap 1\n5 0 trap 1\n5 0 trap 1\n== events\n5 0 trap 1\n== thread 0: trap 1\n== memory\ntotal = 2147483647\nentries = 5\ntxc: thread 0: trap 1 at 7:17: 2147483647 + 1 is out of the range of int\n        total = total + 1;\n                ^^^^^^^^^\n",
         ),
-    ];
-    &ROWS
-}
-
-fn third_transcripts() -> &'static [Transcript] {
-    static ROWS: [Transcript; 18] = [
         (
             "txc replay examples/receipt.c --threads 2 --schedule examples/schedules/receipt.txt",
             b"// Printing can't be undone, so it stands in a relaxed transaction: from its first piece on no other thread can change what is\n// shared, and the numbers on the receipt are those of one moment.\nint sold, left = 10;\n\nvoid worker(int self) {\n    __transaction_relaxed {\n        sold = sold + 1;\n        left = left - 1;\n        printf(\"ticket %d, %d left\\n\", sold, left);\n    }\n}\n",
@@ -623,12 +617,6 @@ fn third_transcripts() -> &'static [Transcript] {
             b"",
             b"== thread 0: ended\n== thread 1: ended\n== memory\ntrain = 0\nbus = 6\nasked = 4\nby_train = 1\nby_bus = 3\n",
         ),
-    ];
-    &ROWS
-}
-
-fn fourth_transcripts() -> &'static [Transcript] {
-    static ROWS: [Transcript; 12] = [
         (
             "txc source examples/against/clear_torn.c --threads 2 --order 0,1",
             b"// Thread 0 clears an array in one transaction, thread 1 reads both ends of it in another. So it prints 1 1, or 0 0.\nunsigned a[8] = {1, 1, 1, 1, 1, 1, 1, 1};\n\nvoid worker(int self) {\n    unsigned first = 0, last = 0;\n    if (self == 0) {\n        __transaction_atomic {\n            for (int i = 0; i < 8; i++) a[i] = 0;\n        }\n    } else {\n        __transaction_atomic {\n            first = a[0]; /*pause*/\n            last = a[7];\n        }\n        printf(\"%u %u\\n\", first, last);\n    }\n}\n",
@@ -671,6 +659,12 @@ fn fourth_transcripts() -> &'static [Transcript] {
             b"",
             b"== thread 0: ended\n2 added\n== thread 1: ended\n4 added\n== memory\nplace = 0 0 0 0 0 3 0 1 8 0 6 0 4 0 2 0\ncount = 6\n",
         ),
+    ];
+    &ROWS
+}
+
+fn fourth_transcripts() -> &'static [Transcript] {
+    static ROWS: [Transcript; 6] = [
         (
             "txc source examples/queue.c --threads 2 --order 0,0,1,1,1,1,1,1,1,1,1,1,1,0,0,0,0,0",
             b"// A bounded queue: one transaction puts or takes, and a cancel undoes what does not fit.\nint slots[4], head, count, refused;\n\nint put(int value) {\n    int done = 0;\n    __transaction_atomic {\n        slots[(head + count) % 4] = value;\n        count++;\n        if (count > 4) __transaction_cancel;\n        done = 1;\n    }\n    return done;\n}\n\nvoid worker(int self) {\n    int i;\n    for (i = 1; i <= 6; i++) {\n        if (!put(i * i)) {\n            __transaction_atomic { refused++; }\n        }\n    }\n    __transaction_relaxed {\n        printf(\"%d waiting, %d refused\\n\", count, refused);\n        while (count > 0) {\n            printf(\"%d \", slots[head]);\n            head = (head + 1) % 4;\n            count--;\n        }\n    }\n    printf(\"\\n\");\n}\n",
@@ -678,12 +672,6 @@ fn fourth_transcripts() -> &'static [Transcript] {
             b"",
             b"== thread 0: ended\n4 waiting, 4 refused\n9 16 25 36 \n== thread 1: ended\n4 waiting, 4 refused\n1 4 1 4 \n== memory\nslots = 9 16 25 36\nhead = 0\ncount = 0\nrefused = 4\n",
         ),
-    ];
-    &ROWS
-}
-
-fn fourth_transcripts() -> &'static [Transcript] {
-    static ROWS: [Transcript; 5] = [
         (
             "txc source examples/receipt.c --threads 3 --order 2,0,1",
             b"// Printing can't be undone, so it stands in a relaxed transaction: from its first piece on no other thread can change what is\n// shared, and the numbers on the receipt are those of one moment.\nint sold, left = 10;\n\nvoid worker(int self) {\n    __transaction_relaxed {\n        sold = sold + 1;\n        left = left - 1;\n        printf(\"ticket %d, %d left\\n\", sold, left);\n    }\n}\n",

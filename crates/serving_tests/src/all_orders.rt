@@ -257,7 +257,7 @@ fn outcome_rows() -> &'static [Row] {
             b"",
             (
                 4,
-                b"== outcome --order 0,0,0,1,1,1\n== thread 0: ended\n== thread 1: ended\n== memory\nlocked = 0 0\ndone = 2\n== stuck --order 0,1\n== thread 0: waits\n== thread 1: waits\n== memory\nlocked = 1 1\ndone = 0\n== outcomes: 1, stuck: 1, states: 20\n",
+                b"== outcome --order 0,0,0,1,1,1\n== thread 0: ended\n== thread 1: ended\n== memory\nlocked = 0 0\ndone = 2\n== stuck --order 0,1\n== thread 0: waits\n== thread 1: waits\n== memory\nlocked = 1 1\ndone = 0\n== outcomes: 1, stuck: 1, states: 13\n",
                 b"",
             ),
         ),
