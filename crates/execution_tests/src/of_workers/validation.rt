@@ -4,27 +4,24 @@ use crate::asserted::assert_all;
 use crate::of_workers::hall::{Turn, are_turns, leaves, open_hall};
 use crate::of_workers::programs::{Program, adds, reads_again};
 use std::alloc::Global;
-use workers::{RunEnd, Tally, Worker};
+use workers::{RunEnd, Worker};
 
-/// What a worker counts.
-fn tally(begun: u64, dropped: u64, retried: u64) -> Tally {
-    Tally {
-        begun,
-        dropped,
-        retried,
-    }
-}
+/// Attempts that a worker has begun, those dropped, and loads of the lock that were made again.
+type Counted = (u64, u64, u64);
 
 /// Whether worker 0 has counted this.
-fn has_counted(workers: &[Worker], wanted: Tally) -> bool {
+fn has_counted(workers: &[Worker], wanted: Counted) -> bool {
     match workers.iter().find(|worker| worker.thread() == 0) {
-        Some(worker) => worker.tally() == wanted,
+        Some(worker) => {
+            let tally = worker.tally();
+            (tally.begun, tally.dropped, tally.retried) == wanted
+        }
         None => false,
     }
 }
 
 /// Whether two workers of a program make these turns, this word is left, and worker 0 has counted this.
-fn makes(alloc: Global, program: Program, turns: &[Turn], word: u64, wanted: Tally) -> bool {
+fn makes(alloc: Global, program: Program, turns: &[Turn], word: u64, wanted: Counted) -> bool {
     match open_hall(alloc, program, 2) {
         Ok((hall, mut workers)) => {
             let right = are_turns(&hall, &mut workers, turns);
@@ -38,7 +35,7 @@ fn makes(alloc: Global, program: Program, turns: &[Turn], word: u64, wanted: Tal
 
 /// Whether two workers, of which worker 0 reads four times and worker 1 writes this word, make these turns, the word
 /// is left, and worker 0 has counted this.
-fn makes_reading(alloc: Global, written: u32, turns: &[Turn], wanted: Tally) -> bool {
+fn makes_reading(alloc: Global, written: u32, turns: &[Turn], wanted: Counted) -> bool {
     makes(
         alloc,
         (3, 0, &reads_again(written)),
@@ -118,21 +115,21 @@ fn loses_its_swap() -> &'static [Turn] {
 
 #[test]
 fn validation_finds_what_was_read(rt: HostRuntime) {
-    let whole = makes_reading(rt.alloc(), 0, goes_on(), tally(1, 0, 0));
-    let pieces = makes_reading(rt.alloc(), 0, goes_on_in_pieces(), tally(1, 0, 0));
+    let whole = makes_reading(rt.alloc(), 0, goes_on(), (1, 0, 0));
+    let pieces = makes_reading(rt.alloc(), 0, goes_on_in_pieces(), (1, 0, 0));
     assert_all(&rt, &[("whole", whole), ("in pieces", pieces)]);
 }
 
 #[test]
 fn a_lock_that_is_taken_is_waited_for(rt: HostRuntime) {
-    let waited = makes_reading(rt.alloc(), 0, waits(), tally(1, 0, 3));
-    let late = makes_reading(rt.alloc(), 0, begins_late(), tally(1, 0, 5));
+    let waited = makes_reading(rt.alloc(), 0, waits(), (1, 0, 3));
+    let late = makes_reading(rt.alloc(), 0, begins_late(), (1, 0, 5));
     assert_all(&rt, &[("waited for", waited), ("begun late", late)]);
 }
 
 #[test]
 fn another_word_drops_the_attempt(rt: HostRuntime) {
-    let anew = makes_reading(rt.alloc(), 1, begins_anew(), tally(2, 1, 0));
-    let lost = makes(rt.alloc(), adds(), loses_its_swap(), 2, tally(2, 1, 0));
+    let anew = makes_reading(rt.alloc(), 1, begins_anew(), (2, 1, 0));
+    let lost = makes(rt.alloc(), adds(), loses_its_swap(), 2, (2, 1, 0));
     assert_all(&rt, &[("begun anew", anew), ("a lost swap", lost)]);
 }
