@@ -469,7 +469,7 @@ fn second_transcripts() -> &'static [Transcript] {
             b"// A ticket lock made of transactions: each thread takes a number, waits in a loop until it is served, and enters twice. What is\n// counted inside is the most threads that were there at one time.\nint next, serving, inside, most, entered;\n\nvoid worker(int self) {\n    int i, mine, mine_now;\n    for (i = 0; i < 2; i++) {\n        __transaction_atomic { mine = next; next = next + 1; }\n        do {\n            __transaction_atomic { mine_now = serving == mine; }\n        } while (!mine_now);\n        __transaction_atomic { inside = inside + 1; if (inside > most) most = inside; }\n        __transaction_atomic { inside = inside - 1; entered = entered + 1; serving = serving + 1; }\n    }\n}\n",
             b"",
             b"",
-            b"== outcome --order 0,0,0,0,0,0,0,0,1,1,1,1,1,1,1,1,2,2,2,2,2,2,2,2\n== thread 0: ended\n== thread 1: ended\n== thread 2: ended\n== memory\nnext = 6\nserving = 6\ninside = 0\nmost = 1\nentered = 6\n== outcomes: 1, stuck: 0, states: 1361\n",
+            b"== outcome --order 0,0,0,0,0,0,0,0,1,1,1,1,1,1,1,1\n== thread 0: ended\n== thread 1: ended\n== memory\nnext = 4\nserving = 4\ninside = 0\nmost = 1\nentered = 4\n== outcomes: 1, stuck: 0, states: 100\n",
         ),
         (
             "txc replay examples/booking.c --schedule examples/schedules/booking.txt",
