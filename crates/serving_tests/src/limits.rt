@@ -90,7 +90,7 @@ fn memory_has_a_limit(rt: HostRuntime) {
 fn a_run_shows_how_far_it_is(rt: HostRuntime) {
     let line = "txc run a.c --budget 20000000";
     let told =
-        b"\rtxc: a thread has made 16777216 of 20000000 steps, where it stops (--budget)\r                                                                               \rtxc: thread 0: its steps are used up at 1:32\nvoid worker(int self) { while (1) ; }\n                               ^\ntxc explain budget says more\n".as_slice();
+        b"\rtxc: a thread has made 16777216 of 20000000 steps, where it stops (--budget)\r                                                                               \rtxc: thread 0: its steps are used up at 1:32\nvoid worker(int self) { while (1) ; }\n                               ^\n".as_slice();
     let report = (4, b"== thread 0: budget\n== memory\n".as_slice(), told);
     let source = b"void worker(int self) { while (1) ; }";
     assert!(rt; answers(&rt, rt.alloc(), line, source, b"", true, report));
