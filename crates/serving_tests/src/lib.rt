@@ -25,3 +25,5 @@ mod places;
 mod refusals;
 #[cfg(test)]
 mod served;
+#[cfg(test)]
+mod wide;
