@@ -43,10 +43,10 @@ fn is_told<H: Threads + Wait + Sync>(
 
 /// How many lines these are.
 fn count_lines(text: &[u8]) -> usize {
-    let mut lines = 0;
+    let mut lines: usize = 0;
     for byte in text {
         if *byte == b'\n' {
-            lines += 1;
+            lines = lines.saturating_add(1);
         }
     }
     lines
@@ -56,7 +56,7 @@ fn count_lines(text: &[u8]) -> usize {
 fn is_of_order(shown: &[u8], told: &[u8]) -> bool {
     shown.starts_with(b"txc: with --order ")
         && shown.ends_with(told)
-        && count_lines(shown) == 1 + count_lines(told)
+        && count_lines(shown) == count_lines(told).saturating_add(1)
 }
 
 /// Whether this is told of one order behind the outcomes of a source, on a terminal, and nothing of it elsewhere.
